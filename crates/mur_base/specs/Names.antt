@@ -1,0 +1,63 @@
+-- Names of nodes and users, and of mailboxes (RFC 9051, 5.1), with the first rule that a text breaks.
+use Rattle.std.specs.Prelude.{◌≡◌, ℕ, Bool, true, false, ◌||◌, ◌&&◌, not, ◌==◌, nat_lt, nat_le, if◌then◌else◌, List, [], ◌∷◌, length, Option, None, Some, Result, Ok, Err, MatchResult}
+use Rattle.std.specs.List.{list_any, list_all}
+use Rattle.std.specs.Str.{is_utf8}
+use Rattle.mur_base.specs.declared.name.NameFault.{NameFault}
+use Rattle.mur_base.specs.declared.name.NameFault.TheVariants.{Empty, TooLong, BadByte, BadLevel, Memory}
+use Rattle.mur_base.specs.declared.limits.TheConstants.{SHORT_NAME_LIMIT, MAIL_NAME_LIMIT}
+
+-- a letter, a digit, '-' or '_'
+unfoldable pub is_short_name_byte : ℕ → Bool
+is_short_name_byte b =
+    (nat_le 65 b && nat_le b 90) || (nat_le 97 b && nat_le b 122) || (nat_le 48 b && nat_le b 57) || (b == 45) || (b == 95)
+
+unfoldable pub has_short_name_bytes : List ℕ → Bool
+has_short_name_bytes text = list_all is_short_name_byte text
+
+-- the first rule of names of nodes, users and partitions that a text breaks
+unfoldable pub short_name_fault : List ℕ → Option NameFault
+short_name_fault text =
+    if length text == 0 then Some Empty
+    else if nat_lt SHORT_NAME_LIMIT (length text) then Some TooLong
+    else if not (has_short_name_bytes text) then Some BadByte
+    else None
+
+-- a byte that no mailbox name has: a control, '"', '\', '%' or '*'
+unfoldable pub is_mail_name_byte : ℕ → Bool
+is_mail_name_byte b = nat_le 32 b && not (b == 127) && not (b == 34) && not (b == 92) && not (b == 37) && not (b == 42)
+
+-- the bytes of a mailbox name: UTF-8, and no other byte
+unfoldable pub has_mail_name_bytes : List ℕ → Bool
+has_mail_name_bytes text = is_utf8 text && list_all is_mail_name_byte text
+
+-- a byte is put before the first level
+unfoldable pub with_first : ℕ → List (List ℕ) → List (List ℕ)
+with_first b [] = (b ∷ []) ∷ []
+with_first b (level ∷ levels) = (b ∷ level) ∷ levels
+
+-- the levels of a name: the texts between its separators
+unfoldable pub levels_of : List ℕ → List (List ℕ)
+levels_of [] = [] ∷ []
+levels_of (b ∷ text) = if b == 46 then [] ∷ levels_of text else with_first b (levels_of text)
+
+unfoldable pub is_empty_level : List ℕ → Bool
+is_empty_level [] = true
+is_empty_level (b ∷ level) = false
+
+-- a level is empty, between two separators or at an end
+unfoldable pub has_empty_level : List ℕ → Bool
+has_empty_level text = list_any is_empty_level (levels_of text)
+
+-- the first rule of mailbox names that a text breaks
+unfoldable pub mail_name_fault : List ℕ → Option NameFault
+mail_name_fault text =
+    if length text == 0 then Some Empty
+    else if nat_lt MAIL_NAME_LIMIT (length text) then Some TooLong
+    else if not (has_mail_name_bytes text) then Some BadByte
+    else if has_empty_level text then Some BadLevel
+    else None
+
+-- a text is read as a name: refused by the rule that it breaks, else taken as it is unless memory is wanting
+abbrev pub IsReadAsName : Option NameFault → List ℕ → Result (List ℕ) NameFault → Type 0
+IsReadAsName (Some fault) text result = result ≡ Err fault
+IsReadAsName None text result = MatchResult result (λ name. name ≡ text) (λ fault. fault ≡ Memory)
