@@ -1,5 +1,5 @@
 -- A text has an empty level where a separator, or the end, stands at a level's begin.
-use Rattle.std.proofs.Common.{◌≡◌, ℕ, Bool, true, false, ◌||◌, cond, List, [], ◌∷◌, length, refl, ap, sym, ◌∙◌, nat_eq, arith}
+use Rattle.std.proofs.Common.{◌≡◌, ℕ, Bool, true, false, ◌||◌, cond, List, [], ◌∷◌, refl, ap, sym, ◌∙◌, nat_eq}
 use Rattle.std.specs.List.{list_any}
 use Rattle.mur_base.specs.Names.{levels_of, with_first, has_empty_level, is_empty_level}
 
@@ -31,10 +31,12 @@ finds_by : (b : ℕ) (text : List ℕ) → Finds text → (test : Bool) → nat_
 unfolding levels_of empty_from rest_of is_empty_level
 finds_by b text found true h = record {
   at_begin = rw h refl;
-  inside = rw h (found.at_begin) }
+  inside = rw h (found.at_begin);
+}
 finds_by b text found false h = record {
   at_begin = rw h (found.inside ∙ sym (any_with_first b (levels_of text)));
-  inside = rw h (found.inside ∙ ap (list_any is_empty_level) (sym (rest_with_first b (levels_of text)))) }
+  inside = rw h (found.inside ∙ ap (list_any is_empty_level) (sym (rest_with_first b (levels_of text))));
+}
 
 finds : (text : List ℕ) → Finds text
 unfolding levels_of empty_from rest_of is_empty_level

@@ -1,1 +1,3 @@
+mod DecimalReadBack
 mod EmptyLevels
+mod ReadDigits

@@ -1,3 +1,4 @@
 pub mod Map
 pub mod MapLoan
 pub mod Names
+pub mod Number

@@ -1,10 +1,10 @@
 -- Names of nodes and users, and of mailboxes (RFC 9051, 5.1), with the first rule that a text breaks.
-use Rattle.std.specs.Prelude.{◌≡◌, ℕ, Bool, true, false, ◌||◌, ◌&&◌, not, ◌==◌, nat_lt, nat_le, if◌then◌else◌, List, [], ◌∷◌, length, Option, None, Some, Result, Ok, Err, MatchResult}
+use Rattle.std.specs.Prelude.{◌≡◌, ℕ, Bool, true, false, ◌||◌, ◌&&◌, not, ◌==◌, nat_lt, nat_le, if◌then◌else◌, List, [], ◌∷◌, length, Option, None, Some, Result, Err, MatchResult}
 use Rattle.std.specs.List.{list_any, list_all}
 use Rattle.std.specs.Str.{is_utf8}
 use Rattle.mur_base.specs.declared.name.NameFault.{NameFault}
 use Rattle.mur_base.specs.declared.name.NameFault.TheVariants.{Empty, TooLong, BadByte, BadLevel, Memory}
-use Rattle.mur_base.specs.declared.limits.TheConstants.{SHORT_NAME_LIMIT, MAIL_NAME_LIMIT}
+use Rattle.mur_base.specs.declared.limits.TheConstants.{SHORT_NAME_LIMIT, NAME_LIMIT}
 
 -- a letter, a digit, '-' or '_'
 unfoldable pub is_short_name_byte : ℕ → Bool
@@ -52,7 +52,7 @@ has_empty_level text = list_any is_empty_level (levels_of text)
 unfoldable pub mail_name_fault : List ℕ → Option NameFault
 mail_name_fault text =
     if length text == 0 then Some Empty
-    else if nat_lt MAIL_NAME_LIMIT (length text) then Some TooLong
+    else if nat_lt NAME_LIMIT (length text) then Some TooLong
     else if not (has_mail_name_bytes text) then Some BadByte
     else if has_empty_level text then Some BadLevel
     else None

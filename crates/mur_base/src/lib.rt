@@ -2,16 +2,23 @@
 //! numbers as text, the points of a history, locations, phases and the limits.
 #![tactic(auto)]
 
-mod limits;
+mod home;
+pub mod limits;
 mod list;
 mod map;
 mod memory;
 mod name;
 mod name_rules;
+mod number;
+mod point;
 
-pub use limits::{MAIL_NAME_LIMIT, SHORT_NAME_LIMIT};
+pub use home::{Location, Phase};
 pub use list::{Bytes, Items};
 pub use map::Map;
 pub use memory::Memory;
 pub use name::{Name, NameFault, NameRule};
-pub use name_rules::{MailName, MailRule, NodeName, NodeRule, UserName, UserRule, mail_name, node_name, user_name};
+pub use name_rules::{
+    MailName, MailRule, NodeName, NodeRule, UserName, UserRule, mail_name, node_name, user_name,
+};
+pub use number::{put_number, read_number};
+pub use point::{AskId, Point, What};

@@ -4,7 +4,7 @@ ghost use Rattle.std.specs.List.{list_all};
 ghost use Rattle.std.specs.Str.{is_utf8};
 ghost use Rattle.mur_base.specs.Names.{short_name_fault, has_short_name_bytes, mail_name_fault, is_short_name_byte, is_mail_name_byte, has_mail_name_bytes, has_empty_level, IsReadAsName};
 
-use crate::limits::{MAIL_NAME_LIMIT, SHORT_NAME_LIMIT};
+use crate::limits::{NAME_LIMIT, SHORT_NAME_LIMIT};
 use crate::name::{Name, NameFault, NameRule};
 use std::alloc::Global;
 use std::str;
@@ -146,7 +146,7 @@ fn mail_name_fault(text: &[u8]) -> Option<NameFault>
 {
     if text.is_empty() {
         Some(NameFault::Empty)
-    } else if text.len() > MAIL_NAME_LIMIT {
+    } else if text.len() > NAME_LIMIT {
         Some(NameFault::TooLong)
     } else if !has_mail_name_bytes(text) {
         Some(NameFault::BadByte)

@@ -1,0 +1,11 @@
+//! The cluster as one value: it takes the events of a schedule one at a time, and its history, the bytes
+//! given to each client and its homes can be read at every moment.
+#![tactic(auto)]
+
+mod config;
+mod event;
+mod world;
+
+pub use config::{Config, Kind, Node, Nodes};
+pub use event::{Event, Events};
+pub use world::{Connection, Home, World};

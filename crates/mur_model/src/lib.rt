@@ -1,0 +1,13 @@
+//! The mailbox store that a client of the cluster is to see: its boxes, its sessions, the reply of each
+//! command, and the histories that are legal for it. Nothing here knows of nodes, links or disks.
+#![tactic(auto)]
+
+mod command;
+mod reply;
+mod session;
+mod store;
+
+pub use command::{Command, Tag};
+pub use reply::{BadText, Code, NoText, Reply, Verdict};
+pub use session::Sess;
+pub use store::{MailBox, Pair, Store};
