@@ -1,0 +1,4 @@
+pub mod Store
+pub mod Act
+pub mod ReplyText
+pub mod Spells

@@ -3,11 +3,13 @@
 #![tactic(auto)]
 
 mod command;
+mod model;
 mod reply;
 mod session;
 mod store;
 
 pub use command::{Command, Tag};
+pub use model::act;
 pub use reply::{BadText, Code, NoText, Reply, Verdict};
 pub use session::Sess;
 pub use store::{MailBox, Pair, Store};
