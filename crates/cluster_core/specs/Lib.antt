@@ -1,0 +1,5 @@
+pub mod Nodes
+pub mod ReadLine
+pub mod Home
+pub mod Turn
+pub mod World

@@ -4,6 +4,8 @@
 
 mod config;
 mod event;
+mod home;
+mod line;
 mod world;
 
 pub use config::{Config, Kind, Node, Nodes};

@@ -1,5 +1,5 @@
 // The whole cluster at one moment.
-use mur_base::{Bytes, Items, MailName, Map, Point};
+use mur_base::{Bytes, Items, MailName, Map, NodeName, Point};
 use mur_model::{MailBox, Sess};
 
 /// A connection of a mail client at a frontend.
@@ -26,6 +26,8 @@ pub struct Home {
 /// The cluster: its connections, its mailboxes, the history and the number of steps.
 #[derive(Drop)]
 pub struct World {
+    /// The node that the clients reach, and that holds the mailboxes.
+    pub node: NodeName,
     pub connections: Map<u64, Connection>,
     pub home: Home,
     /// The points of the history, in order.
