@@ -1,6 +1,6 @@
 -- What a frame spells (RFC 9051, 9). A frame is a line with its CRLF.
 use Rattle.std.specs.Prelude.{◌≡◌, ℕ, ◌+◌, Bool, true, false, ◌||◌, ◌&&◌, not, ◌==◌, nat_le, List, ◌++◌, length, take, drop, position, Option, None, Some, is_none, codes}
-use Rattle.std.specs.List.{list_all, before_first}
+use Rattle.std.specs.List.{list_all}
 use Rattle.std.specs.Option.{option_map}
 use Rattle.std.specs.Str.{str_to_ascii_lowercase, bytes_eq}
 use Rattle.mur_base.specs.Names.{mail_name_fault}
@@ -42,9 +42,17 @@ is_word word text = bytes_eq (str_to_ascii_lowercase text) word
 unfoldable pub is_inbox : List ℕ → Bool
 is_inbox level = is_word (codes "inbox") level
 
+-- the bytes before a byte's first place and those behind it, if it stands there
+unfoldable pub split_once : ℕ → List ℕ → Option (List ℕ × List ℕ)
+split_once byte text = option_map (λ at. (take at text, drop (at + 1) text)) (position (λ b. b == byte) text)
+
+abbrev pub part_before : List ℕ → Option (List ℕ × List ℕ) → List ℕ
+part_before text None = text
+part_before text (Some parts) = parts.0
+
 -- the first level of a mailbox name
 unfoldable pub first_level : List ℕ → List ℕ
-first_level name = before_first (λ b. b == 46) name
+first_level name = part_before name (split_once 46 name)
 
 -- an atom that CREATE takes: a mailbox name that doesn't begin at INBOX
 unfoldable pub is_create_name : List ℕ → Bool
@@ -69,8 +77,8 @@ pub record Spells (frame tag : List ℕ) (command : Command) : Type 0 where
   pub spells : SpellsCommand text command
 
 -- the bytes before the first space and those behind it, if there is a space
-unfoldable pub split_word : List ℕ → Option (List ℕ × List ℕ)
-split_word text = option_map (λ at. (take at text, drop (at + 1) text)) (position (λ b. b == 32) text)
+abbrev pub split_word : List ℕ → Option (List ℕ × List ℕ)
+split_word text = split_once 32 text
 
 abbrev pub tag_or_star : List ℕ → Bool → Tag
 tag_or_star word true = Text word
