@@ -8,6 +8,7 @@ use Rattle.mur_model.specs.declared.session.Sess.TheVariants.{Off, In, Ended}
 use Rattle.mur_model.specs.Act.{reply_of}
 use Rattle.mur_model.specs.ReplyText.{reply_text}
 use Rattle.cluster_core.specs.declared.line.Line.{Line}
+use Rattle.cluster_core.specs.declared.turn.Place.{Place}
 use Rattle.cluster_core.specs.declared.world.Connection.{Connection}
 use Rattle.cluster_core.specs.declared.world.Home.{Home}
 use Rattle.cluster_core.specs.Home.{Served, answer}
@@ -18,11 +19,6 @@ pub record Turn : Type 0 where
   pub connection : Connection
   pub home : Home
   pub points : List Point
-
--- which step, and which connection
-pub record Place : Type 0 where
-  pub step : ℕ
-  pub conn : ℕ
 
 -- a point of an answer
 abbrev pub answer_point : Place → ℕ → Point
@@ -51,7 +47,7 @@ kept turn byte = record turn { connection = record turn.connection { rest = turn
 -- a byte of the client, by whether it ends a line
 unfoldable pub take_byte_by : Place → Turn → ℕ → Bool → Turn
 take_byte_by place turn byte false = kept turn byte
-take_byte_by place turn byte true = take_line place turn (line_of (turn.connection.rest ++ byte ∷ []))
+take_byte_by place turn byte true = take_line place (kept turn byte) (line_of (turn.connection.rest ++ byte ∷ []))
 
 -- a byte of the client, unless the session has ended
 unfoldable pub take_byte : Place → Turn → ℕ → Sess → Turn

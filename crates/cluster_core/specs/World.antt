@@ -1,5 +1,5 @@
 -- The run of the cluster: what each event does.
-use Rattle.std.specs.Prelude.{◌≡◌, ℕ, ◌+◌, ◌<◌, ◌^◌, Bool, true, false, List, [], ◌∷◌, length, Option, None, Some, IsSome, IfSome, unwrap_or, codes}
+use Rattle.std.specs.Prelude.{◌≡◌, ℕ, ◌+◌, ◌<◌, ◌^◌, Bool, true, false, List, [], ◌∷◌, length, Option, None, Some, ⊤, IfSome, unwrap_or, codes}
 use Rattle.std.specs.Ordering.{nat_cmp}
 use Rattle.mur_base.specs.Map.{value_at, with_entry, with_value}
 use Rattle.mur_model.specs.declared.session.Sess.TheVariants.{In}
@@ -82,7 +82,12 @@ unfoldable pub weight_of : Event → ℕ
 weight_of (Data conn bytes) = 1 + length bytes
 weight_of event = 1
 
+-- the number of commands still fits 64 bits after the event: each byte ends one command at most
+abbrev pub HasCommandRoom : World → Event → Type 0
+HasCommandRoom world (Data conn bytes) = IfSome (connection_at world conn) (λ (connection : Connection). connection.commands + length bytes < 2 ^ 64)
+HasCommandRoom world event = ⊤
+
 -- every count still fits 64 bits after the event
 pub record HasRoom (world : World) (event : Event) : Type 0 where
-  pub steps : world.steps + weight_of event < 2 ^ 64
-  pub commands : (conn : ℕ) → IfSome (connection_at world conn) (λ (connection : Connection). connection.commands + weight_of event < 2 ^ 64)
+  pub steps : world.steps + 1 < 2 ^ 64
+  pub commands : HasCommandRoom world event

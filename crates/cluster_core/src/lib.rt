@@ -4,8 +4,12 @@
 
 mod config;
 mod event;
+mod happens;
 mod home;
 mod line;
+mod nodes;
+mod reply_text;
+mod turn;
 mod world;
 
 pub use config::{Config, Kind, Node, Nodes};
