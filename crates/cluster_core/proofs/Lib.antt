@@ -1,1 +1,2 @@
 mod FirstUser
+mod Room

@@ -3,3 +3,4 @@ pub mod ReadLine
 pub mod Home
 pub mod Turn
 pub mod World
+pub mod Shown

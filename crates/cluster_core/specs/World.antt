@@ -82,6 +82,10 @@ unfoldable pub weight_of : Event → ℕ
 weight_of (Data conn bytes) = 1 + length bytes
 weight_of event = 1
 
+unfoldable pub weight_of_all : List Event → ℕ
+weight_of_all [] = 0
+weight_of_all (event ∷ events) = weight_of event + weight_of_all events
+
 -- the number of commands still fits 64 bits after the event: each byte ends one command at most
 abbrev pub HasCommandRoom : World → Event → Type 0
 HasCommandRoom world (Data conn bytes) = IfSome (connection_at world conn) (λ (connection : Connection). connection.commands + length bytes < 2 ^ 64)

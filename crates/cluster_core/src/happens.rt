@@ -9,7 +9,7 @@ use crate::nodes::frontend;
 use crate::reply_text::greeting;
 use crate::turn::{Place, take_bytes};
 use crate::world::{Connection, Home, World};
-use mur_base::{Bytes, Items, Map, Memory, NameFault, UserName, user_name};
+use mur_base::{Bytes, Copied, Items, Map, Memory, NameFault, UserName, user_name};
 use mur_model::Sess;
 use std::alloc::Global;
 

@@ -2,6 +2,7 @@
 //! given to each client and its homes can be read at every moment.
 #![tactic(auto)]
 
+mod cluster;
 mod config;
 mod event;
 mod happens;
@@ -12,6 +13,7 @@ mod reply_text;
 mod turn;
 mod world;
 
+pub use cluster::{Cluster, HomeRow, HomeRows, Points, run};
 pub use config::{Config, Kind, Node, Nodes};
 pub use event::{Event, Events};
 pub use world::{Connection, Home, World};

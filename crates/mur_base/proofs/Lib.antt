@@ -1,3 +1,4 @@
 mod DecimalReadBack
 mod EmptyLevels
 mod ReadDigits
+pub mod MapLaws

@@ -2,6 +2,7 @@
 //! numbers as text, the points of a history, locations, phases and the limits.
 #![tactic(auto)]
 
+mod copied;
 mod home;
 pub mod limits;
 mod list;
@@ -12,6 +13,7 @@ mod name_rules;
 mod number;
 mod point;
 
+pub use copied::Copied;
 pub use home::{Location, Phase};
 pub use list::{Bytes, Items};
 pub use map::Map;

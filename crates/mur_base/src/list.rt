@@ -3,6 +3,7 @@ ghost use Rattle.std.specs.Prelude.{◌≡◌, ◌+◌, ◌<◌, ◌^◌, [], �
 ghost use Rattle.std.specs.Option.{option_copied};
 ghost use Rattle.std.specs.List.{slice_get};
 
+use crate::copied::Copied;
 use crate::memory::Memory;
 use std::alloc::{AllocFailed, Global};
 use std::marker::Model;
@@ -83,6 +84,16 @@ impl<T> Items<T> {
     {
         self.items.push(item)?;
         Ok(())
+    }
+}
+
+impl<T: Copied + Drop> Copied for Items<T> {
+    fn copy(&self, alloc: Global) -> Result<Items<T>, Memory> {
+        let mut items = Vec::with_capacity(alloc, self.items.len())?;
+        for item in &self.items {
+            items.push(item.copy(alloc)?)?;
+        }
+        Ok(Items { items })
     }
 }
 

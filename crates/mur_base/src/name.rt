@@ -1,9 +1,10 @@
 // Names of nodes, users and mailboxes: byte texts that are checked once, where they are made.
-ghost use Rattle.std.specs.Prelude.{◌≡◌, ℕ, List, Option, IfOk};
+ghost use Rattle.std.specs.Prelude.{◌≡◌, ℕ, List, Option};
 ghost use Rattle.mur_base.specs.declared.name.NameFault.{NameFault};
 ghost use Rattle.mur_base.specs.Names.{IsReadAsName};
 
 use crate::limits::{NAME_LIMIT, SHORT_NAME_LIMIT};
+use crate::copied::Copied;
 use crate::list::Bytes;
 use crate::memory::Memory;
 use std::alloc::Global;
@@ -82,10 +83,10 @@ impl<R: NameRule> Name<R> {
     {
         self.text.as_slice()
     }
+}
 
-    pub fn copy(&self, alloc: Global) -> Result<Name<R>, Memory>
-        ensures { IfOk result (λ copy. copy ≡ self.now) }
-    {
+impl<R: NameRule> Copied for Name<R> {
+    fn copy(&self, alloc: Global) -> Result<Name<R>, Memory> {
         Ok(Name {
             text: Bytes::from_slice(alloc, self.text.as_slice())?,
             rule: PhantomData,

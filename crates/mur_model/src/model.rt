@@ -8,7 +8,7 @@ use crate::command::Command;
 use crate::reply::{BadText, Code, NoText, Reply, Verdict};
 use crate::session::Sess;
 use crate::store::{MailBox, Pair, Store};
-use mur_base::{Bytes, MailName, Memory, NameFault, mail_name};
+use mur_base::{Bytes, Copied, MailName, Memory, NameFault, mail_name};
 use std::alloc::Global;
 
 /// Carries out one command on the store and gives its reply (RFC 9051, 6). A mailbox that is made gets the serial as
