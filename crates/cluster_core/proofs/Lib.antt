@@ -1,2 +1,3 @@
 mod FirstUser
 mod Room
+mod ReadLineLaw

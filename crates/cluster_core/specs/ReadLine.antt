@@ -1,10 +1,10 @@
 -- How a frontend reads a line: its tag, and its command if the line spells one.
-use Rattle.std.specs.Prelude.{ℕ, ◌-◌, Bool, true, false, ◌&&◌, if◌then◌else◌, List, length, take, Option, None, Some, codes}
+use Rattle.std.specs.Prelude.{ℕ, Bool, true, false, ◌&&◌, if◌then◌else◌, List, Option, None, Some, codes}
 use Rattle.mur_model.specs.declared.command.Command.{Command}
 use Rattle.mur_model.specs.declared.command.Command.TheVariants.{Create}
 use Rattle.mur_model.specs.declared.command.Tag.{Tag}
 use Rattle.mur_model.specs.declared.command.Tag.TheVariants.{Star, Text}
-use Rattle.mur_model.specs.Spells.{is_tag, is_word, is_create_name, split_word}
+use Rattle.mur_model.specs.Spells.{is_tag, is_word, is_create_name, split_word, without_crlf}
 use Rattle.cluster_core.specs.declared.line.Line.{Line}
 
 -- the name behind the word CREATE
@@ -16,13 +16,9 @@ unfoldable pub command_of : Option (List ℕ × List ℕ) → Option Command
 command_of None = None
 command_of (Some words) = create_of words.0 words.1
 
--- a text without its CRLF
-abbrev pub without_crlf : List ℕ → List ℕ
-without_crlf text = take (length text - 2) text
-
 unfoldable pub tagged_line : List ℕ → List ℕ → Bool → Line
 tagged_line word rest false = record { tag = Star; command = None }
-tagged_line word rest true = record { tag = Text word; command = command_of (split_word (without_crlf rest)) }
+tagged_line word rest true = record { tag = Text word; command = command_of (split_word rest) }
 
 unfoldable pub split_line : Option (List ℕ × List ℕ) → Line
 split_line None = record { tag = Star; command = None }
@@ -30,4 +26,4 @@ split_line (Some words) = tagged_line words.0 words.1 (is_tag words.0)
 
 -- a frame as it is read
 unfoldable pub line_of : List ℕ → Line
-line_of frame = split_line (split_word frame)
+line_of frame = split_line (split_word (without_crlf frame))

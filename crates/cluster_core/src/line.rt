@@ -21,7 +21,8 @@ pub struct Line {
 pub fn read_line(alloc: Global, frame: &[u8]) -> Result<Line, Memory>
     ensures { IfOk result (λ line. line ≡ line_of frame.now) }
 {
-    match split_once(b' ', frame) {
+    let text = &frame[..frame.len().saturating_sub(2)];
+    match split_once(b' ', text) {
         Some((word, rest)) => tagged_line(alloc, word, rest),
         None => Ok(Line {
             tag: Tag::Star,
@@ -40,10 +41,9 @@ fn tagged_line(alloc: Global, word: &[u8], rest: &[u8]) -> Result<Line, Memory>
             command: None,
         });
     }
-    let text = &rest[..rest.len().saturating_sub(2)];
     Ok(Line {
         tag: Tag::Text(Bytes::from_slice(alloc, word)?),
-        command: command_of(alloc, text)?,
+        command: command_of(alloc, rest)?,
     })
 }
 

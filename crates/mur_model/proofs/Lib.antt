@@ -1,0 +1,2 @@
+pub mod SplitOnce
+pub mod LineEnds

@@ -1,5 +1,5 @@
 -- What a frame spells (RFC 9051, 9). A frame is a line with its CRLF.
-use Rattle.std.specs.Prelude.{◌≡◌, ℕ, ◌+◌, Bool, true, false, ◌||◌, ◌&&◌, not, ◌==◌, nat_le, List, ◌++◌, length, take, drop, position, Option, None, Some, is_none, codes}
+use Rattle.std.specs.Prelude.{◌≡◌, ℕ, ◌+◌, ◌-◌, Bool, true, false, ◌||◌, ◌&&◌, not, ◌==◌, nat_le, List, ◌++◌, length, take, drop, position, Option, None, Some, is_none, codes}
 use Rattle.std.specs.List.{list_all}
 use Rattle.std.specs.Option.{option_map}
 use Rattle.std.specs.Str.{str_to_ascii_lowercase, bytes_eq}
@@ -80,6 +80,10 @@ pub record Spells (frame tag : List ℕ) (command : Command) : Type 0 where
 abbrev pub split_word : List ℕ → Option (List ℕ × List ℕ)
 split_word text = split_once 32 text
 
+-- a frame without its CRLF
+abbrev pub without_crlf : List ℕ → List ℕ
+without_crlf frame = take (length frame - 2) frame
+
 abbrev pub tag_or_star : List ℕ → Bool → Tag
 tag_or_star word true = Text word
 tag_or_star word false = Star
@@ -90,4 +94,4 @@ tag_of_word (Some words) = tag_or_star words.0 (is_tag words.0)
 
 -- the tag under which a frame that spells nothing is refused: its first word, where that is a tag with a space behind it
 unfoldable pub refusal_tag : List ℕ → Tag
-refusal_tag frame = tag_of_word (split_word frame)
+refusal_tag frame = tag_of_word (split_word (without_crlf frame))

@@ -1,0 +1,28 @@
+-- Where a text has its first CRLF.
+use Rattle.std.proofs.Common.{◌≡◌, ℕ, suc, ◌+◌, ◌-◌, Bool, true, false, ◌||◌, ◌&&◌, nat_eq, List, [], ◌∷◌, ◌++◌, length, take, drop, refl, sym, ◌∙◌, ap, arith}
+use Rattle.mur_model.specs.Frames.{has_crlf, begins_with_lf}
+
+-- a CR stands last
+unfoldable pub last_is_cr : List ℕ → Bool
+last_is_cr [] = false
+last_is_cr (b ∷ []) = nat_eq b 13
+last_is_cr (b ∷ c ∷ text) = last_is_cr (c ∷ text)
+
+or_assoc : (a b c : Bool) → a || (b || c) ≡ (a || b) || c
+or_assoc true b c = refl
+or_assoc false b c = refl
+
+or_false : (a : Bool) → a || false ≡ a
+or_false true = refl
+or_false false = refl
+
+and_false : (a : Bool) → a && false ≡ false
+and_false true = refl
+and_false false = refl
+
+-- one byte more makes a CRLF where it is an LF behind a CR
+pub has_crlf-push : (text : List ℕ) (b : ℕ) → has_crlf (text ++ b ∷ []) ≡ has_crlf text || (last_is_cr text && nat_eq b 10)
+unfolding has_crlf last_is_cr
+has_crlf-push [] b = rw (and_false (nat_eq b 13)) refl
+has_crlf-push (a ∷ []) b = rw (and_false (nat_eq b 13), and_false (nat_eq a 13)) (or_false (nat_eq a 13 && nat_eq b 10))
+has_crlf-push (a ∷ c ∷ text) b = ap (λ rest. (nat_eq a 13 && nat_eq c 10) || rest) (has_crlf-push (c ∷ text) b) ∙ or_assoc (nat_eq a 13 && nat_eq c 10) (has_crlf (c ∷ text)) (last_is_cr (c ∷ text) && nat_eq b 10)
