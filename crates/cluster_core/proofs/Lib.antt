@@ -1,3 +1,4 @@
 mod FirstUser
 mod Room
 mod ReadLineLaw
+mod ServeLaw

@@ -1,2 +1,3 @@
 pub mod SplitOnce
 pub mod LineEnds
+pub mod HistoryGrows
