@@ -2,3 +2,5 @@ mod FirstUser
 mod Room
 mod ReadLineLaw
 mod ServeLaw
+mod AnswerLaw
+mod TurnLaw

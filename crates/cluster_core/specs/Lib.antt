@@ -4,3 +4,4 @@ pub mod Home
 pub mod Turn
 pub mod World
 pub mod Shown
+pub mod OneStore

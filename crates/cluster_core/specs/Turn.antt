@@ -28,14 +28,16 @@ answer_point place command = record { step = place.step; ask = record { conn = p
 abbrev pub answered : Connection → List ℕ → Connection
 answered connection text = record connection { rest = []; commands = connection.commands + 1; given = connection.given ++ text }
 
--- a line is answered
+-- a line is answered by what the home made of it
+abbrev pub line_answered : Place → Turn → Line → Served → Turn
+line_answered place turn line served = record {
+  connection = answered turn.connection (reply_text line.tag (reply_of served.verdict));
+  home = served.home;
+  points = turn.points ++ answer_point place (turn.connection.commands + 1) ∷ [] }
+
+-- a line is carried out and answered
 unfoldable pub take_line : Place → Turn → Line → Turn
-take_line place turn line =
-    let served = answer turn.home turn.connection.session line.command in
-    record {
-      connection = answered turn.connection (reply_text line.tag (reply_of served.verdict));
-      home = served.home;
-      points = turn.points ++ answer_point place (turn.connection.commands + 1) ∷ [] }
+take_line place turn line = line_answered place turn line (answer turn.home turn.connection.session line.command)
 
 -- a CR stands last
 unfoldable pub ends_in_cr : List ℕ → Bool
