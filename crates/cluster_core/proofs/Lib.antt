@@ -4,3 +4,4 @@ mod ReadLineLaw
 mod ServeLaw
 mod AnswerLaw
 mod TurnLaw
+mod Keeps
