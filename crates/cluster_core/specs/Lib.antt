@@ -5,3 +5,5 @@ pub mod Turn
 pub mod World
 pub mod Shown
 pub mod OneStore
+pub mod HomeLaw
+pub mod Headline

@@ -2,3 +2,4 @@ mod DecimalReadBack
 mod EmptyLevels
 mod ReadDigits
 pub mod MapLaws
+pub mod MapOrder
