@@ -5,3 +5,6 @@ mod ServeLaw
 mod AnswerLaw
 mod TurnLaw
 mod Keeps
+mod OneStoreLaw
+mod OneHome
+pub mod HeadlineLaw
