@@ -5,3 +5,4 @@ mod ServeLaw
 mod AnswerLaw
 mod TurnLaw
 mod Keeps
+mod TextLaws

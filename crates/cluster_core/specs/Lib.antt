@@ -7,3 +7,5 @@ pub mod Shown
 pub mod OneStore
 pub mod HomeLaw
 pub mod Headline
+pub mod Text
+pub mod Config

@@ -11,9 +11,12 @@ mod line;
 mod nodes;
 mod reply_text;
 mod turn;
+mod text;
 mod world;
 
 pub use cluster::{Cluster, HomeRow, HomeRows, Points, run};
 pub use config::{Config, Kind, Node, Nodes};
+pub use config::{Config, ConfigFault, KNOWN_CONFIG, Kind, Node, Nodes, read_config};
 pub use event::{Event, Events};
+pub use text::{put_name, put_text, read_text};
 pub use world::{Connection, Home, World};
