@@ -66,18 +66,18 @@ pub fn read_config(alloc: Global, bytes: &[u8]) -> Result<Config, ConfigFault>
     }
 }
 
-#[tactic(auto, unfolding(crate::specs::Config::known_config))]
+#[tactic(auto, unfolding(crate::specs::Config::known_config, mur_base::specs::Names::short_name_fault, mur_base::specs::Names::has_short_name_bytes, mur_base::specs::Names::is_short_name_byte))]
 fn known_config(alloc: Global) -> Result<Config, Memory>
     ensures { IfOk result (λ config. config ≡ known_config) }
 {
     let mut nodes = Items::new(alloc);
-    nodes.push(node(alloc, b"m", Kind::Master)?)?;
-    nodes.push(node(alloc, b"f1", Kind::Frontend)?)?;
-    nodes.push(node(alloc, b"b1", Kind::Backend)?)?;
+    nodes.push(known_node(alloc, b"m", Kind::Master)?)?;
+    nodes.push(known_node(alloc, b"f1", Kind::Frontend)?)?;
+    nodes.push(known_node(alloc, b"b1", Kind::Backend)?)?;
     Ok(Config { nodes })
 }
 
-fn node(alloc: Global, name: &[u8], kind: Kind) -> Result<Node, Memory>
+fn known_node(alloc: Global, name: &[u8], kind: Kind) -> Result<Node, Memory>
     requires { short_name_fault name.now ≡ None }
     ensures { IfOk result (λ node. node ≡ record { name = name.now; kind = kind }) }
 {
