@@ -6,3 +6,5 @@ mod AnswerLaw
 mod TurnLaw
 mod Keeps
 mod TextLaws
+mod CutPieces
+mod CutWords

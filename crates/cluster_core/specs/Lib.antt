@@ -9,3 +9,7 @@ pub mod HomeLaw
 pub mod Headline
 pub mod Text
 pub mod Config
+pub mod Pieces
+pub mod ScheduleRules
+pub mod ScheduleWords
+pub mod ScheduleOpened

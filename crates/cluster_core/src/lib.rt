@@ -11,6 +11,8 @@ mod line;
 mod nodes;
 mod reply_text;
 mod turn;
+mod pieces;
+mod schedule;
 mod text;
 mod world;
 
@@ -18,5 +20,7 @@ pub use cluster::{Cluster, HomeRow, HomeRows, Points, run};
 pub use config::{Config, Kind, Node, Nodes};
 pub use config::{Config, ConfigFault, KNOWN_CONFIG, Kind, Node, Nodes, read_config};
 pub use event::{Event, Events};
+pub use pieces::{Pieces, line_in};
+pub use schedule::{ReadFault, Rule, SchedFault};
 pub use text::{put_name, put_text, read_text};
 pub use world::{Connection, Home, World};
