@@ -1,5 +1,5 @@
 -- The first piece ends behind the first LF.
-use Rattle.std.proofs.Common.{◌≡◌, ℕ, zero, suc, ◌+◌, ◌<◌, ◌≤◌, true, false, nat_eq, List, [], ◌∷◌, length, slice_index, take, drop, None, Some, refl, arith}
+use Rattle.std.proofs.Common.{◌≡◌, ℕ, zero, suc, ◌+◌, ◌<◌, ◌≤◌, Bool, true, false, nat_eq, List, [], ◌∷◌, length, slice_index, take, drop, None, Some, refl, arith}
 use Rattle.std.proofs.lemmas.Bool.{false_from_ne_true}
 use Rattle.mur_base.specs.Names.{with_first}
 use Rattle.memchr.specs.Find.{IsFirstByte, is_byte}
@@ -24,6 +24,22 @@ pub cut_behind : (text : List ℕ) (k : ℕ) → IsFirstByte (is_byte 10) text (
 cut_behind text k first =
     let next : k + 1 ≡ suc k = omega arith in
     rw next (cut_at text k first.0.high (λ q h. false_from_ne_true _ (first.0.before q (omega arith) h)) first.1)
+
+length-with_first : (b : ℕ) (pieces : List (List ℕ)) → length (with_first b pieces) ≤ length pieces + 1
+unfolding with_first
+length-with_first b [] = omega arith
+length-with_first b (piece ∷ pieces) = omega arith
+
+length-pieces_by : (b : ℕ) (text : List ℕ) → length (pieces_of text) ≤ length text → (feed : Bool) → nat_eq b 10 ≡ feed → length (pieces_of (b ∷ text)) ≤ length (b ∷ text)
+unfolding pieces_of
+length-pieces_by b text ih true e = rw e (omega arith)
+length-pieces_by b text ih false e = rw e (omega (arith, length-with_first b (pieces_of text)))
+
+-- no piece is empty
+pub length-pieces : (text : List ℕ) → length (pieces_of text) ≤ length text
+unfolding pieces_of
+length-pieces [] = omega arith
+length-pieces (b ∷ text) = length-pieces_by b text (length-pieces text) (nat_eq b 10) refl
 
 pub no_pieces : (text : List ℕ) → length text ≡ 0 → pieces_of text ≡ []
 unfolding pieces_of

@@ -8,3 +8,4 @@ mod Keeps
 mod TextLaws
 mod CutPieces
 mod CutWords
+mod OpenedLaws

@@ -13,3 +13,6 @@ pub mod Pieces
 pub mod ScheduleRules
 pub mod ScheduleWords
 pub mod ScheduleOpened
+pub mod ScheduleOpen
+pub mod ScheduleData
+pub mod Schedule

@@ -1,6 +1,6 @@
 // The events that were read so far.
 ghost use Rattle.std.specs.Prelude.{◌≡◌, ◌++◌, ◌∷◌, [], OnOk};
-ghost use Rattle.cluster_core.specs.ScheduleOpened.{is_opened, KnowsOpened};
+ghost use Rattle.cluster_core.specs.ScheduleOpened.{is_opened, opened_after, KnowsOpened};
 
 use crate::event::{Event, Events};
 use mur_base::{Items, Map, Memory};
@@ -39,9 +39,18 @@ impl Script {
         ensures events { OnOk result (self.new.events ≡ self.old.events ++ event ∷ []) }
         ensures opened { OnOk result (KnowsOpened self.new) }
     {
-        if let Event::Open(_, conn) = &event {
-            self.opened.insert(*conn, ())?;
-        }
-        self.events.push(event)
+        note(&mut self.opened, &event)?;
+        self.events.push(event)?;
+        Ok(())
     }
+}
+
+#[tactic(auto, unfolding(crate::specs::ScheduleOpened::opened_after))]
+fn note(opened: &mut Map<u64, ()>, event: &Event) -> Result<(), Memory>
+    ensures { OnOk result (opened.new ≡ opened_after opened.old event.now) }
+{
+    if let Event::Open(_, conn) = event {
+        opened.insert(*conn, ())?;
+    }
+    Ok(())
 }
