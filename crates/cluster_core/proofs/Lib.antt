@@ -9,3 +9,5 @@ mod TextLaws
 mod CutPieces
 mod CutWords
 mod OpenedLaws
+mod ScheduleLaws
+mod Shortens

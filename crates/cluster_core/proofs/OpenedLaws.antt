@@ -33,10 +33,10 @@ opened_by : (es : List (ℕ × Unit {0})) (events : List Event) (node : List ℕ
 opened_by es events node conn q knows true same =
     let e = eqb-true q conn same in
     subst (λ k. is_some (value_at nat_cmp (with_entry nat_cmp es conn tt) k) ≡ (is_opened events k || true)) (sym e)
-        (ap is_some (value_at-with_entry nat_cmp numbers_apart es conn tt) ∙ sym (or_true (is_opened events conn)))
+    (ap is_some (value_at-with_entry nat_cmp numbers_apart es conn tt) ∙ sym (or_true (is_opened events conn)))
 opened_by es events node conn q knows false other =
     ap is_some (value_at-with_entry-other nat_cmp numbers_apart es conn q tt (eqb-false q conn other))
-        ∙ (knows ∙ sym (or_false (is_opened events q)))
+    ∙ (knows ∙ sym (or_false (is_opened events q)))
 
 -- the map after an event has what the events with it opened
 pub knows_after : (es : List (ℕ × Unit {0})) (events : List Event) (event : Event) → ((conn : ℕ) → is_some (value_at nat_cmp es conn) ≡ is_opened events conn)

@@ -16,3 +16,4 @@ pub mod ScheduleOpened
 pub mod ScheduleOpen
 pub mod ScheduleData
 pub mod Schedule
+pub mod ScheduleFits

@@ -52,7 +52,8 @@ impl From<Memory> for ConfigFault {
 }
 
 /// The text of the one configuration that is known so far: a master, a frontend, a backend and two users.
-pub const KNOWN_CONFIG: &[u8] = br#"{"nodes":[{"name":"m","kind":"master"},{"name":"f1","kind":"frontend"},{"name":"b1","kind":"backend","partition":"p"}],"users":[{"name":"adm","password":"x","admin":true},{"name":"bob","password":"y"}],"date":"17-Jul-1996 02:44:25 -0700"}"#;
+pub const KNOWN_CONFIG: &[u8] =
+    br#"{"nodes":[{"name":"m","kind":"master"},{"name":"f1","kind":"frontend"},{"name":"b1","kind":"backend","partition":"p"}],"users":[{"name":"adm","password":"x","admin":true},{"name":"bob","password":"y"}],"date":"17-Jul-1996 02:44:25 -0700"}"#;
 
 /// The configuration that a text spells. It is refused exactly where its bytes aren't those of `KNOWN_CONFIG`.
 #[tactic(auto, unfolding(crate::specs::Config::config_of))]

@@ -9,11 +9,11 @@ mod happens;
 mod home;
 mod line;
 mod nodes;
-mod reply_text;
-mod turn;
 mod pieces;
+mod reply_text;
 mod schedule;
 mod text;
+mod turn;
 mod world;
 
 pub use cluster::{Cluster, HomeRow, HomeRows, Points, run};

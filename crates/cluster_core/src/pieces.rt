@@ -57,7 +57,11 @@ pub fn line_in(piece: &[u8]) -> &[u8]
     ensures { result.now ≡ line_in piece.now }
 {
     let line = without_end(piece, b'\n');
-    if line.len() < piece.len() { without_end(line, b'\r') } else { piece }
+    if line.len() < piece.len() {
+        without_end(line, b'\r')
+    } else {
+        piece
+    }
 }
 
 #[tactic(auto, unfolding(crate::specs::Pieces::without_end))]

@@ -1,7 +1,8 @@
 // A schedule, read into its events: a recorded run, one event a line.
-ghost use Rattle.std.specs.Prelude.{◌≡◌, ◌<◌, ◌^◌, ◌+◌, OnOk};
+ghost use Rattle.std.specs.Prelude.{◌≡◌, ◌<◌, ◌^◌, ◌+◌, length, IfOk, OnOk};
 ghost use Rattle.cluster_core.specs.ScheduleRules.{IsReadAs, IsReadAsSchedule};
 ghost use Rattle.cluster_core.specs.ScheduleOpened.{KnowsOpened};
+ghost use Rattle.cluster_core.specs.ScheduleFits.{FitSchedule};
 ghost use Rattle.cluster_core.specs.Schedule.{event_of, is_passed_over, line_read, schedule_of, IsTakenAs};
 
 mod data_line;
@@ -10,12 +11,11 @@ mod open_line;
 mod script;
 mod words;
 
-pub use fault::{LineFault, ReadFault, Rule, SchedFault};
-
 use crate::config::Config;
 use crate::event::{Event, Events};
 use crate::pieces::{Pieces, line_in};
 use data_line::{DATA, read_data};
+pub use fault::{LineFault, ReadFault, Rule, SchedFault};
 use mur_base::limits::SCHEDULE_LIMIT;
 use open_line::{OPEN, read_open};
 use script::Script;
@@ -26,7 +26,8 @@ use words::first_word;
 /// all lines stands that a schedule has at most `SCHEDULE_LIMIT` bytes.
 #[tactic(auto, unfolding(crate::specs::Schedule::schedule_of, crate::specs::Schedule::events_from))]
 pub fn read_schedule(alloc: Global, bytes: &[u8], config: &Config) -> Result<Events, ReadFault>
-    ensures { IsReadAsSchedule (schedule_of config.now bytes.now) result }
+    ensures read { IsReadAsSchedule (schedule_of config.now bytes.now) result }
+    ensures fit { IfOk result (FitSchedule config.now (length bytes.now)) }
 {
     if bytes.len() > SCHEDULE_LIMIT {
         return Err(ReadFault::Refused(SchedFault {

@@ -32,7 +32,11 @@ fn opened_before(script: &Script, conn: u64) -> Result<(), Rule>
     requires { KnowsOpened script.now }
     ensures { result ≡ opened_before script.now.events conn }
 {
-    if script.is_opened(conn) { Ok(()) } else { Err(Rule::Connection) }
+    if script.is_opened(conn) {
+        Ok(())
+    } else {
+        Err(Rule::Connection)
+    }
 }
 
 /// The bytes that a text spells.

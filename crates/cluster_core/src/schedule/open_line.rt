@@ -61,5 +61,9 @@ fn unopened(script: &Script, conn: u64) -> Result<(), Rule>
     requires { KnowsOpened script.now }
     ensures { result ≡ unopened script.now.events conn }
 {
-    if script.is_opened(conn) { Err(Rule::Connection) } else { Ok(()) }
+    if script.is_opened(conn) {
+        Err(Rule::Connection)
+    } else {
+        Ok(())
+    }
 }

@@ -56,7 +56,11 @@ pub fn two_words(text: &[u8]) -> Result<Cut<'_>, Rule>
     ensures { IsCutAs (two_words text.now) result }
 {
     let cut = word_and_rest(text)?;
-    if is_word(cut.rest) { Ok(cut) } else { Err(Rule::WrongCount) }
+    if is_word(cut.rest) {
+        Ok(cut)
+    } else {
+        Err(Rule::WrongCount)
+    }
 }
 
 #[tactic(auto, unfolding(crate::specs::ScheduleWords::is_word))]

@@ -9,5 +9,5 @@ use Rattle.cluster_core.proofs.schedule.script.Script.add.Goals as goal
 pub returns-clause-opened : goal.returns-clause-opened
 returns-clause-opened c = λ q.
     ap (λ (opened : List (ℕ × Unit {0})). is_some (value_at nat_cmp opened q)) c.in_ok-note.ensures
-        ∙ (knows_after c.args.self.now.opened c.args.self.now.events c.args.event c.requires q
-        ∙ sym (ap (λ (events : List Event). is_opened events q) c.in_ok-push.ensures.ok))
+    ∙ (knows_after c.args.self.now.opened c.args.self.now.events c.args.event c.requires q
+    ∙ sym (ap (λ (events : List Event). is_opened events q) c.in_ok-push.ensures.ok))
