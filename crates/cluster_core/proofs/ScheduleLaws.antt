@@ -7,7 +7,7 @@ use Rattle.cluster_core.specs.declared.schedule.open_line.TheConstants.{OPEN}
 use Rattle.cluster_core.specs.declared.schedule.data_line.TheConstants.{DATA}
 use Rattle.cluster_core.proofs.Shortens.{text_shortens, words_shorten, first_shortens, line_shortens, lengths-pieces}
 use Rattle.std.proofs.lemmas.List.{append-nil}
-use Rattle.std.proofs.lemmas.List.Sums.{sum_by-append, sum_by-cons}
+use Rattle.std.proofs.lemmas.List.Sums.{sum_by-cons}
 use Rattle.std.proofs.lemmas.Bool.Decides.{nat_tests}
 use Rattle.cluster_core.specs.declared.config.Config.{Config}
 use Rattle.cluster_core.specs.declared.event.Event.{Event}
@@ -16,14 +16,14 @@ use Rattle.cluster_core.specs.declared.schedule.fault.Rule.{Rule}
 use Rattle.cluster_core.specs.declared.schedule.fault.Rule.TheVariants.{UnknownWord, UnknownNode, Connection, TooLong}
 use Rattle.cluster_core.specs.ScheduleWords.{two_words, number_in, word_and_rest, first_word}
 use Rattle.cluster_core.specs.declared.schedule.fault.SchedFault.{SchedFault}
-use Rattle.cluster_core.specs.World.{weight_of}
+use Rattle.cluster_core.specs.World.{weight_of, weight_of_all}
 use Rattle.cluster_core.specs.Pieces.{pieces_of, line_in, without_end}
 use Rattle.cluster_core.specs.ScheduleRules.{◌>>=◌}
 use Rattle.cluster_core.specs.ScheduleOpen.{open_of, frontend_in, is_frontend_named, unopened}
 use Rattle.cluster_core.specs.ScheduleData.{data_of, opened_before, text_in}
 use Rattle.cluster_core.specs.ScheduleOpened.{is_opened}
 use Rattle.cluster_core.specs.Schedule.{event_of, with_event, line_read, events_from, schedule_of, is_passed_over}
-use Rattle.cluster_core.specs.ScheduleFits.{FitsBehind, AllFitBehind, weight_of_events, FitSchedule}
+use Rattle.cluster_core.specs.ScheduleFits.{FitsBehind, AllFitBehind, FitSchedule}
 
 -- both steps of two gave something
 both : {A B E : Type 0} (first : Result A E) (next : A → Result B E) (b : B) → (first >>= next) ≡ Ok b → (a : A) × (first ≡ Ok a) × (next a ≡ Ok b)
@@ -104,12 +104,16 @@ unfolding is_passed_over
 is_some_line [] h = cc
 is_some_line (b ∷ line) h = omega arith
 
+weight-push : (before : List Event) (event : Event) → weight_of_all (before ++ event ∷ []) ≡ weight_of_all before + weight_of event
+unfolding weight_of_all
+weight-push [] event = omega arith
+weight-push (first ∷ before) event = omega (arith, weight-push before event)
+
 with_one : (config : Config) (size more : ℕ) (before : List Event) (event : Event) → FitSchedule config size before → Fits config before event more
     → FitSchedule config (size + more) (before ++ event ∷ [])
-unfolding weight_of_events
 with_one config size more before event all one = record {
   consistent = all_fit-push config [] before event all.consistent one.fits;
-  small = rw (sum_by-append weight_of before (event ∷ [])) (omega (arith, all.small, one.small));
+  small = omega (arith, weight-push before event, all.small, one.small);
 }
 
 line_by : (config : Config) (number size : ℕ) (before after : List Event) (line : List ℕ) → FitSchedule config size before
@@ -138,7 +142,7 @@ lines_fit (piece ∷ pieces) config number size before events all h =
     record { consistent = rest.consistent; small = omega (arith, rest.small, line_shortens piece, sum_by-cons length piece pieces) }
 
 none_fit : (config : Config) → FitSchedule config 0 []
-unfolding AllFitBehind weight_of_events
+unfolding AllFitBehind weight_of_all
 none_fit config = record { consistent = tt; small = omega arith }
 
 abbrev too_long : SchedFault

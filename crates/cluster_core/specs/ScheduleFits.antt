@@ -1,9 +1,9 @@
 -- What the events of a schedule keep among themselves.
-use Rattle.std.specs.Prelude.{◌≡◌, ℕ, ◌≤◌, ⊤, true, false, List, [], ◌∷◌, ◌++◌, length, sum_by, Ok}
+use Rattle.std.specs.Prelude.{◌≡◌, ℕ, ◌≤◌, ⊤, true, false, List, [], ◌∷◌, ◌++◌, Ok}
 use Rattle.cluster_core.specs.declared.config.Config.{Config}
 use Rattle.cluster_core.specs.declared.event.Event.{Event}
 use Rattle.cluster_core.specs.declared.event.Event.TheVariants.{Open, Data, Hang, Deliver, Cut, Join, Crash, Arm, Start, Flow, Heal}
-use Rattle.cluster_core.specs.World.{weight_of}
+use Rattle.cluster_core.specs.World.{weight_of_all}
 use Rattle.cluster_core.specs.ScheduleOpen.{frontend_in}
 use Rattle.cluster_core.specs.ScheduleOpened.{is_opened}
 
@@ -26,11 +26,7 @@ unfoldable pub AllFitBehind : Config → List Event → List Event → Type 0
 AllFitBehind config before [] = ⊤
 AllFitBehind config before (event ∷ events) = FitsBehind config before event × AllFitBehind config (before ++ event ∷ []) events
 
--- how many steps and client bytes the events bring at most
-unfoldable pub weight_of_events : List Event → ℕ
-weight_of_events events = sum_by weight_of events
-
--- the events of a schedule of so many bytes
+-- the events of a schedule of so many bytes: they fit one another, and bring no more steps and client bytes than that
 pub record FitSchedule (config : Config) (size : ℕ) (events : List Event) : Type 0 where
   pub consistent : AllFitBehind config [] events
-  pub small : weight_of_events events ≤ size
+  pub small : weight_of_all events ≤ size

@@ -1,6 +1,7 @@
 // The nodes of a cluster, and the one configuration that is known so far.
-ghost use Rattle.std.specs.Prelude.{◌≡◌, IfOk, None};
+ghost use Rattle.std.specs.Prelude.{◌≡◌, IfOk, IsSome, None};
 ghost use Rattle.mur_base.specs.Names.{short_name_fault};
+ghost use Rattle.cluster_core.specs.Nodes.{frontend_of};
 ghost use Rattle.cluster_core.specs.Config.{config_of, known_config, IsReadAsConfig};
 
 use mur_base::{Items, Memory, NodeName, node_name};
@@ -58,7 +59,8 @@ pub const KNOWN_CONFIG: &[u8] =
 /// The configuration that a text spells. It is refused exactly where its bytes aren't those of `KNOWN_CONFIG`.
 #[tactic(auto, unfolding(crate::specs::Config::config_of))]
 pub fn read_config(alloc: Global, bytes: &[u8]) -> Result<Config, ConfigFault>
-    ensures { IsReadAsConfig (config_of bytes.now) result }
+    ensures read { IsReadAsConfig (config_of bytes.now) result }
+    ensures frontend { IfOk result (λ config. IsSome (frontend_of config.nodes)) }
 {
     if bytes == KNOWN_CONFIG {
         Ok(known_config(alloc)?)
@@ -67,9 +69,10 @@ pub fn read_config(alloc: Global, bytes: &[u8]) -> Result<Config, ConfigFault>
     }
 }
 
-#[tactic(auto, unfolding(crate::specs::Config::known_config, mur_base::specs::Names::short_name_fault, mur_base::specs::Names::has_short_name_bytes, mur_base::specs::Names::is_short_name_byte))]
+#[tactic(auto, unfolding(crate::specs::Config::known_config, crate::specs::Nodes::frontend_of, mur_base::specs::Names::short_name_fault, mur_base::specs::Names::has_short_name_bytes, mur_base::specs::Names::is_short_name_byte))]
 fn known_config(alloc: Global) -> Result<Config, Memory>
-    ensures { IfOk result (λ config. config ≡ known_config) }
+    ensures value { IfOk result (λ config. config ≡ known_config) }
+    ensures frontend { IfOk result (λ config. IsSome (frontend_of config.nodes)) }
 {
     let mut nodes = Items::new(alloc);
     nodes.push(known_node(alloc, b"m", Kind::Master)?)?;

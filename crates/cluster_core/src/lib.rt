@@ -17,7 +17,6 @@ mod turn;
 mod world;
 
 pub use cluster::{Cluster, HomeRow, HomeRows, Points, run};
-pub use config::{Config, Kind, Node, Nodes};
 pub use config::{Config, ConfigFault, KNOWN_CONFIG, Kind, Node, Nodes, read_config};
 pub use event::{Event, Events};
 pub use pieces::{Pieces, line_in};

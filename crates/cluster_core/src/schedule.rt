@@ -3,6 +3,7 @@ ghost use Rattle.std.specs.Prelude.{◌≡◌, ◌<◌, ◌^◌, ◌+◌, length
 ghost use Rattle.cluster_core.specs.ScheduleRules.{IsReadAs, IsReadAsSchedule};
 ghost use Rattle.cluster_core.specs.ScheduleOpened.{KnowsOpened};
 ghost use Rattle.cluster_core.specs.ScheduleFits.{FitSchedule};
+ghost use Rattle.cluster_core.specs.World.{weight_of_all};
 ghost use Rattle.cluster_core.specs.Schedule.{event_of, is_passed_over, line_read, schedule_of, IsTakenAs};
 
 mod data_line;
@@ -28,6 +29,7 @@ use words::first_word;
 pub fn read_schedule(alloc: Global, bytes: &[u8], config: &Config) -> Result<Events, ReadFault>
     ensures read { IsReadAsSchedule (schedule_of config.now bytes.now) result }
     ensures fit { IfOk result (FitSchedule config.now (length bytes.now)) }
+    ensures room { IfOk result (λ events. weight_of_all events < 2 ^ 64) }
 {
     if bytes.len() > SCHEDULE_LIMIT {
         return Err(ReadFault::Refused(SchedFault {

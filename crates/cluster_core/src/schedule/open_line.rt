@@ -10,6 +10,7 @@ use crate::event::Event;
 use crate::schedule::fault::{LineFault, Rule};
 use crate::schedule::script::Script;
 use crate::schedule::words::{number_in, two_words};
+use mur_base::Copied;
 use std::alloc::Global;
 
 /// The word that such a line begins with.

@@ -13,3 +13,10 @@ unfolding schedule_of events_from
 returns-clause-fit c =
     let read : schedule_of c.args.config.now c.args.bytes.now ≡ Ok c.loop-piece.script.events = grind (arith, common_steps) in
     schedule_fits _ _ _ read
+
+pub returns-clause-room : goal.returns-clause-room
+unfolding schedule_of events_from
+returns-clause-room c =
+    let read : schedule_of c.args.config.now c.args.bytes.now ≡ Ok c.loop-piece.script.events = grind (arith, common_steps) in
+    let fit = schedule_fits c.args.config.now c.args.bytes.now c.loop-piece.script.events read in
+    omega (arith, fit.small)
