@@ -10,6 +10,8 @@ mod data_line;
 mod fault;
 mod open_line;
 mod script;
+#[cfg(test)]
+mod tests;
 mod words;
 
 use crate::config::Config;

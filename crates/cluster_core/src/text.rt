@@ -3,6 +3,9 @@ ghost use Rattle.std.specs.Prelude.{◌≡◌, ◌<◌, ◌++◌, IfOk, IfSome, 
 ghost use Rattle.std.specs.Option.{ForSome};
 ghost use Rattle.cluster_core.specs.Text.{spelling_of, name_spelling_of, text_of, name_text_of, bytes_of, is_printed, hex_digit, hex_value, character_at, between_spellings, behind_escape, first_digit, second_digit, IsPlace, KeepsPlace};
 
+#[cfg(test)]
+mod tests;
+
 use mur_base::{Bytes, Memory};
 use std::alloc::Global;
 
