@@ -26,7 +26,7 @@ pub enum Rule {
 impl Rule {
     /// The rule's number, from 1, as error lines print it.
     #[tactic(auto, unfolding(crate::specs::ScheduleRules::rule_number))]
-    pub fn number(self) -> u64
+    pub fn number(self) -> u8
         ensures { result ≡ rule_number self }
     {
         match self {

@@ -90,7 +90,7 @@ fn reads_the_lines_of_a_schedule(rt: HostRuntime) -> Result<(), Fail> {
 #[test]
 fn names_the_first_bad_line_and_its_first_rule(rt: HostRuntime) -> Result<(), Fail> {
     let config = read_config(rt.alloc(), KNOWN_CONFIG)?;
-    let rows: [(&[u8], u64, u64); 34] = [
+    let rows: [(&[u8], u64, u8); 34] = [
         (b"hang 1\n", 1, 1),
         (b" open f1 1\n", 1, 1),
         (b"Open f1 1\n", 1, 1),
