@@ -18,11 +18,9 @@ take-requires c = way_has_room c.args.config.now c.args.events _ _ _ _ c.require
 
 pub loop-event-preserved : goal.loop-event-preserved
 loop-event-preserved c = (
-  tt,
-  tt,
+  tt, tt,
   shorter _ _ _ _ _ c.loop-event.invariant.2 c.in-Some.ensures.steps.0 c.in-Some.ensures.steps.1,
-  way_goes_on _ _ _ _ _ _ _ c.in-Some.ensures.steps.0 c.in_ok-take.ensures c.loop-event.invariant.3,
-)
+  way_goes_on _ _ _ _ _ _ _ c.in-Some.ensures.steps.0 c.in_ok-take.ensures c.loop-event.invariant.3)
 
 pub returns : goal.returns
 returns c = way_ends _ _ _ _ (empty_by_length _ (sym c.loop-event.invariant.2 ∙ c.in-None.ensures.steps.0)) c.loop-event.invariant.3
