@@ -8,3 +8,9 @@ mod Keeps
 mod OneStoreLaw
 mod OneHome
 pub mod HeadlineLaw
+mod TextLaws
+mod CutPieces
+mod CutWords
+mod OpenedLaws
+mod ScheduleLaws
+mod Shortens

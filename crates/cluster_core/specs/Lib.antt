@@ -7,3 +7,13 @@ pub mod Shown
 pub mod OneStore
 pub mod HomeLaw
 pub mod Headline
+pub mod Text
+pub mod Config
+pub mod Pieces
+pub mod ScheduleRules
+pub mod ScheduleWords
+pub mod ScheduleOpened
+pub mod ScheduleOpen
+pub mod ScheduleData
+pub mod Schedule
+pub mod ScheduleFits

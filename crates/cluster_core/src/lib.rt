@@ -9,11 +9,17 @@ mod happens;
 mod home;
 mod line;
 mod nodes;
+mod pieces;
 mod reply_text;
+mod schedule;
+mod text;
 mod turn;
 mod world;
 
 pub use cluster::{Cluster, HomeRow, HomeRows, Points, run};
-pub use config::{Config, Kind, Node, Nodes};
+pub use config::{Config, ConfigFault, KNOWN_CONFIG, Kind, Node, Nodes, read_config};
 pub use event::{Event, Events};
+pub use pieces::{Pieces, line_in};
+pub use schedule::{ReadFault, Rule, SchedFault, read_schedule};
+pub use text::{put_name, put_text, read_text};
 pub use world::{Connection, Home, World};

@@ -1,0 +1,100 @@
+-- Bytes as printable text, in schedules and in outputs.
+use Rattle.std.specs.Prelude.{ℕ, ◌+◌, ◌-◌, ◌*◌, ◌/◌, ◌%◌, ◌<◌, ⊤, Bool, ◌&&◌, ◌==◌, nat_lt, nat_le, if◌then◌else◌, List, [], ◌∷◌, Option, None, Some}
+use Rattle.std.specs.List.{flat_map}
+use Rattle.cluster_core.specs.declared.text.Place.{Place}
+use Rattle.cluster_core.specs.declared.text.Place.TheVariants.{Between, Escape, Hex, HexDigit}
+use Rattle.cluster_core.specs.declared.text.Character.{Character}
+use Rattle.cluster_core.specs.declared.text.Character.TheVariants.{Inside, Ends, Bad}
+
+-- a byte of printable ASCII
+unfoldable pub is_printed : ℕ → Bool
+is_printed b = nat_le 32 b && nat_le b 126
+
+-- a lower case digit of base 16
+unfoldable pub hex_digit : ℕ → ℕ
+hex_digit d = if nat_lt d 10 then 48 + d else 87 + d
+
+-- the one canonical spelling of a byte: '\\', itself, '\r', '\n', or '\x' and two digits
+unfoldable pub spelling_of : ℕ → List ℕ
+spelling_of b =
+    if b == 92 then 92 ∷ 92 ∷ []
+    else if is_printed b then b ∷ []
+    else if b == 13 then 92 ∷ 114 ∷ []
+    else if b == 10 then 92 ∷ 110 ∷ []
+    else 92 ∷ 120 ∷ hex_digit (b / 16) ∷ hex_digit (b % 16) ∷ []
+
+-- the canonical text of bytes
+unfoldable pub text_of : List ℕ → List ℕ
+text_of bytes = flat_map spelling_of bytes
+
+-- in a name a space is spelled '\x20', since names stand between spaces
+unfoldable pub name_spelling_of : ℕ → List ℕ
+name_spelling_of b = if b == 32 then 92 ∷ 120 ∷ 50 ∷ 48 ∷ [] else spelling_of b
+
+unfoldable pub name_text_of : List ℕ → List ℕ
+name_text_of bytes = flat_map name_spelling_of bytes
+
+-- the value of a lower case digit of base 16
+unfoldable pub hex_value : ℕ → Option ℕ
+hex_value c =
+    if nat_le 48 c && nat_le c 57 then Some (c - 48) else if nat_le 97 c && nat_le c 102 then Some (c - 87) else None
+
+unfoldable pub between_spellings : ℕ → Character
+between_spellings c = if c == 92 then Inside Escape else if is_printed c then Ends c else Bad
+
+unfoldable pub behind_escape : ℕ → Character
+behind_escape c =
+    if c == 92 then Ends 92 else if c == 114 then Ends 13 else if c == 110 then Ends 10 else if c == 120 then Inside Hex else Bad
+
+unfoldable pub first_digit : Option ℕ → Character
+first_digit None = Bad
+first_digit (Some d) = Inside (HexDigit d)
+
+unfoldable pub second_digit : ℕ → Option ℕ → Character
+second_digit high None = Bad
+second_digit high (Some d) = Ends (16 * high + d)
+
+-- what a character does behind a part of a spelling
+unfoldable pub character_at : Place → ℕ → Character
+character_at Between c = between_spellings c
+character_at Escape c = behind_escape c
+character_at Hex c = first_digit (hex_value c)
+character_at (HexDigit high) c = second_digit high (hex_value c)
+
+unfoldable pub with_byte : ℕ → Option (List ℕ) → Option (List ℕ)
+with_byte b None = None
+with_byte b (Some bytes) = Some (b ∷ bytes)
+
+-- a digit of base 16 is below 16
+abbrev pub IsPlace : Place → Type 0
+IsPlace Between = ⊤
+IsPlace Escape = ⊤
+IsPlace Hex = ⊤
+IsPlace (HexDigit high) = high < 16
+
+abbrev pub KeepsPlace : Character → Type 0
+KeepsPlace Bad = ⊤
+KeepsPlace (Inside place) = IsPlace place
+KeepsPlace (Ends b) = ⊤
+
+-- the bytes that are spelled behind a character, where `rest` says which are spelled behind it at each place
+unfoldable pub bytes_behind : Character → (Place → Option (List ℕ)) → Option (List ℕ)
+bytes_behind Bad rest = None
+bytes_behind (Inside place) rest = rest place
+bytes_behind (Ends b) rest = with_byte b (rest Between)
+
+-- no spelling ends inside
+unfoldable pub at_end : Place → Option (List ℕ)
+at_end Between = Some []
+at_end Escape = None
+at_end Hex = None
+at_end (HexDigit high) = None
+
+-- the bytes that a text spells behind a part of a spelling
+unfoldable pub bytes_from : List ℕ → Place → Option (List ℕ)
+bytes_from [] place = at_end place
+bytes_from (c ∷ text) place = bytes_behind (character_at place c) (bytes_from text)
+
+-- the bytes that a text spells, in any of the forms
+unfoldable pub bytes_of : List ℕ → Option (List ℕ)
+bytes_of text = bytes_from text Between
