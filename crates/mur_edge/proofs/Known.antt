@@ -1,10 +1,11 @@
 -- Bytes that were given or taken in two steps.
-use Rattle.std.specs.Prelude.{◌≡◌, ℕ, ◌+◌, ◌-◌, ◌≤◌, min, List, ◌++◌, Option, None, Some, take, drop, length, refl}
+use Rattle.std.specs.Prelude.{◌≡◌, ℕ, ◌+◌, ◌-◌, ◌<◌, ◌≤◌, min, List, ◌++◌, Option, None, Some, Ok, take, drop, length, refl}
 use Rattle.std.proofs.Common.{◌∙◌, ap, sym, subst, arith, append_assoc, length-drop}
 use Rattle.std.proofs.Math.Seq.{take-append-add}
-use Rattle.std.proofs.lemmas.List.{take-append-le, take-append-drop, length-take-le, take_min, take_all}
+use Rattle.std.proofs.lemmas.List.{take-append-le, take-append-drop, length-take-le, take_min, take_all, drop-drop, drop_all}
 use Rattle.std.specs.Io.KnownBytes.{prepend_known, append_known}
 use Rattle.mur_edge.specs.Sink.{Took, TookFront}
+use Rattle.mur_edge.specs.Source.{ReadGives}
 
 pub prepend_known-append : (xs ys : List ℕ) (known : Option (List ℕ)) → prepend_known (xs ++ ys) known ≡ prepend_known xs (prepend_known ys known)
 prepend_known-append xs ys None = refl
@@ -41,3 +42,11 @@ take-add a n xs h =
 -- what is taken from a place on joins what was taken before it
 pub Took-from_place : (first second third : Option (List ℕ)) (a n : ℕ) (xs : List ℕ) → a ≤ length xs → Took first second (take a xs) → Took second third (take n (take (length xs - a) (drop a xs))) → Took first third (take (a + n) xs)
 Took-from_place first second third a n xs h one two = rw (take-add a n xs h) (Took-append first second third (take a xs) _ one two)
+
+-- a read of a list from a place on gives what fits into the buffer, or what is left
+pub ReadGives-drop : (whole : List ℕ) (at n : ℕ) (buffer : List ℕ) → n ≡ min (length buffer) (length (drop at whole)) → take n buffer ≡ take n (drop at whole) → ReadGives {E = Unit {0}} (Some (drop at whole)) (Some (drop (at + n) whole)) (Ok n) buffer
+ReadGives-drop whole at n buffer count bytes =
+    let rest : drop n (drop at whole) ≡ drop (at + n) whole = drop-drop n at whole in
+    let parts : take n (drop at whole) ++ drop n (drop at whole) ≡ drop at whole = take-append-drop n (drop at whole) in
+    ( ap (λ list. Some list) (rw (bytes, ← rest) (sym parts))
+    , λ none room. rw (← rest) (drop_all n (drop at whole) (omega arith)) )

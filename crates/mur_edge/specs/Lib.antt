@@ -1,4 +1,5 @@
 pub mod Counts
 pub mod Host
+pub mod Returned
 pub mod Sink
 pub mod Source

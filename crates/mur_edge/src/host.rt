@@ -21,6 +21,7 @@ pub enum Asked {
 
 /// An object that goes back to its host: a source with the name under which it was handed out, the output, the error
 /// output.
+#[derive(Drop)]
 pub enum Used<I, O> {
     Source(Bytes, I),
     Out(O),

@@ -7,10 +7,16 @@
 
 mod fault;
 mod host;
+mod memory;
+mod returned;
 mod sink;
 mod source;
 
 pub use fault::{Failed, HostFault};
-pub use host::{Host, Used};
+pub use host::{Asked, Host, Used};
+pub use memory::{
+    Calls, MemSink, MemSource, MemUsed, SinkState, SourceState, mem_sink, mem_source,
+};
+pub use returned::{Returned, Room};
 pub use sink::{Sink, write_all};
 pub use source::{Source, read_to_end};

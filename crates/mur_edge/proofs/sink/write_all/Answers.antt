@@ -6,4 +6,5 @@ pub loop-at-preserved : goal.loop-at-preserved
 loop-at-preserved g c = record {
   in_range = search rules;
   took = Took-from_place _ _ _ _ _ _ c.loop-at.invariant.in_range c.loop-at.invariant.took c.in_ok-at.ensures.bytes;
-  later = search rules }
+  later = search rules;
+}

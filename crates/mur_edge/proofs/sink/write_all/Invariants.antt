@@ -7,7 +7,8 @@ abbrev pub invariant-loop-at : goal.invariant-loop-at
 invariant-loop-at g l = record {
   in_range : l.at ≤ length l.bytes;
   took : Took (g.S.Sink.taken l.initial.sink) (g.S.Sink.taken l.sink) (take l.at l.bytes);
-  later : g.S.Sink.faults l.initial.sink ≤ g.S.Sink.faults l.sink }
+  later : g.S.Sink.faults l.initial.sink ≤ g.S.Sink.faults l.sink;
+}
 
 abbrev pub decreases-loop-at : goal.decreases-loop-at
 decreases-loop-at g l = length l.bytes - l.at

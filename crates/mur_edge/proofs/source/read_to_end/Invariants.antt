@@ -7,7 +7,8 @@ abbrev pub invariant-loop-bytes : goal.invariant-loop-bytes
 invariant-loop-bytes g l = record {
   read : g.S.Source.left l.initial.source ≡ prepend_known l.bytes (g.S.Source.left l.source);
   same : g.S.Source.whole l.source ≡ g.S.Source.whole l.initial.source;
-  later : g.S.Source.faults l.initial.source ≤ g.S.Source.faults l.source }
+  later : g.S.Source.faults l.initial.source ≤ g.S.Source.faults l.source;
+}
 
 -- each turn takes a byte at least, and a list has fewer than this
 abbrev pub decreases-loop-bytes : goal.decreases-loop-bytes
