@@ -47,6 +47,7 @@ Took-from_place first second third a n xs h one two = rw (take-add a n xs h) (To
 pub ReadGives-drop : (whole : List ℕ) (at n : ℕ) (buffer : List ℕ) → n ≡ min (length buffer) (length (drop at whole)) → take n buffer ≡ take n (drop at whole) → ReadGives {E = Unit {0}} (Some (drop at whole)) (Some (drop (at + n) whole)) (Ok n) buffer
 ReadGives-drop whole at n buffer count bytes =
     let rest : drop n (drop at whole) ≡ drop (at + n) whole = drop-drop n at whole in
-    let parts : take n (drop at whole) ++ drop n (drop at whole) ≡ drop at whole = take-append-drop n (drop at whole) in
-    ( ap (λ list. Some list) (rw (bytes, ← rest) (sym parts))
-    , λ none room. rw (← rest) (drop_all n (drop at whole) (omega arith)) )
+    let parts : take n (drop at whole) ++ drop n (drop at whole) ≡ drop at whole = take-append-drop n (drop at whole) in (
+      ap (λ list. Some list) (rw (bytes, ← rest) (sym parts)),
+      λ none room. rw (← rest) (drop_all n (drop at whole) (omega arith)),
+    )

@@ -1,5 +1,6 @@
 -- Counts of faults, which never fall, and what ties them to an answer.
 use Rattle.std.specs.Prelude.{◌≡◌, ℕ, ◌+◌, ◌-◌, ◌^◌, ◌<◌, ◌≤◌, min, Result, OnErr, IsErrOf}
+use Rattle.mur_edge.specs.declared.fault.Faults.{Faults}
 use Rattle.mur_edge.specs.declared.fault.HostFault.{HostFault}
 use Rattle.mur_edge.specs.declared.fault.HostFault.TheVariants.{Failed}
 
@@ -20,12 +21,6 @@ pub record HasCause {T E : Type 0} (before now : ℕ) (answer : Result T E) : Ty
 pub record HasHostCause {T : Type 0} (before now : ℕ) (answer : Result T HostFault) : Type 0 where
   pub later : before ≤ now
   pub failed : IsErrOf answer Failed → Rose before now
-
--- a host's counts of faults, by the kind of object
-pub record Faults : Type 0 where
-  pub sources : ℕ
-  pub outputs : ℕ
-  pub errors : ℕ
 
 -- no count has fallen
 pub record HaveNotFallen (before now : Faults) : Type 0 where

@@ -1,5 +1,6 @@
 // What a call of the edge answers when it fails.
 ghost use Rattle.std.specs.Prelude.{◌≡◌};
+ghost use Rattle.mur_edge.specs.Counts.{Counts};
 ghost use Rattle.mur_edge.specs.declared.fault.HostFault.TheVariants.{Memory, Failed as failed};
 
 use mur_base::Memory;
@@ -37,6 +38,34 @@ impl fmt::Display for HostFault {
 }
 
 impl Error for HostFault {}
+
+/// How many faults a host has counted, by the kind of object. No count ever falls, and each stands still at its type's end.
+#[derive(Clone, Copy, Debug, PartialEq, Eq)]
+pub struct Faults {
+    pub sources: u64,
+    pub outputs: u64,
+    pub errors: u64,
+}
+
+impl Faults {
+    /// No fault.
+    pub const NONE: Faults = Faults {
+        sources: 0,
+        outputs: 0,
+        errors: 0,
+    };
+}
+
+/// A host's count when an object comes back that has counted this many faults: one more exactly where that isn't 0.
+pub fn count_back(count: u64, faults: u64) -> u64
+    ensures { Counts count faults result }
+{
+    if faults > 0 {
+        count.saturating_add(1)
+    } else {
+        count
+    }
+}
 
 impl From<Failed> for HostFault {
     ghost from_gives = { λ _ fault. fault ≡ failed };

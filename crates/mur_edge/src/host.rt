@@ -1,9 +1,10 @@
 // Who hands out sources and sinks, and takes them back.
 ghost use Rattle.std.specs.Prelude.{◌≡◌, ◌-◌, ℕ, List, [], ◌∷◌, ◌++◌, IfOk};
-ghost use Rattle.mur_edge.specs.Counts.{HasHostCause, Faults, HaveNotFallen, Counts};
+ghost use Rattle.mur_edge.specs.Counts.{HasHostCause, HaveNotFallen, Counts};
 ghost use Rattle.mur_edge.specs.Source.{IsFreshSource};
 ghost use Rattle.mur_edge.specs.Sink.{IsFreshSink};
 ghost use Rattle.mur_edge.specs.Host.{Came, after_call, after_hand_out, came_of, source_faults_of, output_faults_of, error_faults_of};
+ghost use Rattle.mur_edge.specs.declared.fault.Faults.{Faults};
 ghost use Rattle.mur_edge.specs.declared.host.Asked.{Asked};
 
 use crate::fault::HostFault;

@@ -12,7 +12,7 @@ mod returned;
 mod sink;
 mod source;
 
-pub use fault::{Failed, HostFault};
+pub use fault::{Failed, Faults, HostFault, count_back};
 pub use host::{Asked, Host, Used};
 pub use memory::{
     Calls, MemSink, MemSource, MemUsed, SinkState, SourceState, mem_sink, mem_source,

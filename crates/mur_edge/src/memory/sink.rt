@@ -1,6 +1,7 @@
 // A sink in memory, whose failing writes are given by number.
-ghost use Rattle.std.specs.Prelude.{◌≡◌, ◌+◌, ◌++◌, [], Some, length, IfOk, OnOk, OnErr, IsErr, Contains};
+ghost use Rattle.std.specs.Prelude.{◌≡◌, ◌+◌, ◌++◌, [], Some, length, IfOk, OnOk, OnErr, IsErr, true};
 ghost use Rattle.mur_edge.specs.Counts.{HasCause, one_more};
+ghost use Rattle.mur_edge.specs.Memory.{fails_at};
 
 use super::host::MemUsed;
 use super::source::{Calls, is_failing};
@@ -46,10 +47,25 @@ pub fn mem_sink(alloc: Global, failing: Calls) -> Result<MemSink, Memory>
     })
 }
 
+impl MemSink {
+    pub(super) fn into_parts(self) -> (SinkState, Room<MemUsed>)
+        ensures { result.0 ≡ self.state }
+    {
+        (self.state, self.room)
+    }
+
+    // The numbers of its writes that fail.
+    pub(super) fn into_failing(self) -> Calls
+        ensures { result ≡ self.state.failing }
+    {
+        self.state.failing
+    }
+}
+
 impl SinkState {
     // One write, counted.
     fn write(&mut self, piece: &[u8]) -> Result<usize, Failed>
-        ensures fails { Contains self.old.failing self.old.calls → IsErr result }
+        ensures fails { fails_at self.old.failing self.old.calls ≡ true → IsErr result }
         ensures count { IfOk result (λ n. n ≡ length piece.now) }
         ensures ok { OnOk result (self.new ≡ record self.old { taken = self.old.taken ++ piece.now; calls = one_more self.old.calls }) }
         ensures cause { HasCause self.old.faults self.new.faults result }

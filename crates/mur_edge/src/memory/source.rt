@@ -1,8 +1,9 @@
 // A source in memory, whose failing reads are given by number.
-ghost use Rattle.std.specs.Prelude.{◌≡◌, ◌+◌, ◌<◌, ◌^◌, ◌↔◌, Some, length, take, drop, min, IfOk, OnErr, IsErr, IsTrue, Contains};
+ghost use Rattle.std.specs.Prelude.{◌≡◌, ◌+◌, ◌<◌, ◌^◌, Some, length, take, drop, min, IfOk, OnErr, is_err};
 ghost use Rattle.std.specs.Io.{ReadsAtMost};
 ghost use Rattle.mur_edge.specs.Counts.{HasCause, one_more};
 ghost use Rattle.mur_edge.specs.Source.{ReadGives, after_read};
+ghost use Rattle.mur_edge.specs.Memory.{fails_at};
 
 use super::host::MemUsed;
 use crate::fault::Failed;
@@ -15,7 +16,7 @@ use std::alloc::Global;
 pub type Calls = Items<u64>;
 
 pub(crate) fn is_failing(failing: &Calls, call: u64) -> bool
-    ensures { IsTrue result ↔ Contains failing.now call }
+    ensures { result ≡ fails_at failing.now call }
 {
     failing.as_slice().contains(&call)
 }
@@ -56,6 +57,14 @@ pub fn mem_source(alloc: Global, bytes: Bytes, failing: Calls) -> Result<MemSour
     })
 }
 
+impl MemSource {
+    pub(super) fn into_parts(self) -> (SourceState, Room<MemUsed>)
+        ensures { result.0 ≡ self.state }
+    {
+        (self.state, self.room)
+    }
+}
+
 impl SourceState {
     // The bytes that are not read yet.
     fn rest(&self) -> &[u8]
@@ -72,7 +81,7 @@ impl SourceState {
 
     // One read, counted.
     fn read(&mut self, buf: &mut [u8]) -> Result<usize, Failed>
-        ensures fails { IsErr result ↔ Contains self.old.failing self.old.calls }
+        ensures fails { is_err result ≡ fails_at self.old.failing self.old.calls }
         ensures count { IfOk result (λ n. n ≡ min (length buf.new) (length (drop self.old.at self.old.whole))) }
         ensures bytes { ReadGives (Some (drop self.old.at self.old.whole)) (Some (drop self.new.at self.new.whole)) result buf.new }
         ensures cause { HasCause self.old.faults self.new.faults result }
