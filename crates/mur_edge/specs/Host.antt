@@ -1,5 +1,6 @@
 -- What a host tells: the calls that asked it for an object, and the objects that came back.
-use Rattle.std.specs.Prelude.{◌≡◌, ℕ, ◌+◌, List, [], ◌∷◌, ◌++◌, Option, Result, Ok, Err}
+use Rattle.std.specs.Prelude.{◌≡◌, ℕ, ◌+◌, List, [], ◌∷◌, ◌++◌, Option, None, Some, Result, Ok, Err}
+use Rattle.std.specs.List.{fold}
 use Rattle.mur_edge.specs.declared.fault.HostFault.{HostFault}
 use Rattle.mur_edge.specs.declared.fault.HostFault.TheVariants.{Memory, Failed}
 use Rattle.mur_edge.specs.declared.host.Asked.{Asked}
@@ -45,3 +46,23 @@ abbrev pub error_faults_of : Came → ℕ
 error_faults_of (source_came _ _ _ _ _) = 0
 error_faults_of (out_came _ _) = 0
 error_faults_of (errors_came faults _) = faults
+
+-- the bytes that an output which came back had taken, where it told them, else those found before it
+abbrev pub output_or : List ℕ → Came → List ℕ
+output_or found (source_came _ _ _ _ _) = found
+output_or found (out_came _ None) = found
+output_or found (out_came _ (Some taken)) = taken
+output_or found (errors_came _ _) = found
+
+abbrev pub errors_or : List ℕ → Came → List ℕ
+errors_or found (source_came _ _ _ _ _) = found
+errors_or found (out_came _ _) = found
+errors_or found (errors_came _ None) = found
+errors_or found (errors_came _ (Some taken)) = taken
+
+-- the bytes of the last output and of the last error output that came back
+abbrev pub last_output : List Came → List ℕ
+last_output came = fold output_or [] came
+
+abbrev pub last_errors : List Came → List ℕ
+last_errors came = fold errors_or [] came

@@ -8,7 +8,7 @@ use std::mem;
 
 // The entries, the newest first.
 #[derive(Drop)]
-enum Chain<T> {
+pub(crate) enum Chain<T> {
     End,
     More(T, Box<Chain<T>>),
 }
@@ -43,10 +43,19 @@ impl<T> Model for Returned<T> {
 }
 
 impl<T> Returned<T> {
+    ghost use Rattle.mur_edge.specs.Returned.{entries_of};
+
     pub fn new() -> Returned<T>
         ensures { result ≡ [] }
     {
         Returned { newest: Chain::End }
+    }
+
+    // The entries, the newest first.
+    pub(crate) fn chain(&self) -> &Chain<T>
+        ensures { entries_of result.now ≡ self.now }
+    {
+        &self.newest
     }
 
     /// Puts an entry at the end, in the room that it brings.

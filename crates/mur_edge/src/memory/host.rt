@@ -3,7 +3,8 @@ ghost use Rattle.std.specs.Prelude.{◌≡◌, ◌<◌, ◌+◌, ◌-◌, ◌∷
 ghost use Rattle.mur_edge.specs.Counts.{HasHostCause, HaveNotFallen, Counts, one_more};
 ghost use Rattle.mur_edge.specs.Source.{IsFreshSource};
 ghost use Rattle.mur_edge.specs.Sink.{IsFreshSink};
-ghost use Rattle.mur_edge.specs.Host.{after_call, after_hand_out, source_faults_of, output_faults_of, error_faults_of};
+ghost use Rattle.mur_edge.specs.Returned.{entries_of};
+ghost use Rattle.mur_edge.specs.Host.{after_call, after_hand_out, last_output, last_errors, source_faults_of, output_faults_of, error_faults_of};
 ghost use Rattle.mur_edge.specs.Memory.{fails_at, place_named, free_place, memory_came, object_came, IsFreshCopy, freed, sources_out_after, output_out_after, errors_out_after};
 ghost use Rattle.mur_edge.specs.declared.fault.HostFault.TheVariants.{Failed as failed};
 ghost use Rattle.mur_edge.specs.declared.host.Asked.TheVariants.{Source as source_asked, Out as out_asked, Errors as errors_asked};
@@ -13,7 +14,7 @@ use super::sink::{MemSink, SinkState, mem_sink};
 use super::source::{Calls, MemSource, SourceState, is_failing, mem_source};
 use crate::fault::{Faults, HostFault, count_back};
 use crate::host::{Asked, Host, Used};
-use crate::returned::Returned;
+use crate::returned::{Chain, Returned};
 use mur_base::{Bytes, Items, Memory};
 use std::alloc::Global;
 
@@ -29,8 +30,8 @@ pub struct MemHost {
     alloc: Global,
     pub sources: MemSources,
     pub sources_out: Vec<bool>,
-    pub output: Lent,
-    pub error_output: Lent,
+    pub out: Lent,
+    pub errors: Lent,
     pub calls: u64,
     pub failing: Calls,
     pub faults: Faults,
@@ -56,8 +57,8 @@ pub fn mem_host(
 ) -> Result<MemHost, Memory>
     ensures sources { IfOk result (λ host. host.sources ≡ sources) }
     ensures in_place { IfOk result (λ host. host.sources_out.items ≡ replicate (length sources) false) }
-    ensures output { IfOk result (λ host. host.output ≡ record { failing = out.state.failing; is_out = false }) }
-    ensures errors { IfOk result (λ host. host.error_output ≡ record { failing = errors.state.failing; is_out = false }) }
+    ensures output { IfOk result (λ host. host.out ≡ record { failing = out.state.failing; is_out = false }) }
+    ensures errors { IfOk result (λ host. host.errors ≡ record { failing = errors.state.failing; is_out = false }) }
     ensures failing { IfOk result (λ host. (host.failing ≡ failing) × (host.calls ≡ 0)) }
     ensures fresh { IfOk result (λ host. (host.faults ≡ record { sources = 0; outputs = 0; errors = 0 }) × (host.held ≡ 0) × (host.asked ≡ []) × (host.returned ≡ [])) }
 {
@@ -66,11 +67,11 @@ pub fn mem_host(
         alloc,
         sources,
         sources_out,
-        output: Lent {
+        out: Lent {
             failing: out.into_failing(),
             is_out: false,
         },
-        error_output: Lent {
+        errors: Lent {
             failing: errors.into_failing(),
             is_out: false,
         },
@@ -215,21 +216,21 @@ impl Host for MemHost {
         ensures returned { map memory_came self.new.returned ≡ map memory_came self.old.returned }
         ensures held { self.new.held ≡ after_hand_out self.old.held result }
 
-        ensures given { IfOk result (λ sink. (sink.state.failing ≡ self.old.output.failing) × (self.new.output.is_out ≡ true)) }
-        ensures refused { result ≡ Err failed → (fails_at self.old.failing self.old.calls || self.old.output.is_out) ≡ true }
-        ensures free { OnOk result ((fails_at self.old.failing self.old.calls || self.old.output.is_out) ≡ false) }
+        ensures given { IfOk result (λ sink. (sink.state.failing ≡ self.old.out.failing) × (self.new.out.is_out ≡ true)) }
+        ensures refused { result ≡ Err failed → (fails_at self.old.failing self.old.calls || self.old.out.is_out) ≡ true }
+        ensures free { OnOk result ((fails_at self.old.failing self.old.calls || self.old.out.is_out) ≡ false) }
     {
         let fails = self.count_call();
         let held = self.one_more_held()?;
-        let copy = if fails || self.output.is_out {
+        let copy = if fails || self.out.is_out {
             None
         } else {
-            Some(self.fresh_sink(&self.output)?)
+            Some(self.fresh_sink(&self.out)?)
         };
         self.asked.push(Asked::Out)?;
         match copy {
             Some(sink) => {
-                self.output.is_out = true;
+                self.out.is_out = true;
                 self.held = held;
                 Ok(sink)
             }
@@ -248,21 +249,21 @@ impl Host for MemHost {
         ensures returned { map memory_came self.new.returned ≡ map memory_came self.old.returned }
         ensures held { self.new.held ≡ after_hand_out self.old.held result }
 
-        ensures given { IfOk result (λ sink. (sink.state.failing ≡ self.old.error_output.failing) × (self.new.error_output.is_out ≡ true)) }
-        ensures refused { result ≡ Err failed → (fails_at self.old.failing self.old.calls || self.old.error_output.is_out) ≡ true }
-        ensures free { OnOk result ((fails_at self.old.failing self.old.calls || self.old.error_output.is_out) ≡ false) }
+        ensures given { IfOk result (λ sink. (sink.state.failing ≡ self.old.errors.failing) × (self.new.errors.is_out ≡ true)) }
+        ensures refused { result ≡ Err failed → (fails_at self.old.failing self.old.calls || self.old.errors.is_out) ≡ true }
+        ensures free { OnOk result ((fails_at self.old.failing self.old.calls || self.old.errors.is_out) ≡ false) }
     {
         let fails = self.count_call();
         let held = self.one_more_held()?;
-        let copy = if fails || self.error_output.is_out {
+        let copy = if fails || self.errors.is_out {
             None
         } else {
-            Some(self.fresh_sink(&self.error_output)?)
+            Some(self.fresh_sink(&self.errors)?)
         };
         self.asked.push(Asked::Errors)?;
         match copy {
             Some(sink) => {
-                self.error_output.is_out = true;
+                self.errors.is_out = true;
                 self.held = held;
                 Ok(sink)
             }
@@ -283,8 +284,8 @@ impl Host for MemHost {
 
         // The object may be handed out again.
         ensures sources_out { self.new.sources_out.items ≡ sources_out_after used self.old.sources self.old.sources_out.items }
-        ensures output_out { self.new.output.is_out ≡ output_out_after used self.old.output.is_out }
-        ensures errors_out { self.new.error_output.is_out ≡ errors_out_after used self.old.error_output.is_out }
+        ensures output_out { self.new.out.is_out ≡ output_out_after used self.old.out.is_out }
+        ensures errors_out { self.new.errors.is_out ≡ errors_out_after used self.old.errors.is_out }
         ensures kept { self.new.sources ≡ self.old.sources }
     {
         self.held = self.held.saturating_sub(1);
@@ -292,13 +293,13 @@ impl Host for MemHost {
             Used::Source(name, source) => self.take_source(name, source),
             Used::Out(sink) => {
                 let (state, room) = sink.into_parts();
-                self.output.is_out = false;
+                self.out.is_out = false;
                 self.faults.outputs = count_back(self.faults.outputs, state.faults);
                 self.returned.add(Used::Out(state), room);
             }
             Used::Errors(sink) => {
                 let (state, room) = sink.into_parts();
-                self.error_output.is_out = false;
+                self.errors.is_out = false;
                 self.faults.errors = count_back(self.faults.errors, state.faults);
                 self.returned.add(Used::Errors(state), room);
             }
@@ -306,7 +307,44 @@ impl Host for MemHost {
     }
 }
 
+// The bytes of the newest output of a chain.
+fn newest_output(chain: &Chain<MemUsed>) -> &[u8]
+    ensures { result.now ≡ last_output (map memory_came (entries_of chain.now)) }
+{
+    match chain {
+        Chain::End => &[],
+        Chain::More(Used::Out(sink), _) => sink.taken.as_slice(),
+        Chain::More(_, older) => newest_output(older),
+    }
+}
+
+// The bytes of the newest error output of a chain.
+fn newest_errors(chain: &Chain<MemUsed>) -> &[u8]
+    ensures { result.now ≡ last_errors (map memory_came (entries_of chain.now)) }
+{
+    match chain {
+        Chain::End => &[],
+        Chain::More(Used::Errors(sink), _) => sink.taken.as_slice(),
+        Chain::More(_, older) => newest_errors(older),
+    }
+}
+
 impl MemHost {
+    /// The bytes that the output had taken when it last came back: none where it didn't, or took nothing. It takes no memory.
+    pub fn output(&self) -> &[u8]
+        ensures { result.now ≡ last_output (map memory_came self.now.returned) }
+    {
+        newest_output(self.returned.chain())
+    }
+
+    /// The bytes that the error output had taken when it last came back: none where it didn't, or took nothing. It takes no
+    /// memory.
+    pub fn error_output(&self) -> &[u8]
+        ensures { result.now ≡ last_errors (map memory_came self.now.returned) }
+    {
+        newest_errors(self.returned.chain())
+    }
+
     fn take_source(&mut self, name: Bytes, source: MemSource)
         ensures out { self.new.sources_out.items ≡ freed (place_named self.old.sources name) self.old.sources_out.items }
         ensures counts { Counts self.old.faults.sources source.state.faults self.new.faults.sources }

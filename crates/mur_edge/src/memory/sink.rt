@@ -1,6 +1,8 @@
 // A sink in memory, whose failing writes are given by number.
-ghost use Rattle.std.specs.Prelude.{◌≡◌, ◌+◌, ◌++◌, [], Some, length, IfOk, OnOk, OnErr, IsErr, true};
+ghost use Rattle.std.specs.Prelude.{◌≡◌, ◌<◌, [], Some, length, IfOk, OnOk, IsErr, true};
+ghost use Rattle.std.specs.Io.{WritesAtMost};
 ghost use Rattle.mur_edge.specs.Counts.{HasCause, one_more};
+ghost use Rattle.mur_edge.specs.Sink.{WriteTakes};
 ghost use Rattle.mur_edge.specs.Memory.{fails_at};
 
 use super::host::MemUsed;
@@ -62,31 +64,30 @@ impl MemSink {
     }
 }
 
-impl SinkState {
-    // One write, counted.
-    fn write(&mut self, piece: &[u8]) -> Result<usize, Failed>
-        ensures fails { fails_at self.old.failing self.old.calls ≡ true → IsErr result }
-        ensures count { IfOk result (λ n. n ≡ length piece.now) }
-        ensures ok { OnOk result (self.new ≡ record self.old { taken = self.old.taken ++ piece.now; calls = one_more self.old.calls }) }
-        ensures cause { HasCause self.old.faults self.new.faults result }
-        ensures err { OnErr result (self.new ≡ record self.old { calls = one_more self.old.calls; faults = one_more self.old.faults }) }
-    {
-        let fails = is_failing(&self.failing, self.calls);
-        self.calls = self.calls.saturating_add(1);
-        if fails || self.taken.extend_from_slice(piece).is_err() {
-            self.faults = self.faults.saturating_add(1);
-            return Err(Failed);
-        }
-        Ok(piece.len())
-    }
-}
-
 impl Sink for MemSink {
     ghost taken = { λ sink. Some sink.state.taken };
 
     ghost faults = { λ sink. sink.state.faults };
 
-    fn write(&mut self, piece: &[u8]) -> Result<usize, Failed> {
-        self.state.write(piece)
+    fn write(&mut self, piece: &[u8]) -> Result<usize, Failed>
+        ensures bound { WritesAtMost result piece.now }
+        ensures some { IfOk result (λ n. 0 < length piece.now → 0 < n) }
+        ensures bytes { WriteTakes (Some self.old.state.taken) (Some self.new.state.taken) result piece.now }
+        ensures cause { HasCause self.old.state.faults self.new.state.faults result }
+
+        // The numbered calls fail, and the others take the whole piece if there is memory for it.
+        ensures fails { fails_at self.old.state.failing self.old.state.calls ≡ true → IsErr result }
+        ensures counted { self.new.state.calls ≡ one_more self.old.state.calls }
+        ensures numbers { self.new.state.failing ≡ self.old.state.failing }
+        ensures faultless { OnOk result (self.new.state.faults ≡ self.old.state.faults) }
+        ensures count { IfOk result (λ n. n ≡ length piece.now) }
+    {
+        let fails = is_failing(&self.state.failing, self.state.calls);
+        self.state.calls = self.state.calls.saturating_add(1);
+        if fails || self.state.taken.extend_from_slice(piece).is_err() {
+            self.state.faults = self.state.faults.saturating_add(1);
+            return Err(Failed);
+        }
+        Ok(piece.len())
     }
 }

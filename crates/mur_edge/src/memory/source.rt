@@ -1,5 +1,5 @@
 // A source in memory, whose failing reads are given by number.
-ghost use Rattle.std.specs.Prelude.{◌≡◌, ◌+◌, ◌<◌, ◌^◌, Some, length, take, drop, min, IfOk, OnErr, is_err};
+ghost use Rattle.std.specs.Prelude.{◌≡◌, ◌+◌, ◌<◌, ◌^◌, Some, length, take, drop, min, IfOk, is_err, OnOk};
 ghost use Rattle.std.specs.Io.{ReadsAtMost};
 ghost use Rattle.mur_edge.specs.Counts.{HasCause, one_more};
 ghost use Rattle.mur_edge.specs.Source.{ReadGives, after_read};
@@ -78,29 +78,6 @@ impl SourceState {
             &[]
         }
     }
-
-    // One read, counted.
-    fn read(&mut self, buf: &mut [u8]) -> Result<usize, Failed>
-        ensures fails { is_err result ≡ fails_at self.old.failing self.old.calls }
-        ensures count { IfOk result (λ n. n ≡ min (length buf.new) (length (drop self.old.at self.old.whole))) }
-        ensures bytes { ReadGives (Some (drop self.old.at self.old.whole)) (Some (drop self.new.at self.new.whole)) result buf.new }
-        ensures cause { HasCause self.old.faults self.new.faults result }
-        ensures ok { IfOk result (λ n. self.new ≡ record self.old { at = self.old.at + n; calls = one_more self.old.calls; shorts = after_read self.old.shorts result (length buf.new) }) }
-        ensures err { OnErr result (self.new ≡ record self.old { calls = one_more self.old.calls; faults = one_more self.old.faults }) }
-    {
-        let fails = is_failing(&self.failing, self.calls);
-        self.calls = self.calls.saturating_add(1);
-        if fails {
-            self.faults = self.faults.saturating_add(1);
-            return Err(Failed);
-        }
-        let n = fill(buf, self.rest());
-        self.at += n;
-        if 0 < n && n < buf.len() {
-            self.shorts = self.shorts.saturating_add(1);
-        }
-        Ok(n)
-    }
 }
 
 // Puts as many of the bytes into the front of the buffer as fit, and says how many.
@@ -122,7 +99,31 @@ impl Source for MemSource {
 
     ghost shorts = { λ source. source.state.shorts };
 
-    fn read(&mut self, buf: &mut [u8]) -> Result<usize, Failed> {
-        self.state.read(buf)
+    fn read(&mut self, buf: &mut [u8]) -> Result<usize, Failed>
+        ensures bound { ReadsAtMost result buf.new }
+        ensures bytes { ReadGives (Some (drop self.old.state.at self.old.state.whole)) (Some (drop self.new.state.at self.new.state.whole)) result buf.new }
+        ensures same { self.new.state.whole ≡ self.old.state.whole }
+        ensures short { self.new.state.shorts ≡ after_read self.old.state.shorts result (length buf.new) }
+        ensures cause { HasCause self.old.state.faults self.new.state.faults result }
+
+        // Exactly the numbered calls fail, and the others give as much as fits.
+        ensures fails { is_err result ≡ fails_at self.old.state.failing self.old.state.calls }
+        ensures counted { self.new.state.calls ≡ one_more self.old.state.calls }
+        ensures numbers { self.new.state.failing ≡ self.old.state.failing }
+        ensures faultless { OnOk result (self.new.state.faults ≡ self.old.state.faults) }
+        ensures count { IfOk result (λ n. n ≡ min (length buf.new) (length (drop self.old.state.at self.old.state.whole))) }
+    {
+        let fails = is_failing(&self.state.failing, self.state.calls);
+        self.state.calls = self.state.calls.saturating_add(1);
+        if fails {
+            self.state.faults = self.state.faults.saturating_add(1);
+            return Err(Failed);
+        }
+        let n = fill(buf, self.state.rest());
+        self.state.at += n;
+        if 0 < n && n < buf.len() {
+            self.state.shorts = self.state.shorts.saturating_add(1);
+        }
+        Ok(n)
     }
 }
