@@ -15,8 +15,12 @@ mod source;
 pub use fault::{Failed, Faults, HostFault, count_back};
 pub use host::{Asked, Host, Used};
 pub use memory::{
-    Calls, MemSink, MemSource, MemUsed, SinkState, SourceState, mem_sink, mem_source,
+    Calls, Lent, MemHost, MemSink, MemSource, MemSources, MemUsed, SinkState, SourceState,
+    mem_host, mem_sink, mem_source,
 };
 pub use returned::{Returned, Room};
 pub use sink::{Sink, write_all};
 pub use source::{Source, read_to_end};
+
+#[cfg(test)]
+mod tests;

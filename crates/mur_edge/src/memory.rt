@@ -3,6 +3,6 @@ mod host;
 mod sink;
 mod source;
 
-pub use host::{MemHost, MemSources, MemUsed, mem_host};
+pub use host::{Lent, MemHost, MemSources, MemUsed, mem_host};
 pub use sink::{MemSink, SinkState, mem_sink};
 pub use source::{Calls, MemSource, SourceState, mem_source};
