@@ -1,11 +1,11 @@
 -- Bytes that were given or taken in two steps.
-use Rattle.std.specs.Prelude.{◌≡◌, ℕ, ◌+◌, ◌-◌, ◌<◌, ◌≤◌, min, List, ◌++◌, Option, None, Some, Ok, take, drop, length, refl}
+use Rattle.std.specs.Prelude.{◌≡◌, ℕ, ◌+◌, ◌-◌, ◌≤◌, min, List, [], ◌++◌, MatchOption, ⊤, Option, None, Some, Ok, take, drop, length, refl}
 use Rattle.std.proofs.Common.{◌∙◌, ap, sym, subst, arith, append_assoc, length-drop}
 use Rattle.std.proofs.Math.Seq.{take-append-add}
-use Rattle.std.proofs.lemmas.List.{take-append-le, take-append-drop, length-take-le, take_min, take_all, drop-drop, drop_all}
-use Rattle.std.specs.Io.KnownBytes.{prepend_known, append_known}
-use Rattle.mur_edge.specs.Sink.{Took, TookFront}
-use Rattle.mur_edge.specs.Source.{ReadGives}
+use Rattle.std.proofs.lemmas.List.{append-nil, take-append-le, take-append-drop, length-take-le, take_min, take_all, drop-drop, drop_all}
+use Rattle.std.specs.Io.KnownBytes.{prepend_known, append_known, IsAtEnd}
+use Rattle.mur_edge.specs.Sink.{Took, TookFront, HoldsAll, HoldsFront}
+use Rattle.mur_edge.specs.Source.{ReadGives, IsReadWhole}
 
 pub prepend_known-append : (xs ys : List ℕ) (known : Option (List ℕ)) → prepend_known (xs ++ ys) known ≡ prepend_known xs (prepend_known ys known)
 prepend_known-append xs ys None = refl
@@ -51,3 +51,20 @@ ReadGives-drop whole at n buffer count bytes =
       ap (λ list. Some list) (rw (bytes, ← rest) (sym parts)),
       λ none room. rw (← rest) (drop_all n (drop at whole) (omega arith)),
     )
+
+-- a source that was read to its end has given all that it had when it was handed out
+pub IsReadWhole-from_end : (whole left : Option (List ℕ)) (bytes : List ℕ) → whole ≡ prepend_known bytes left → IsAtEnd left → IsReadWhole whole left bytes
+IsReadWhole-from_end whole None bytes given ended = record { all = subst (λ known. MatchOption known ⊤ (λ content. content ≡ bytes)) (sym given) tt; ended = tt }
+IsReadWhole-from_end whole (Some rest) bytes given ended = record {
+  all = subst (λ known. MatchOption known ⊤ (λ content. content ≡ bytes)) (sym given) (ap (λ list. bytes ++ list) ended ∙ append-nil bytes);
+  ended = ended;
+}
+
+-- what a sink has taken since it was handed out is all that it holds
+pub HoldsAll-from_fresh : (before now : Option (List ℕ)) (text : List ℕ) → MatchOption before ⊤ (λ bytes. bytes ≡ []) → Took before now text → HoldsAll now text
+HoldsAll-from_fresh None now text empty took = subst (λ known. HoldsAll known text) (sym took) tt
+HoldsAll-from_fresh (Some bytes) now text empty took = subst (λ known. HoldsAll known text) (sym took) (ap (λ front. front ++ text) empty)
+
+pub HoldsFront-from_fresh : (before now : Option (List ℕ)) (text : List ℕ) → MatchOption before ⊤ (λ bytes. bytes ≡ []) → TookFront before now text → HoldsFront now text
+HoldsFront-from_fresh None now text empty took = subst (λ known. HoldsFront known text) (sym took.1) tt
+HoldsFront-from_fresh (Some bytes) now text empty took = subst (λ known. HoldsFront known text) (sym took.1) (took.0, ap (λ front. front ++ take took.0 text) empty)

@@ -1,5 +1,5 @@
 -- What a host tells: the calls that asked it for an object, and the objects that came back.
-use Rattle.std.specs.Prelude.{◌≡◌, ℕ, ◌+◌, List, [], ◌∷◌, ◌++◌, Option, None, Some, Result, Ok, Err}
+use Rattle.std.specs.Prelude.{ℕ, ◌+◌, List, [], ◌∷◌, ◌++◌, Option, None, Some, Result, Ok, Err}
 use Rattle.std.specs.List.{fold}
 use Rattle.mur_edge.specs.declared.fault.HostFault.{HostFault}
 use Rattle.mur_edge.specs.declared.fault.HostFault.TheVariants.{Memory, Failed}

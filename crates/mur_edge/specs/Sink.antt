@@ -19,3 +19,10 @@ TookFront before now bytes = (n : ℕ) × Took before now (take n bytes)
 pub record IsFreshSink (taken : Option (List ℕ)) (faults : ℕ) : Type 0 where
   pub empty : MatchOption taken ⊤ (λ bytes. bytes ≡ [])
   pub faultless : faults ≡ 0
+
+-- a sink that was handed out fresh holds all of a text, or a front of it, where it tells
+abbrev pub HoldsAll : Option (List ℕ) → List ℕ → Type 0
+HoldsAll taken text = MatchOption taken ⊤ (λ bytes. bytes ≡ text)
+
+abbrev pub HoldsFront : Option (List ℕ) → List ℕ → Type 0
+HoldsFront taken text = MatchOption taken ⊤ (λ bytes. (n : ℕ) × (bytes ≡ take n text))
