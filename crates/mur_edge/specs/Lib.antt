@@ -1,0 +1,6 @@
+pub mod Counts
+pub mod Host
+pub mod Memory
+pub mod Returned
+pub mod Sink
+pub mod Source
