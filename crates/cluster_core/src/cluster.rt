@@ -1,5 +1,8 @@
 // The cluster as one value.
-ghost use Rattle.std.specs.Prelude.{◌≡◌, ◌<◌, ◌^◌, IfOk, OnOk, IsSome};
+ghost use Rattle.std.specs.Prelude.{◌≡◌, ◌<◌, ◌^◌, List, IfOk, OnOk, IsSome};
+ghost use Rattle.cluster_core.specs.declared.config.Config.{Config};
+ghost use Rattle.cluster_core.specs.declared.event.Event.{Event};
+ghost use Rattle.cluster_core.specs.Headline.{IsOneServer};
 ghost use Rattle.cluster_core.specs.Nodes.{frontend_of};
 ghost use Rattle.cluster_core.specs.Shown.{given_to, home_rows};
 ghost use Rattle.cluster_core.specs.World.{start, happens, run, weight_of_all, HasRoom};
@@ -125,17 +128,26 @@ fn home_rows(alloc: Global, world: &World) -> Result<HomeRows, Memory>
     Ok(rows)
 }
 
-/// Runs the events one after another from the start. Each event is let go once it was taken.
+/// Runs the events one after another from the start. Each event is let go once it was taken. The headline holds of the run:
+/// its events are few enough for the UIDVALIDITYs.
 pub fn run(alloc: Global, config: &Config, events: Events) -> Result<Cluster, Memory>
     requires frontend { IsSome (frontend_of config.now.nodes) }
-    requires room { weight_of_all events < 2 ^ 64 }
-    ensures { IfOk result (λ cluster. cluster ≡ run (start config.now) events) }
+    requires room { weight_of_all events < 2 ^ 32 }
+    ensures ran { IfOk result (λ cluster. cluster ≡ run (start config.now) events) }
+    ensures one_server { IsOneServer config.now events }
 {
     let mut cluster = Cluster::new(alloc, config)?;
     for event in events.into_vec() {
         take(&mut cluster, event)?;
     }
     Ok(cluster)
+}
+
+/// The headline as a law of its own: it holds of every configuration and of all events that are few enough for the
+/// UIDVALIDITYs. The call does nothing.
+pub fn headline()
+    ensures { (config : Config) (events : List Event) → weight_of_all events < 2 ^ 32 → IsOneServer config events }
+{
 }
 
 fn take(cluster: &mut Cluster, event: Event) -> Result<(), Memory>

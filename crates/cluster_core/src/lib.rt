@@ -16,7 +16,7 @@ mod text;
 mod turn;
 mod world;
 
-pub use cluster::{Cluster, HomeRow, HomeRows, Points, run};
+pub use cluster::{Cluster, HomeRow, HomeRows, Points, headline, run};
 pub use config::{Config, ConfigFault, KNOWN_CONFIG, Kind, Node, Nodes, read_config};
 pub use event::{Event, Events};
 pub use pieces::{Pieces, line_in};

@@ -31,7 +31,7 @@ use words::first_word;
 pub fn read_schedule(alloc: Global, bytes: &[u8], config: &Config) -> Result<Events, ReadFault>
     ensures read { IsReadAsSchedule (schedule_of config.now bytes.now) result }
     ensures fit { IfOk result (FitSchedule config.now (length bytes.now)) }
-    ensures room { IfOk result (λ events. weight_of_all events < 2 ^ 64) }
+    ensures room { IfOk result (λ events. weight_of_all events < 2 ^ 32) }
 {
     if bytes.len() > SCHEDULE_LIMIT {
         return Err(ReadFault::Refused(SchedFault {

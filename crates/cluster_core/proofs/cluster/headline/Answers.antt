@@ -1,0 +1,5 @@
+use Rattle.cluster_core.proofs.HeadlineLaw.{one_server}
+use Rattle.cluster_core.proofs.cluster.headline.Goals as goal
+
+pub returns : goal.returns
+returns c = one_server
