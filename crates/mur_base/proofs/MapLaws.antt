@@ -1,15 +1,13 @@
 -- What a look-up finds after a change of a map, under an order that tells all keys apart.
 use Rattle.std.proofs.Math.Logic.{⊎_elim}
-use Rattle.std.proofs.Common.{◌≡◌, ◌≢◌, ◌⊎◌, inl, inr, ℕ, Bool, true, false, cond, List, [], ◌∷◌, Option, None, Some, refl, sym, ◌∙◌, ap, subst}
+use Rattle.std.proofs.Common.{◌≡◌, ◌≢◌, ◌⊎◌, inl, inr, Bool, true, false, cond, List, [], ◌∷◌, Some, refl, sym, ◌∙◌, ap, subst}
 use Rattle.std.specs.declared.cmp.Ordering.{Ordering}
 use Rattle.std.specs.declared.cmp.Ordering.TheVariants.{Less, Equal, Greater}
 use Rattle.std.specs.Ordering.{is_eq, nat_cmp, match_ordering}
-use Rattle.std.specs.Cmp.{IsTotalOrder}
 use Rattle.std.specs.Cmp.Lexicographic.{slice_cmp}
-use Rattle.std.specs.BTreeMap.{is_at, insert_entry}
-use Rattle.std.specs.Map.{lookup, set_value}
+use Rattle.std.specs.BTreeMap.{insert_entry}
 use Rattle.std.proofs.lemmas.Cmp.{tied_itself, nat_cmp_total, nat_list_cmp_total}
-use Rattle.std.proofs.lemmas.Map.Lookups.{CmpEqualImpliesEq, exact_unsigned, exact_bytes}
+use Rattle.std.proofs.lemmas.Map.Lookups.{exact_unsigned, exact_bytes}
 use Rattle.mur_base.specs.Map.{value_at, with_entry, with_value}
 
 -- an order in which only a key itself is equal to it
@@ -25,12 +23,14 @@ equal_by Greater h = cc
 pub numbers_apart : TellsApart nat_cmp
 numbers_apart = record {
   itself = λ x. ap is_eq (tied_itself nat_cmp_total x);
-  exact = λ x y h. exact_unsigned x y (equal_by _ h) }
+  exact = λ x y h. exact_unsigned x y (equal_by _ h);
+}
 
 pub names_apart : TellsApart (slice_cmp nat_cmp)
 names_apart = record {
   itself = λ x. ap is_eq (tied_itself nat_list_cmp_total x);
-  exact = λ x y h. exact_bytes x y (equal_by _ h) }
+  exact = λ x y h. exact_bytes x y (equal_by _ h);
+}
 
 module _ {K : Type 0} (cmp : K → K → Ordering) (apart : TellsApart cmp) where
   other_key : (q k : K) → q ≢ k → (b : Bool) → is_eq (cmp q k) ≡ b → b ≡ false
@@ -105,7 +105,7 @@ module _ {K X : Type 0} (cmp : K → K → Ordering) (apart : TellsApart cmp) wh
       → (q : K) → value_at cmp (with_entry cmp es k v) q ≡ value_at cmp (with_entry cmp fs k v) q
   same_after_entry es fs k v same q =
       ⊎_elim
-        (λ (e : q ≡ k). subst (λ x. value_at cmp (with_entry cmp es k v) x ≡ value_at cmp (with_entry cmp fs k v) x) (sym e)
-            (value_at-with_entry cmp apart es k v ∙ sym (value_at-with_entry cmp apart fs k v)))
-        (λ (ne : q ≢ k). value_at-with_entry-other cmp apart es k q v ne ∙ same q ∙ sym (value_at-with_entry-other cmp apart fs k q v ne))
-        (same_or_other cmp apart q k)
+      (λ (e : q ≡ k). subst (λ x. value_at cmp (with_entry cmp es k v) x ≡ value_at cmp (with_entry cmp fs k v) x) (sym e)
+      (value_at-with_entry cmp apart es k v ∙ sym (value_at-with_entry cmp apart fs k v)))
+      (λ (ne : q ≢ k). value_at-with_entry-other cmp apart es k q v ne ∙ same q ∙ sym (value_at-with_entry-other cmp apart fs k q v ne))
+      (same_or_other cmp apart q k)

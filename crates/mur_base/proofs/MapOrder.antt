@@ -1,5 +1,5 @@
 -- A map stays in the order of its keys.
-use Rattle.std.proofs.Common.{◌≡◌, ℕ, Bool, true, false, List, [], ◌∷◌, refl, sym, ◌∙◌, ap, subst}
+use Rattle.std.proofs.Common.{◌≡◌, List, [], ◌∷◌, refl, ◌∙◌, ap}
 use Rattle.std.specs.Prelude.{All}
 use Rattle.std.specs.List.{AllByRecursion}
 use Rattle.std.specs.List.Sorted.{IsStrictlySortedBy}
@@ -22,7 +22,7 @@ module _ {K : Type 0} (cmp : K → K → Ordering) (order : IsTotalOrder cmp) wh
   below_all : (k first : K) (ks : List K) → cmp k first ≡ Less → IsStrictlySortedBy cmp (first ∷ ks) → All (λ q. cmp k q ≡ Less) (first ∷ ks)
   below_all k first ks h sorted =
       All-cons (λ q. cmp k q ≡ Less) first ks h
-          (All-weaker (λ q. cmp first q ≡ Less) (λ q. cmp k q ≡ Less) (λ q l. order.trans k first q h l) ks (All-after_first cmp first ks sorted))
+      (All-weaker (λ q. cmp first q ≡ Less) (λ q. cmp k q ≡ Less) (λ q l. order.trans k first q h l) ks (All-after_first cmp first ks sorted))
 
 module _ {K X : Type 0} (cmp : K → K → Ordering) (order : IsTotalOrder cmp) where
   in_order_by : (e : K × X) (es : List (K × X)) (k : K) (v : X) → IsStrictlySortedBy cmp (keys_of (e ∷ es)) → IsStrictlySortedBy cmp (keys_of (insert_entry cmp es k v))
@@ -30,9 +30,11 @@ module _ {K X : Type 0} (cmp : K → K → Ordering) (order : IsTotalOrder cmp) 
   unfolding IsStrictlySortedBy
   in_order_by e es k v sorted later Less h = (by_recursion (λ q. cmp k q ≡ Less) (keys_of (e ∷ es)) (below_all cmp order k e.0 (keys_of es) h sorted), sorted)
   in_order_by e es k v sorted later Equal h = sorted
-  in_order_by e es k v sorted later Greater h =
-      (by_recursion (λ q. cmp e.0 q ≡ Less) (keys_of (insert_entry cmp es k v))
-          (All-keys-insert_entry cmp k v (λ q. cmp e.0 q ≡ Less) es (All-after_first cmp e.0 (keys_of es) sorted) (order.antisymm e.0 k ∙ ap ordering_reverse h)), later)
+  in_order_by e es k v sorted later Greater h = (
+    by_recursion (λ q. cmp e.0 q ≡ Less) (keys_of (insert_entry cmp es k v))
+        (All-keys-insert_entry cmp k v (λ q. cmp e.0 q ≡ Less) es (All-after_first cmp e.0 (keys_of es) sorted) (order.antisymm e.0 k ∙ ap ordering_reverse h)),
+    later,
+  )
 
   -- an entry more keeps the order
   pub with_entry-in_order : (es : List (K × X)) (k : K) (v : X) → IsInOrder cmp es → IsInOrder cmp (with_entry cmp es k v)

@@ -24,3 +24,6 @@ pub use name_rules::{
 };
 pub use number::{put_number, read_number};
 pub use point::{AskId, Point, What};
+
+#[cfg(test)]
+mod tests;
