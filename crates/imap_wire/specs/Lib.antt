@@ -1,0 +1,4 @@
+pub mod Line
+pub mod Literal
+pub mod Frames
+pub mod Steps
