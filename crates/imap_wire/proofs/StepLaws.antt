@@ -1,13 +1,12 @@
 -- What one byte does, case by case, and a run over bytes.
-use Rattle.std.proofs.Common.{◌≡◌, ℕ, suc, ◌+◌, ◌-◌, ◌<◌, ◌≤◌, Bool, true, false, ◌&&◌, ◌==◌, nat_lt, List, [], ◌∷◌, ◌++◌, length, refl, sym, ap, ◌∙◌, arith, append_assoc, None, Some}
+use Rattle.std.proofs.Common.{◌≡◌, ℕ, ◌-◌, ◌<◌, ◌≤◌, true, false, ◌&&◌, ◌==◌, nat_lt, List, [], ◌∷◌, ◌++◌, length, refl, sym, arith, append_assoc}
 use Rattle.std.specs.Option.{option_to_list}
 use Rattle.std.proofs.lemmas.List.{append-nil}
 use Rattle.std.proofs.lemmas.Bool.Decides.{nat_tests}
 use Rattle.imap_wire.specs.declared.frame.FrameFault.TheVariants.{LineTooLong}
-use Rattle.imap_wire.specs.declared.frame.Frame.TheVariants.{Fault}
 use Rattle.imap_wire.specs.Line.{ends_with_cr, without_last, least_length}
 use Rattle.imap_wire.specs.Literal.{announced}
-use Rattle.imap_wire.specs.Steps.{State, Step, step, given, after, silent, failing, literal_step, line_step, line_end, at_line_end}
+use Rattle.imap_wire.specs.Steps.{State, step, given, after, silent, failing, literal_step, line_step, line_end, at_line_end}
 
 pub step-spent : (s : State) (byte : ℕ) → s.spent ≡ true → step s byte ≡ silent s
 unfolding step
