@@ -1,3 +1,4 @@
 pub mod StepLaws
 pub mod LineLaws
 pub mod CutLaws
+pub mod MoveLaws

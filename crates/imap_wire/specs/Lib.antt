@@ -2,3 +2,4 @@ pub mod Line
 pub mod Literal
 pub mod Frames
 pub mod Steps
+pub mod Begun

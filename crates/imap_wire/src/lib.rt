@@ -1,6 +1,7 @@
 //! The frames of a client's connection: its bytes cut into commands, whatever pieces they come in.
 #![tactic(auto)]
 
+mod begun;
 mod frame;
 mod literal;
 
