@@ -2,3 +2,4 @@ pub mod StepLaws
 pub mod LineLaws
 pub mod CutLaws
 pub mod MoveLaws
+pub mod LiteralLaws

@@ -1,5 +1,5 @@
 -- The literal that a line announces (RFC 9051, section 4.3), and what becomes of it.
-use Rattle.std.specs.Prelude.{ℕ, ◌-◌, Bool, true, false, ◌&&◌, ◌||◌, nat_eq, nat_lt, List, [], ◌∷◌, length, take, drop, Option, None, Some, if◌then◌else◌}
+use Rattle.std.specs.Prelude.{ℕ, ◌-◌, ◌^◌, IsTrue, Bool, true, false, ◌&&◌, ◌||◌, nat_eq, nat_lt, List, [], ◌∷◌, length, take, drop, min, Option, None, Some, if◌then◌else◌}
 use Rattle.std.specs.List.{ends_with, suffix_len}
 use Rattle.std.specs.Char.{is_ascii_digit}
 use Rattle.std.specs.Str.Parse.{digits_value}
@@ -7,6 +7,10 @@ use Rattle.mur_base.specs.declared.limits.TheConstants.{MESSAGE_LIMIT, PLUS_LITE
 use Rattle.imap_wire.specs.declared.literal.Literal.{Literal}
 use Rattle.imap_wire.specs.declared.literal.Admission.{Admission}
 use Rattle.imap_wire.specs.declared.literal.Admission.TheVariants.{Asked, Unasked, Refused, RefusedUnasked}
+
+-- a byte is a digit
+abbrev pub IsDigit : ℕ → Type 0
+IsDigit byte = IsTrue (is_ascii_digit byte)
 
 -- how many digits the bytes end in
 abbrev pub last_digits : List ℕ → ℕ
@@ -30,3 +34,7 @@ unfoldable pub admission_of : Literal → ℕ → Admission
 admission_of literal room =
     if literal.waits then (if nat_lt MESSAGE_LIMIT literal.size || nat_lt room literal.size then Refused else Asked)
     else (if nat_lt PLUS_LITERAL_LIMIT literal.size || nat_lt room literal.size then RefusedUnasked else Unasked)
+
+-- the same literal, where a size past 64 bits is the largest number of 64 bits
+abbrev pub capped : Literal → Literal
+capped literal = record { size = min literal.size (2 ^ 64 - 1); waits = literal.waits }
