@@ -3,3 +3,5 @@ pub mod LineLaws
 pub mod CutLaws
 pub mod MoveLaws
 pub mod LiteralLaws
+pub mod LineEndLaws
+pub mod TakeLaws

@@ -1,5 +1,5 @@
 -- Where a line ends.
-use Rattle.std.proofs.Common.{◌≡◌, ℕ, suc, ◌+◌, ◌-◌, ◌≤◌, Bool, true, false, ◌&&◌, ◌==◌, cond, List, [], ◌∷◌, ◌++◌, length, Option, unwrap_or, inl, inr, refl, sym, ap, ◌∙◌, arith, None, Some}
+use Rattle.std.proofs.Common.{◌≡◌, ℕ, suc, ◌+◌, ◌-◌, ◌≤◌, Bool, true, false, ◌&&◌, ◌==◌, cond, List, [], ◌∷◌, ◌++◌, length, take, get_or, ◌≢◌, Option, unwrap_or, inl, inr, refl, sym, ap, ◌∙◌, arith, None, Some}
 use Rattle.std.proofs.lemmas.List.{append-nil, length-append}
 use Rattle.std.proofs.lemmas.Bool.{cases_Bool}
 use Rattle.std.proofs.lemmas.Bool.Decides.{nat_tests}
@@ -122,3 +122,33 @@ least_length-split (x ∷ y ∷ xs) more text rest none split =
     let below = least_length-split (y ∷ xs) more shorter.0 rest parts.1 shorter.1 in
     let longer = ap length shorter.2 in
     omega (arith, below, longer, least_length-more x y xs)
+
+pub length-ends_with_cr : (xs : List ℕ) → ends_with_cr xs ≡ true → 1 ≤ length xs
+unfolding ends_with_cr
+length-ends_with_cr [] cr = cc
+length-ends_with_cr (x ∷ xs) cr = omega arith
+
+pub without_last-is : (xs : List ℕ) → take (length xs - 1) xs ≡ without_last xs
+unfolding without_last
+without_last-is [] = refl
+without_last-is (x ∷ []) = refl
+without_last-is (x ∷ y ∷ xs) =
+    let size : length (x ∷ y ∷ xs) - 1 ≡ suc (length (y ∷ xs) - 1) = omega arith in
+    rw size (ap (λ l. x ∷ l) (without_last-is (y ∷ xs)))
+
+-- the last byte is CR
+pub ends_with_cr-is : (xs : List ℕ) → ends_with_cr xs ≡ (get_or xs (length xs - 1) 0 == 13)
+unfolding ends_with_cr
+ends_with_cr-is [] = refl
+ends_with_cr-is (x ∷ []) = refl
+ends_with_cr-is (x ∷ y ∷ xs) =
+    let size : length (x ∷ y ∷ xs) - 1 ≡ suc (length (y ∷ xs) - 1) = omega arith in
+    rw size (ends_with_cr-is (y ∷ xs))
+
+pub least_length-cr : (xs : List ℕ) → least_length (xs ++ 13 ∷ []) ≡ length xs
+least_length-cr xs = rw (ends_with_cr-push xs 13, without_last-push xs 13) refl
+
+pub least_length-other : (xs : List ℕ) (byte : ℕ) → byte ≢ 13 → least_length (xs ++ byte ∷ []) ≡ length xs + 1
+least_length-other xs byte other =
+    let no : (byte == 13) ≡ false = grind (arith, nat_tests) in
+    rw (ends_with_cr-push xs byte, no) (omega (arith, length-append xs (byte ∷ [])))

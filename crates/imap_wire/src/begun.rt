@@ -1,4 +1,4 @@
-ghost use Rattle.std.specs.Prelude.{◌≡◌, ◌<◌, ◌≤◌, length, IfOk, OnOk, false};
+ghost use Rattle.std.specs.Prelude.{◌≡◌, ◌<◌, ◌≤◌, length, IfOk, OnOk, true, false, [], ◌∷◌, ◌++◌, IsTrue, ◌↔◌};
 
 // The command that has begun, and how it grows.
 use mur_base::Bytes;
@@ -6,8 +6,10 @@ use mur_base::limits::{COMMAND_LITERALS_LIMIT, LINE_LIMIT};
 use mur_base::Memory;
 use memchr::memchr;
 use std::alloc::Global;
+use std::mem;
 
-use crate::frame::Frame;
+use crate::frame::{Frame, FrameFault};
+use crate::literal::{Admission, Literal, announced};
 
 /// What has come of a command.
 #[derive(Drop)]
@@ -28,8 +30,9 @@ pub struct Begun {
 }
 
 impl Begun {
-    ghost use Rattle.imap_wire.specs.Begun.{state_of, Moves};
-    ghost use Rattle.imap_wire.specs.Steps.{start};
+    ghost use Rattle.imap_wire.specs.Begun.{state_of, line_of, Moves, Takes};
+    ghost use Rattle.imap_wire.specs.Steps.{start, step, line_step, line_end, with_literal};
+    ghost use Rattle.imap_wire.specs.Line.{ends_with_cr, least_length};
 
     /// The state between two commands.
     pub fn new(alloc: Global) -> Begun
@@ -77,5 +80,155 @@ impl Begun {
         let taken = memchr(b'\n', piece).unwrap_or(piece.len()).min(room);
         self.bytes.extend_from_slice(&piece[..taken])?;
         Ok(taken)
+    }
+
+    /// Whether the present line ends in CR.
+    fn ends_with_cr(&self) -> bool
+        requires { self.now.literal_left ≡ 0 }
+        ensures { result ≡ ends_with_cr (line_of self.now) }
+    {
+        matches!(self.line(), [.., b'\r'])
+    }
+
+    /// Whether the present line is within its limit with this byte at its end. A CR may begin the CRLF, which
+    /// doesn't count.
+    fn has_room_for(&self, byte: u8) -> bool
+        requires { self.now.literal_left ≡ 0 }
+        ensures { IsTrue result ↔ (least_length (line_of self.now ++ byte ∷ []) ≤ self.now.line_room) }
+    {
+        let length = self.line().len();
+        if byte == b'\r' {
+            length <= self.line_room
+        } else {
+            length < self.line_room
+        }
+    }
+
+    /// Takes bytes of the piece up to the end of the next frame, or all where none ends in it.
+    pub fn take(&mut self, alloc: Global, piece: &[u8]) -> Result<(Option<Frame>, usize), Memory>
+        requires going { self.old.spent ≡ false }
+        ensures takes { IfOk result (λ r. Takes (state_of self.old) piece.now r.0 r.1 (state_of self.new)) }
+        ensures whole { IfOk result (λ r. r.0 ≡ None → r.1 ≡ length piece.now) }
+    {
+        let mut taken = 0;
+        while taken < piece.len() {
+            let (frame, more) = self.take_some(alloc, &piece[taken..])?;
+            taken += more;
+            if frame.is_some() {
+                return Ok((frame, taken));
+            }
+        }
+        Ok((None, taken))
+    }
+
+    /// Takes one byte of the piece or more, and none behind the end of the next frame.
+    fn take_some(&mut self, alloc: Global, piece: &[u8]) -> Result<(Option<Frame>, usize), Memory>
+        requires going { self.old.spent ≡ false }
+        requires some { 0 < length piece.now }
+        ensures takes { IfOk result (λ r. Takes (state_of self.old) piece.now r.0 r.1 (state_of self.new)) }
+        ensures some { IfOk result (λ r. 0 < r.1) }
+    {
+        if self.literal_left > 0 {
+            return Ok((None, self.take_literal(piece)?));
+        }
+        let taken = self.take_text(piece)?;
+        if taken > 0 {
+            return Ok((None, taken));
+        }
+        Ok((self.take_byte(alloc, piece[0])?, 1))
+    }
+
+    /// Takes one byte where a line stands, and gives the frame that it ends.
+    fn take_byte(&mut self, alloc: Global, byte: u8) -> Result<Option<Frame>, Memory>
+        requires going { self.old.spent ≡ false }
+        requires in_line { self.old.literal_left ≡ 0 }
+        ensures frame { IfOk result (λ frame. frame ≡ (step (state_of self.old) byte).frame) }
+        ensures after { OnOk result (state_of self.new ≡ (step (state_of self.old) byte).after) }
+    {
+        if byte == b'\n' && self.ends_with_cr() {
+            self.take_line_end(alloc)
+        } else {
+            self.take_line_byte(byte)
+        }
+    }
+
+    /// Takes one byte that ends no line. The fault is the only frame.
+    fn take_line_byte(&mut self, byte: u8) -> Result<Option<Frame>, Memory>
+        requires going { self.old.spent ≡ false }
+        requires in_line { self.old.literal_left ≡ 0 }
+        ensures frame { IfOk result (λ frame. frame ≡ (line_step (state_of self.old) byte).frame) }
+        ensures after { OnOk result (state_of self.new ≡ (line_step (state_of self.old) byte).after) }
+    {
+        if !self.has_room_for(byte) {
+            self.spent = true;
+            return Ok(Some(Frame::Fault(FrameFault::LineTooLong)));
+        }
+        self.bytes.push(byte)?;
+        Ok(None)
+    }
+
+    /// Takes the LF behind the CR of the present line, and gives the frame that ends with it.
+    fn take_line_end(&mut self, alloc: Global) -> Result<Option<Frame>, Memory>
+        requires going { self.old.spent ≡ false }
+        requires in_line { self.old.literal_left ≡ 0 }
+        requires cr { ends_with_cr (line_of self.old) ≡ true }
+        ensures frame { IfOk result (λ frame. frame ≡ (step (state_of self.old) 10).frame) }
+        ensures after { OnOk result (state_of self.new ≡ (step (state_of self.old) 10).after) }
+    {
+        let line = self.line();
+        let text = &line[..line.len() - 1];
+        let length = text.len();
+        let literal = announced(text);
+        self.bytes.push(b'\n')?;
+        // No longer text gets here, so nothing is cut off at 0.
+        self.line_room = self.line_room.saturating_sub(length);
+        self.line_at = self.bytes.len();
+        Ok(self.end_line(alloc, literal))
+    }
+
+    /// Goes on behind a line that announces this literal or none, and gives the frame that ends with the line.
+    #[tactic(auto, using(crate::proofs::LiteralLaws::asked_fits, crate::proofs::LiteralLaws::unasked_fits), unfolding(crate::specs::Steps::line_end, crate::specs::Steps::announced_step))]
+    fn end_line(&mut self, alloc: Global, literal: Option<Literal>) -> Option<Frame>
+        requires between { self.old.line_at ≡ length self.old.bytes }
+        ensures frame { result ≡ (line_end (state_of self.old) literal).frame }
+        ensures after { state_of self.new ≡ (line_end (state_of self.old) literal).after }
+    {
+        let Some(literal) = literal else {
+            return Some(Frame::Whole(self.restart(alloc)));
+        };
+        match literal.admission(self.literal_room) {
+            Admission::Asked => {
+                self.expect(literal.size);
+                Some(Frame::NeedLiteral(literal.size as u32))
+            }
+            Admission::Unasked => {
+                self.expect(literal.size);
+                None
+            }
+            Admission::Refused => Some(Frame::TooBig(self.restart(alloc))),
+            Admission::RefusedUnasked => {
+                self.spent = true;
+                Some(Frame::Fault(FrameFault::PlusTooLong))
+            }
+        }
+    }
+
+    /// Lets a literal of so many bytes come.
+    fn expect(&mut self, size: usize)
+        requires room { size ≤ self.old.literal_room }
+        requires between { self.old.line_at ≡ length self.old.bytes }
+        ensures { state_of self.new ≡ with_literal (state_of self.old) size }
+    {
+        self.literal_room -= size;
+        self.literal_left = size;
+    }
+
+    /// The bytes of the command, after which a new one begins.
+    fn restart(&mut self, alloc: Global) -> Bytes
+        ensures bytes { result ≡ self.old.bytes }
+        ensures after { state_of self.new ≡ start }
+    {
+        let Begun { bytes, .. } = mem::replace(self, Begun::new(alloc));
+        bytes
     }
 }
