@@ -1,6 +1,6 @@
 -- Bytes of a piece that are taken up to the end of a frame.
 use Rattle.std.proofs.Common.{◌≡◌, ℕ, zero, suc, ◌+◌, ◌-◌, ◌<◌, ◌≤◌, Bool, true, false, ◌&&◌, ◌==◌, nat_lt, cond, List, [], ◌∷◌, ◌++◌, length, take, drop, get_or, Option, None, Some, ◌⊎◌, inl, inr, refl, sym, ap, ◌∙◌, arith, append_assoc}
-use Rattle.std.specs.Option.{option_to_list, IsSome}
+use Rattle.std.specs.Option.{option_to_list, IsSome, is_some}
 use Rattle.std.proofs.lemmas.List.{append-nil, length-append, length-drop, take-append-drop}
 use Rattle.std.proofs.Math.Seq.{take-add}
 use Rattle.std.proofs.lemmas.Bool.{cases_lt, cases_Bool, and_parts}
@@ -92,14 +92,15 @@ Takes-silent s to piece taken moves = record {
   }
 
 -- a piece that begins with one byte
-pub Takes-byte : (s to : State) (piece : List ℕ) (frame : Option Frame) → 0 < length piece → frame ≡ (step s (get_or piece 0 0)).frame → to ≡ (step s (get_or piece 0 0)).after → Takes s piece frame 1 to
+pub Takes-byte : (s mid to : State) (piece : List ℕ) (frame : Option Frame) → 0 < length piece → mid ≡ s
+    → frame ≡ (step mid (get_or piece 0 0)).frame → to ≡ (step mid (get_or piece 0 0)).after → Takes s piece frame 1 to
 unfolding given after
-Takes-byte s to [] frame some frame_is to_is = absurd (omega arith)
-Takes-byte s to (byte ∷ piece) frame some frame_is to_is = record {
+Takes-byte s mid to [] frame some same frame_is to_is = absurd (omega arith)
+Takes-byte s mid to (byte ∷ piece) frame some same frame_is to_is = record {
     within = omega arith;
-    gives = rw (frame_is, append-nil) refl;
+    gives = rw (rw same at frame_is, append-nil) refl;
     first = λ n before. let zero_is : n ≡ 0 = omega arith in rw zero_is refl;
-    arrives = to_is;
+    arrives = rw same at to_is;
   }
 
 -- one stretch behind another
@@ -119,3 +120,18 @@ Takes-more s mid to piece frame taken more before behind =
         ];
       arrives = rw (take-add taken more piece, after-append s (take taken piece) (take more (drop taken piece)), ← mid_is) behind.arrives;
     }
+
+pub Moves-zero : (s to : State) (piece : List ℕ) (taken : ℕ) → Moves s piece taken to → taken ≡ 0 → to ≡ s
+unfolding after
+Moves-zero s to piece taken moves none = rw none at moves.arrives
+
+pub Takes-going : (s to : State) (piece : List ℕ) (taken : ℕ) → s.spent ≡ false → Takes s piece None taken to → to.spent ≡ false
+Takes-going s to piece taken going takes = rw takes.arrives (spent-none s (take taken piece) going takes.gives)
+
+pub Takes-nothing : (s : State) (piece : List ℕ) → Takes s piece None 0 s
+unfolding given after
+Takes-nothing s piece = record { within = omega arith; gives = refl; first = λ n before. absurd (omega arith); arrives = refl }
+
+pub Takes-none : (s to : State) (piece : List ℕ) (frame : Option Frame) (taken : ℕ) → is_some frame ≡ false → Takes s piece frame taken to → Takes s piece None taken to
+Takes-none s to piece None taken none takes = takes
+Takes-none s to piece (Some frame) taken none takes = cc
