@@ -5,3 +5,4 @@ pub mod MoveLaws
 pub mod LiteralLaws
 pub mod LineEndLaws
 pub mod TakeLaws
+pub mod FeedLaws

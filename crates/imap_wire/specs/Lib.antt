@@ -3,3 +3,4 @@ pub mod Literal
 pub mod Frames
 pub mod Steps
 pub mod Begun
+pub mod Feeding

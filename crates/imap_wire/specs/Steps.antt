@@ -1,5 +1,5 @@
 -- A framer as a machine that takes one byte after the other.
-use Rattle.std.specs.Prelude.{ℕ, ◌-◌, Bool, true, false, ◌&&◌, ◌==◌, nat_lt, List, [], ◌∷◌, ◌++◌, length, Option, None, Some, if◌then◌else◌}
+use Rattle.std.specs.Prelude.{◌≡◌, ℕ, ◌-◌, Bool, true, false, ◌&&◌, ◌==◌, nat_lt, List, [], ◌∷◌, ◌++◌, length, Option, None, Some, if◌then◌else◌}
 use Rattle.std.specs.Option.{option_to_list}
 use Rattle.mur_base.specs.declared.limits.TheConstants.{LINE_LIMIT, COMMAND_LITERALS_LIMIT}
 use Rattle.imap_wire.specs.declared.frame.Frame.{Frame}
@@ -95,3 +95,7 @@ after state (byte ∷ bytes) = after (step state byte).after bytes
 -- the bytes of the command that has begun, none once the framer is spent
 abbrev pub begun_of : State → Option (List ℕ)
 begun_of state = if state.spent then None else Some state.bytes
+
+-- the state is the one that the bytes of its command lead to
+abbrev pub IsReached : State → Type 0
+IsReached state = state.spent ≡ false → after start state.bytes ≡ state

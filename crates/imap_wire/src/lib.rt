@@ -3,6 +3,8 @@
 
 mod begun;
 mod frame;
+mod framer;
 mod literal;
 
 pub use frame::{Frame, FrameFault};
+pub use framer::Framer;

@@ -1,0 +1,87 @@
+-- From the bytes of one command to those of a connection.
+use Rattle.std.proofs.Common.{◌≡◌, ℕ, zero, suc, ◌<◌, ◌≤◌, Bool, true, false, cond, List, [], ◌∷◌, ◌++◌, length, take, Option, None, Some, inl, inr, refl, sym, ap, ◌∙◌, arith}
+use Rattle.std.specs.Option.{option_to_list, unwrap_or}
+use Rattle.std.proofs.lemmas.List.{append-nil, take_all}
+use Rattle.std.proofs.lemmas.Bool.{cases_Bool}
+use Rattle.imap_wire.specs.declared.frame.Frame.{Frame}
+use Rattle.imap_wire.specs.Frames.{Cut, cut, frames, begun}
+use Rattle.imap_wire.specs.Steps.{State, Step, start, step, given, after, begun_of, IsReached}
+use Rattle.imap_wire.specs.Begun.{Takes}
+use Rattle.imap_wire.specs.Feeding.{Gives}
+use Rattle.imap_wire.proofs.StepLaws.{step-spent, after-append, given-append}
+use Rattle.imap_wire.proofs.TakeLaws.{step-effect}
+use Rattle.imap_wire.proofs.CutLaws.{cut-shown}
+
+IsReached-step : (s : State) (byte : ℕ) → IsReached s → IsReached (step s byte).after
+unfolding after
+IsReached-step s byte reached = elim (cases_Bool s.spent) [
+    inl spent ↦ rw (step-spent s byte spent) reached
+  | inr going ↦ elim (step-effect s byte going) [
+        inl grows ↦ (λ _. rw (grows.1, after-append start s.bytes (byte ∷ []), reached going) refl)
+      | inr (inl restarts) ↦ (λ _. rw restarts refl)
+      | inr (inr fails) ↦ (λ still. cc)
+      ]
+  ]
+
+pub IsReached-after : (s : State) (bytes : List ℕ) → IsReached s → IsReached (after s bytes)
+unfolding after
+IsReached-after s [] reached = reached
+IsReached-after s (x ∷ bytes) reached = IsReached-after (step s x).after bytes (IsReached-step s x reached)
+
+frames-shown : (bytes : List ℕ) → frames bytes ≡ given start bytes
+frames-shown bytes = ap (λ (c : Cut). c.frames) (cut-shown bytes)
+
+begun-shown : (bytes : List ℕ) → begun bytes ≡ begun_of (after start bytes)
+begun-shown bytes = ap (λ (c : Cut). c.begun) (cut-shown bytes)
+
+begun_of-some : (spent : Bool) (held bytes : List ℕ) → cond spent None (Some held) ≡ Some bytes → (spent ≡ false) × (held ≡ bytes)
+begun_of-some true held bytes h = cc
+begun_of-some false held bytes h = (refl, cc)
+
+-- all bytes of a connection lead where those of the command that has begun lead
+pub past-state : (s : State) (past : List ℕ) → s.spent ≡ false → IsReached s → begun past ≡ begun_of s → after start past ≡ s
+unfolding after
+past-state s past going reached held =
+    let now = after start past in
+    let parts = begun_of-some now.spent now.bytes s.bytes (sym (begun-shown past) ∙ (held ∙ (rw going refl))) in
+    let same : after start now.bytes ≡ now = IsReached-after start past (λ _. refl) parts.0 in
+    sym same ∙ (ap (λ (b : List ℕ). after start b) parts.1 ∙ reached going)
+
+pub frames-past : (s : State) (past bytes : List ℕ) → after start past ≡ s → frames (past ++ bytes) ≡ frames past ++ given s bytes
+frames-past s past bytes is = rw (frames-shown (past ++ bytes), frames-shown past, given-append start past bytes, is) refl
+
+pub begun-past : (s : State) (past bytes : List ℕ) → after start past ≡ s → begun (past ++ bytes) ≡ begun_of (after s bytes)
+begun-past s past bytes is = rw (begun-shown (past ++ bytes), after-append start past bytes, is) refl
+
+pub Gives-takes : (s to : State) (past piece : List ℕ) (frame : Option Frame) (taken : ℕ) → after start past ≡ s → Takes s piece frame taken to → (frame ≡ None → taken ≡ length piece) → Gives past piece frame taken
+Gives-takes s to past piece None taken is takes whole =
+    let all = whole refl in
+    let none : given s piece ≡ [] = rw (take_all taken piece (omega arith)) at takes.gives in
+    record { whole = all; no_more = rw (frames-past s past piece is, none) (append-nil (frames past)) }
+Gives-takes s to past piece (Some frame) taken is takes whole = record {
+    within = takes.within;
+    one_more = rw (frames-past s past (take taken piece) is, takes.gives) refl;
+    not_before = λ n before. rw (frames-past s past (take n piece) is, takes.first n before) (append-nil (frames past));
+  }
+
+pub begun-takes : (s to : State) (past piece : List ℕ) (frame : Option Frame) (taken : ℕ) → after start past ≡ s → Takes s piece frame taken to → begun (past ++ take taken piece) ≡ begun_of to
+begun-takes s to past piece frame taken is takes = begun-past s past (take taken piece) is ∙ ap begun_of (sym takes.arrives)
+
+pub IsReached-takes : (s to : State) (piece : List ℕ) (frame : Option Frame) (taken : ℕ) → IsReached s → Takes s piece frame taken to → IsReached to
+IsReached-takes s to piece frame taken reached takes = rw takes.arrives (IsReached-after s (take taken piece) reached)
+
+-- a new framer
+pub IsReached-start : (s : State) → s ≡ start → IsReached s
+unfolding after
+IsReached-start s is = rw is (λ _. refl)
+
+pub begun-start : (s : State) → s ≡ start → begun_of s ≡ begun []
+unfolding after
+begun-start s is = rw is (sym (begun-shown []))
+
+-- a frame has a byte, and a piece too
+pub Takes-some : (s to : State) (piece : List ℕ) (frame : Option Frame) (taken : ℕ) → Takes s piece frame taken to → (frame ≡ None → taken ≡ length piece) → 0 < length piece → 0 < taken
+unfolding given
+Takes-some s to piece None taken takes whole some = let all = whole refl in omega arith
+Takes-some s to piece (Some frame) zero takes whole some = let none = takes.gives in cc
+Takes-some s to piece (Some frame) (suc taken) takes whole some = omega arith
