@@ -1,14 +1,16 @@
 -- From the bytes of one command to those of a connection.
-use Rattle.std.proofs.Common.{◌≡◌, ℕ, zero, suc, ◌<◌, ◌≤◌, Bool, true, false, cond, List, [], ◌∷◌, ◌++◌, length, take, Option, None, Some, inl, inr, refl, sym, ap, ◌∙◌, arith}
-use Rattle.std.specs.Option.{option_to_list, unwrap_or}
-use Rattle.std.proofs.lemmas.List.{append-nil, take_all}
+use Rattle.std.proofs.Common.{◌≡◌, ℕ, zero, suc, ◌<◌, ◌≤◌, Bool, true, false, cond, List, [], ◌∷◌, ◌++◌, ◌+◌, ◌-◌, length, take, drop, get_or, Option, None, Some, inl, inr, refl, sym, ap, ◌∙◌, append_assoc, arith}
+use Rattle.std.specs.Option.{option_to_list, is_none, IsSome}
+use Rattle.std.specs.List.{concat}
+use Rattle.std.proofs.lemmas.List.{append-nil, take_all, take_rest, take-append-drop, take_more}
+use Rattle.std.proofs.Math.Seq.{take-add}
 use Rattle.std.proofs.lemmas.Bool.{cases_Bool}
 use Rattle.imap_wire.specs.declared.frame.Frame.{Frame}
 use Rattle.imap_wire.specs.Frames.{Cut, cut, frames, begun}
 use Rattle.imap_wire.specs.Steps.{State, Step, start, step, given, after, begun_of, IsReached}
 use Rattle.imap_wire.specs.Begun.{Takes}
 use Rattle.imap_wire.specs.Feeding.{Gives}
-use Rattle.imap_wire.proofs.StepLaws.{step-spent, after-append, given-append}
+use Rattle.imap_wire.proofs.StepLaws.{step-spent, after-append, given-append, after-spent, given-spent}
 use Rattle.imap_wire.proofs.TakeLaws.{step-effect}
 use Rattle.imap_wire.proofs.CutLaws.{cut-shown}
 
@@ -85,3 +87,64 @@ unfolding given
 Takes-some s to piece None taken takes whole some = let all = whole refl in omega arith
 Takes-some s to piece (Some frame) zero takes whole some = let none = takes.gives in cc
 Takes-some s to piece (Some frame) (suc taken) takes whole some = omega arith
+
+-- after a fault there is nothing more
+begun_of-none : (spent : Bool) (held : List ℕ) → cond spent None (Some held) ≡ None → spent ≡ true
+begun_of-none true held h = refl
+begun_of-none false held h = cc
+
+ended : (past : List ℕ) → begun past ≡ None → (after start past).spent ≡ true
+ended past none = begun_of-none (after start past).spent (after start past).bytes (sym (begun-shown past) ∙ none)
+
+pub frames-ended : (past more : List ℕ) → begun past ≡ None → frames (past ++ more) ≡ frames past
+frames-ended past more none = rw (frames-past (after start past) past more refl, given-spent (after start past) more (ended past none)) (append-nil (frames past))
+
+pub begun-ended : (past more : List ℕ) → begun past ≡ None → begun (past ++ more) ≡ None
+begun-ended past more none = rw (begun-past (after start past) past more refl, after-spent (after start past) more (ended past none), ended past none) refl
+
+-- the frames with the one that `feed` gives, if there is one
+pub frames-given : (past piece : List ℕ) (frame : Option Frame) (taken : ℕ) → Gives past piece frame taken → frames (past ++ take taken piece) ≡ frames past ++ option_to_list frame
+frames-given past piece None taken gives = rw (take_all taken piece (omega (arith, gives.whole))) (gives.no_more ∙ sym (append-nil (frames past)))
+frames-given past piece (Some frame) taken gives = gives.one_more
+
+-- one call behind another
+pub past-more : (past piece : List ℕ) (taken more : ℕ) → past ++ take (taken + more) piece ≡ past ++ take taken piece ++ take more (take (length piece - taken) (drop taken piece))
+past-more past piece taken more = rw (take_rest piece taken, take-add taken more piece) (sym (append_assoc past (take taken piece) (take more (drop taken piece))))
+
+pub frames-more : (past piece : List ℕ) (taken more : ℕ) (frame : Option Frame) (old new : List Frame) → Gives (past ++ take taken piece) (take (length piece - taken) (drop taken piece)) frame more
+    → old ≡ frames (past ++ take taken piece) → new ≡ old ++ option_to_list frame → new ≡ frames (past ++ take (taken + more) piece)
+frames-more past piece taken more frame old new gives old_is new_is =
+    rw (past-more past piece taken more, frames-given (past ++ take taken piece) (take (length piece - taken) (drop taken piece)) frame more gives)
+    (new_is ∙ ap (λ (l : List Frame). l ++ option_to_list frame) old_is)
+
+pub some_from : {T : Type 0} (held : Option T) → is_none held ≡ false → IsSome held
+some_from None none = cc
+some_from (Some bytes) none = refl
+
+none_from : {T : Type 0} (held : Option T) → is_none held ≡ true → held ≡ None
+none_from None none = refl
+none_from (Some bytes) none = cc
+
+past-rest : (past piece : List ℕ) (taken : ℕ) → past ++ piece ≡ past ++ take taken piece ++ drop taken piece
+past-rest past piece taken = ap (λ (l : List ℕ). past ++ l) (sym (take-append-drop taken piece)) ∙ sym (append_assoc past (take taken piece) (drop taken piece))
+
+-- a spent framer leaves the rest of a piece
+pub frames-rest : (past piece : List ℕ) (taken : ℕ) (held : Option (List ℕ)) → is_none held ≡ true → begun (past ++ take taken piece) ≡ held → frames (past ++ piece) ≡ frames (past ++ take taken piece)
+frames-rest past piece taken held none is = rw (past-rest past piece taken) (frames-ended (past ++ take taken piece) (drop taken piece) (is ∙ none_from held none))
+
+pub begun-rest : (past piece : List ℕ) (taken : ℕ) (held : Option (List ℕ)) → is_none held ≡ true → begun (past ++ take taken piece) ≡ held → begun (past ++ piece) ≡ held
+begun-rest past piece taken held none is =
+    let gone = none_from held none in
+    rw (past-rest past piece taken) (begun-ended (past ++ take taken piece) (drop taken piece) (is ∙ gone) ∙ sym gone)
+
+pub frames-nil : [] ≡ frames []
+unfolding given
+frames-nil = sym (frames-shown [])
+
+-- one piece more
+concat-push : (pieces : List (List ℕ)) (piece : List ℕ) → concat (pieces ++ piece ∷ []) ≡ concat pieces ++ piece
+concat-push [] piece = append-nil piece
+concat-push (x ∷ pieces) piece = ap (λ (l : List ℕ). x ++ l) (concat-push pieces piece) ∙ sym (append_assoc x (concat pieces) piece)
+
+pub concat-more : (pieces : List (List ℕ)) (i : ℕ) (piece : List ℕ) → i < length pieces → piece ≡ get_or pieces i piece → concat (take (i + 1) pieces) ≡ concat (take i pieces) ++ piece
+concat-more pieces i piece within is = rw (take_more pieces i piece within, ← is) (concat-push (take i pieces) piece)

@@ -1,9 +1,9 @@
 // A connection's bytes, taken piece by piece.
-ghost use Rattle.std.specs.Prelude.{◌≡◌, ◌<◌, ◌++◌, [], List, ℕ, length, take, IfOk, OnErr, OnOk, IsTrue, ◌↔◌, IsSome, IsNone};
+ghost use Rattle.std.specs.Prelude.{◌≡◌, ◌<◌, ◌≤◌, ◌++◌, [], List, ℕ, length, take, IfOk, OnErr, OnOk, IsSome, IsNone, is_none};
 
 use crate::begun::Begun;
 use crate::frame::Frame;
-use mur_base::Memory;
+use mur_base::{Bytes, Items, Memory};
 use std::alloc::Global;
 use std::marker::Model;
 
@@ -30,7 +30,7 @@ impl Model for Framer {
 }
 
 impl Framer {
-    ghost use Rattle.imap_wire.specs.Frames.{begun};
+    ghost use Rattle.imap_wire.specs.Frames.{begun, frames as frames_of};
     ghost use Rattle.imap_wire.specs.Feeding.{Gives};
 
     /// The framer of a new connection. It takes no memory until bytes come.
@@ -45,7 +45,7 @@ impl Framer {
 
     /// Whether no byte is taken any more.
     pub fn spent(&self) -> bool
-        ensures { IsTrue result ↔ IsNone self.now }
+        ensures { result ≡ is_none self.now }
     {
         self.begun.spent
     }
@@ -56,7 +56,8 @@ impl Framer {
             → Gives past piece.now fed.0 fed.1) }
         ensures after { IfOk result (λ fed. (past : List ℕ) → begun past ≡ self.old
             → begun (past ++ take fed.1 piece.now) ≡ self.new) }
-        // A call that isn't spent gets on.
+        ensures within { IfOk result (λ fed. fed.1 ≤ length piece.now) }
+        // A framer that isn't spent gets on.
         ensures some { IfOk result (λ fed. IsSome self.old → 0 < length piece.now → 0 < fed.1) }
         ensures spent { IsNone self.old → (result ≡ Ok (None, 0)) × IsNone self.new }
         ensures memory { OnErr result (IsNone self.new) }
@@ -72,4 +73,36 @@ impl Framer {
             }
         }
     }
+
+    /// Takes a whole piece and puts the frames that end in it behind those of the bytes before it.
+    pub fn feed_all(&mut self, piece: &[u8], frames: &mut Items<Frame>) -> Result<(), Memory>
+        ensures frames { OnOk result ((past : List ℕ) → begun past ≡ self.old → frames.old ≡ frames_of past
+            → frames.new ≡ frames_of (past ++ piece.now)) }
+        ensures after { OnOk result ((past : List ℕ) → begun past ≡ self.old → begun (past ++ piece.now) ≡ self.new) }
+    {
+        let mut taken = 0;
+        while taken < piece.len() && !self.spent() {
+            let (frame, more) = self.feed(&piece[taken..])?;
+            taken += more;
+            if let Some(frame) = frame {
+                frames.push(frame)?;
+            }
+        }
+        Ok(())
+    }
+}
+
+ghost use Rattle.imap_wire.specs.Frames.{frames as frames_of};
+ghost use Rattle.std.specs.List.{concat};
+
+/// The frames of a connection whose bytes come in these pieces: however they are cut, those of the pieces joined.
+pub fn frames(alloc: Global, pieces: &[Bytes]) -> Result<Items<Frame>, Memory>
+    ensures { IfOk result (λ all. all ≡ frames_of (concat pieces.now)) }
+{
+    let mut framer = Framer::new(alloc);
+    let mut frames = Items::new(alloc);
+    for piece in pieces {
+        framer.feed_all(piece.as_slice(), &mut frames)?;
+    }
+    Ok(frames)
 }

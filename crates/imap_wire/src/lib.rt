@@ -7,4 +7,4 @@ mod framer;
 mod literal;
 
 pub use frame::{Frame, FrameFault};
-pub use framer::Framer;
+pub use framer::{Framer, frames};

@@ -20,3 +20,6 @@ returns-in-Ok-clause-after c = λ past held.
 pub returns-in-Ok-clause-some : goal.returns-in-Ok-clause-some
 returns-in-Ok-clause-some c = λ _ some.
     Takes-some (state_of c.self.inside.begun) (state_of c.take.new.self) c.args.piece.now _ _ c.in-Ok.ensures.takes c.in-Ok.ensures.whole some
+
+pub returns-in-Ok-clause-within : goal.returns-in-Ok-clause-within
+returns-in-Ok-clause-within c = c.in-Ok.ensures.takes.within
