@@ -6,3 +6,4 @@ pub mod LiteralLaws
 pub mod LineEndLaws
 pub mod TakeLaws
 pub mod FeedLaws
+pub mod LeaveLaws

@@ -1,5 +1,5 @@
 // A connection's bytes, taken piece by piece.
-ghost use Rattle.std.specs.Prelude.{◌≡◌, ◌<◌, ◌≤◌, ◌++◌, [], List, ℕ, length, take, IfOk, OnErr, OnOk, IsSome, IsNone, is_none};
+ghost use Rattle.std.specs.Prelude.{◌≡◌, ◌<◌, ◌≤◌, ◌++◌, [], List, ℕ, length, take, IfOk, OnErr, OnOk, IsSome, IsNone, is_none, IfSome};
 
 use crate::begun::Begun;
 use crate::frame::Frame;
@@ -31,7 +31,7 @@ impl Model for Framer {
 
 impl Framer {
     ghost use Rattle.imap_wire.specs.Frames.{begun, frames as frames_of};
-    ghost use Rattle.imap_wire.specs.Feeding.{Gives};
+    ghost use Rattle.imap_wire.specs.Feeding.{Gives, Leaves};
 
     /// The framer of a new connection. It takes no memory until bytes come.
     pub fn new(alloc: Global) -> Framer
@@ -56,6 +56,7 @@ impl Framer {
             → Gives past piece.now fed.0 fed.1) }
         ensures after { IfOk result (λ fed. (past : List ℕ) → begun past ≡ self.old
             → begun (past ++ take fed.1 piece.now) ≡ self.new) }
+        ensures leaves { IfOk result (λ fed. IfSome fed.0 (λ frame. Leaves frame self.new)) }
         ensures within { IfOk result (λ fed. fed.1 ≤ length piece.now) }
         // A framer that isn't spent gets on.
         ensures some { IfOk result (λ fed. IsSome self.old → 0 < length piece.now → 0 < fed.1) }

@@ -2,6 +2,7 @@
 use Rattle.std.proofs.Common.{◌≡◌, ◌∙◌, sym}
 use Rattle.imap_wire.specs.Begun.{state_of}
 use Rattle.imap_wire.proofs.FeedLaws.{IsReached-takes, past-state, Gives-takes, begun-takes, Takes-some}
+use Rattle.imap_wire.proofs.LeaveLaws.{Takes-leaves}
 use Rattle.imap_wire.proofs.framer.Framer.feed.Goals as goal
 
 pub invariant_of-self : goal.invariant_of-self
@@ -23,3 +24,6 @@ returns-in-Ok-clause-some c = λ _ some.
 
 pub returns-in-Ok-clause-within : goal.returns-in-Ok-clause-within
 returns-in-Ok-clause-within c = c.in-Ok.ensures.takes.within
+
+pub returns-in-Ok-clause-leaves : goal.returns-in-Ok-clause-leaves
+returns-in-Ok-clause-leaves c = Takes-leaves (state_of c.self.inside.begun) (state_of c.take.new.self) c.args.piece.now c.in-Ok.fed.0 _ c.if-self.false c.in-Ok.ensures.takes
