@@ -59,7 +59,7 @@ module _ (go : Command → List ℕ → Cut) (n : ℕ) (same : (c : Command) (by
   shown-literal : (c : Command) (size : ℕ) (bytes : List ℕ) → length bytes < n → shown (in_literal c size) bytes ≡ cut_literal go c size bytes
   unfolding cut_literal
   shown-literal c size bytes fits = elim (cases_lt (length bytes) size) [
-      inl short ↦
+    | inl short ↦
         let test : nat_lt (length bytes) size ≡ true = grind (arith, nat_tests) in
         rw (test, given-literal (in_literal c size) bytes refl (omega arith), after-literal (in_literal c size) bytes refl (omega arith)) refl
     | inr enough ↦
@@ -72,7 +72,7 @@ module _ (go : Command → List ℕ → Cut) (n : ℕ) (same : (c : Command) (by
         let whole = shown-append (in_literal c size) (take size bytes) (drop size bytes) no_frame in
         let arrives = rw (take-append-drop size bytes, moved, none_left) at whole in
         rw test (arrives ∙ same (record c { bytes = c.bytes ++ take size bytes }) (drop size bytes) shorter)
-    ]
+  ]
 
   shown-announced : (admission : Admission) (c : Command) (literal : Literal) (bytes : List ℕ) → length bytes < n
       → shown_after (announced_step admission (before_line c) literal) bytes ≡ cut_announced go admission c literal bytes
@@ -99,7 +99,7 @@ module _ (go : Command → List ℕ → Cut) (n : ℕ) (same : (c : Command) (by
       let split : split_line (line ++ 10 ∷ bytes) ≡ Some (text, bytes) = ap split_line all ∙ split_line-end text bytes (rw line_is at none) in
       let test : nat_lt c.line_room (length text) ≡ false = grind (arith, nat_tests) in
       let joined : c.bytes ++ line ++ 10 ∷ [] ≡ c.bytes ++ text ++ 13 ∷ 10 ∷ [] =
-          ap (λ (l : List ℕ). c.bytes ++ l ++ 10 ∷ []) line_is ∙ (ap (λ (l : List ℕ). l ++ 10 ∷ []) (sym (append_assoc c.bytes text (13 ∷ []))) ∙ append_assoc (c.bytes ++ text) (13 ∷ []) (10 ∷ [])) in
+      ap (λ (l : List ℕ). c.bytes ++ l ++ 10 ∷ []) line_is ∙ (ap (λ (l : List ℕ). l ++ 10 ∷ []) (sym (append_assoc c.bytes text (13 ∷ []))) ∙ append_assoc (c.bytes ++ text) (13 ∷ []) (10 ∷ [])) in
       let next = record c { bytes = c.bytes ++ text ++ 13 ∷ 10 ∷ []; line_room = c.line_room - length text } in
       let arrives : at_line_end (in_line c line) text ≡ before_line next = rw joined refl in
       let stepped : step (in_line c line) 10 ≡ line_end (before_line next) (announced text) = step-end (in_line c line) refl refl cr ∙ ap (λ (s : State). line_end s (announced text)) arrives in
@@ -126,7 +126,7 @@ module _ (go : Command → List ℕ → Cut) (n : ℕ) (same : (c : Command) (by
       let test : nat_lt c.line_room (least_length line) ≡ false = grind (arith, nat_tests) in
       rw (append-nil, none, test, shown-nil (in_line c line)) refl
   shown-line (byte ∷ bytes) c line fits none room = elim (cases_Bool (byte == 10 && ends_with_cr line)) [
-      inl ends ↦
+    | inl ends ↦
         let parts = and_parts (byte == 10) (ends_with_cr line) ends in
         let lf : byte ≡ 10 = grind (arith, nat_tests) in
         rw lf (shown-end c line bytes (omega arith) none room parts.1)
@@ -136,14 +136,14 @@ module _ (go : Command → List ℕ → Cut) (n : ℕ) (same : (c : Command) (by
         let clear : split_line longer ≡ None = split_line-push line byte none goes_on in
         let stepped : step (in_line c line) byte ≡ line_step (in_line c line) byte = step-line (in_line c line) byte refl refl goes_on in
         elim (cases_lt c.line_room (least_length longer)) [
-            inl long ↦
+          | inl long ↦
               rw (all, cut-too_long c longer bytes clear long (split_line (longer ++ bytes)) refl, shown-step (in_line c line) byte bytes, stepped, line_step-too_long (in_line c line) byte long)
               (shown_after-fault (in_line c line) (Fault LineTooLong) bytes)
           | inr short ↦
               rw (all, shown-step (in_line c line) byte bytes, stepped, line_step-fits (in_line c line) byte short, append_assoc c.bytes line (byte ∷ []))
               (shown-line bytes c longer (omega arith) clear short)
         ]
-    ]
+  ]
 
 -- so many lines
 pub shown-lines : (lines : ℕ) (c : Command) (bytes : List ℕ) → length bytes < lines → shown (before_line c) bytes ≡ cut_lines lines c bytes

@@ -1,13 +1,13 @@
 -- From the bytes of one command to those of a connection.
-use Rattle.std.proofs.Common.{◌≡◌, ℕ, zero, suc, ◌<◌, ◌≤◌, Bool, true, false, cond, List, [], ◌∷◌, ◌++◌, ◌+◌, ◌-◌, length, take, drop, get_or, Option, None, Some, inl, inr, refl, sym, ap, ◌∙◌, append_assoc, arith}
+use Rattle.std.proofs.Common.{◌≡◌, ℕ, zero, suc, ◌<◌, Bool, true, false, cond, List, [], ◌∷◌, ◌++◌, ◌+◌, ◌-◌, length, take, drop, get_or, Option, None, Some, inl, inr, refl, sym, ap, ◌∙◌, append_assoc, arith}
 use Rattle.std.specs.Option.{option_to_list, is_none, IsSome}
 use Rattle.std.specs.List.{concat}
 use Rattle.std.proofs.lemmas.List.{append-nil, take_all, take_rest, take-append-drop, take_more}
 use Rattle.std.proofs.Math.Seq.{take-add}
 use Rattle.std.proofs.lemmas.Bool.{cases_Bool}
 use Rattle.imap_wire.specs.declared.frame.Frame.{Frame}
-use Rattle.imap_wire.specs.Frames.{Cut, cut, frames, begun}
-use Rattle.imap_wire.specs.Steps.{State, Step, start, step, given, after, begun_of, IsReached}
+use Rattle.imap_wire.specs.Frames.{Cut, frames, begun}
+use Rattle.imap_wire.specs.Steps.{State, start, step, given, after, begun_of, IsReached}
 use Rattle.imap_wire.specs.Begun.{Takes}
 use Rattle.imap_wire.specs.Feeding.{Gives}
 use Rattle.imap_wire.proofs.StepLaws.{step-spent, after-append, given-append, after-spent, given-spent}
@@ -17,13 +17,13 @@ use Rattle.imap_wire.proofs.CutLaws.{cut-shown}
 IsReached-step : (s : State) (byte : ℕ) → IsReached s → IsReached (step s byte).after
 unfolding after
 IsReached-step s byte reached = elim (cases_Bool s.spent) [
-    inl spent ↦ rw (step-spent s byte spent) reached
+  | inl spent ↦ rw (step-spent s byte spent) reached
   | inr going ↦ elim (step-effect s byte going) [
-        inl grows ↦ (λ _. rw (grows.1, after-append start s.bytes (byte ∷ []), reached going) refl)
-      | inr (inl restarts) ↦ (λ _. rw restarts refl)
-      | inr (inr fails) ↦ (λ still. cc)
-      ]
+    | inl grows ↦ (λ _. rw (grows.1, after-append start s.bytes (byte ∷ []), reached going) refl)
+    | inr (inl restarts) ↦ (λ _. rw restarts refl)
+    | inr (inr fails) ↦ (λ still. cc)
   ]
+]
 
 pub IsReached-after : (s : State) (bytes : List ℕ) → IsReached s → IsReached (after s bytes)
 unfolding after
@@ -61,10 +61,10 @@ Gives-takes s to past piece None taken is takes whole =
     let none : given s piece ≡ [] = rw (take_all taken piece (omega arith)) at takes.gives in
     record { whole = all; no_more = rw (frames-past s past piece is, none) (append-nil (frames past)) }
 Gives-takes s to past piece (Some frame) taken is takes whole = record {
-    within = takes.within;
-    one_more = rw (frames-past s past (take taken piece) is, takes.gives) refl;
-    not_before = λ n before. rw (frames-past s past (take n piece) is, takes.first n before) (append-nil (frames past));
-  }
+  within = takes.within;
+  one_more = rw (frames-past s past (take taken piece) is, takes.gives) refl;
+  not_before = λ n before. rw (frames-past s past (take n piece) is, takes.first n before) (append-nil (frames past));
+}
 
 pub begun-takes : (s to : State) (past piece : List ℕ) (frame : Option Frame) (taken : ℕ) → after start past ≡ s → Takes s piece frame taken to → begun (past ++ take taken piece) ≡ begun_of to
 begun-takes s to past piece frame taken is takes = begun-past s past (take taken piece) is ∙ ap begun_of (sym takes.arrives)

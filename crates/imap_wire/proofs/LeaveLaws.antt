@@ -1,7 +1,7 @@
 -- What a frame leaves of the command that has begun.
-use Rattle.std.proofs.Common.{◌≡◌, ℕ, zero, suc, ◌+◌, ◌<◌, ◌≤◌, Bool, true, false, ◌&&◌, ◌==◌, List, [], ◌∷◌, ◌++◌, length, take, get_or, Option, None, Some, inl, inr, refl, sym, ap, ◌∙◌, arith}
+use Rattle.std.proofs.Common.{◌≡◌, ℕ, zero, suc, ◌+◌, false, ◌&&◌, ◌==◌, List, [], ◌∷◌, ◌++◌, take, get_or, Option, None, Some, inl, inr, refl, ap, ◌∙◌, arith}
 use Rattle.std.specs.Option.{option_to_list, IfSome}
-use Rattle.std.proofs.lemmas.List.{append-nil, take_more}
+use Rattle.std.proofs.lemmas.List.{take_more}
 use Rattle.std.proofs.lemmas.Bool.{cases_Bool, cases_lt, and_parts}
 use Rattle.std.proofs.lemmas.Bool.Decides.{nat_tests}
 use Rattle.imap_wire.specs.declared.frame.Frame.{Frame}
@@ -10,7 +10,7 @@ use Rattle.imap_wire.specs.declared.literal.Admission.{Admission}
 use Rattle.imap_wire.specs.declared.literal.Admission.TheVariants.{Asked, Unasked, Refused, RefusedUnasked}
 use Rattle.imap_wire.specs.Line.{ends_with_cr, without_last, least_length}
 use Rattle.imap_wire.specs.Literal.{announced, admission_of}
-use Rattle.imap_wire.specs.Steps.{State, Step, step, given, after, begun_of, line_end, announced_step, at_line_end, line_step}
+use Rattle.imap_wire.specs.Steps.{State, Step, step, given, after, begun_of, line_end, announced_step, at_line_end}
 use Rattle.imap_wire.specs.Begun.{Takes}
 use Rattle.imap_wire.specs.Feeding.{Leaves}
 use Rattle.imap_wire.proofs.StepLaws.{step-literal, step-end, step-line, line_step-fits, line_step-too_long, given-append, after-append}
@@ -34,20 +34,20 @@ line_end-leaves s (Some literal) going = announced_step-leaves (admission_of lit
 
 step-leaves : (s : State) (byte : ℕ) → s.spent ≡ false → StepLeaves (step s byte)
 step-leaves s byte going = elim (cases_lt 0 s.literal_left) [
-    inl left ↦ rw (step-literal s byte going left) tt
+  | inl left ↦ rw (step-literal s byte going left) tt
   | inr none ↦
       let in_line : s.literal_left ≡ 0 = omega arith in
       elim (cases_Bool (byte == 10 && ends_with_cr s.line)) [
-          inl ends ↦
+        | inl ends ↦
             let parts = and_parts (byte == 10) (ends_with_cr s.line) ends in
             let lf : byte ≡ 10 = grind (arith, nat_tests) in
             rw (lf, step-end s going in_line parts.1) (line_end-leaves (at_line_end s (without_last s.line)) (announced (without_last s.line)) going)
         | inr goes_on ↦ elim (cases_lt s.line_room (least_length (s.line ++ byte ∷ []))) [
-              inl long ↦ rw (step-line s byte going in_line goes_on, line_step-too_long s byte long) refl
-            | inr short ↦ rw (step-line s byte going in_line goes_on, line_step-fits s byte short) tt
-            ]
+          | inl long ↦ rw (step-line s byte going in_line goes_on, line_step-too_long s byte long) refl
+          | inr short ↦ rw (step-line s byte going in_line goes_on, line_step-fits s byte short) tt
+        ]
       ]
-  ]
+]
 
 -- the last byte's step gave the frame
 last-frame : (given_last : Option Frame) (frame : Frame) → option_to_list given_last ++ [] ≡ frame ∷ [] → given_last ≡ Some frame

@@ -1,11 +1,11 @@
 -- The end of a line as the program reaches it.
-use Rattle.std.proofs.Common.{◌≡◌, ℕ, ◌-◌, ◌^◌, ◌<◌, ◌≤◌, Bool, true, false, ◌||◌, nat_lt, cond, List, [], ◌∷◌, ◌++◌, length, take, drop, min, Option, None, Some, inl, inr, refl, sym, ap, ◌∙◌, arith}
+use Rattle.std.proofs.Common.{◌≡◌, ℕ, ◌-◌, ◌^◌, Bool, true, false, nat_lt, cond, List, [], ◌∷◌, ◌++◌, length, take, drop, min, Option, None, Some, inl, inr, refl, sym, ◌∙◌, arith}
 use Rattle.std.specs.Option.{option_map}
 use Rattle.std.proofs.lemmas.Bool.{cases_lt, cases_Bool}
 use Rattle.std.proofs.lemmas.Bool.Decides.{nat_tests}
 use Rattle.mur_base.specs.declared.limits.TheConstants.{MESSAGE_LIMIT, PLUS_LITERAL_LIMIT}
 use Rattle.imap_wire.specs.declared.literal.Literal.{Literal}
-use Rattle.imap_wire.specs.Line.{ends_with_cr, without_last}
+use Rattle.imap_wire.specs.Line.{ends_with_cr}
 use Rattle.imap_wire.specs.Literal.{announced, admission_of, capped}
 use Rattle.imap_wire.specs.Steps.{State, step, line_end, announced_step, at_line_end}
 use Rattle.imap_wire.proofs.StepLaws.{step-end}
@@ -16,17 +16,17 @@ use Rattle.imap_wire.proofs.MoveLaws.{kept, no_line}
 announced_step-capped : (s : State) (literal : Literal) → announced_step (admission_of (capped literal) s.literal_room) s (capped literal) ≡ announced_step (admission_of literal s.literal_room) s literal
 unfolding admission_of announced_step
 announced_step-capped s literal = elim (cases_lt literal.size (2 ^ 64)) [
-    inl small ↦ let same : min literal.size (2 ^ 64 - 1) ≡ literal.size = omega arith in rw same refl
+  | inl small ↦ let same : min literal.size (2 ^ 64 - 1) ≡ literal.size = omega arith in rw same refl
   | inr large ↦
       let past : nat_lt MESSAGE_LIMIT (min literal.size (2 ^ 64 - 1)) ≡ true = grind (arith, nat_tests) in
       let past_plus : nat_lt PLUS_LITERAL_LIMIT (min literal.size (2 ^ 64 - 1)) ≡ true = grind (arith, nat_tests) in
       let whole : nat_lt MESSAGE_LIMIT literal.size ≡ true = grind (arith, nat_tests) in
       let whole_plus : nat_lt PLUS_LITERAL_LIMIT literal.size ≡ true = grind (arith, nat_tests) in
       elim (cases_Bool literal.waits) [
-          inl waits ↦ rw (waits, past, whole) refl
+        | inl waits ↦ rw (waits, past, whole) refl
         | inr comes ↦ rw (comes, past_plus, whole_plus) refl
       ]
-  ]
+]
 
 line_end-capped : (s : State) (literal : Option Literal) → line_end s (option_map capped literal) ≡ line_end s literal
 unfolding line_end

@@ -35,9 +35,9 @@ and-false b = elim b as (λ v. (v && false) ≡ false) [ true ↦ refl | false �
 
 and-swap : (a b : Bool) → (a && b) ≡ false → (b && a) ≡ false
 and-swap a b h = elim a as (λ v. (v && b) ≡ false → (b && v) ≡ false) [
-    true ↦ (λ h'. elim b as (λ w. w ≡ false → (w && true) ≡ false) [ true ↦ λ e. e | false ↦ λ e. e ] h')
+  | true ↦ (λ h'. elim b as (λ w. w ≡ false → (w && true) ≡ false) [ true ↦ λ e. e | false ↦ λ e. e ] h')
   | false ↦ (λ _. and-false b)
-  ] h
+] h
 
 -- no CRLF begins at the head, and none follows
 none-parts : (test : Bool) (now : Option (List ℕ × List ℕ)) (x : ℕ) (later : Option (List ℕ × List ℕ)) (head : List ℕ × List ℕ)
@@ -110,7 +110,7 @@ unfolding split_line begins_with_lf ends_with_cr without_last
 least_length-split [] more text rest none split = omega arith
 least_length-split (x ∷ []) more text rest none split =
     elim (cases_Bool (x == 13)) [
-        inl cr ↦ rw cr (omega arith)
+      | inl cr ↦ rw cr (omega arith)
       | inr other ↦
           let no : (x == 13 && begins_with_lf more) ≡ false = rw other refl in
           let parts = some-parts (split_line more) x text rest (sym (split_line-more x more no) ∙ split) in

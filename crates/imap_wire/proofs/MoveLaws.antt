@@ -1,11 +1,11 @@
 -- Bytes that are taken all at once: those of a literal, and those of a line without LF.
-use Rattle.std.proofs.Common.{◌≡◌, ℕ, zero, suc, ◌+◌, ◌-◌, ◌<◌, ◌≤◌, Bool, true, false, ◌&&◌, ◌==◌, nat_lt, cond, List, [], ◌∷◌, ◌++◌, length, take, drop, get_or, Option, None, Some, unwrap_or, refl, sym, ap, ◌∙◌, arith, append_assoc}
-use Rattle.std.proofs.lemmas.List.{append-nil, length-append, length-take, length-take-le, drop-append-le, drop_all}
+use Rattle.std.proofs.Common.{◌≡◌, ℕ, zero, suc, ◌+◌, ◌-◌, ◌<◌, ◌≤◌, Bool, true, false, ◌&&◌, ◌==◌, nat_lt, cond, List, [], ◌∷◌, ◌++◌, length, take, drop, get_or, Option, None, Some, unwrap_or, refl, sym, ◌∙◌, arith, append_assoc}
+use Rattle.std.proofs.lemmas.List.{append-nil, length-append, length-take-le, drop-append-le, drop_all}
 use Rattle.std.proofs.lemmas.Bool.{false_from_ne_true}
 use Rattle.std.proofs.lemmas.Bool.Decides.{nat_tests}
 use Rattle.memchr.specs.Find.{IsFirstByte, is_byte}
 use Rattle.imap_wire.specs.Line.{ends_with_cr, least_length}
-use Rattle.imap_wire.specs.Steps.{State, step, given, after, line_step}
+use Rattle.imap_wire.specs.Steps.{State, step, given, after}
 use Rattle.imap_wire.specs.Begun.{Moves}
 use Rattle.imap_wire.proofs.StepLaws.{step-line, line_step-fits, after-literal, given-literal, literal_moved}
 use Rattle.imap_wire.proofs.LineLaws.{least_length-le}

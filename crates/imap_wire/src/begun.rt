@@ -1,15 +1,13 @@
 ghost use Rattle.std.specs.Prelude.{◌≡◌, ◌<◌, ◌≤◌, length, IfOk, OnOk, true, false, [], ◌∷◌, ◌++◌, IsTrue, ◌↔◌};
 
 // The command that has begun, and how it grows.
-use mur_base::Bytes;
-use mur_base::limits::{COMMAND_LITERALS_LIMIT, LINE_LIMIT};
-use mur_base::Memory;
-use memchr::memchr;
-use std::alloc::Global;
-use std::mem;
-
 use crate::frame::{Frame, FrameFault};
 use crate::literal::{Admission, Literal, announced};
+use memchr::memchr;
+use mur_base::limits::{COMMAND_LITERALS_LIMIT, LINE_LIMIT};
+use mur_base::{Bytes, Memory};
+use std::alloc::Global;
+use std::mem;
 
 /// What has come of a command.
 #[derive(Drop)]
@@ -31,7 +29,7 @@ pub struct Begun {
 
 impl Begun {
     ghost use Rattle.imap_wire.specs.Begun.{state_of, line_of, Moves, Takes};
-    ghost use Rattle.imap_wire.specs.Steps.{start, step, line_step, line_end, with_literal};
+    ghost use Rattle.imap_wire.specs.Steps.{start, step, line_step, line_end, with_literal, failing};
     ghost use Rattle.imap_wire.specs.Line.{ends_with_cr, least_length};
 
     /// The state between two commands.
@@ -160,8 +158,7 @@ impl Begun {
         ensures after { OnOk result (state_of self.new ≡ (line_step (state_of self.old) byte).after) }
     {
         if !self.has_room_for(byte) {
-            self.spent = true;
-            return Ok(Some(Frame::Fault(FrameFault::LineTooLong)));
+            return Ok(Some(self.fail(FrameFault::LineTooLong)));
         }
         self.bytes.push(byte)?;
         Ok(None)
@@ -206,10 +203,7 @@ impl Begun {
                 None
             }
             Admission::Refused => Some(Frame::TooBig(self.restart(alloc))),
-            Admission::RefusedUnasked => {
-                self.spent = true;
-                Some(Frame::Fault(FrameFault::PlusTooLong))
-            }
+            Admission::RefusedUnasked => Some(self.fail(FrameFault::PlusTooLong)),
         }
     }
 
@@ -221,6 +215,15 @@ impl Begun {
     {
         self.literal_room -= size;
         self.literal_left = size;
+    }
+
+    /// Ends the connection: nothing may follow this fault.
+    fn fail(&mut self, fault: FrameFault) -> Frame
+        ensures frame { result ≡ Frame.Fault fault }
+        ensures after { state_of self.new ≡ (failing fault (state_of self.old)).after }
+    {
+        self.spent = true;
+        Frame::Fault(fault)
     }
 
     /// The bytes of the command, after which a new one begins.

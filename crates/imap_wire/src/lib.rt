@@ -8,3 +8,6 @@ mod literal;
 
 pub use frame::{Frame, FrameFault};
 pub use framer::{Framer, frames};
+
+#[cfg(test)]
+mod tests;

@@ -37,7 +37,8 @@ impl Literal {
         match self.waits {
             true if self.size > MESSAGE_LIMIT || self.size > room => Admission::Refused,
             true => Admission::Asked,
-            false if self.size > PLUS_LITERAL_LIMIT || self.size > room => Admission::RefusedUnasked,
+            false if self.size > PLUS_LITERAL_LIMIT || self.size > room =>
+                Admission::RefusedUnasked,
             false => Admission::Unasked,
         }
     }

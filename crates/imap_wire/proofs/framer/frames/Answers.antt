@@ -1,7 +1,6 @@
 -- Piece by piece.
-use Rattle.std.proofs.Common.{◌≡◌, ◌∙◌, sym, ap, take, arith}
+use Rattle.std.proofs.Common.{◌∙◌, sym, take, arith}
 use Rattle.std.specs.List.{concat}
-use Rattle.imap_wire.specs.Frames.{frames, begun}
 use Rattle.imap_wire.proofs.FeedLaws.{frames-nil, concat-more}
 use Rattle.imap_wire.proofs.framer.frames.Goals as goal
 

@@ -1,5 +1,5 @@
 -- A CR at the end isn't counted.
-use Rattle.std.proofs.Common.{◌≡◌, length, ap, arith}
+use Rattle.std.proofs.Common.{arith}
 use Rattle.std.proofs.lemmas.Bool.Decides.{nat_tests}
 use Rattle.imap_wire.specs.Begun.{line_of}
 use Rattle.imap_wire.proofs.LineLaws.{least_length-cr, least_length-other}

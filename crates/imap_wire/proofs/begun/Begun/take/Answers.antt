@@ -1,5 +1,5 @@
 -- One stretch behind another, until a frame ends.
-use Rattle.std.proofs.Common.{◌≡◌, ap, ◌∙◌, sym, arith}
+use Rattle.std.proofs.Common.{sym}
 use Rattle.std.proofs.lemmas.List.{take_rest}
 use Rattle.imap_wire.specs.Begun.{state_of}
 use Rattle.imap_wire.proofs.TakeLaws.{Takes-nothing, Takes-more, Takes-none, Takes-going}

@@ -1,7 +1,7 @@
 -- A stretch of bytes, or one byte behind none.
-use Rattle.std.proofs.Common.{◌≡◌, ap, ◌∙◌, sym, arith}
+use Rattle.std.proofs.Common.{ap, ◌∙◌, arith}
 use Rattle.imap_wire.specs.Begun.{state_of}
-use Rattle.imap_wire.specs.Steps.{State, step}
+use Rattle.imap_wire.specs.Steps.{State}
 use Rattle.imap_wire.proofs.TakeLaws.{Takes-silent, Takes-byte, Moves-zero}
 use Rattle.imap_wire.proofs.begun.Begun.take_some.Goals as goal
 

@@ -1,5 +1,5 @@
 -- What the command that has begun makes of the piece holds of the connection.
-use Rattle.std.proofs.Common.{◌≡◌, ◌∙◌, sym}
+use Rattle.std.proofs.Common.{◌∙◌, sym}
 use Rattle.imap_wire.specs.Begun.{state_of}
 use Rattle.imap_wire.proofs.FeedLaws.{IsReached-takes, past-state, Gives-takes, begun-takes, Takes-some}
 use Rattle.imap_wire.proofs.LeaveLaws.{Takes-leaves}

@@ -1,8 +1,6 @@
 -- Call by call, as far as the piece goes.
-use Rattle.std.proofs.Common.{◌≡◌, ℕ, List, ◌++◌, ◌∙◌, sym, ap, take, arith}
-use Rattle.std.specs.Option.{option_to_list}
+use Rattle.std.proofs.Common.{ℕ, List, ◌++◌, ◌∙◌, sym, take, arith}
 use Rattle.std.proofs.lemmas.List.{append-nil}
-use Rattle.imap_wire.specs.declared.frame.Frame.{Frame}
 use Rattle.imap_wire.proofs.FeedLaws.{past-more, frames-more, some_from, frames-rest, begun-rest}
 use Rattle.imap_wire.proofs.framer.Framer.feed_all.Goals as goal
 
