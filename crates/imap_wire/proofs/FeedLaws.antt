@@ -1,6 +1,6 @@
 -- From the bytes of one command to those of a connection.
 use Rattle.std.proofs.Common.{◌≡◌, ℕ, zero, suc, ◌<◌, Bool, true, false, cond, List, [], ◌∷◌, ◌++◌, ◌+◌, ◌-◌, length, take, drop, get_or, Option, None, Some, inl, inr, refl, sym, ap, ◌∙◌, append_assoc, arith}
-use Rattle.std.specs.Option.{option_to_list, is_none, IsSome}
+use Rattle.std.specs.Option.{option_to_list, is_none, IsSome, IfSome}
 use Rattle.std.specs.List.{concat}
 use Rattle.std.proofs.lemmas.List.{append-nil, take_all, take_rest, take-append-drop, take_more}
 use Rattle.std.proofs.Math.Seq.{take-add}
@@ -148,3 +148,10 @@ concat-push (x ∷ pieces) piece = ap (λ (l : List ℕ). x ++ l) (concat-push p
 
 pub concat-more : (pieces : List (List ℕ)) (i : ℕ) (piece : List ℕ) → i < length pieces → piece ≡ get_or pieces i piece → concat (take (i + 1) pieces) ≡ concat (take i pieces) ++ piece
 concat-more pieces i piece within is = rw (take_more pieces i piece within, ← is) (concat-push (take i pieces) piece)
+
+-- the bytes of the command that has begun would lead to it alone
+pub begun-own : (s : State) (held : Option (List ℕ)) → IsReached s → begun_of s ≡ held → IfSome held (λ bytes. begun bytes ≡ held)
+begun-own s None reached is = tt
+begun-own s (Some bytes) reached is =
+    let parts = begun_of-some s.spent s.bytes bytes is in
+    begun-shown bytes ∙ (ap (λ (b : List ℕ). begun_of (after start b)) (sym parts.1) ∙ (ap begun_of (reached parts.0) ∙ is))

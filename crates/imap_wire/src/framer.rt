@@ -57,6 +57,8 @@ impl Framer {
         ensures after { IfOk result (λ fed. (past : List ℕ) → begun past ≡ self.old
             → begun (past ++ take fed.1 piece.now) ≡ self.new) }
         ensures leaves { IfOk result (λ fed. IfSome fed.0 (λ frame. Leaves frame self.new)) }
+        // There are such bytes: those of the command that has begun, if nothing else came.
+        ensures own { IfSome self.old (λ bytes. begun bytes ≡ self.old) }
         ensures within { IfOk result (λ fed. fed.1 ≤ length piece.now) }
         // A framer that isn't spent gets on.
         ensures some { IfOk result (λ fed. IsSome self.old → 0 < length piece.now → 0 < fed.1) }

@@ -1,7 +1,7 @@
 -- What the command that has begun makes of the piece holds of the connection.
 use Rattle.std.proofs.Common.{◌∙◌, sym}
 use Rattle.imap_wire.specs.Begun.{state_of}
-use Rattle.imap_wire.proofs.FeedLaws.{IsReached-takes, past-state, Gives-takes, begun-takes, Takes-some}
+use Rattle.imap_wire.proofs.FeedLaws.{IsReached-takes, past-state, Gives-takes, begun-takes, Takes-some, begun-own}
 use Rattle.imap_wire.proofs.LeaveLaws.{Takes-leaves}
 use Rattle.imap_wire.proofs.framer.Framer.feed.Goals as goal
 
@@ -27,3 +27,9 @@ returns-in-Ok-clause-within c = c.in-Ok.ensures.takes.within
 
 pub returns-in-Ok-clause-leaves : goal.returns-in-Ok-clause-leaves
 returns-in-Ok-clause-leaves c = Takes-leaves (state_of c.self.inside.begun) (state_of c.take.new.self) c.args.piece.now c.in-Ok.fed.0 _ c.if-self.false c.in-Ok.ensures.takes
+
+pub returns-in-Ok-clause-own : goal.returns-in-Ok-clause-own
+returns-in-Ok-clause-own c = begun-own (state_of c.self.inside.begun) c.args.self.now c.self.invariant c.self.view_is
+
+pub returns-in-Err-clause-own : goal.returns-in-Err-clause-own
+returns-in-Err-clause-own c = begun-own (state_of c.self.inside.begun) c.args.self.now c.self.invariant c.self.view_is
