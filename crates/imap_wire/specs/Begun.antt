@@ -1,0 +1,26 @@
+-- The command that has begun as the program keeps it, and what it does with bytes.
+use Rattle.std.specs.Prelude.{◌≡◌, ℕ, ◌<◌, ◌≤◌, nat_lt, List, [], length, take, drop, Option, if◌then◌else◌}
+use Rattle.std.specs.Option.{option_to_list}
+use Rattle.imap_wire.specs.declared.frame.Frame.{Frame}
+use Rattle.imap_wire.specs.declared.begun.Begun.{Begun}
+use Rattle.imap_wire.specs.Steps.{State, given, after}
+
+-- the present line of the command
+abbrev pub line_of : Begun → List ℕ
+line_of begun = if nat_lt 0 begun.literal_left then [] else drop begun.line_at begun.bytes
+
+abbrev pub state_of : Begun → State
+state_of begun = record { bytes = begun.bytes; line = line_of begun; line_room = begun.line_room; literal_room = begun.literal_room; literal_left = begun.literal_left; spent = begun.spent }
+
+-- so many bytes of the piece are taken, and no frame ends in them
+pub record Moves (from : State) (piece : List ℕ) (taken : ℕ) (to : State) : Type 0 where
+  pub within : taken ≤ length piece
+  pub silent : given from (take taken piece) ≡ []
+  pub arrives : to ≡ after from (take taken piece)
+
+-- so many bytes of the piece are taken, and the frame, if there is one, is the only one and ends with the last of them
+pub record Takes (from : State) (piece : List ℕ) (frame : Option Frame) (taken : ℕ) (to : State) : Type 0 where
+  pub within : taken ≤ length piece
+  pub gives : given from (take taken piece) ≡ option_to_list frame
+  pub first : (n : ℕ) → n < taken → given from (take n piece) ≡ []
+  pub arrives : to ≡ after from (take taken piece)

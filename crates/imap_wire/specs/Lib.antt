@@ -1,0 +1,6 @@
+pub mod Line
+pub mod Literal
+pub mod Frames
+pub mod Steps
+pub mod Begun
+pub mod Feeding

@@ -1,0 +1,25 @@
+// What a client's bytes are cut into.
+use mur_base::Bytes;
+
+/// A frame of a connection, in the order in which the frames end (RFC 9051, sections 2.2.1 and 4.3).
+#[derive(Drop)]
+pub enum Frame {
+    /// One command with its literals, from its first byte to its last CRLF.
+    Whole(Bytes),
+    /// The client waits for a continuation before it sends a literal of so many bytes.
+    NeedLiteral(u32),
+    /// A command that ends where it announces a literal `{n}` past a limit: its bytes with that line's CRLF. The
+    /// client waits and is refused, so the next byte begins a new command.
+    TooBig(Bytes),
+    /// Bytes that no frame can hold: the connection ends here.
+    Fault(FrameFault),
+}
+
+/// Why a connection has no further frame.
+#[derive(Clone, Copy, Debug, PartialEq, Eq)]
+pub enum FrameFault {
+    /// A command has more than `LINE_LIMIT` bytes outside its literals and the CRLFs of its lines.
+    LineTooLong,
+    /// A literal `{n+}`, which comes unasked, is longer than `PLUS_LITERAL_LIMIT` or than its command may have.
+    PlusTooLong,
+}

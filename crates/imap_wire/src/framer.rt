@@ -1,0 +1,111 @@
+// A connection's bytes, taken piece by piece.
+ghost use Rattle.std.specs.Prelude.{◌≡◌, ◌<◌, ◌≤◌, ◌++◌, [], List, ℕ, length, take, IfOk, OnErr, OnOk, IsSome, IsNone, is_none, IfSome};
+
+use crate::begun::Begun;
+use crate::frame::Frame;
+use mur_base::{Bytes, Items, Memory};
+use std::alloc::Global;
+use std::marker::Model;
+
+/// Cuts the bytes of one connection into frames, in whatever pieces they come.
+///
+/// Contracts see the bytes of the command that has begun, or `None` once the framer is spent: after a fault, and
+/// after want of memory. `past` are all bytes of the connection before the call.
+#[derive(Drop)]
+pub struct Framer {
+    alloc: Global,
+    begun: Begun,
+}
+
+impl Model for Framer {
+    ghost use Rattle.std.specs.Prelude.{List, ℕ, Option};
+    ghost use Rattle.imap_wire.specs.Begun.{state_of};
+    ghost use Rattle.imap_wire.specs.Steps.{begun_of, IsReached};
+
+    ghost Value = { Option (List ℕ) };
+
+    ghost view = { λ framer. begun_of (state_of framer.begun) };
+
+    ghost invariant = { λ framer. IsReached (state_of framer.begun) };
+}
+
+impl Framer {
+    ghost use Rattle.imap_wire.specs.Frames.{begun, frames as frames_of};
+    ghost use Rattle.imap_wire.specs.Feeding.{Gives, Leaves};
+
+    /// The framer of a new connection. It takes no memory until bytes come.
+    pub fn new(alloc: Global) -> Framer
+        ensures { result ≡ begun [] }
+    {
+        Framer {
+            alloc,
+            begun: Begun::new(alloc),
+        }
+    }
+
+    /// Whether no byte is taken any more.
+    pub fn spent(&self) -> bool
+        ensures { result ≡ is_none self.now }
+    {
+        self.begun.spent
+    }
+
+    /// Takes bytes of the piece up to the end of the next frame, or all where none ends in it, and says how many.
+    pub fn feed(&mut self, piece: &[u8]) -> Result<(Option<Frame>, usize), Memory>
+        ensures frame { IfOk result (λ fed. IsSome self.old → (past : List ℕ) → begun past ≡ self.old
+            → Gives past piece.now fed.0 fed.1) }
+        ensures after { IfOk result (λ fed. (past : List ℕ) → begun past ≡ self.old
+            → begun (past ++ take fed.1 piece.now) ≡ self.new) }
+        ensures leaves { IfOk result (λ fed. IfSome fed.0 (λ frame. Leaves frame self.new)) }
+        // There are such bytes: those of the command that has begun, if nothing else came.
+        ensures own { IfSome self.old (λ bytes. begun bytes ≡ self.old) }
+        ensures within { IfOk result (λ fed. fed.1 ≤ length piece.now) }
+        // A framer that isn't spent gets on.
+        ensures some { IfOk result (λ fed. IsSome self.old → 0 < length piece.now → 0 < fed.1) }
+        ensures spent { IsNone self.old → (result ≡ Ok (None, 0)) × IsNone self.new }
+        ensures memory { OnErr result (IsNone self.new) }
+    {
+        if self.begun.spent {
+            return Ok((None, 0));
+        }
+        match self.begun.take(self.alloc, piece) {
+            Ok(fed) => Ok(fed),
+            Err(memory) => {
+                self.begun.spent = true;
+                Err(memory)
+            }
+        }
+    }
+
+    /// Takes a whole piece and puts the frames that end in it behind those of the bytes before it.
+    pub fn feed_all(&mut self, piece: &[u8], frames: &mut Items<Frame>) -> Result<(), Memory>
+        ensures frames { OnOk result ((past : List ℕ) → begun past ≡ self.old → frames.old ≡ frames_of past
+            → frames.new ≡ frames_of (past ++ piece.now)) }
+        ensures after { OnOk result ((past : List ℕ) → begun past ≡ self.old → begun (past ++ piece.now) ≡ self.new) }
+    {
+        let mut taken = 0;
+        while taken < piece.len() && !self.spent() {
+            let (frame, more) = self.feed(&piece[taken..])?;
+            taken += more;
+            if let Some(frame) = frame {
+                frames.push(frame)?;
+            }
+        }
+        Ok(())
+    }
+}
+
+ghost use Rattle.imap_wire.specs.Frames.{frames as frames_of};
+ghost use Rattle.std.specs.List.{concat};
+
+/// The frames of a connection whose bytes come in these pieces: however they are cut, those of the pieces joined.
+pub fn frames(alloc: Global, pieces: &[Bytes]) -> Result<Items<Frame>, Memory>
+    ensures { IfOk result (λ all. all ≡ frames_of (concat pieces.now)) }
+{
+    let mut framer = Framer::new(alloc);
+    let mut frames = Items::new(alloc);
+    for piece in pieces {
+        framer.feed_all(piece.as_slice(), &mut frames)?;
+    }
+    Ok(frames)
+}
