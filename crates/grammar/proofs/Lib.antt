@@ -1,0 +1,4 @@
+pub mod Reading
+pub mod SequenceLaw
+pub mod ChoiceLaw
+pub mod WordLaw
