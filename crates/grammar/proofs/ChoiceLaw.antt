@@ -1,7 +1,7 @@
 -- The one or the other by the first byte, and single bytes.
 use Rattle.std.proofs.Common.{◌≡◌, ℕ, suc, List, [], ◌∷◌, ◌++◌, length, Result, Ok, Err, Bool, true, false, cond, ◌⊎◌, inl, inr, ⊎_elim, refl, sym, ap, subst, ◌∙◌, append_assoc, append-nil, arith}
 use Rattle.grammar.specs.Part.{Part, ◌>>=◌, Joins, choose, starts, one_of, one_at, taken}
-use Rattle.grammar.specs.Exact.{Stops, Exact, Taken, IsViable, Follows, Good, among}
+use Rattle.grammar.specs.Exact.{Stops, Exact, Taken, IsViable, Follows, Good}
 use Rattle.grammar.proofs.Reading.{Went, went, ok_parts, viable, takes_some, good_from}
 
 -- each spelling of a part begins with a byte that passes the test, so none is empty
@@ -10,16 +10,16 @@ pub record StartsWith {A : Type 0} (test : ℕ → Bool) (p : Part A) : Type 0 w
   pub empty : (a : A) → ¬ p.lang [] a
 
 -- no spelling of a part begins with a byte that passes the test, nor does a byte of `after`, where the part may be empty
-pub record StartsWithout {A : Type 0} (test : ℕ → Bool) (after : List ℕ) (p : Part A) : Type 0 where
+pub record StartsWithout {A : Type 0} (test : ℕ → Bool) (after : ℕ → Bool) (p : Part A) : Type 0 where
   pub full : (c : ℕ) (tail : List ℕ) (a : A) → p.lang (c ∷ tail) a → test c ≡ false
-  pub empty : (a : A) → p.lang [] a → (c : ℕ) → among after c ≡ true → test c ≡ false
+  pub empty : (a : A) → p.lang [] a → (c : ℕ) → after c ≡ true → test c ≡ false
 
 -- texts that begin alike up to one byte begin with the same byte
 pub same_start : (test : ℕ → Bool) (front : List ℕ) (c : ℕ) (tail more : List ℕ) → starts test (front ++ (c ∷ tail)) ≡ starts test (front ++ (c ∷ more))
 same_start test [] c tail more = refl
 same_start test (d ∷ front) c tail more = refl
 
-module _ {V A : Type 0} {after : List ℕ} (test : ℕ → Bool) (p q : Part A) (g : Good V after p) (h : Good V after q)
+module _ {V A : Type 0} {after : ℕ → Bool} (test : ℕ → Bool) (p q : Part A) (g : Good V after p) (h : Good V after q)
     (one : StartsWith test p) (other : StartsWithout test after q) where
   choice_sound : (b : Bool) (bytes rest : List ℕ) (a : A) → cond b (p.at bytes) (q.at bytes) ≡ Ok (a, rest) →
       (front : List ℕ) × (bytes ≡ front ++ rest) × (p.lang front a ⊎ q.lang front a)
@@ -98,7 +98,7 @@ module _ (test : ℕ → Bool) where
       by_test false is e = cc
 
   -- one byte, where one passes
-  pub good_one_of : {V : Type 0} (after : List ℕ) (example : ℕ) → test example ≡ true → Good V after (one_of test)
+  pub good_one_of : {V : Type 0} (after : ℕ → Bool) (example : ℕ) → test example ≡ true → Good V after (one_of test)
   good_one_of {V} after example passes = good_from (one_of test) sound (λ next v f. only next) (λ next v f. stops next v)
     where
       sound : (bytes rest : List ℕ) (a : ℕ) → one_at test bytes ≡ Ok (a, rest) → (front : List ℕ) × (bytes ≡ front ++ rest) × (one_of test).lang front a

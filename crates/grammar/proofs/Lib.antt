@@ -2,3 +2,4 @@ pub mod Reading
 pub mod SequenceLaw
 pub mod ChoiceLaw
 pub mod WordLaw
+pub mod RepetitionLaw

@@ -1,7 +1,7 @@
 -- Small facts on readings that go on, on stops, and on exactness carried from one reader to another.
-use Rattle.std.proofs.Common.{◌≡◌, ℕ, zero, suc, ◌+◌, List, [], ◌∷◌, ◌++◌, length, Result, Ok, Err, Bool, true, false, cond, ◌||◌, refl, sym, ap, subst, ◌∙◌, append_assoc, arith, rules}
+use Rattle.std.proofs.Common.{◌≡◌, ℕ, zero, suc, ◌+◌, List, [], ◌∷◌, ◌++◌, length, Result, Ok, Err, Bool, true, false, cond, ◌||◌, refl, sym, ap, subst, ◌∙◌, append_assoc, length-append, ap₂, arith, rules}
 use Rattle.grammar.specs.Part.{Part, ◌>>=◌, Joins}
-use Rattle.grammar.specs.Exact.{Stops, Exact, Taken, IsViable, Follows, Good, among}
+use Rattle.grammar.specs.Exact.{Stops, Exact, Taken, IsViable, Follows, Good}
 
 -- going on twice is going on with what goes on
 pub bind_assoc : {A B V : Type 0} (r : Result (A × List ℕ) ℕ) (f : A → List ℕ → Result (B × List ℕ) ℕ) (k : B → List ℕ → Result V ℕ) →
@@ -81,7 +81,7 @@ pub Joins-map : {A V : Type 0} {first : List ℕ → A → Type 0} {rest other :
 Joins-map to j = record { front = j.front; back = j.back; between = j.between; parts = j.parts; begins = j.begins; goes_on = to _ _ _ j.goes_on }
 
 -- a part is good where its reading is sound, takes each spelling that is followed, and is viable
-pub good_from : {V A : Type 0} {set : List ℕ} (p : Part A) →
+pub good_from : {V A : Type 0} {set : ℕ → Bool} (p : Part A) →
     ((bytes rest : List ℕ) (a : A) → p.at bytes ≡ Ok (a, rest) → (front : List ℕ) × (bytes ≡ front ++ rest) × p.lang front a) →
     ((next : A → List ℕ → Result V ℕ) → ((a : A) → IsViable (next a)) → ((a : A) → Follows set (next a)) →
       (bytes : List ℕ) (w : V) → Joins p.lang (λ a. Taken (next a)) bytes w → p.at bytes >>= next ≡ Ok w) →
@@ -95,3 +95,14 @@ good_from {V} {A} p sound only stops = record {
     found : (next : A → List ℕ → Result V ℕ) (bytes : List ℕ) (w : V) → Went (p.at bytes) next w → Joins p.lang (λ a. Taken (next a)) bytes w
     found next bytes w s = let front = sound bytes s.rest s.value s.was in
         record { front = front.0; back = s.rest; between = s.value; parts = front.1; begins = front.2; goes_on = s.gave }
+
+-- a text is split in one way with so many bytes behind
+pub same_split : (a b c d : List ℕ) → a ++ b ≡ c ++ d → length b ≡ length d → (a ≡ c) × (b ≡ d)
+same_split [] b [] d e n = (refl, e)
+same_split [] b (x ∷ c) d e n = absurd (omega (arith, ap length e, length-append c d))
+same_split (y ∷ a) b [] d e n = absurd (omega (arith, ap length e, length-append a b))
+same_split (y ∷ a) b (x ∷ c) d e n =
+    let first : y ≡ x = cc in
+    let rest : a ++ b ≡ c ++ d = cc in
+    let s = same_split a b c d rest n in
+    (ap₂ (λ x a. x ∷ a) first s.0, s.1)

@@ -1,28 +1,28 @@
 -- Nothing, one part behind another, and the end of the bytes.
 use Rattle.std.proofs.Common.{◌≡◌, ℕ, List, [], ◌∷◌, ◌++◌, length, Result, Ok, Err, Bool, true, false, refl, sym, ap, subst, ◌∙◌, append_assoc, append-nil, arith}
 use Rattle.grammar.specs.Part.{Part, ◌>>=◌, Joins, give, ◌then◌, map}
-use Rattle.grammar.specs.Exact.{Stops, Exact, Taken, IsViable, Follows, Good, among, at_end, whole_at}
+use Rattle.grammar.specs.Exact.{Stops, Exact, Taken, IsViable, Follows, Good, at_end, whole_at}
 use Rattle.grammar.proofs.Reading.{bind_assoc, Went, went, ok_parts, viable, Exact-map, Joins-map, exact_self, exact_from}
 
 -- what the spellings of a part begin with: a byte of `starts`, or nothing, where then each byte of `after` is one of `starts`
-pub record Begins {A : Type 0} (starts after : List ℕ) (p : Part A) : Type 0 where
-  pub full : (c : ℕ) (tail : List ℕ) (a : A) → p.lang (c ∷ tail) a → among starts c ≡ true
-  pub empty : (a : A) → p.lang [] a → (c : ℕ) → among after c ≡ true → among starts c ≡ true
+pub record Begins {A : Type 0} (starts after : ℕ → Bool) (p : Part A) : Type 0 where
+  pub full : (c : ℕ) (tail : List ℕ) (a : A) → p.lang (c ∷ tail) a → starts c ≡ true
+  pub empty : (a : A) → p.lang [] a → (c : ℕ) → after c ≡ true → starts c ≡ true
 
 module _ {V : Type 0} where
   -- what follows a part that begins with `starts` follows with `starts`
-  pub follows_begins : {A : Type 0} {starts after : List ℕ} (p : Part A) (next : A → List ℕ → Result V ℕ) → Begins starts after p → Good V after p →
+  pub follows_begins : {A : Type 0} {starts after : ℕ → Bool} (p : Part A) (next : A → List ℕ → Result V ℕ) → Begins starts after p → Good V after p →
       ((a : A) → IsViable (next a)) → ((a : A) → Follows after (next a)) → Follows starts (λ bytes. p.at bytes >>= next)
   follows_begins {A} {starts} {after} p next b g v f c tail w h = go ((g.exact next v f).found (c ∷ tail) w h)
     where
-      by_front : (front back : List ℕ) (a : A) → (let s : List ℕ = c ∷ tail in s ≡ front ++ back) → p.lang front a → next a back ≡ Ok w → among starts c ≡ true
+      by_front : (front back : List ℕ) (a : A) → (let s : List ℕ = c ∷ tail in s ≡ front ++ back) → p.lang front a → next a back ≡ Ok w → starts c ≡ true
       by_front [] back a e l n = b.empty a l c (f a c tail w (ap (next a) e ∙ n))
-      by_front (d ∷ front) back a e l n = let same : c ≡ d = cc in ap (among starts) same ∙ b.full d front a l
+      by_front (d ∷ front) back a e l n = let same : c ≡ d = cc in ap starts same ∙ b.full d front a l
 
-      go : Joins p.lang (λ a. Taken (next a)) (c ∷ tail) w → among starts c ≡ true
+      go : Joins p.lang (λ a. Taken (next a)) (c ∷ tail) w → starts c ≡ true
       go j = by_front j.front j.back j.between j.parts j.begins j.goes_on
 
-  pub good_give : {A : Type 0} (set : List ℕ) (a : A) → Good V set (give a)
+  pub good_give : {A : Type 0} (set : ℕ → Bool) (a : A) → Good V set (give a)
   good_give {A} set a = record {
     sound = λ bytes rest b e. let same = ok_parts e in ([], same.1, (refl, sym same.0));
     exact = λ next v f. exact_from (λ bytes w h. record { front = []; back = bytes; between = a; parts = refl; begins = (refl, refl); goes_on = h }) (given next) (v a)
@@ -55,7 +55,7 @@ module _ {V : Type 0} where
     }
 
   -- one part behind another: what stands behind the first begins as the second does
-  pub good_then : {A B : Type 0} {starts after : List ℕ} (p : Part A) (f : A → Part B) → Good V starts p → ((a : A) → Good V after (f a)) →
+  pub good_then : {A B : Type 0} {starts after : ℕ → Bool} (p : Part A) (f : A → Part B) → Good V starts p → ((a : A) → Good V after (f a)) →
       ((a : A) → Begins starts after (f a)) → Good V after (p then f)
   good_then {A} {B} {starts} {after} p f g h b = record {
     sound = λ bytes rest w e. sound bytes rest w (went (p.at bytes) _ _ e);
@@ -77,7 +77,7 @@ module _ {V : Type 0} where
           (one.0 ++ two.0, parts, record { front = one.0; back = two.0; between = s.value; parts = refl; begins = one.2; goes_on = two.2 })
 
   -- a value changed
-  pub good_map : {A B : Type 0} {set : List ℕ} (f : A → B) (p : Part A) → Good V set p → Good V set (map f p)
+  pub good_map : {A B : Type 0} {set : ℕ → Bool} (f : A → B) (p : Part A) → Good V set p → Good V set (map f p)
   good_map {A} {B} {set} f p g =
       good_then p (λ a. give (f a)) g (λ a. good_give set (f a)) (λ a. record { full = λ c tail b e. absurd (apart c tail e.0); empty = λ _ _ _ h. h })
     where
@@ -93,11 +93,11 @@ module _ {V : Type 0} where
   }
 
   -- nothing follows but the end
-  pub follows_end : (set : List ℕ) (a : V) → Follows set (at_end a)
+  pub follows_end : (set : ℕ → Bool) (a : V) → Follows set (at_end a)
   follows_end set a c tail v h = cc
 
   -- a part with nothing behind it: what is read is spelled, what is spelled is read, and a stop is at the longest prefix
-  pub exact_whole : {set : List ℕ} (p : Part V) → Good V set p → Exact p.lang (whole_at p)
+  pub exact_whole : {set : ℕ → Bool} (p : Part V) → Good V set p → Exact p.lang (whole_at p)
   exact_whole {set} p g = Exact-map (λ bytes. refl) to from (g.exact at_end viable_end (follows_end set))
     where
       at_last : (a v : V) (rest : List ℕ) → at_end a rest ≡ Ok v → (rest ≡ []) × (a ≡ v)

@@ -1,7 +1,7 @@
 -- Words are read to their end, where no byte that follows goes on with one.
 use Rattle.std.proofs.Common.{◌≡◌, ℕ, suc, List, [], ◌∷◌, ◌++◌, length, Result, Ok, Err, Bool, true, false, cond, refl, sym, ap, subst, ◌∙◌, append_assoc, append-nil, arith}
 use Rattle.grammar.specs.Part.{Part, ◌>>=◌, Joins}
-use Rattle.grammar.specs.Exact.{Stops, Taken, IsViable, Follows, Good, among}
+use Rattle.grammar.specs.Exact.{Stops, Taken, IsViable, Follows, Good}
 use Rattle.grammar.specs.Words.{Words, Lawful, Apart, word, scan, halt}
 use Rattle.grammar.proofs.Reading.{ok_parts, takes_some, good_from, empty_halves}
 
@@ -37,7 +37,7 @@ module _ (w : Words) (lawful : Lawful w) where
       scan_step front c (x ++ rest) true (lawful.front (front ++ c ∷ []) x all)
         ∙ scan_over (front ++ c ∷ []) x rest all ∙ ap (λ s. scan w s rest) together
 
-module _ {V : Type 0} (w : Words) (lawful : Lawful w) (after : List ℕ) (apart : Apart w after)
+module _ {V : Type 0} (w : Words) (lawful : Lawful w) (after : ℕ → Bool) (apart : Apart w after)
     (next : List ℕ → List ℕ → Result V ℕ) (v : (a : List ℕ) → IsViable (next a)) (f : (a : List ℕ) → Follows after (next a)) where
   -- behind a whole word the reading goes on with what follows
   at_word : (front rest : List ℕ) (x : V) → w.whole front ≡ true → next front rest ≡ Ok x → scan w front rest >>= next ≡ Ok x
@@ -103,7 +103,7 @@ module _ {V : Type 0} (w : Words) (lawful : Lawful w) (after : List ℕ) (apart 
           at_halt front (c ∷ bytes) left (w.whole front) begins refl (λ d tail same. let first : c ≡ d = cc in ap (λ x. w.begins (front ++ x ∷ [])) (sym first) ∙ is) e
 
 -- a word, behind which no byte of the set goes on with one
-pub good_word : {V : Type 0} (w : Words) → Lawful w → (after : List ℕ) → Apart w after → Good V after (word w)
+pub good_word : {V : Type 0} (w : Words) → Lawful w → (after : ℕ → Bool) → Apart w after → Good V after (word w)
 good_word {V} w lawful after apart =
     good_from (word w) sound (λ next v f. word_only w lawful after apart next v f) (λ next v f bytes left e. scan_stops w lawful after apart next v f [] bytes left lawful.opens e)
   where

@@ -33,12 +33,16 @@ abbrev pub among : List ℕ → ℕ → Bool
 among [] c = false
 among (x ∷ xs) c = c == x || among xs c
 
--- what a reader takes begins, unless it is empty, with a byte of the set
-abbrev pub Follows : {V : Type 0} → List ℕ → (List ℕ → Result V ℕ) → Type 0
-Follows set read = (c : ℕ) (tail : List ℕ) (v : _) → read (c ∷ tail) ≡ Ok v → among set c ≡ true
+-- any byte
+abbrev pub any : ℕ → Bool
+any c = true
 
--- a part reads what it spells, whatever exact reader goes on behind it with a byte of the set or with nothing
-pub record Good (V : Type 0) {A : Type 0} (set : List ℕ) (p : Part A) : Type 0 where
+-- what a reader takes begins, unless it is empty, with a byte that passes the test
+abbrev pub Follows : {V : Type 0} → (ℕ → Bool) → (List ℕ → Result V ℕ) → Type 0
+Follows set read = (c : ℕ) (tail : List ℕ) (v : _) → read (c ∷ tail) ≡ Ok v → set c ≡ true
+
+-- a part reads what it spells, whatever exact reader goes on behind it with a byte that passes the test or with nothing
+pub record Good (V : Type 0) {A : Type 0} (set : ℕ → Bool) (p : Part A) : Type 0 where
   pub sound : (bytes rest : List ℕ) (a : A) → p.at bytes ≡ Ok (a, rest) → (front : List ℕ) × (bytes ≡ front ++ rest) × p.lang front a
   pub exact : (next : A → List ℕ → Result V ℕ) → ((a : A) → IsViable (next a)) → ((a : A) → Follows set (next a)) →
       Exact (Joins p.lang (λ a. Taken (next a))) (λ bytes. p.at bytes >>= next)

@@ -1,7 +1,6 @@
 -- Words: sets of byte strings that are read to the longest of their prefixes.
 use Rattle.std.specs.Prelude.{◌≡◌, ℕ, Bool, true, false, cond, List, [], ◌∷◌, ◌++◌, length, Result, Ok, Err}
 use Rattle.grammar.specs.Part.{Part}
-use Rattle.grammar.specs.Exact.{among}
 
 -- a set of words by two tests: a text that begins a word, a text that is one
 pub record Words : Type 0 where
@@ -30,6 +29,6 @@ pub record Lawful (w : Words) : Type 0 where
   pub whole : (s : List ℕ) → w.whole s ≡ true → w.begins s ≡ true
   pub goes_on : (s : List ℕ) → w.begins s ≡ true → (t : List ℕ) × (w.whole (s ++ t) ≡ true)
 
--- no word goes on with a byte of the set
-abbrev pub Apart : Words → List ℕ → Type 0
-Apart w set = (s : List ℕ) → w.whole s ≡ true → (c : ℕ) → among set c ≡ true → w.begins (s ++ c ∷ []) ≡ false
+-- no word goes on with a byte that passes the test
+abbrev pub Apart : Words → (ℕ → Bool) → Type 0
+Apart w set = (s : List ℕ) → w.whole s ≡ true → (c : ℕ) → set c ≡ true → w.begins (s ++ c ∷ []) ≡ false
