@@ -1,3 +1,4 @@
 pub mod Exact
+pub mod Gives
 pub mod Part
 pub mod Words

@@ -1,10 +1,10 @@
 //! Parts of grammars.
 #![tactic(auto)]
 
-ghost use Rattle.std.specs.Prelude.{◌≡◌};
+mod error;
+mod single;
+mod word;
 
-pub fn echo(x: usize) -> usize
-    ensures { result ≡ x }
-{
-    x
-}
+pub use error::{ReadError, Stop};
+pub use single::byte_of;
+pub use word::{Kind, word_of};
