@@ -3,3 +3,4 @@ pub mod SequenceLaw
 pub mod ChoiceLaw
 pub mod WordLaw
 pub mod RepetitionLaw
+pub mod TurnSteps
