@@ -2,5 +2,10 @@ pub mod Reading
 pub mod SequenceLaw
 pub mod ChoiceLaw
 pub mod WordLaw
+pub mod RunLaw
+pub mod ExactlyLaw
+pub mod NumberLaw
+pub mod Tests
+pub mod TableLaw
 pub mod RepetitionLaw
 pub mod TurnSteps

@@ -1,5 +1,5 @@
 -- Parts of a grammar: which bytes spell which value, and what a reader makes of bytes that begin with a part.
-use Rattle.std.specs.Prelude.{◌≡◌, ℕ, zero, suc, ◌⊎◌, Bool, true, false, cond, ◌==◌, List, [], ◌∷◌, ◌++◌, length, Result, Ok, Err, IsTrue}
+use Rattle.std.specs.Prelude.{◌≡◌, ℕ, zero, suc, ◌⊎◌, Bool, true, false, cond, ◌==◌, ◌&&◌, nat_le, List, [], ◌∷◌, ◌++◌, length, Result, Ok, Err, IsTrue}
 
 infixl 20 ◌>>=◌
 infixr 15 ◌then◌
@@ -69,6 +69,10 @@ one_of test = record { lang = λ s v. (s ≡ v ∷ []) × (test v ≡ true); at 
 -- this byte
 abbrev pub byte : ℕ → Part ℕ
 byte c = one_of (λ b. b == c)
+
+-- the bytes from one to another, both included
+abbrev pub between : ℕ → ℕ → ℕ → Bool
+between low high c = nat_le low c && nat_le c high
 
 -- one part, a space and another part (the RFCs' SP)
 abbrev pub ◌sp◌ : {A B : Type 0} → Part A → (A → Part B) → Part B
