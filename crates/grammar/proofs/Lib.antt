@@ -9,3 +9,4 @@ pub mod Tests
 pub mod TableLaw
 pub mod RepetitionLaw
 pub mod TurnSteps
+pub mod NameSteps

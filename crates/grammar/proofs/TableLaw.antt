@@ -1,17 +1,18 @@
 -- The names of a table are lawful words, and end before a byte that no name has.
-use Rattle.std.proofs.Common.{◌≡◌, ℕ, List, [], ◌∷◌, ◌++◌, Bool, true, false, ◌&&◌, ◌||◌, not, ◌==◌, refl, sym, ap, ap₂, ◌∙◌, eqb-true, eq-eqb}
+use Rattle.std.proofs.Common.{◌≡◌, ℕ, List, [], ◌∷◌, ◌++◌, Bool, true, false, ◌&&◌, ◌||◌, not, ◌==◌, refl, sym, ap, ◌∙◌, eqb-true, eq-eqb}
 use Rattle.std.specs.List.{list_all, list_any}
 use Rattle.std.specs.Char.{eq_ignore_ascii_case, to_ascii_lowercase}
 use Rattle.grammar.specs.Exact.{among}
 use Rattle.grammar.specs.Words.{Words, Lawful, Apart}
-use Rattle.grammar.specs.Tables.{any_case, starts_name, is_name, lacks}
+use Rattle.grammar.specs.Tables.{any_case, begins_some, starts_name, is_name, lacks}
 use Rattle.grammar.proofs.Tests.{and_both, and_left, and_right, and_false, and_false_right, not_true, any_weaker, any_some, any_none, among_all}
 
 -- a byte is itself in any case
 letter_same : (c : ℕ) → eq_ignore_ascii_case c c ≡ true
 letter_same c = eq-eqb (to_ascii_lowercase c) (to_ascii_lowercase c) refl
 
-starts_empty : (name : List ℕ) → starts_name name [] ≡ true
+-- each name begins with nothing
+pub starts_empty : (name : List ℕ) → starts_name name [] ≡ true
 starts_empty [] = refl
 starts_empty (n ∷ name) = refl
 
@@ -43,20 +44,33 @@ lacks_ends [] (d ∷ s) c h = refl
 lacks_ends (n ∷ name) [] c h = and_false (eq_ignore_ascii_case n c) true (not_true _ (and_left (not (eq_ignore_ascii_case n c)) (lacks c name) h))
 lacks_ends (n ∷ name) (d ∷ s) c h = and_false_right _ _ (lacks_ends name s c (and_right _ _ h))
 
+-- a text and one byte more begin some name where a name begins with them
+pub some_push : (names : List (List ℕ)) (text : List ℕ) (c : ℕ) → begins_some names (text ++ c ∷ []) ≡ list_any (λ name. starts_name name (text ++ c ∷ [])) names
+some_push names [] c = refl
+some_push names (d ∷ text) c = refl
+
 module _ (names : List (List ℕ)) where
+  to_some : (s : List ℕ) → list_any (λ name. starts_name name s) names ≡ true → begins_some names s ≡ true
+  to_some [] h = refl
+  to_some (c ∷ s) h = h
+
+  from_some : list_any (λ name. starts_name name []) names ≡ true → (s : List ℕ) → begins_some names s ≡ true → list_any (λ name. starts_name name s) names ≡ true
+  from_some first [] h = first
+  from_some first (c ∷ s) h = h
+
   -- a table with a name
-  pub lawful_any_case : (any_case names).begins [] ≡ true → Lawful (any_case names)
+  pub lawful_any_case : list_any (λ name. starts_name name []) names ≡ true → Lawful (any_case names)
   lawful_any_case first = record {
-    opens = first;
-    front = λ s t h. any_weaker _ _ (λ name k. starts_front name s t k) names h;
-    whole = λ s h. any_weaker _ _ (λ name k. starts_whole name s k) names h;
+    opens = refl;
+    front = λ s t h. to_some s (any_weaker _ _ (λ name k. starts_front name s t k) names (from_some first (s ++ t) h));
+    whole = λ s h. to_some s (any_weaker _ _ (λ name k. starts_whole name s k) names h);
     goes_on = λ s h.
-      let name = any_some (λ name. starts_name name s) names h in
+      let name = any_some (λ name. starts_name name s) names (from_some first s h) in
       let on = starts_goes_on name.0 s name.1 in
       (on.0, name.2 (λ name. is_name name (s ++ on.0)) on.1)
   }
 
   -- bytes that no name has
   pub apart_any_case : (set : List ℕ) → list_all (λ c. list_all (lacks c) names) set ≡ true → Apart (any_case names) (among set)
-  apart_any_case set none s h c k =
-      any_none (lacks c) (λ name. starts_name name (s ++ c ∷ [])) (λ name l. lacks_ends name s c l) names (among_all (λ c. list_all (lacks c) names) set none c k)
+  apart_any_case set none s h c k = some_push names s c
+      ∙ any_none (lacks c) (λ name. starts_name name (s ++ c ∷ [])) (λ name l. lacks_ends name s c l) names (among_all (λ c. list_all (lacks c) names) set none c k)

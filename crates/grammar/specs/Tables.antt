@@ -17,9 +17,14 @@ is_name [] (c ∷ text) = false
 is_name (n ∷ name) [] = false
 is_name (n ∷ name) (c ∷ text) = eq_ignore_ascii_case n c && is_name name text
 
+-- some name begins with the text, in any case
+abbrev pub begins_some : List (List ℕ) → List ℕ → Bool
+begins_some names [] = true
+begins_some names (c ∷ text) = list_any (λ name. starts_name name (c ∷ text)) names
+
 -- the names, in any case
 abbrev pub any_case : List (List ℕ) → Words
-any_case names = record { begins = λ text. list_any (λ name. starts_name name text) names; whole = λ text. list_any (λ name. is_name name text) names }
+any_case names = record { begins = begins_some names; whole = λ text. list_any (λ name. is_name name text) names }
 
 -- no letter of the name is the byte in any case
 abbrev pub lacks : ℕ → List ℕ → Bool

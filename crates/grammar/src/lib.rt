@@ -3,12 +3,16 @@
 
 mod class;
 mod error;
+mod number;
 mod run;
+mod table;
 mod turn;
 mod word;
 
 pub use class::{Between, Class, Only, begins, byte_in, byte_of, exactly_of};
 pub use error::{ReadError, Stop};
+pub use number::number_of;
 pub use run::{Run, RunUpTo};
+pub use table::{AnyCase, names};
 pub use turn::{Turn, repeated_of};
 pub use word::{Kind, word_of};
