@@ -1,5 +1,6 @@
 -- What so many bytes of a set are read as, from how many of the first bytes pass.
-use Rattle.std.proofs.Common.{◌≡◌, ℕ, zero, suc, ◌+◌, ◌-◌, ◌<◌, ◌≤◌, List, [], ◌∷◌, ◌++◌, length, take, drop, get_or, Result, Ok, Err, Bool, true, false, refl, sym, ap, ◌∙◌, arith}
+use Rattle.std.proofs.Common.{◌≡◌, ℕ, zero, suc, ◌+◌, ◌-◌, ◌<◌, ◌≤◌, List, [], ◌∷◌, ◌++◌, length, take, drop, get_or, Result, Ok, Err, Bool, true, false, refl, sym, ap, ◌∙◌, min, ⊎_elim, arith}
+use Rattle.std.proofs.lemmas.Bool.{cases_lt}
 use Rattle.std.specs.List.{list_all}
 use Rattle.grammar.specs.Part.{Part, ◌>>=◌, exactly, map, taken}
 use Rattle.grammar.proofs.Tests.{and_left, and_right}
@@ -44,3 +45,10 @@ module _ (test : ℕ → Bool) where
           taken b c bytes >>= (λ c rest. (map (λ s. c ∷ s) (exactly test n)).at rest) ≡ taken b c bytes >>= (λ c rest. (map (λ s. c ∷ s) (exactly test m)).at rest)
       by_case true e = e
       by_case false e = refl
+
+  -- a count may be cut to one more than there are
+  pub exactly_upto : (n : ℕ) (bytes : List ℕ) → (exactly test (min n (length bytes + 1))).at bytes ≡ (exactly test n).at bytes
+  exactly_upto n bytes = ⊎_elim
+      (λ h. ap (λ m. (exactly test m).at bytes) (let same : min n (length bytes + 1) ≡ n = omega arith in same))
+      (λ h. exactly_beyond (min n (length bytes + 1)) n bytes (omega arith) (omega arith))
+      (cases_lt n (length bytes + 1))

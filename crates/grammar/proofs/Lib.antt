@@ -5,6 +5,8 @@ pub mod WordLaw
 pub mod RunLaw
 pub mod ExactlyLaw
 pub mod NumberLaw
+pub mod ScanSteps
+pub mod NumberSteps
 pub mod Tests
 pub mod TableLaw
 pub mod RepetitionLaw

@@ -75,3 +75,7 @@ among_all p (x ∷ set) h c k = by_case (c == x) refl k (among_all p set (and_ri
     by_case : (b : Bool) → (c == x) ≡ b → b || among set c ≡ true → (among set c ≡ true → p c ≡ true) → p c ≡ true
     by_case true e k again = ap p (eqb-true c x e) ∙ and_left _ _ h
     by_case false e k again = again k
+
+pub not_then_false : (a : Bool) → ¬ (a ≡ true) → a ≡ false
+not_then_false true h = absurd (h refl)
+not_then_false false h = refl

@@ -33,3 +33,7 @@ numerals zeros most = record {
 -- a number of at most `most`
 abbrev pub number : Bool → ℕ → Part ℕ
 number zeros most = map decimal (word (numerals zeros most))
+
+-- behind digits that stand for n, the byte is a digit that keeps the number at `most` and is no zero that may not stand first
+abbrev pub is_next_digit : Bool → ℕ → ℕ → Bool → ℕ → Bool
+is_next_digit zeros most n first c = (is_digit c && nat_le (n * 10 + (c - 48)) most) && (zeros || not (first && (c == 48)))

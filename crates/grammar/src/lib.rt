@@ -11,7 +11,7 @@ mod word;
 
 pub use class::{Between, Class, Only, begins, byte_in, byte_of, exactly_of};
 pub use error::{ReadError, Stop};
-pub use number::number_of;
+pub use number::{counted_of, number_of};
 pub use run::{Run, RunUpTo};
 pub use table::{AnyCase, names};
 pub use turn::{Turn, repeated_of};
