@@ -99,3 +99,16 @@ repeat test turn s = record {
   lang = λ bytes last. (n : ℕ) × (turns test turn n s).lang bytes last;
   at = λ bytes. (turns test turn (length bytes) s).at bytes
 }
+
+-- a byte that may be left out; true where it is there
+abbrev pub optional : ℕ → Part Bool
+optional c = choose (λ b. b == c) (map (λ _. true) (byte c)) (give false)
+
+-- a space and a turn
+abbrev pub spaced : {S : Type 0} → (S → Part S) → S → Part S
+spaced turn s = byte 32 then λ _. turn s
+
+-- one turn or more in parentheses, a space between any two (the RFCs' "(" X *(SP X) ")")
+abbrev pub listed : {S : Type 0} → (S → Part S) → S → Part S
+listed turn s =
+    byte 40 then λ _. turn s then λ t. repeat (λ b. b == 32) (spaced turn) t then λ last. map (λ _. last) (byte 41)

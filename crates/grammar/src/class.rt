@@ -1,7 +1,7 @@
 // Sets of bytes, and readers of bytes of a set.
-ghost use Rattle.std.specs.Prelude.{◌≡◌, ℕ, Bool, ◌&&◌, nat_le, true, false, take, ◌≤◌, ◌<◌, length, slice_index};
+ghost use Rattle.std.specs.Prelude.{◌≡◌, ℕ, Bool, ◌&&◌, nat_le, true, false, take, ◌≤◌, ◌<◌, length, slice_index, Ok};
 ghost use Rattle.std.specs.List.{list_all};
-ghost use Rattle.grammar.specs.Part.{byte, one_of, starts, exactly, between};
+ghost use Rattle.grammar.specs.Part.{byte, one_of, starts, exactly, optional, between};
 ghost use Rattle.grammar.specs.Gives.{Finds};
 
 use crate::error::Stop;
@@ -68,6 +68,16 @@ pub fn byte_of(wanted: u8, bytes: &[u8]) -> Result<&[u8], Stop>
     match bytes {
         [first, rest @ ..] if *first == wanted => Ok(rest),
         _ => Err(Stop { left: bytes.len() }),
+    }
+}
+
+/// Reads a byte that may be left out, and gives whether it is there and the bytes behind it.
+pub fn optional_of(wanted: u8, bytes: &[u8]) -> (bool, &[u8])
+    ensures { (optional wanted).at bytes.now ≡ Ok (result.0, result.1.now) }
+{
+    match bytes {
+        [first, rest @ ..] if *first == wanted => (true, rest),
+        _ => (false, bytes),
     }
 }
 

@@ -6,6 +6,7 @@ use crate::class::Class;
 use crate::word::Kind;
 
 /// One byte of the set or more.
+#[derive(Clone, Copy)]
 pub struct Run<C> {
     pub of: C,
 }
@@ -27,6 +28,7 @@ impl<C: Class> Kind for Run<C> {
 }
 
 /// One byte of the set to `most` bytes.
+#[derive(Clone, Copy)]
 pub struct RunUpTo<C> {
     pub of: C,
     pub most: usize,

@@ -6,6 +6,7 @@ ghost use Rattle.grammar.specs.Tables.{any_case, starts_name, is_name};
 use crate::word::Kind;
 
 /// The names of a table, in any case of letters.
+#[derive(Clone, Copy)]
 pub struct AnyCase<'t> {
     pub names: &'t [&'t [u8]],
 }
