@@ -11,4 +11,6 @@ pub mod Tests
 pub mod TableLaw
 pub mod RepetitionLaw
 pub mod TurnSteps
+pub mod StartLaw
+pub mod ToolLaws
 pub mod NameSteps

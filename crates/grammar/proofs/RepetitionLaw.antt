@@ -61,6 +61,11 @@ module _ {V S : Type 0} (test after between : ℕ → Bool) (turn : S → Part S
     empty = λ a l c h. after_next c h
   }
 
+  -- any number of turns begin so
+  pub begins_repeat : (s : S) → Begins between after (repeat test turn s)
+  unfolding repeat
+  begins_repeat s = record { full = λ c tail a l. (begins_turns l.0 s).full c tail a l.1; empty = λ a l c h. after_next c h }
+
   -- at most so many turns
   pub good_turns : (n : ℕ) (s : S) → Good V after (turns test turn n s)
   unfolding turns
