@@ -1,18 +1,8 @@
 -- The one or the other by the first byte, and single bytes.
 use Rattle.std.proofs.Common.{◌≡◌, ℕ, suc, List, [], ◌∷◌, ◌++◌, length, Result, Ok, Err, Bool, true, false, cond, ◌⊎◌, inl, inr, ⊎_elim, refl, sym, ap, subst, ◌∙◌, append_assoc, append-nil, arith}
 use Rattle.grammar.specs.Part.{Part, ◌>>=◌, Joins, choose, starts, one_of, one_at, taken}
-use Rattle.grammar.specs.Exact.{Stops, Exact, Taken, IsViable, Follows, Good}
+use Rattle.grammar.specs.Exact.{Stops, Exact, Taken, IsViable, Follows, Good, StartsWith, StartsWithout}
 use Rattle.grammar.proofs.Reading.{Went, went, ok_parts, viable, takes_some, good_from}
-
--- each spelling of a part begins with a byte that passes the test, so none is empty
-pub record StartsWith {A : Type 0} (test : ℕ → Bool) (p : Part A) : Type 0 where
-  pub full : (c : ℕ) (tail : List ℕ) (a : A) → p.lang (c ∷ tail) a → test c ≡ true
-  pub empty : (a : A) → ¬ p.lang [] a
-
--- no spelling of a part begins with a byte that passes the test, nor does a byte of `after`, where the part may be empty
-pub record StartsWithout {A : Type 0} (test : ℕ → Bool) (after : ℕ → Bool) (p : Part A) : Type 0 where
-  pub full : (c : ℕ) (tail : List ℕ) (a : A) → p.lang (c ∷ tail) a → test c ≡ false
-  pub empty : (a : A) → p.lang [] a → (c : ℕ) → after c ≡ true → test c ≡ false
 
 -- texts that begin alike up to one byte begin with the same byte
 pub same_start : (test : ℕ → Bool) (front : List ℕ) (c : ℕ) (tail more : List ℕ) → starts test (front ++ (c ∷ tail)) ≡ starts test (front ++ (c ∷ more))

@@ -1,10 +1,10 @@
 -- A number of bytes, and turns of a part that changes a state.
 use Rattle.std.proofs.Common.{◌≡◌, ℕ, zero, suc, ◌+◌, ◌<◌, ◌≤◌, List, [], ◌∷◌, ◌++◌, length, Result, Ok, Err, Bool, true, false, cond, ◌⊎◌, inl, inr, ⊎_elim, refl, sym, ap, subst, ◌∙◌, append_assoc, append-nil, length-append, arith}
 use Rattle.grammar.specs.Part.{Part, ◌>>=◌, Joins, give, map, one_of, ◌then◌, choose, starts, exactly, turns, repeat}
-use Rattle.grammar.specs.Exact.{Stops, Exact, Taken, IsViable, Follows, Good, any}
+use Rattle.grammar.specs.Exact.{Begins, StartsWith, StartsWithout, Stops, Exact, Taken, IsViable, Follows, Good, any}
 use Rattle.grammar.proofs.Reading.{Went, went, viable, good_from, same_split}
-use Rattle.grammar.proofs.SequenceLaw.{Begins, good_give, good_map, good_then}
-use Rattle.grammar.proofs.ChoiceLaw.{StartsWith, StartsWithout, good_choose, good_one_of}
+use Rattle.grammar.proofs.SequenceLaw.{good_give, good_map, good_then}
+use Rattle.grammar.proofs.ChoiceLaw.{good_choose, good_one_of}
 
 -- whatever begins a part, any byte does
 pub begins_any : {A : Type 0} (after : ℕ → Bool) (p : Part A) → Begins any after p

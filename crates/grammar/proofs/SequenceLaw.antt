@@ -1,13 +1,8 @@
 -- Nothing, one part behind another, and the end of the bytes.
 use Rattle.std.proofs.Common.{◌≡◌, ℕ, List, [], ◌∷◌, ◌++◌, length, Result, Ok, Err, Bool, true, false, refl, sym, ap, subst, ◌∙◌, append_assoc, append-nil, arith}
 use Rattle.grammar.specs.Part.{Part, ◌>>=◌, Joins, give, ◌then◌, map}
-use Rattle.grammar.specs.Exact.{Stops, Exact, Taken, IsViable, Follows, Good, at_end, whole_at}
+use Rattle.grammar.specs.Exact.{Stops, Exact, Taken, IsViable, Follows, Good, Begins, at_end, whole_at}
 use Rattle.grammar.proofs.Reading.{bind_assoc, Went, went, ok_parts, viable, Exact-map, Joins-map, exact_self, exact_from}
-
--- what the spellings of a part begin with: a byte of `starts`, or nothing, where then each byte of `after` is one of `starts`
-pub record Begins {A : Type 0} (starts after : ℕ → Bool) (p : Part A) : Type 0 where
-  pub full : (c : ℕ) (tail : List ℕ) (a : A) → p.lang (c ∷ tail) a → starts c ≡ true
-  pub empty : (a : A) → p.lang [] a → (c : ℕ) → after c ≡ true → starts c ≡ true
 
 module _ {V : Type 0} where
   -- what follows a part that begins with `starts` follows with `starts`

@@ -1,9 +1,8 @@
 -- What the spellings of parts begin with.
 use Rattle.std.proofs.Common.{◌≡◌, ℕ, List, [], ◌∷◌, ◌++◌, Bool, true, false, not, ◌⊎◌, ⊎_elim, refl, sym, ap, ◌∙◌, subst, eq-eqb}
 use Rattle.grammar.specs.Part.{Part, Joins, ◌then◌, one_of, byte, choose, map}
+use Rattle.grammar.specs.Exact.{Begins, StartsWith, StartsWithout}
 use Rattle.grammar.specs.Words.{Words, Lawful, word}
-use Rattle.grammar.proofs.SequenceLaw.{Begins}
-use Rattle.grammar.proofs.ChoiceLaw.{StartsWith, StartsWithout}
 
 module _ {A : Type 0} {test : ℕ → Bool} where
   -- a wider test

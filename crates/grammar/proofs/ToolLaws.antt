@@ -1,10 +1,10 @@
 -- The small parts that productions are made of are exact too.
 use Rattle.std.proofs.Common.{◌≡◌, ℕ, List, [], ◌∷◌, ◌++◌, Bool, true, false, not, ◌==◌, refl, sym, ap, subst, ◌∙◌, eq-eqb, eqb-true}
 use Rattle.grammar.specs.Part.{Part, ◌then◌, ◌sp◌, give, map, choose, one_of, byte, when, optional, spaced, listed, repeat}
-use Rattle.grammar.specs.Exact.{Good, any}
+use Rattle.grammar.specs.Exact.{Begins, StartsWith, StartsWithout, Good, any}
 use Rattle.grammar.proofs.Reading.{empty_halves}
-use Rattle.grammar.proofs.SequenceLaw.{Begins, good_give, good_map, good_then}
-use Rattle.grammar.proofs.ChoiceLaw.{StartsWith, StartsWithout, good_choose, good_one_of}
+use Rattle.grammar.proofs.SequenceLaw.{good_give, good_map, good_then}
+use Rattle.grammar.proofs.ChoiceLaw.{good_choose, good_one_of}
 use Rattle.grammar.proofs.RepetitionLaw.{good_repeat, begins_repeat, no_byte}
 use Rattle.grammar.proofs.StartLaw.{starts_one_of, starts_then, begins_from, starts_weaker}
 

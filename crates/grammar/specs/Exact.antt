@@ -47,6 +47,21 @@ pub record Good (V : Type 0) {A : Type 0} (set : ℕ → Bool) (p : Part A) : Ty
   pub exact : (next : A → List ℕ → Result V ℕ) → ((a : A) → IsViable (next a)) → ((a : A) → Follows set (next a)) →
       Exact (Joins p.lang (λ a. Taken (next a))) (λ bytes. p.at bytes >>= next)
 
+-- what the spellings of a part begin with: a byte of `starts`, or nothing, where then each byte of `after` is one of `starts`
+pub record Begins {A : Type 0} (starts after : ℕ → Bool) (p : Part A) : Type 0 where
+  pub full : (c : ℕ) (tail : List ℕ) (a : A) → p.lang (c ∷ tail) a → starts c ≡ true
+  pub empty : (a : A) → p.lang [] a → (c : ℕ) → after c ≡ true → starts c ≡ true
+
+-- each spelling of a part begins with a byte that passes the test, so none is empty
+pub record StartsWith {A : Type 0} (test : ℕ → Bool) (p : Part A) : Type 0 where
+  pub full : (c : ℕ) (tail : List ℕ) (a : A) → p.lang (c ∷ tail) a → test c ≡ true
+  pub empty : (a : A) → ¬ p.lang [] a
+
+-- no spelling of a part begins with a byte that passes the test, nor does a byte of `after`, where the part may be empty
+pub record StartsWithout {A : Type 0} (test : ℕ → Bool) (after : ℕ → Bool) (p : Part A) : Type 0 where
+  pub full : (c : ℕ) (tail : List ℕ) (a : A) → p.lang (c ∷ tail) a → test c ≡ false
+  pub empty : (a : A) → p.lang [] a → (c : ℕ) → after c ≡ true → test c ≡ false
+
 -- the end of the bytes behind a value
 abbrev pub at_end : {A : Type 0} → A → List ℕ → Result A ℕ
 at_end a [] = Ok a
