@@ -1,8 +1,8 @@
 -- The one or the other by the first byte, and single bytes.
-use Rattle.std.proofs.Common.{◌≡◌, ℕ, suc, List, [], ◌∷◌, ◌++◌, length, Result, Ok, Err, Bool, true, false, cond, ◌⊎◌, inl, inr, ⊎_elim, refl, sym, ap, subst, ◌∙◌, append_assoc, append-nil, arith}
+use Rattle.std.proofs.Common.{◌≡◌, ℕ, suc, List, [], ◌∷◌, ◌++◌, length, Result, Ok, Err, Bool, true, false, cond, ◌⊎◌, inl, inr, ⊎_elim, refl, sym, ap, ◌∙◌}
 use Rattle.grammar.specs.Part.{Part, ◌>>=◌, Joins, choose, starts, one_of, one_at, taken}
-use Rattle.grammar.specs.Exact.{Stops, Exact, Taken, IsViable, Follows, Good, StartsWith, StartsWithout}
-use Rattle.grammar.proofs.Reading.{Went, went, ok_parts, viable, takes_some, good_from}
+use Rattle.grammar.specs.Exact.{Stops, Taken, IsViable, Follows, Good, StartsWith, StartsWithout}
+use Rattle.grammar.proofs.Reading.{ok_parts, viable, takes_some, good_from}
 
 -- texts that begin alike up to one byte begin with the same byte
 pub same_start : (test : ℕ → Bool) (front : List ℕ) (c : ℕ) (tail more : List ℕ) → starts test (front ++ (c ∷ tail)) ≡ starts test (front ++ (c ∷ more))
@@ -44,29 +44,39 @@ module _ {V A : Type 0} {after : ℕ → Bool} (test : ℕ → Bool) (p q : Part
     choice_only : (bytes : List ℕ) (w : V) → Spelled bytes w → (choose test p q).at bytes >>= next ≡ Ok w
     choice_only bytes w j =
         ⊎_elim
-          (λ l. at_start bytes true (ap (starts test) j.parts ∙ start_one j.front j.back j.between l)
-            ∙ (g.exact next v f).only bytes w (record { front = j.front; back = j.back; between = j.between; parts = j.parts; begins = l; goes_on = j.goes_on }))
-          (λ l. at_start bytes false (ap (starts test) j.parts ∙ start_other j.front j.back j.between w l j.goes_on)
-            ∙ (h.exact next v f).only bytes w (record { front = j.front; back = j.back; between = j.between; parts = j.parts; begins = l; goes_on = j.goes_on }))
-          j.begins
+        (λ l. at_start bytes true (ap (starts test) j.parts ∙ start_one j.front j.back j.between l)
+        ∙ (g.exact next v f).only bytes w (record { front = j.front; back = j.back; between = j.between; parts = j.parts; begins = l; goes_on = j.goes_on }))
+        (λ l. at_start bytes false (ap (starts test) j.parts ∙ start_other j.front j.back j.between w l j.goes_on)
+        ∙ (h.exact next v f).only bytes w (record { front = j.front; back = j.back; between = j.between; parts = j.parts; begins = l; goes_on = j.goes_on }))
+        j.begins
 
     choice_stops : (bytes : List ℕ) (left : ℕ) (b : Bool) → starts test bytes ≡ b → cond b (p.at bytes) (q.at bytes) >>= next ≡ Err left →
         Stops (Taken (λ s. (choose test p q).at s >>= next)) bytes left
     choice_stops bytes left true first e =
         let s = viable (g.exact next v f) bytes left e in
         record {
-          front = s.front; rest = s.rest; parts = s.parts; left_is = s.left_is; more = s.more; value = s.value;
+          front = s.front;
+          rest = s.rest;
+          parts = s.parts;
+          left_is = s.left_is;
+          more = s.more;
+          value = s.value;
           begins = choice_only _ _ (left_one _ _ s.begins);
           ends = λ c tail more w same taken. s.ends c tail more w same
-            (sym (at_start _ true (same_start test s.front c more tail ∙ sym (ap (λ t. starts test (s.front ++ t)) same) ∙ sym (ap (starts test) s.parts) ∙ first)) ∙ taken)
+              (sym (at_start _ true (same_start test s.front c more tail ∙ sym (ap (λ t. starts test (s.front ++ t)) same) ∙ sym (ap (starts test) s.parts) ∙ first)) ∙ taken);
         }
     choice_stops bytes left false first e =
         let s = viable (h.exact next v f) bytes left e in
         record {
-          front = s.front; rest = s.rest; parts = s.parts; left_is = s.left_is; more = s.more; value = s.value;
+          front = s.front;
+          rest = s.rest;
+          parts = s.parts;
+          left_is = s.left_is;
+          more = s.more;
+          value = s.value;
           begins = choice_only _ _ (right_one _ _ s.begins);
           ends = λ c tail more w same taken. s.ends c tail more w same
-            (sym (at_start _ false (same_start test s.front c more tail ∙ sym (ap (λ t. starts test (s.front ++ t)) same) ∙ sym (ap (starts test) s.parts) ∙ first)) ∙ taken)
+              (sym (at_start _ false (same_start test s.front c more tail ∙ sym (ap (λ t. starts test (s.front ++ t)) same) ∙ sym (ap (starts test) s.parts) ∙ first)) ∙ taken);
         }
 
   -- one of two by the first byte
@@ -101,9 +111,14 @@ module _ (test : ℕ → Bool) where
 
       empty_stop : (next : ℕ → List ℕ → Result V ℕ) (left : ℕ) → 0 ≡ left → (more : List ℕ) (value : V) → next example more ≡ Ok value → Stops (Taken (λ s. one_at test s >>= next)) [] left
       empty_stop next left e more value t = record {
-        front = []; rest = []; parts = refl; left_is = e; more = example ∷ more; value = value;
+        front = [];
+        rest = [];
+        parts = refl;
+        left_is = e;
+        more = example ∷ more;
+        value = value;
         begins = ap (λ r. r >>= next) (one_reads example more true passes) ∙ t;
-        ends = λ c tail more w same taken. cc
+        ends = λ c tail more w same taken. cc;
       }
 
       by_test : (next : ℕ → List ℕ → Result V ℕ) → ((a : ℕ) → IsViable (next a)) → (c : ℕ) (rest : List ℕ) (left : ℕ) (b : Bool) → test c ≡ b → taken b c rest >>= next ≡ Err left →
@@ -111,19 +126,29 @@ module _ (test : ℕ → Bool) where
       by_test next v c rest left true is e =
           let s = v c rest left e in
           record {
-            front = c ∷ s.front; rest = s.rest; parts = ap (λ t. c ∷ t) s.parts; left_is = s.left_is; more = s.more; value = s.value;
+            front = c ∷ s.front;
+            rest = s.rest;
+            parts = ap (λ t. c ∷ t) s.parts;
+            left_is = s.left_is;
+            more = s.more;
+            value = s.value;
             begins = ap (λ r. r >>= next) (one_reads c (s.front ++ s.more) true is) ∙ s.begins;
-            ends = λ d tail more w same taken. s.ends d tail more w same (sym (ap (λ r. r >>= next) (one_reads c (s.front ++ (d ∷ more)) true is)) ∙ taken)
+            ends = λ d tail more w same taken. s.ends d tail more w same (sym (ap (λ r. r >>= next) (one_reads c (s.front ++ (d ∷ more)) true is)) ∙ taken);
           }
       by_test next v c rest left false is e =
           let some = takes_some (next example) (v example) in
           record {
-            front = []; rest = c ∷ rest; parts = refl; left_is = cc; more = example ∷ some.0; value = some.1;
+            front = [];
+            rest = c ∷ rest;
+            parts = refl;
+            left_is = cc;
+            more = example ∷ some.0;
+            value = some.1;
             begins = ap (λ r. r >>= next) (one_reads example some.0 true passes) ∙ some.2;
             ends = λ d tail more w same taken.
-              let first : c ≡ d = cc in
-              let stop : Err (suc (length more)) ≡ Ok w = sym (ap (λ r. r >>= next) (one_reads d more false (ap test (sym first) ∙ is))) ∙ taken in
-              cc
+                let first : c ≡ d = cc in
+                let stop : Err (suc (length more)) ≡ Ok w = sym (ap (λ r. r >>= next) (one_reads d more false (ap test (sym first) ∙ is))) ∙ taken in
+                cc;
           }
 
       stops : (next : ℕ → List ℕ → Result V ℕ) → ((a : ℕ) → IsViable (next a)) → IsViable (λ bytes. one_at test bytes >>= next)

@@ -1,9 +1,9 @@
 -- What so many bytes of a set are read as, from how many of the first bytes pass.
-use Rattle.std.proofs.Common.{◌≡◌, ℕ, zero, suc, ◌+◌, ◌-◌, ◌<◌, ◌≤◌, List, [], ◌∷◌, ◌++◌, length, take, drop, get_or, Result, Ok, Err, Bool, true, false, refl, sym, ap, ◌∙◌, min, ⊎_elim, arith}
+use Rattle.std.proofs.Common.{◌≡◌, ℕ, zero, suc, ◌+◌, ◌-◌, ◌<◌, ◌≤◌, List, [], ◌∷◌, length, take, drop, get_or, Ok, Err, Bool, true, false, refl, ap, ◌∙◌, min, ⊎_elim, arith}
 use Rattle.std.proofs.lemmas.Bool.{cases_lt}
 use Rattle.std.specs.List.{list_all}
-use Rattle.grammar.specs.Part.{Part, ◌>>=◌, exactly, map, taken}
-use Rattle.grammar.proofs.Tests.{and_left, and_right}
+use Rattle.grammar.specs.Part.{◌>>=◌, exactly, map, taken}
+use Rattle.grammar.proofs.Conditions.{and_left, and_right}
 
 module _ (test : ℕ → Bool) where
   exactly_step : (n c : ℕ) (bytes : List ℕ) (b : Bool) → test c ≡ b → (exactly test (suc n)).at (c ∷ bytes) ≡ taken b c bytes >>= (λ c rest. (map (λ s. c ∷ s) (exactly test n)).at rest)

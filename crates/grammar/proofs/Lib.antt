@@ -7,10 +7,11 @@ pub mod ExactlyLaw
 pub mod NumberLaw
 pub mod ScanSteps
 pub mod NumberSteps
-pub mod Tests
+pub mod Conditions
 pub mod TableLaw
 pub mod RepetitionLaw
 pub mod TurnSteps
+pub mod SampleLaw
 pub mod StartLaw
 pub mod ToolLaws
 pub mod NameSteps

@@ -1,11 +1,10 @@
 -- Numerals are lawful words, and end before a byte that is no digit.
-use Rattle.std.proofs.Common.{◌≡◌, ℕ, ◌+◌, ◌-◌, ◌*◌, ◌≤◌, List, [], ◌∷◌, ◌++◌, length, Bool, true, false, ◌&&◌, ◌||◌, not, ◌==◌, leb, refl, sym, ap, ◌∙◌, subst, append-nil, le_trans, le_refl, arith, leb-true, le-leb}
+use Rattle.std.proofs.Common.{◌≡◌, ℕ, ◌+◌, ◌-◌, ◌*◌, ◌≤◌, List, [], ◌∷◌, ◌++◌, Bool, true, false, ◌&&◌, ◌||◌, leb, refl, ap, ◌∙◌, subst, append-nil, le_trans, le_refl, arith, leb-true, le-leb}
 use Rattle.std.specs.List.{list_all}
-use Rattle.grammar.specs.Words.{Words, Lawful, Apart}
-use Rattle.grammar.specs.Runs.{some}
+use Rattle.grammar.specs.Words.{Lawful, Apart}
 use Rattle.grammar.specs.Numbers.{is_digit, decimal, decimal_from, no_zero_first, numerals}
-use Rattle.grammar.proofs.Tests.{and_both, and_left, and_right, and_false, or_left, or_right}
-use Rattle.grammar.proofs.RunLaw.{all_front, all_push, some_push}
+use Rattle.grammar.proofs.Conditions.{and_both, and_left, and_right, and_false}
+use Rattle.grammar.proofs.RunLaw.{all_front, all_push}
 
 -- digits behind digits
 pub decimal-append : (n : ℕ) (s t : List ℕ) → decimal_from n (s ++ t) ≡ decimal_from (decimal_from n s) t
@@ -28,7 +27,7 @@ module _ (zeros : Bool) (most : ℕ) where
       let small = leb-true _ _ (and_right (list_all is_digit (s ++ t)) _ (and_left _ _ h)) in
       let first = and_right (list_all is_digit (s ++ t) && leb (decimal (s ++ t)) most) _ h in
       and_both _ _ (and_both _ _ (all_front is_digit s t digits)
-        (le-leb _ _ (le_trans (decimal_grows (decimal s) t) (subst (λ n. n ≤ most) (decimal-append 0 s t) small)))) (by_zeros zeros first)
+      (le-leb _ _ (le_trans (decimal_grows (decimal s) t) (subst (λ n. n ≤ most) (decimal-append 0 s t) small)))) (by_zeros zeros first)
     where
       by_zeros : (b : Bool) → b || no_zero_first (s ++ t) ≡ true → b || no_zero_first s ≡ true
       by_zeros true h = h
@@ -42,7 +41,9 @@ module _ (zeros : Bool) (most : ℕ) where
   pub lawful_numerals : (d : ℕ) → (numerals zeros most).whole (d ∷ []) ≡ true → Lawful (numerals zeros most)
   lawful_numerals d one = record {
     opens = numeral_front [] (d ∷ []) (and_left _ _ one);
-    front = numeral_front; whole = λ s h. and_left _ _ h; goes_on = numeral_goes_on d one
+    front = numeral_front;
+    whole = λ s h. and_left _ _ h;
+    goes_on = numeral_goes_on d one;
   }
 
   pub apart_numerals : (after : ℕ → Bool) → ((c : ℕ) → after c ≡ true → is_digit c ≡ false) → Apart (numerals zeros most) after

@@ -1,10 +1,9 @@
 -- One digit more in the scan of a numeral.
-use Rattle.std.proofs.Common.{◌≡◌, ℕ, zero, suc, ◌+◌, ◌-◌, ◌*◌, ◌<◌, ◌≤◌, List, [], ◌∷◌, ◌++◌, length, take, drop, get_or, Result, Ok, Err, Bool, true, false, cond, ◌&&◌, ◌||◌, not, ◌==◌, nat_eq, leb, refl, sym, ap, ap₂, ◌∙◌, subst, arith, add-one, drop-cons, take-suc, length-take-le, ne_eqb, le_of_lt}
+use Rattle.std.proofs.Common.{◌≡◌, ℕ, suc, ◌+◌, ◌-◌, ◌*◌, ◌<◌, List, [], ◌∷◌, ◌++◌, length, take, drop, get_or, Bool, true, false, ◌&&◌, ◌||◌, not, ◌==◌, nat_eq, leb, refl, sym, ap, ap₂, ◌∙◌, arith, add-one, take-suc, length-take-le, ne_eqb, le_of_lt}
 use Rattle.std.specs.List.{list_all}
 use Rattle.grammar.specs.Words.{scan, halt}
-use Rattle.grammar.specs.Runs.{some}
-use Rattle.grammar.specs.Numbers.{is_digit, decimal, decimal_from, no_zero_first, numerals, is_next_digit}
-use Rattle.grammar.proofs.Tests.{and_left, and_right, not_then_false}
+use Rattle.grammar.specs.Numbers.{is_digit, decimal, no_zero_first, numerals, is_next_digit}
+use Rattle.grammar.proofs.Conditions.{and_left, and_right, not_then_false}
 use Rattle.grammar.proofs.RunLaw.{all_push}
 use Rattle.grammar.proofs.ScanSteps.{scan_more, scan_halts}
 use Rattle.grammar.proofs.NumberLaw.{decimal-append}
@@ -24,8 +23,8 @@ module _ (zeros : Bool) (most : ℕ) where
       (numerals zeros most).begins (front ++ c ∷ []) ≡ is_next_digit zeros most (decimal front) (nat_eq (length front) 0) c
   numeral_push front c h =
       ap₂ (λ a b. a && b)
-        (ap₂ (λ a b. a && b) (all_push is_digit front c (and_left _ _ (and_left _ _ h))) (ap (λ n. leb n most) (decimal-append 0 front (c ∷ []))))
-        (zeros_push zeros front c (and_right (list_all is_digit front && leb (decimal front) most) _ h))
+      (ap₂ (λ a b. a && b) (all_push is_digit front c (and_left _ _ (and_left _ _ h))) (ap (λ n. leb n most) (decimal-append 0 front (c ∷ []))))
+      (zeros_push zeros front c (and_right (list_all is_digit front && leb (decimal front) most) _ h))
 
   -- the scan at a place
   module _ (bytes : List ℕ) (i number : ℕ) (within : i < length bytes) (value : number ≡ decimal (take i bytes)) (begins : (numerals zeros most).begins (take i bytes) ≡ true)
@@ -44,13 +43,16 @@ module _ (zeros : Bool) (most : ℕ) where
 
     -- a next digit is taken
     pub numeral_more : (next : ℕ) → is_next_digit zeros most number (nat_eq i 0) (get_or bytes i 0) ≡ true → next ≡ number * 10 + (get_or bytes i 0 - 48) →
-        record { value : next ≡ decimal (take (i + 1) bytes); begins : (numerals zeros most).begins (take (i + 1) bytes) ≡ true;
-          scanned : scan (numerals zeros most) (take (i + 1) bytes) (drop (i + 1) bytes) ≡ scan (numerals zeros most) [] bytes }
+        record {
+          value : next ≡ decimal (take (i + 1) bytes);
+          begins : (numerals zeros most).begins (take (i + 1) bytes) ≡ true;
+          scanned : scan (numerals zeros most) (take (i + 1) bytes) (drop (i + 1) bytes) ≡ scan (numerals zeros most) [] bytes;
+        }
     numeral_more next more same = record {
       value = same ∙ ap (λ n. n * 10 + (get_or bytes i 0 - 48)) value ∙ sym (decimal-append 0 (take i bytes) (get_or bytes i 0 ∷ []))
-        ∙ ap decimal (sym (ap (λ n. take n bytes) (add-one i) ∙ take-suc bytes i 0 within));
+          ∙ ap decimal (sym (ap (λ n. take n bytes) (add-one i) ∙ take-suc bytes i 0 within));
       begins = place_is ∙ more;
-      scanned = scan_more (numerals zeros most) bytes i within scanned (place_is ∙ more)
+      scanned = scan_more (numerals zeros most) bytes i within scanned (place_is ∙ more);
     }
 
 -- one digit more

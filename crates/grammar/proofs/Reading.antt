@@ -1,5 +1,5 @@
 -- Small facts on readings that go on, on stops, and on exactness carried from one reader to another.
-use Rattle.std.proofs.Common.{◌≡◌, ℕ, zero, suc, ◌+◌, List, [], ◌∷◌, ◌++◌, length, Result, Ok, Err, Bool, true, false, cond, ◌||◌, refl, sym, ap, subst, ◌∙◌, append_assoc, length-append, ap₂, arith, rules}
+use Rattle.std.proofs.Common.{◌≡◌, ℕ, List, [], ◌∷◌, ◌++◌, length, Result, Ok, Err, Bool, refl, sym, ap, ◌∙◌, length-append, ap₂, arith}
 use Rattle.grammar.specs.Part.{Part, ◌>>=◌, Joins}
 use Rattle.grammar.specs.Exact.{Stops, Exact, Taken, IsViable, Follows, Good}
 
@@ -24,9 +24,14 @@ went (Err left) f v e = cc
 pub Stops-map : {V : Type 0} {L M : List ℕ → V → Type 0} {bytes : List ℕ} {left : ℕ} →
     ((s : List ℕ) (v : V) → L s v → M s v) → ((s : List ℕ) (v : V) → M s v → L s v) → Stops L bytes left → Stops M bytes left
 Stops-map to from s = record {
-  front = s.front; rest = s.rest; parts = s.parts; left_is = s.left_is; more = s.more; value = s.value;
+  front = s.front;
+  rest = s.rest;
+  parts = s.parts;
+  left_is = s.left_is;
+  more = s.more;
+  value = s.value;
   begins = to _ _ s.begins;
-  ends = λ c tail more v e m. s.ends c tail more v e (from _ _ m)
+  ends = λ c tail more v e m. s.ends c tail more v e (from _ _ m);
 }
 
 -- an exact reader is viable
@@ -40,7 +45,7 @@ pub Exact-map : {V : Type 0} {L M : List ℕ → V → Type 0} {read again : Lis
 Exact-map same to from e = record {
   found = λ bytes v h. to _ _ (e.found bytes v (same bytes ∙ h));
   only = λ bytes v m. sym (same bytes) ∙ e.only bytes v (from _ _ m);
-  stops = λ bytes left h. Stops-map to from (e.stops bytes left (same bytes ∙ h))
+  stops = λ bytes left h. Stops-map to from (e.stops bytes left (same bytes ∙ h));
 }
 
 -- a viable reader takes something
@@ -84,12 +89,12 @@ Joins-map to j = record { front = j.front; back = j.back; between = j.between; p
 pub good_from : {V A : Type 0} {set : ℕ → Bool} (p : Part A) →
     ((bytes rest : List ℕ) (a : A) → p.at bytes ≡ Ok (a, rest) → (front : List ℕ) × (bytes ≡ front ++ rest) × p.lang front a) →
     ((next : A → List ℕ → Result V ℕ) → ((a : A) → IsViable (next a)) → ((a : A) → Follows set (next a)) →
-      (bytes : List ℕ) (w : V) → Joins p.lang (λ a. Taken (next a)) bytes w → p.at bytes >>= next ≡ Ok w) →
+    (bytes : List ℕ) (w : V) → Joins p.lang (λ a. Taken (next a)) bytes w → p.at bytes >>= next ≡ Ok w) →
     ((next : A → List ℕ → Result V ℕ) → ((a : A) → IsViable (next a)) → ((a : A) → Follows set (next a)) → IsViable (λ bytes. p.at bytes >>= next)) →
     Good V set p
 good_from {V} {A} p sound only stops = record {
   sound = sound;
-  exact = λ next v f. exact_from (λ bytes w e. found next bytes w (went (p.at bytes) next w e)) (only next v f) (stops next v f)
+  exact = λ next v f. exact_from (λ bytes w e. found next bytes w (went (p.at bytes) next w e)) (only next v f) (stops next v f);
 }
   where
     found : (next : A → List ℕ → Result V ℕ) (bytes : List ℕ) (w : V) → Went (p.at bytes) next w → Joins p.lang (λ a. Taken (next a)) bytes w

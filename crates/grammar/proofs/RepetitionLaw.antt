@@ -1,8 +1,8 @@
 -- A number of bytes, and turns of a part that changes a state.
-use Rattle.std.proofs.Common.{◌≡◌, ℕ, zero, suc, ◌+◌, ◌<◌, ◌≤◌, List, [], ◌∷◌, ◌++◌, length, Result, Ok, Err, Bool, true, false, cond, ◌⊎◌, inl, inr, ⊎_elim, refl, sym, ap, subst, ◌∙◌, append_assoc, append-nil, length-append, arith}
-use Rattle.grammar.specs.Part.{Part, ◌>>=◌, Joins, give, map, one_of, ◌then◌, choose, starts, exactly, turns, repeat}
-use Rattle.grammar.specs.Exact.{Begins, StartsWith, StartsWithout, Stops, Exact, Taken, IsViable, Follows, Good, any}
-use Rattle.grammar.proofs.Reading.{Went, went, viable, good_from, same_split}
+use Rattle.std.proofs.Common.{◌≡◌, ℕ, zero, suc, ◌+◌, ◌<◌, ◌≤◌, List, [], ◌∷◌, ◌++◌, length, Result, Ok, Err, Bool, true, false, cond, inl, inr, ⊎_elim, refl, sym, ap, ◌∙◌, length-append, arith}
+use Rattle.grammar.specs.Part.{Part, ◌>>=◌, Joins, give, map, one_of, ◌then◌, exactly, turns, repeat}
+use Rattle.grammar.specs.Exact.{Begins, StartsWith, Taken, IsViable, Follows, Good, any}
+use Rattle.grammar.proofs.Reading.{viable, good_from, same_split}
 use Rattle.grammar.proofs.SequenceLaw.{good_give, good_map, good_then}
 use Rattle.grammar.proofs.ChoiceLaw.{good_choose, good_one_of}
 
@@ -16,7 +16,7 @@ unfolding exactly
 good_exactly test after example passes zero = good_give after []
 good_exactly test after example passes (suc n) =
     good_then (one_of test) (λ c. map (λ rest. c ∷ rest) (exactly test n)) (good_one_of test any example passes)
-      (λ c. good_map (λ rest. c ∷ rest) (exactly test n) (good_exactly test after example passes n)) (λ c. begins_any after _)
+    (λ c. good_map (λ rest. c ∷ rest) (exactly test n) (good_exactly test after example passes n)) (λ c. begins_any after _)
 
 -- no text with a first byte is empty
 pub no_byte : {c : ℕ} {tail : List ℕ} → (let s : List ℕ = c ∷ tail in s ≡ []) → ⊥
@@ -36,7 +36,7 @@ module _ {S : Type 0} (test : ℕ → Bool) (turn : S → Part S) (one : (s : S)
   turns_start : {B : Type 0} (s : S) (f : S → Part B) → StartsWith test (turn s then f)
   turns_start s f = record {
     full = λ c tail a j. turn_full s f c tail j.front j.back j.between j.parts j.begins;
-    empty = λ a j. absurd (omega (arith, turn_some s j.front j.back j.between j.begins, ap length j.parts))
+    empty = λ a j. absurd (omega (arith, turn_some s j.front j.back j.between j.begins, ap length j.parts));
   }
 
   -- a text of n bytes takes n turns at most
@@ -46,8 +46,14 @@ module _ {S : Type 0} (test : ℕ → Bool) (turn : S → Part S) (one : (s : S)
   few_turns zero s bytes last l (suc m) h = inr l
   few_turns (suc n) s bytes last (inl j) zero h = absurd (omega (arith, turn_some s j.front j.back j.between j.begins, ap length j.parts))
   few_turns (suc n) s bytes last (inl j) (suc m) h =
-      inl (record { front = j.front; back = j.back; between = j.between; parts = j.parts; begins = j.begins;
-        goes_on = few_turns n j.between j.back last j.goes_on m (omega (arith, turn_some s j.front j.back j.between j.begins, ap length j.parts)) })
+      inl (record {
+        front = j.front;
+        back = j.back;
+        between = j.between;
+        parts = j.parts;
+        begins = j.begins;
+        goes_on = few_turns n j.between j.back last j.goes_on m (omega (arith, turn_some s j.front j.back j.between j.begins, ap length j.parts));
+      })
   few_turns (suc n) s bytes last (inr l) zero h = l
   few_turns (suc n) s bytes last (inr l) (suc m) h = inr l
 
@@ -58,7 +64,7 @@ module _ {V S : Type 0} (test after between : ℕ → Bool) (turn : S → Part S
   begins_turns zero s = record { full = λ c tail a l. absurd (no_byte l.0); empty = λ a l c h. after_next c h }
   begins_turns (suc n) s = record {
     full = λ c tail a l. ⊎_elim (λ j. turn_next c ((turns_start test turn one s (turns test turn n)).full c tail a j)) (λ e. absurd (no_byte e.0)) l;
-    empty = λ a l c h. after_next c h
+    empty = λ a l c h. after_next c h;
   }
 
   -- any number of turns begin so
@@ -72,9 +78,9 @@ module _ {V S : Type 0} (test after between : ℕ → Bool) (turn : S → Part S
   good_turns zero s = good_give after s
   good_turns (suc n) s =
       good_choose test (turn s then λ t. turns test turn n t) (give s)
-        (good_then (turn s) (turns test turn n) (g s) (good_turns n) (begins_turns n)) (good_give after s)
-        (turns_start test turn one s (turns test turn n))
-        (record { full = λ c tail a l. absurd (no_byte l.0); empty = λ a l. apart })
+      (good_then (turn s) (turns test turn n) (g s) (good_turns n) (begins_turns n)) (good_give after s)
+      (turns_start test turn one s (turns test turn n))
+      (record { full = λ c tail a l. absurd (no_byte l.0); empty = λ a l. apart })
 
   -- turns beyond the number of bytes change nothing
   pub enough_turns : (n m : ℕ) (s : S) (bytes : List ℕ) → length bytes ≤ n → length bytes ≤ m → (turns test turn n s).at bytes ≡ (turns test turn m s).at bytes
@@ -103,8 +109,12 @@ module _ {V S : Type 0} (test after between : ℕ → Bool) (turn : S → Part S
     unfolding repeat
     repeat_only bytes w j =
         ((good_turns (length bytes) s).exact next v f).only bytes w (record {
-          front = j.front; back = j.back; between = j.between; parts = j.parts; goes_on = j.goes_on;
-          begins = few_turns test turn one j.begins.0 s j.front j.between j.begins.1 (length bytes) (omega (arith, length-append j.front j.back, ap length j.parts))
+          front = j.front;
+          back = j.back;
+          between = j.between;
+          parts = j.parts;
+          goes_on = j.goes_on;
+          begins = few_turns test turn one j.begins.0 s j.front j.between j.begins.1 (length bytes) (omega (arith, length-append j.front j.back, ap length j.parts));
         })
 
     repeat_stops : IsViable (λ bytes. (repeat test turn s).at bytes >>= next)
@@ -114,17 +124,22 @@ module _ {V S : Type 0} (test after between : ℕ → Bool) (turn : S → Part S
         let exact = (good_turns n s).exact next v f in
         let stop = viable exact bytes left e in
         record {
-          front = stop.front; rest = stop.rest; parts = stop.parts; left_is = stop.left_is; more = stop.more; value = stop.value;
+          front = stop.front;
+          rest = stop.rest;
+          parts = stop.parts;
+          left_is = stop.left_is;
+          more = stop.more;
+          value = stop.value;
           begins = let j = exact.found _ _ stop.begins in
-            repeat_only _ _ (record { front = j.front; back = j.back; between = j.between; parts = j.parts; begins = (n, j.begins); goes_on = j.goes_on });
+              repeat_only _ _ (record { front = j.front; back = j.back; between = j.between; parts = j.parts; begins = (n, j.begins); goes_on = j.goes_on });
           ends = λ c tail more u same taken.
-            let longer = stop.front ++ (c ∷ more) in
-            let m = length longer + n in
-            let again = viable ((good_turns m s).exact next v f) bytes left (ap (λ r. r >>= next) (enough_turns m n s bytes (omega arith) (omega arith)) ∙ e) in
-            let split = same_split again.front again.rest stop.front stop.rest (sym again.parts ∙ stop.parts) (again.left_is ∙ sym stop.left_is) in
-            again.ends c tail more u (split.1 ∙ same)
+              let longer = stop.front ++ (c ∷ more) in
+              let m = length longer + n in
+              let again = viable ((good_turns m s).exact next v f) bytes left (ap (λ r. r >>= next) (enough_turns m n s bytes (omega arith) (omega arith)) ∙ e) in
+              let split = same_split again.front again.rest stop.front stop.rest (sym again.parts ∙ stop.parts) (again.left_is ∙ sym stop.left_is) in
+              again.ends c tail more u (split.1 ∙ same)
               (ap (λ t. (turns test turn m s).at (t ++ (c ∷ more)) >>= next) split.0
-                ∙ ap (λ r. r >>= next) (enough_turns m (length longer) s longer (omega arith) (omega arith)) ∙ taken)
+              ∙ ap (λ r. r >>= next) (enough_turns m (length longer) s longer (omega arith) (omega arith)) ∙ taken);
         }
 
   -- any number of turns

@@ -1,9 +1,9 @@
 -- Runs of bytes are lawful words, and end before a byte that doesn't pass.
-use Rattle.std.proofs.Common.{◌≡◌, ℕ, zero, suc, ◌+◌, ◌<◌, ◌≤◌, List, [], ◌∷◌, ◌++◌, length, Bool, true, false, ◌&&◌, refl, sym, ap, ◌∙◌, append-nil, length-append, arith, leb, leb-true, le-leb}
+use Rattle.std.proofs.Common.{◌≡◌, ℕ, ◌<◌, List, [], ◌∷◌, ◌++◌, length, Bool, true, false, ◌&&◌, refl, ap, ◌∙◌, append-nil, length-append, arith, leb, leb-true, le-leb}
 use Rattle.std.specs.List.{list_all}
-use Rattle.grammar.specs.Words.{Words, Lawful, Apart}
+use Rattle.grammar.specs.Words.{Lawful, Apart}
 use Rattle.grammar.specs.Runs.{run, run_upto, some}
-use Rattle.grammar.proofs.Tests.{and_both, and_left, and_right, and_false}
+use Rattle.grammar.proofs.Conditions.{and_both, and_left, and_right, and_false}
 
 module _ (test : ℕ → Bool) where
   -- a text passes where both halves do
@@ -33,7 +33,7 @@ module _ (test : ℕ → Bool) where
     opens = refl;
     front = all_front;
     whole = λ s h. and_left _ _ h;
-    goes_on = λ s h. (example ∷ [], and_both _ _ (all_push s example h ∙ passes) (some_push s example))
+    goes_on = λ s h. (example ∷ [], and_both _ _ (all_push s example h ∙ passes) (some_push s example));
   }
 
   pub apart_run : (after : ℕ → Bool) → ((c : ℕ) → after c ≡ true → test c ≡ false) → Apart (run test) after
@@ -52,7 +52,10 @@ module _ (test : ℕ → Bool) where
 
     pub lawful_run_upto : (example : ℕ) → test example ≡ true → 0 < most → Lawful (run_upto most test)
     lawful_run_upto example passes room = record {
-      opens = and_both true _ refl (le-leb _ _ (omega arith)); front = upto_front; whole = λ s h. and_left _ _ h; goes_on = upto_goes_on example passes room
+      opens = and_both true _ refl (le-leb _ _ (omega arith));
+      front = upto_front;
+      whole = λ s h. and_left _ _ h;
+      goes_on = upto_goes_on example passes room;
     }
 
     pub apart_run_upto : (after : ℕ → Bool) → ((c : ℕ) → after c ≡ true → test c ≡ false) → Apart (run_upto most test) after

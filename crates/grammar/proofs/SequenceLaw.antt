@@ -1,8 +1,8 @@
 -- Nothing, one part behind another, and the end of the bytes.
-use Rattle.std.proofs.Common.{◌≡◌, ℕ, List, [], ◌∷◌, ◌++◌, length, Result, Ok, Err, Bool, true, false, refl, sym, ap, subst, ◌∙◌, append_assoc, append-nil, arith}
+use Rattle.std.proofs.Common.{◌≡◌, ℕ, List, [], ◌∷◌, ◌++◌, Result, Ok, Bool, true, refl, sym, ap, subst, ◌∙◌, append_assoc, append-nil}
 use Rattle.grammar.specs.Part.{Part, ◌>>=◌, Joins, give, ◌then◌, map}
-use Rattle.grammar.specs.Exact.{Stops, Exact, Taken, IsViable, Follows, Good, Begins, at_end, whole_at}
-use Rattle.grammar.proofs.Reading.{bind_assoc, Went, went, ok_parts, viable, Exact-map, Joins-map, exact_self, exact_from}
+use Rattle.grammar.specs.Exact.{Exact, Taken, IsViable, Follows, Good, Begins, at_end, whole_at}
+use Rattle.grammar.proofs.Reading.{bind_assoc, Went, went, ok_parts, viable, Exact-map, Joins-map, exact_from}
 
 module _ {V : Type 0} where
   -- what follows a part that begins with `starts` follows with `starts`
@@ -20,7 +20,7 @@ module _ {V : Type 0} where
   pub good_give : {A : Type 0} (set : ℕ → Bool) (a : A) → Good V set (give a)
   good_give {A} set a = record {
     sound = λ bytes rest b e. let same = ok_parts e in ([], same.1, (refl, sym same.0));
-    exact = λ next v f. exact_from (λ bytes w h. record { front = []; back = bytes; between = a; parts = refl; begins = (refl, refl); goes_on = h }) (given next) (v a)
+    exact = λ next v f. exact_from (λ bytes w h. record { front = []; back = bytes; between = a; parts = refl; begins = (refl, refl); goes_on = h }) (given next) (v a);
   }
     where
       given : (next : A → List ℕ → Result V ℕ) (bytes : List ℕ) (w : V) → Joins (give a).lang (λ b. Taken (next b)) bytes w → next a bytes ≡ Ok w
@@ -35,18 +35,22 @@ module _ {V : Type 0} where
   module _ {A B : Type 0} (first : List ℕ → A → Type 0) (second : A → List ℕ → B → Type 0) (third : B → List ℕ → V → Type 0) where
     pub joins_left : (bytes : List ℕ) (v : V) → Joins first (λ a. Joins (second a) third) bytes v → Joins (Joins first second) third bytes v
     joins_left bytes v j = let k = j.goes_on in record {
-      front = j.front ++ k.front; back = k.back; between = k.between;
+      front = j.front ++ k.front;
+      back = k.back;
+      between = k.between;
       parts = j.parts ∙ ap (λ s. j.front ++ s) k.parts ∙ sym (append_assoc j.front k.front k.back);
       begins = record { front = j.front; back = k.front; between = j.between; parts = refl; begins = j.begins; goes_on = k.begins };
-      goes_on = k.goes_on
+      goes_on = k.goes_on;
     }
 
     pub joins_right : (bytes : List ℕ) (v : V) → Joins (Joins first second) third bytes v → Joins first (λ a. Joins (second a) third) bytes v
     joins_right bytes v j = let k = j.begins in record {
-      front = k.front; back = k.back ++ j.back; between = k.between;
+      front = k.front;
+      back = k.back ++ j.back;
+      between = k.between;
       parts = j.parts ∙ ap (λ s. s ++ j.back) k.parts ∙ append_assoc k.front k.back j.back;
       begins = k.begins;
-      goes_on = record { front = k.back; back = j.back; between = j.between; parts = refl; begins = k.goes_on; goes_on = j.goes_on }
+      goes_on = record { front = k.back; back = j.back; between = j.between; parts = refl; begins = k.goes_on; goes_on = j.goes_on };
     }
 
   -- one part behind another: what stands behind the first begins as the second does
@@ -55,13 +59,13 @@ module _ {V : Type 0} where
   good_then {A} {B} {starts} {after} p f g h b = record {
     sound = λ bytes rest w e. sound bytes rest w (went (p.at bytes) _ _ e);
     exact = λ next v w.
-      let inner : A → List ℕ → Result V ℕ = λ a bytes. (f a).at bytes >>= next in
-      let exact_inner : (a : A) → Exact (Joins (f a).lang (λ c. Taken (next c))) (inner a) = λ a. (h a).exact next v w in
-      let outer = g.exact inner (λ a. viable (exact_inner a)) (λ a. follows_begins (f a) next (b a) (h a) v w) in
-      Exact-map (λ bytes. sym (bind_assoc (p.at bytes) (λ a. (f a).at) next))
+        let inner : A → List ℕ → Result V ℕ = λ a bytes. (f a).at bytes >>= next in
+        let exact_inner : (a : A) → Exact (Joins (f a).lang (λ c. Taken (next c))) (inner a) = λ a. (h a).exact next v w in
+        let outer = g.exact inner (λ a. viable (exact_inner a)) (λ a. follows_begins (f a) next (b a) (h a) v w) in
+        Exact-map (λ bytes. sym (bind_assoc (p.at bytes) (λ a. (f a).at) next))
         (λ bytes x j. joins_left p.lang (λ a. (f a).lang) (λ c. Taken (next c)) bytes x (Joins-map (λ a. (exact_inner a).found) j))
         (λ bytes x j. Joins-map (λ a. (exact_inner a).only) (joins_right p.lang (λ a. (f a).lang) (λ c. Taken (next c)) bytes x j))
-        outer
+        outer;
   }
     where
       sound : (bytes rest : List ℕ) (w : B) → Went (p.at bytes) (λ a. (f a).at) (w, rest) → (front : List ℕ) × (bytes ≡ front ++ rest) × (p then f).lang front w
@@ -83,8 +87,14 @@ module _ {V : Type 0} where
   pub viable_end : (a : V) → IsViable (at_end a)
   viable_end a [] left e = cc
   viable_end a (c ∷ rest) left e = record {
-    front = []; rest = c ∷ rest; parts = refl; left_is = cc; more = []; value = a; begins = refl;
-    ends = λ d tail more v same taken. cc
+    front = [];
+    rest = c ∷ rest;
+    parts = refl;
+    left_is = cc;
+    more = [];
+    value = a;
+    begins = refl;
+    ends = λ d tail more v same taken. cc;
   }
 
   -- nothing follows but the end

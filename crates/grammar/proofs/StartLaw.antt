@@ -1,6 +1,6 @@
 -- What the spellings of parts begin with.
-use Rattle.std.proofs.Common.{◌≡◌, ℕ, List, [], ◌∷◌, ◌++◌, Bool, true, false, not, ◌⊎◌, ⊎_elim, refl, sym, ap, ◌∙◌, subst, eq-eqb}
-use Rattle.grammar.specs.Part.{Part, Joins, ◌then◌, one_of, byte, choose, map}
+use Rattle.std.proofs.Common.{◌≡◌, ℕ, List, [], ◌∷◌, ◌++◌, Bool, true, false, ⊎_elim, sym, ap, ◌∙◌}
+use Rattle.grammar.specs.Part.{Part, ◌then◌, one_of, choose}
 use Rattle.grammar.specs.Exact.{Begins, StartsWith, StartsWithout}
 use Rattle.grammar.specs.Words.{Words, Lawful, word}
 
@@ -13,7 +13,7 @@ module _ {A : Type 0} {test : ℕ → Bool} where
   pub starts_then : {B : Type 0} (p : Part A) (f : A → Part B) → StartsWith test p → StartsWith test (p then f)
   starts_then {B} p f s = record {
     full = λ c tail b j. full c tail j.front j.back j.between j.parts j.begins;
-    empty = λ b j. empty j.front j.back j.between j.parts j.begins
+    empty = λ b j. empty j.front j.back j.between j.parts j.begins;
   }
     where
       full : (c : ℕ) (tail front back : List ℕ) (a : A) → (let s : List ℕ = c ∷ tail in s ≡ front ++ back) → p.lang front a → test c ≡ true
@@ -27,7 +27,7 @@ module _ {A : Type 0} {test : ℕ → Bool} where
   pub starts_choose : (by : ℕ → Bool) (p q : Part A) → StartsWith test p → StartsWith test q → StartsWith test (choose by p q)
   starts_choose by p q s t = record {
     full = λ c tail a l. ⊎_elim (s.full c tail a) (t.full c tail a) l;
-    empty = λ a l. ⊎_elim (s.empty a) (t.empty a) l
+    empty = λ a l. ⊎_elim (s.empty a) (t.empty a) l;
   }
 
   -- a part that is never empty begins with its bytes, whatever follows

@@ -1,11 +1,11 @@
 -- The names of a table are lawful words, and end before a byte that no name has.
-use Rattle.std.proofs.Common.{◌≡◌, ℕ, List, [], ◌∷◌, ◌++◌, Bool, true, false, ◌&&◌, ◌||◌, not, ◌==◌, refl, sym, ap, ◌∙◌, eqb-true, eq-eqb}
+use Rattle.std.proofs.Common.{◌≡◌, ℕ, List, [], ◌∷◌, ◌++◌, true, false, not, refl, ◌∙◌, eq-eqb}
 use Rattle.std.specs.List.{list_all, list_any}
 use Rattle.std.specs.Char.{eq_ignore_ascii_case, to_ascii_lowercase}
 use Rattle.grammar.specs.Exact.{among}
-use Rattle.grammar.specs.Words.{Words, Lawful, Apart}
+use Rattle.grammar.specs.Words.{Lawful, Apart}
 use Rattle.grammar.specs.Tables.{any_case, begins_some, starts_name, is_name, lacks}
-use Rattle.grammar.proofs.Tests.{and_both, and_left, and_right, and_false, and_false_right, not_true, any_weaker, any_some, any_none, among_all}
+use Rattle.grammar.proofs.Conditions.{and_both, and_left, and_right, and_false, and_false_right, not_true, any_weaker, any_some, any_none, among_all}
 
 -- a byte is itself in any case
 letter_same : (c : ℕ) → eq_ignore_ascii_case c c ≡ true
@@ -65,9 +65,9 @@ module _ (names : List (List ℕ)) where
     front = λ s t h. to_some s (any_weaker _ _ (λ name k. starts_front name s t k) names (from_some first (s ++ t) h));
     whole = λ s h. to_some s (any_weaker _ _ (λ name k. starts_whole name s k) names h);
     goes_on = λ s h.
-      let name = any_some (λ name. starts_name name s) names (from_some first s h) in
-      let on = starts_goes_on name.0 s name.1 in
-      (on.0, name.2 (λ name. is_name name (s ++ on.0)) on.1)
+        let name = any_some (λ name. starts_name name s) names (from_some first s h) in
+        let on = starts_goes_on name.0 s name.1 in
+        (on.0, name.2 (λ name. is_name name (s ++ on.0)) on.1);
   }
 
   -- bytes that no name has

@@ -1,7 +1,7 @@
 -- The small parts that productions are made of are exact too.
-use Rattle.std.proofs.Common.{◌≡◌, ℕ, List, [], ◌∷◌, ◌++◌, Bool, true, false, not, ◌==◌, refl, sym, ap, subst, ◌∙◌, eq-eqb, eqb-true}
-use Rattle.grammar.specs.Part.{Part, ◌then◌, ◌sp◌, give, map, choose, one_of, byte, when, optional, spaced, listed, repeat}
-use Rattle.grammar.specs.Exact.{Begins, StartsWith, StartsWithout, Good, any}
+use Rattle.std.proofs.Common.{◌≡◌, ℕ, List, [], ◌∷◌, ◌++◌, Bool, true, false, ◌==◌, refl, sym, ap, subst, ◌∙◌, eq-eqb, eqb-true}
+use Rattle.grammar.specs.Part.{Part, ◌then◌, ◌sp◌, give, map, byte, when, optional, spaced, listed, repeat}
+use Rattle.grammar.specs.Exact.{Begins, StartsWith, Good, any}
 use Rattle.grammar.proofs.Reading.{empty_halves}
 use Rattle.grammar.proofs.SequenceLaw.{good_give, good_map, good_then}
 use Rattle.grammar.proofs.ChoiceLaw.{good_choose, good_one_of}
@@ -29,9 +29,9 @@ module _ {V : Type 0} where
       Good V after (p then λ a. byte c then λ _. f a)
   good_between {A} {B} {starts} {after} c p f is g h =
       good_then p (λ a. byte c then λ _. f a) g
-        (λ a. good_behind c (f a) (h a))
-        (λ a. begins_from after (byte c then λ _. f a)
-          (starts_weaker (byte c then λ _. f a) (λ d e. ap starts (eqb-true d c e) ∙ is) (starts_then (byte c) (λ _. f a) (starts_one_of (λ b. b == c)))))
+      (λ a. good_behind c (f a) (h a))
+      (λ a. begins_from after (byte c then λ _. f a)
+      (starts_weaker (byte c then λ _. f a) (λ d e. ap starts (eqb-true d c e) ∙ is) (starts_then (byte c) (λ _. f a) (starts_one_of (λ b. b == c)))))
 
   -- one part, a space and another part
   pub good_sp : {A B : Type 0} {starts after : ℕ → Bool} (p : Part A) (f : A → Part B) → starts 32 ≡ true → Good V starts p → ((a : A) → Good V after (f a)) → Good V after (p sp f)
@@ -39,17 +39,18 @@ module _ {V : Type 0} where
 
   -- a byte that may be left out, where it doesn't follow
   pub good_optional : (after : ℕ → Bool) (c : ℕ) → ((d : ℕ) → after d ≡ true → (d == c) ≡ false) → Good V after (optional c)
+  unfolding optional
   good_optional after c apart =
       good_choose (λ b. b == c) (map (λ _. true) (byte c)) (give false) (good_map (λ _. true) (byte c) (good_byte after c)) (good_give after false)
-        (starts_then (byte c) (λ _. give true) (starts_one_of (λ b. b == c)))
-        (record { full = λ d tail a l. absurd (no_byte l.0); empty = λ a l. apart })
+      (starts_then (byte c) (λ _. give true) (starts_one_of (λ b. b == c)))
+      (record { full = λ d tail a l. absurd (no_byte l.0); empty = λ a l. apart })
 
 -- a part begins as its first part does, or as its second where the first is empty
 pub begins_then : {A B : Type 0} {starts middle after : ℕ → Bool} (p : Part A) (f : A → Part B) → Begins starts middle p → ((a : A) → Begins middle after (f a)) → Begins starts after (p then f)
 begins_then {A} {B} {starts} {middle} {after} p f b c = record {
   full = λ d tail w j. full d tail w j.front j.back j.between j.parts j.begins j.goes_on;
   empty = λ w j d h. let none = empty_halves j.front j.back j.parts in
-    b.empty j.between (subst (λ s. p.lang s j.between) none.0 j.begins) d ((c j.between).empty w (subst (λ s. (f j.between).lang s w) none.1 j.goes_on) d h)
+      b.empty j.between (subst (λ s. p.lang s j.between) none.0 j.begins) d ((c j.between).empty w (subst (λ s. (f j.between).lang s w) none.1 j.goes_on) d h);
 }
   where
     full : (d : ℕ) (tail : List ℕ) (w : B) (front back : List ℕ) (a : A) → (let s : List ℕ = d ∷ tail in s ≡ front ++ back) → p.lang front a → (f a).lang back w → starts d ≡ true
@@ -78,11 +79,11 @@ module _ {V S : Type 0} (after between : ℕ → Bool) (turn : S → Part S) (g 
 
   -- a list in parentheses, of turns that a space or the closing parenthesis may follow
   pub good_listed : (s : S) → Good V after (listed turn s)
-  unfolding closing
+  unfolding closing listed
   good_listed s =
       good_behind 40 _ (good_then (turn s) (λ t. repeat (λ c. c == 32) (spaced turn) t then closing) (g s)
-        (λ t. good_then (repeat (λ c. c == 32) (spaced turn) t) closing
-          (good_repeat (λ c. c == 32) (λ c. c == 41) between (spaced turn) (λ s. good_behind 32 (turn s) (g s)) starts_spaced apart space_next close_next t)
-          (λ last. good_map (λ _. last) (byte 41) (good_byte after 41)) begins_closing)
-        (λ t. begins_then (repeat (λ c. c == 32) (spaced turn) t) closing
-          (begins_repeat (λ c. c == 32) (λ c. c == 41) between (spaced turn) (λ s. good_behind 32 (turn s) (g s)) starts_spaced apart space_next close_next t) begins_closing))
+      (λ t. good_then (repeat (λ c. c == 32) (spaced turn) t) closing
+      (good_repeat (λ c. c == 32) (λ c. c == 41) between (spaced turn) (λ s. good_behind 32 (turn s) (g s)) starts_spaced apart space_next close_next t)
+      (λ last. good_map (λ _. last) (byte 41) (good_byte after 41)) begins_closing)
+      (λ t. begins_then (repeat (λ c. c == 32) (spaced turn) t) closing
+      (begins_repeat (λ c. c == 32) (λ c. c == 41) between (spaced turn) (λ s. good_behind 32 (turn s) (g s)) starts_spaced apart space_next close_next t) begins_closing))

@@ -1,5 +1,5 @@
 -- What one turn makes of the reading of many.
-use Rattle.std.proofs.Common.{◌≡◌, ℕ, zero, suc, ◌+◌, ◌-◌, ◌<◌, ◌≤◌, List, length, Result, Ok, Err, Bool, true, false, cond, ap, refl, sym, ◌∙◌, arith}
+use Rattle.std.proofs.Common.{◌≡◌, ℕ, zero, suc, ◌+◌, ◌-◌, ◌<◌, ◌≤◌, List, length, Ok, Err, Bool, true, false, cond, ap, refl, sym, ◌∙◌, arith}
 use Rattle.grammar.specs.Part.{Part, ◌>>=◌, starts, turns, repeat}
 
 module _ {S : Type 0} (test : ℕ → Bool) (turn : S → Part S) (s : S) (bytes : List ℕ) where

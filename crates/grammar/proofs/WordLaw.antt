@@ -1,9 +1,9 @@
 -- Words are read to their end, where no byte that follows goes on with one.
-use Rattle.std.proofs.Common.{◌≡◌, ℕ, suc, List, [], ◌∷◌, ◌++◌, length, Result, Ok, Err, Bool, true, false, cond, refl, sym, ap, subst, ◌∙◌, append_assoc, append-nil, arith}
-use Rattle.grammar.specs.Part.{Part, ◌>>=◌, Joins}
+use Rattle.std.proofs.Common.{◌≡◌, ℕ, List, [], ◌∷◌, ◌++◌, Result, Ok, Err, Bool, true, false, cond, refl, sym, ap, subst, ◌∙◌, append_assoc, append-nil}
+use Rattle.grammar.specs.Part.{◌>>=◌, Joins}
 use Rattle.grammar.specs.Exact.{Stops, Taken, IsViable, Follows, Good}
 use Rattle.grammar.specs.Words.{Words, Lawful, Apart, word, scan, halt}
-use Rattle.grammar.proofs.Reading.{ok_parts, takes_some, good_from, empty_halves}
+use Rattle.grammar.proofs.Reading.{ok_parts, takes_some, good_from}
 
 module _ (w : Words) (lawful : Lawful w) where
   -- the scan behind some text, once the next byte is tested
@@ -35,7 +35,7 @@ module _ (w : Words) (lawful : Lawful w) where
       let together : (front ++ c ∷ []) ++ x ≡ front ++ c ∷ x = append_assoc front (c ∷ []) x in
       let all : w.begins ((front ++ c ∷ []) ++ x) ≡ true = ap w.begins together ∙ e in
       scan_step front c (x ++ rest) true (lawful.front (front ++ c ∷ []) x all)
-        ∙ scan_over (front ++ c ∷ []) x rest all ∙ ap (λ s. scan w s rest) together
+      ∙ scan_over (front ++ c ∷ []) x rest all ∙ ap (λ s. scan w s rest) together
 
 module _ {V : Type 0} (w : Words) (lawful : Lawful w) (after : ℕ → Bool) (apart : Apart w after)
     (next : List ℕ → List ℕ → Result V ℕ) (v : (a : List ℕ) → IsViable (next a)) (f : (a : List ℕ) → Follows after (next a)) where
@@ -69,26 +69,35 @@ module _ {V : Type 0} (w : Words) (lawful : Lawful w) (after : ℕ → Bool) (ap
   at_halt front bytes left true begins whole last e =
       let s = v front bytes left e in
       record {
-        front = front ++ s.front; rest = s.rest; parts = ap (λ t. front ++ t) s.parts ∙ sym (append_assoc front s.front s.rest);
-        left_is = s.left_is; more = s.more; value = s.value;
+        front = front ++ s.front;
+        rest = s.rest;
+        parts = ap (λ t. front ++ t) s.parts ∙ sym (append_assoc front s.front s.rest);
+        left_is = s.left_is;
+        more = s.more;
+        value = s.value;
         begins = ap (λ t. scan w [] t >>= next) (append_assoc front s.front s.more)
-          ∙ ap (λ r. r >>= next) (scan_over w lawful [] front (s.front ++ s.more) begins) ∙ at_word front (s.front ++ s.more) s.value whole s.begins;
+            ∙ ap (λ r. r >>= next) (scan_over w lawful [] front (s.front ++ s.more) begins) ∙ at_word front (s.front ++ s.more) s.value whole s.begins;
         ends = λ c tail more u same taken. s.ends c tail more u same
-          (sym (ap (λ t. scan w [] t >>= next) (append_assoc front s.front (c ∷ more))
+            (sym (ap (λ t. scan w [] t >>= next) (append_assoc front s.front (c ∷ more))
             ∙ ap (λ r. r >>= next) (scan_over w lawful [] front (s.front ++ (c ∷ more)) begins ∙ halts front bytes last s.front c tail more (s.parts ∙ ap (λ t. s.front ++ t) same))
-            ∙ ap (λ b. halt b front (s.front ++ (c ∷ more)) >>= next) whole) ∙ taken)
+            ∙ ap (λ b. halt b front (s.front ++ (c ∷ more)) >>= next) whole) ∙ taken);
       }
   at_halt front bytes left false begins whole last e =
       let on = lawful.goes_on front begins in
       let some = takes_some (next (front ++ on.0)) (v (front ++ on.0)) in
       record {
-        front = front; rest = bytes; parts = refl; left_is = cc; more = on.0 ++ some.0; value = some.1;
+        front = front;
+        rest = bytes;
+        parts = refl;
+        left_is = cc;
+        more = on.0 ++ some.0;
+        value = some.1;
         begins = word_only _ _ (record { front = front ++ on.0; back = some.0; between = front ++ on.0; parts = sym (append_assoc front on.0 some.0); begins = (refl, on.1); goes_on = some.2 });
         ends = λ c tail more u same taken.
-          let stop : halt false front (c ∷ more) >>= next ≡ Ok u =
+            let stop : halt false front (c ∷ more) >>= next ≡ Ok u =
             sym (ap (λ r. r >>= next) (scan_over w lawful [] front (c ∷ more) begins ∙ halts front bytes last [] c tail more same)
-              ∙ ap (λ b. halt b front (c ∷ more) >>= next) whole) ∙ taken in
-          cc
+            ∙ ap (λ b. halt b front (c ∷ more) >>= next) whole) ∙ taken in
+            cc;
       }
 
   scan_stops : (front bytes : List ℕ) (left : ℕ) → w.begins front ≡ true → scan w front bytes >>= next ≡ Err left → Stopped front bytes left

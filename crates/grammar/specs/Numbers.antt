@@ -1,5 +1,5 @@
 -- Numbers in decimal digits.
-use Rattle.std.specs.Prelude.{ℕ, ◌+◌, ◌-◌, ◌*◌, Bool, true, false, ◌&&◌, ◌||◌, not, ◌==◌, nat_le, List, [], ◌∷◌}
+use Rattle.std.specs.Prelude.{ℕ, ◌+◌, ◌-◌, ◌*◌, Bool, true, ◌&&◌, ◌||◌, not, ◌==◌, nat_le, List, [], ◌∷◌}
 use Rattle.std.specs.List.{list_all}
 use Rattle.grammar.specs.Part.{Part, map}
 use Rattle.grammar.specs.Words.{Words, word}
@@ -27,7 +27,7 @@ no_zero_first (c ∷ text) = not (c == 48)
 abbrev pub numerals : Bool → ℕ → Words
 numerals zeros most = record {
   begins = λ s. list_all is_digit s && nat_le (decimal s) most && (zeros || no_zero_first s);
-  whole = λ s. list_all is_digit s && nat_le (decimal s) most && (zeros || no_zero_first s) && some s
+  whole = λ s. list_all is_digit s && nat_le (decimal s) most && (zeros || no_zero_first s) && some s;
 }
 
 -- a number of at most `most`

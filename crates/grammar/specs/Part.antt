@@ -1,10 +1,9 @@
 -- Parts of a grammar: which bytes spell which value, and what a reader makes of bytes that begin with a part.
-use Rattle.std.specs.Prelude.{◌≡◌, ℕ, zero, suc, ◌⊎◌, Bool, true, false, cond, ◌==◌, ◌&&◌, nat_le, List, [], ◌∷◌, ◌++◌, length, Result, Ok, Err, IsTrue}
+use Rattle.std.specs.Prelude.{◌≡◌, ℕ, zero, suc, ◌⊎◌, Bool, true, false, cond, ◌==◌, ◌&&◌, nat_le, List, [], ◌∷◌, ◌++◌, length, Result, Ok, Err}
 
 infixl 20 ◌>>=◌
 infixr 15 ◌then◌
 infixr 15 ◌sp◌
-
 -- a part that spells values of A
 pub record Part (A : Type 0) : Type 1 where
   -- the bytes spell the value
@@ -34,7 +33,7 @@ give a = record { lang = λ s v. (s ≡ []) × (v ≡ a); at = λ bytes. Ok (a, 
 abbrev pub ◌then◌ : {A B : Type 0} → Part A → (A → Part B) → Part B
 p then f = record {
   lang = Joins p.lang (λ a. (f a).lang);
-  at = λ bytes. p.at bytes >>= λ a rest. (f a).at rest
+  at = λ bytes. p.at bytes >>= λ a rest. (f a).at rest;
 }
 
 -- the same spellings, of the values that f makes
@@ -50,7 +49,7 @@ starts test (c ∷ _) = test c
 abbrev pub choose : {A : Type 0} → (ℕ → Bool) → Part A → Part A → Part A
 choose test p q = record {
   lang = λ s v. p.lang s v ⊎ q.lang s v;
-  at = λ bytes. cond (starts test bytes) (p.at bytes) (q.at bytes)
+  at = λ bytes. cond (starts test bytes) (p.at bytes) (q.at bytes);
 }
 
 -- one byte, taken or not
@@ -97,11 +96,11 @@ turns test turn (suc n) s = choose test (turn s then λ t. turns test turn n t) 
 unfoldable pub repeat : {S : Type 0} → (ℕ → Bool) → (S → Part S) → S → Part S
 repeat test turn s = record {
   lang = λ bytes last. (n : ℕ) × (turns test turn n s).lang bytes last;
-  at = λ bytes. (turns test turn (length bytes) s).at bytes
+  at = λ bytes. (turns test turn (length bytes) s).at bytes;
 }
 
 -- a byte that may be left out; true where it is there
-abbrev pub optional : ℕ → Part Bool
+unfoldable pub optional : ℕ → Part Bool
 optional c = choose (λ b. b == c) (map (λ _. true) (byte c)) (give false)
 
 -- a space and a turn
@@ -109,6 +108,6 @@ abbrev pub spaced : {S : Type 0} → (S → Part S) → S → Part S
 spaced turn s = byte 32 then λ _. turn s
 
 -- one turn or more in parentheses, a space between any two (the RFCs' "(" X *(SP X) ")")
-abbrev pub listed : {S : Type 0} → (S → Part S) → S → Part S
+unfoldable pub listed : {S : Type 0} → (S → Part S) → S → Part S
 listed turn s =
     byte 40 then λ _. turn s then λ t. repeat (λ b. b == 32) (spaced turn) t then λ last. map (λ _. last) (byte 41)

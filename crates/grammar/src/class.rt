@@ -72,6 +72,7 @@ pub fn byte_of(wanted: u8, bytes: &[u8]) -> Result<&[u8], Stop>
 }
 
 /// Reads a byte that may be left out, and gives whether it is there and the bytes behind it.
+#[tactic(auto, unfolding(crate::specs::Part::optional))]
 pub fn optional_of(wanted: u8, bytes: &[u8]) -> (bool, &[u8])
     ensures { (optional wanted).at bytes.now ≡ Ok (result.0, result.1.now) }
 {
@@ -98,13 +99,19 @@ fn passing_len<C: Class>(class: &C, most: usize, bytes: &[u8]) -> usize
 
 /// Reads so many bytes of the set, and gives them and the bytes behind them.
 #[tactic(auto, using(crate::proofs::ExactlyLaw::exactly_found, crate::proofs::ExactlyLaw::exactly_stops))]
-pub fn exactly_of<'a, C: Class>(class: &C, count: usize, bytes: &'a [u8]) -> Result<(&'a [u8], &'a [u8]), Stop>
+pub fn exactly_of<'a, C: Class>(
+    class: &C,
+    count: usize,
+    bytes: &'a [u8],
+) -> Result<(&'a [u8], &'a [u8]), Stop>
     ensures { Finds (λ x. (x.0.now, x.1.now)) result ((exactly (C.test class.now) count).at bytes.now) }
 {
     let len = passing_len(class, count, bytes);
     if len == count {
         Ok(bytes.split_at(count))
     } else {
-        Err(Stop { left: bytes.len() - len })
+        Err(Stop {
+            left: bytes.len() - len,
+        })
     }
 }

@@ -58,14 +58,21 @@ fn number_upto(most: usize, digits: &[u8]) -> usize
 {
     let mut number = 0usize;
     for digit in digits {
-        number = number.saturating_mul(10).saturating_add(usize::from(*digit - b'0')).min(most);
+        number = number
+            .saturating_mul(10)
+            .saturating_add(usize::from(*digit - b'0'))
+            .min(most);
     }
     number
 }
 
 /// Reads as many bytes of the set as digits say, which may stand for any number.
 #[tactic(auto, using(crate::proofs::ExactlyLaw::exactly_upto))]
-pub fn counted_of<'a, C: Class>(class: &C, digits: &[u8], bytes: &'a [u8]) -> Result<(&'a [u8], &'a [u8]), Stop>
+pub fn counted_of<'a, C: Class>(
+    class: &C,
+    digits: &[u8],
+    bytes: &'a [u8],
+) -> Result<(&'a [u8], &'a [u8]), Stop>
     requires { list_all is_digit digits.now ≡ true }
     ensures { Finds (λ x. (x.0.now, x.1.now)) result ((exactly (C.test class.now) (decimal digits.now)).at bytes.now) }
 {

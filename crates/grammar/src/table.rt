@@ -29,7 +29,9 @@ fn begins_name(name: &[u8], text: &[u8]) -> bool
 fn begins_name_with(name: &[u8], text: &[u8], byte: u8) -> bool
     ensures { result ≡ starts_name name.now (text.now ++ byte ∷ []) }
 {
-    text.len() < name.len() && begins_name(name, text) && name[text.len()].eq_ignore_ascii_case(&byte)
+    text.len() < name.len()
+        && begins_name(name, text)
+        && name[text.len()].eq_ignore_ascii_case(&byte)
 }
 
 /// Whether a text is a name, in any case.

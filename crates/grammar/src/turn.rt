@@ -20,7 +20,11 @@ pub trait Turn {
     fn starts(&self, byte: u8) -> bool
         ensures { result ≡ starts self.now byte };
 
-    fn turn<'a>(&self, state: Self::State, bytes: &'a [u8]) -> Result<(Self::State, &'a [u8]), ReadError>
+    fn turn<'a>(
+        &self,
+        state: Self::State,
+        bytes: &'a [u8],
+    ) -> Result<(Self::State, &'a [u8]), ReadError>
         ensures { Gives (λ x. (x.0, x.1.now)) result ((part self.now state).at bytes.now) };
 }
 
@@ -35,7 +39,11 @@ fn begins_turn<T: Turn>(turn: &T, bytes: &[u8]) -> bool
 }
 
 /// Reads turns as long as the next byte begins one, and gives the last state and the bytes behind.
-pub fn repeated_of<'a, T: Turn>(turn: &T, state: T::State, bytes: &'a [u8]) -> Result<(T::State, &'a [u8]), ReadError>
+pub fn repeated_of<'a, T: Turn>(
+    turn: &T,
+    state: T::State,
+    bytes: &'a [u8],
+) -> Result<(T::State, &'a [u8]), ReadError>
     ensures { Gives (λ x. (x.0, x.1.now)) result ((repeat (T.starts turn.now) (T.part turn.now) state).at bytes.now) }
 {
     let mut state = state;
@@ -71,14 +79,23 @@ impl<T: Turn> Turn for Spaced<'_, T> {
         byte == b' '
     }
 
-    fn turn<'a>(&self, state: T::State, bytes: &'a [u8]) -> Result<(T::State, &'a [u8]), ReadError> {
+    fn turn<'a>(
+        &self,
+        state: T::State,
+        bytes: &'a [u8],
+    ) -> Result<(T::State, &'a [u8]), ReadError> {
         let rest = byte_of(b' ', bytes)?;
         self.turn.turn(state, rest)
     }
 }
 
 /// Reads one turn or more in parentheses, a space between any two, and gives the last state and the bytes behind.
-pub fn listed_of<'a, T: Turn>(turn: &T, state: T::State, bytes: &'a [u8]) -> Result<(T::State, &'a [u8]), ReadError>
+#[tactic(auto, unfolding(crate::specs::Part::listed))]
+pub fn listed_of<'a, T: Turn>(
+    turn: &T,
+    state: T::State,
+    bytes: &'a [u8],
+) -> Result<(T::State, &'a [u8]), ReadError>
     ensures { Gives (λ x. (x.0, x.1.now)) result ((listed (T.part turn.now) state).at bytes.now) }
 {
     let rest = byte_of(b'(', bytes)?;

@@ -7,7 +7,7 @@ ghost use Rattle.grammar.specs.Gives.{Gives, Finds, ReadsAs};
 use crate::error::{ReadError, Stop};
 use std::alloc::Global;
 
-/// A grammar: a part that is exact, and its reader.
+/// A grammar: a part, and its reader.
 pub trait Grammar {
     type Value: Drop;
 
@@ -17,9 +17,6 @@ pub trait Grammar {
     /// Reads what the bytes begin with.
     fn read<'a>(&self, alloc: Global, bytes: &'a [u8]) -> Result<(Self::Value, &'a [u8]), ReadError>
         ensures { Gives (λ x. (x.0, x.1.now)) result ((part self.now).at bytes.now) };
-
-    /// What is read is spelled, what is spelled is read, and a stop is at the longest prefix that begins some spelling.
-    ghost exact: { (grammar : Self) → Exact (part grammar).lang (whole_at (part grammar)) };
 }
 
 /// The value, where nothing stands behind it.
@@ -33,8 +30,10 @@ pub fn ended<T: Drop>(value: T, rest: &[u8]) -> Result<T, Stop>
     }
 }
 
-/// Reads bytes that a grammar spells as a whole.
+/// Reads bytes as a whole: a value exactly where they spell it, else a stop behind their longest prefix that begins some
+/// spelling. The caller proves that the grammar is exact, by the laws of the parts that it is made of.
 pub fn whole_of<G: Grammar>(alloc: Global, grammar: &G, bytes: &[u8]) -> Result<G::Value, ReadError>
+    requires { Exact (G.part grammar.now).lang (whole_at (G.part grammar.now)) }
     ensures { ReadsAs (G.part grammar.now).lang bytes.now result }
 {
     let (value, rest) = grammar.read(alloc, bytes)?;

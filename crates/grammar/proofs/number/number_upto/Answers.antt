@@ -1,4 +1,4 @@
-use Rattle.std.proofs.Common.{arith, get_or}
+use Rattle.std.proofs.Common.{arith}
 use Rattle.grammar.proofs.NumberSteps.{decimal-take}
 use Rattle.grammar.proofs.number.number_upto.Goals as goal
 

@@ -1,4 +1,4 @@
-use Rattle.std.proofs.Common.{◌≡◌, ◌≤◌, drop, length}
+use Rattle.std.proofs.Common.{◌≡◌, drop}
 use Rattle.grammar.specs.Tables.{starts_name}
 use Rattle.grammar.proofs.table.begins_name.Given as goal
 

@@ -1,4 +1,4 @@
-use Rattle.std.proofs.Common.{rules, arith, length}
+use Rattle.std.proofs.Common.{rules, arith}
 use Rattle.std.proofs.lemmas.Result.{err_from_is_err_and}
 use Rattle.grammar.proofs.TurnSteps.{repeat_ends, repeat_none, repeat_stops, repeat_more}
 use Rattle.grammar.proofs.turn.repeated_of.Goals as goal

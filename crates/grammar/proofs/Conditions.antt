@@ -1,5 +1,5 @@
 -- Tests joined by "and" and "or".
-use Rattle.std.proofs.Common.{◌≡◌, ℕ, List, [], ◌∷◌, Bool, true, false, ◌&&◌, ◌||◌, not, ◌==◌, refl, sym, ap, ◌∙◌, subst, eqb-true}
+use Rattle.std.proofs.Common.{◌≡◌, ℕ, List, [], ◌∷◌, Bool, true, false, ◌&&◌, ◌||◌, not, ◌==◌, refl, ap, ◌∙◌, eqb-true}
 use Rattle.std.specs.List.{list_all, list_any}
 use Rattle.grammar.specs.Exact.{among}
 
