@@ -1,5 +1,5 @@
 // Words by a test of what goes on.
-ghost use Rattle.std.specs.Prelude.{◌≡◌, true, ◌∷◌, [], ◌++◌, ◌≤◌, length, take, drop};
+ghost use Rattle.std.specs.Prelude.{◌≡◌, true, ◌∷◌, [], ◌++◌, ◌≤◌, length, take, drop, IfOk};
 ghost use Rattle.grammar.specs.Words.{Words, word, scan, halt};
 ghost use Rattle.grammar.specs.Gives.{Finds};
 
@@ -41,7 +41,8 @@ fn word_len<K: Kind>(kind: &K, bytes: &[u8]) -> usize
 
 /// Reads the longest text that begins a word, and gives it and the bytes behind it where it is one.
 pub fn word_of<'a, K: Kind>(kind: &K, bytes: &'a [u8]) -> Result<(&'a [u8], &'a [u8]), Stop>
-    ensures { Finds (λ x. (x.0.now, x.1.now)) result ((word (K.words kind.now)).at bytes.now) }
+    ensures reads { Finds (λ x. (x.0.now, x.1.now)) result ((word (K.words kind.now)).at bytes.now) }
+    ensures whole { IfOk result (λ x. (K.words kind.now).whole x.0.now ≡ true) }
 {
     let (text, rest) = bytes.split_at(word_len(kind, bytes));
     if kind.is_whole(text) {
