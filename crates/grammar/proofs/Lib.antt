@@ -2,6 +2,7 @@ pub mod Reading
 pub mod SequenceLaw
 pub mod ChoiceLaw
 pub mod WordLaw
+pub mod RangeLaw
 pub mod RunLaw
 pub mod ExactlyLaw
 pub mod NumberLaw

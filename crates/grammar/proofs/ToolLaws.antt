@@ -1,5 +1,5 @@
 -- The small parts that productions are made of are exact too.
-use Rattle.std.proofs.Common.{◌≡◌, ℕ, List, [], ◌∷◌, ◌++◌, Bool, true, false, ◌==◌, refl, sym, ap, subst, ◌∙◌, eq-eqb, eqb-true}
+use Rattle.std.proofs.Common.{◌≡◌, ℕ, List, [], ◌∷◌, ◌++◌, Bool, true, false, ◌==◌, refl, sym, ap, ⊎_elim, subst, ◌∙◌, eq-eqb, eqb-true}
 use Rattle.grammar.specs.Part.{Part, ◌then◌, ◌sp◌, give, map, byte, when, optional, spaced, listed, repeat}
 use Rattle.grammar.specs.Exact.{Begins, StartsWith, Good, any}
 use Rattle.grammar.proofs.Reading.{empty_halves}
@@ -44,6 +44,14 @@ module _ {V : Type 0} where
       good_choose (λ b. b == c) (map (λ _. true) (byte c)) (give false) (good_map (λ _. true) (byte c) (good_byte after c)) (good_give after false)
       (starts_then (byte c) (λ _. give true) (starts_one_of (λ b. b == c)))
       (record { full = λ d tail a l. absurd (no_byte l.0); empty = λ a l. apart })
+
+-- a byte that may be left out begins with it, or as what follows
+pub begins_optional : {starts : ℕ → Bool} (after : ℕ → Bool) (c : ℕ) → starts c ≡ true → ((d : ℕ) → after d ≡ true → starts d ≡ true) → Begins starts after (optional c)
+unfolding optional
+begins_optional {starts} after c is to = record {
+  full = λ d tail a l. ⊎_elim (λ j. ap starts (eqb-true d c ((starts_then (byte c) (λ _. give true) (starts_one_of (λ b. b == c))).full d tail a j)) ∙ is) (λ e. absurd (no_byte e.0)) l;
+  empty = λ a l. to;
+}
 
 -- a part begins as its first part does, or as its second where the first is empty
 pub begins_then : {A B : Type 0} {starts middle after : ℕ → Bool} (p : Part A) (f : A → Part B) → Begins starts middle p → ((a : A) → Begins middle after (f a)) → Begins starts after (p then f)

@@ -37,6 +37,11 @@ module _ (w : Words) (lawful : Lawful w) where
       scan_step front c (x ++ rest) true (lawful.front (front ++ c ∷ []) x all)
       ∙ scan_over (front ++ c ∷ []) x rest all ∙ ap (λ s. scan w s rest) together
 
+  -- a whole word before a byte that goes on with none is read
+  pub word_reads : (front rest : List ℕ) (c : ℕ) → w.whole front ≡ true → w.begins (front ++ c ∷ []) ≡ false → scan w [] (front ++ (c ∷ rest)) ≡ Ok (front, c ∷ rest)
+  word_reads front rest c whole ends =
+      scan_over [] front (c ∷ rest) (lawful.whole front whole) ∙ scan_step front c rest false ends ∙ ap (λ b. halt b front (c ∷ rest)) whole
+
 module _ {V : Type 0} (w : Words) (lawful : Lawful w) (after : ℕ → Bool) (apart : Apart w after)
     (next : List ℕ → List ℕ → Result V ℕ) (v : (a : List ℕ) → IsViable (next a)) (f : (a : List ℕ) → Follows after (next a)) where
   -- behind a whole word the reading goes on with what follows
