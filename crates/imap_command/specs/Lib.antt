@@ -1,4 +1,5 @@
 pub mod Append
+pub mod Bad
 pub mod Characters
 pub mod Create
 pub mod Login

@@ -1,0 +1,4 @@
+pub mod CommandLaws
+pub mod SpellsLaw
+pub mod StringsLaw
+pub mod Utf8Law
