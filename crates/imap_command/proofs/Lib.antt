@@ -1,3 +1,4 @@
+pub mod BadLaws
 pub mod CommandLaws
 pub mod SpellsLaw
 pub mod StringsLaw

@@ -76,8 +76,15 @@ fn first_tag(alloc: Global, frame: &[u8]) -> Result<Option<Tag>, Memory>
     ensures { IfOk result (λ tag. IsFirstTag frame.now tag) }
 {
     match word_of(&RunUpTo { of: TagByte, most: 32 }, frame) {
-        Ok((text, rest)) if begins(&Only(b' '), rest) => Ok(Some(Tag::Text(Bytes::from_slice(alloc, text)?))),
-        _ => Ok(None),
+        Ok((text, rest)) => {
+            if begins(&Only(b' '), rest) {
+                let text = Bytes::from_slice(alloc, text)?;
+                Ok(Some(Tag::Text(text)))
+            } else {
+                Ok(None)
+            }
+        }
+        Err(_) => Ok(None),
     }
 }
 
