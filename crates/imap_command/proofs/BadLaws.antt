@@ -1,5 +1,5 @@
 -- What a stop and a first word say of a frame.
-use Rattle.std.proofs.Common.{◌≡◌, ℕ, zero, suc, ◌+◌, ◌-◌, ◌<◌, ◌≤◌, List, [], ◌∷◌, ◌++◌, length, take, Result, Ok, Err, Option, Bool, true, false, ◌==◌, refl, sym, ap, ◌∙◌, subst, append_assoc, length-append, arith, eqb-true}
+use Rattle.std.proofs.Common.{◌≡◌, ℕ, zero, suc, ◌-◌, ◌<◌, ◌≤◌, List, [], ◌∷◌, ◌++◌, length, take, Result, Ok, Err, Option, true, false, refl, sym, ap, ◌∙◌, subst, append_assoc, length-append, arith, eqb-true}
 use Rattle.grammar.specs.Part.{starts}
 use Rattle.grammar.specs.Words.{scan}
 use Rattle.grammar.specs.Exact.{Stops}
@@ -36,7 +36,7 @@ longest_from_stop frame left s = record {
   more = s.more;
   command = s.value;
   begins = subst (λ t. Spells (t ++ s.more) s.value) (sym front_is) s.begins;
-  longest = λ n more command h k l. by_rest s.rest refl n more command h k l
+  longest = λ n more command h k l. by_rest s.rest refl n more command h k l;
 }
   where
     at_front : length frame - left ≡ length s.front
@@ -51,7 +51,7 @@ longest_from_stop frame left s = record {
         let longer = take_more s.front c tail n (omega (arith, at_front)) in
         let same : take n frame ≡ s.front ++ (c ∷ longer.0) = ap (take n) (s.parts ∙ ap (λ t. s.front ++ t) e) ∙ longer.1 in
         s.ends c tail (longer.0 ++ more) command e
-          (subst (λ t. Spells t command) (ap (λ t. t ++ more) same ∙ append_assoc s.front (c ∷ longer.0) more) l)
+        (subst (λ t. Spells t command) (ap (λ t. t ++ more) same ∙ append_assoc s.front (c ∷ longer.0) more) l)
 
 -- the first word, where it is a tag with a space behind it
 pub tag_found : (frame text rest : List ℕ) → scan tags [] frame ≡ Ok (text, rest) → starts is_space rest ≡ true →

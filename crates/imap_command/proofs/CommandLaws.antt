@@ -1,6 +1,6 @@
 -- The arguments of each command are exact parts.
-use Rattle.std.proofs.Common.{◌≡◌, ℕ, List, [], ◌∷◌, ◌++◌, Bool, true, false, not, ◌==◌, refl, sym, ap, ◌∙◌, eqb-true}
-use Rattle.grammar.specs.Part.{Part, ◌then◌, ◌sp◌, map, byte, listed}
+use Rattle.std.proofs.Common.{◌≡◌, ℕ, List, [], ◌∷◌, Bool, true, false, not, ◌==◌, refl}
+use Rattle.grammar.specs.Part.{◌sp◌, map, byte, listed}
 use Rattle.grammar.specs.Exact.{Good, StartsWith, among}
 use Rattle.grammar.specs.Words.{word}
 use Rattle.grammar.specs.Tables.{any_case}
@@ -49,7 +49,7 @@ module _ {V : Type 0} where
   unfolding append
   good_append = good_behind 32 (astring sp λ mailbox. map (λ message. Append mailbox message) literal)
       (good_sp astring (λ mailbox. map (λ message. Append mailbox message) literal) refl good_name
-        (λ mailbox. good_map (λ message. Append mailbox message) literal (good_literal ends_atom)))
+      (λ mailbox. good_map (λ message. Append mailbox message) literal (good_literal ends_atom)))
 
   good_status_item : (so_far : List StatusItem) → Good V ends_item (status_item so_far)
   unfolding status_item
@@ -60,7 +60,7 @@ module _ {V : Type 0} where
   unfolding status
   good_status = good_behind 32 (astring sp λ mailbox. map (λ items. Status mailbox items) (listed status_item []))
       (good_sp astring (λ mailbox. map (λ items. Status mailbox items) (listed status_item [])) refl good_name
-        (λ mailbox. good_map (λ items. Status mailbox items) (listed status_item []) (good_listed ends_atom ends_item status_item good_status_item refl refl [])))
+      (λ mailbox. good_map (λ items. Status mailbox items) (listed status_item []) (good_listed ends_atom ends_item status_item good_status_item refl refl [])))
 
 pub starts_login : StartsWith (λ c. c == 32) login
 unfolding login

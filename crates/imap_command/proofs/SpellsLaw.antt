@@ -1,10 +1,9 @@
 -- Commands are read exactly.
-use Rattle.std.proofs.Common.{◌≡◌, ℕ, List, [], ◌∷◌, Bool, true, false, not, ◌==◌, refl, sym, ap, ◌∙◌, eqb-true, lit<, codes}
-use Rattle.grammar.specs.Part.{Part, ◌then◌, ◌sp◌, map, byte, when}
+use Rattle.std.proofs.Common.{◌≡◌, ℕ, List, [], ◌∷◌, Bool, ◌==◌, Result, Ok, refl, ap, eqb-true, lit<}
+use Rattle.grammar.specs.Part.{Part, ◌then◌, map, byte}
 use Rattle.grammar.specs.Exact.{Good, StartsWith, Exact, among, whole_at}
 use Rattle.grammar.specs.Words.{word, Lawful, Apart}
-use Rattle.grammar.specs.Tables.{any_case, is_name}
-use Rattle.grammar.proofs.Conditions.{not_true, among_all}
+use Rattle.grammar.specs.Tables.{any_case}
 use Rattle.grammar.proofs.SequenceLaw.{good_then, good_map, exact_whole}
 use Rattle.grammar.proofs.WordLaw.{good_word}
 use Rattle.grammar.proofs.RunLaw.{lawful_run_upto, apart_run_upto}
@@ -54,22 +53,29 @@ module _ {V : Type 0} where
   unfolding crlf
   good_behind_name tag name =
       good_then (arguments name) (λ command. map (λ _. (tag, command)) crlf) (good_arguments name)
-        (λ command. good_map (λ _. (tag, command)) crlf (good_crlf ends_atom))
-        (λ command. begins_from ends_atom (map (λ _. (tag, command)) crlf)
-          (starts_weaker (map (λ _. (tag, command)) crlf) (λ c h. ap ends_atom (eqb-true c 13 h))
-            (starts_then crlf _ (starts_then (byte 13) (λ _. byte 10) (starts_byte 13)))))
+      (λ command. good_map (λ _. (tag, command)) crlf (good_crlf ends_atom))
+      (λ command. begins_from ends_atom (map (λ _. (tag, command)) crlf)
+      (starts_weaker (map (λ _. (tag, command)) crlf) (λ c h. ap ends_atom (eqb-true c 13 h))
+      (starts_then crlf _ (starts_then (byte 13) (λ _. byte 10) (starts_byte 13)))))
 
   good_command : Good V ends_atom tagged_command
   unfolding tagged_command
   good_command =
       good_sp (word tags) (λ tag. word (any_case command_names) then behind_name (Text tag)) refl (good_word tags lawful_tags is_space apart_tags)
-        (λ tag. good_then (word (any_case command_names)) (behind_name (Text tag))
-          (good_word (any_case command_names) (lawful_any_case command_names refl) (among (32 ∷ [])) (apart_any_case command_names (32 ∷ []) refl))
-          (good_behind_name (Text tag))
-          (λ name. begins_from ends_atom (behind_name (Text tag) name)
-            (starts_weaker (behind_name (Text tag) name) (λ c h. ap (among (32 ∷ [])) (eqb-true c 32 h))
-              (starts_then (arguments name) (λ command. map (λ _. (Text tag, command)) crlf) (starts_arguments name)))))
+      (λ tag. good_then (word (any_case command_names)) (behind_name (Text tag))
+      (good_word (any_case command_names) (lawful_any_case command_names refl) (among (32 ∷ [])) (apart_any_case command_names (32 ∷ []) refl))
+      (good_behind_name (Text tag))
+      (λ name. begins_from ends_atom (behind_name (Text tag) name)
+      (starts_weaker (behind_name (Text tag) name) (λ c h. ap (among (32 ∷ [])) (eqb-true c 32 h))
+      (starts_then (arguments name) (λ command. map (λ _. (Text tag, command)) crlf) (starts_arguments name)))))
 
 -- what is read is spelled, what is spelled is read, and a stop is behind the longest prefix that begins some command
 pub exact_command : Exact Spells (whole_at tagged_command)
 exact_command = exact_whole tagged_command good_command
+
+-- no frame spells two commands
+pub spelled_once : (frame : List ℕ) (one other : Tag × Command) → Spells frame one → Spells frame other → one ≡ other
+spelled_once frame one other h k = same (exact_command.only frame one h) (exact_command.only frame other k)
+  where
+    same : {r : Result (Tag × Command) ℕ} → r ≡ Ok one → r ≡ Ok other → one ≡ other
+    same h k = cc

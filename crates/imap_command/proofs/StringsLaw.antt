@@ -1,12 +1,12 @@
 -- Strings are exact parts.
-use Rattle.std.proofs.Common.{◌≡◌, ℕ, ◌<◌, ◌≤◌, List, [], ◌∷◌, ◌++◌, Bool, true, false, ◌&&◌, ◌||◌, not, ◌==◌, nat_le, refl, sym, ap, ◌∙◌, eqb-true, leb-true, arith, ne_eqb, lit<}
+use Rattle.std.proofs.Common.{◌≡◌, ℕ, ◌<◌, ◌≤◌, List, [], ◌∷◌, ◌++◌, Bool, true, false, ◌&&◌, not, ◌==◌, nat_le, refl, ap, eqb-true, leb-true, arith, ne_eqb}
 use borrow.Author.Tests.{lt-leb}
 use Rattle.grammar.specs.Part.{Part, give, ◌then◌, map, byte, choose, exactly, optional, repeat, between}
 use Rattle.grammar.specs.Exact.{Good, Begins, StartsWith, any, among}
 use Rattle.grammar.specs.Words.{word}
 use Rattle.grammar.specs.Runs.{run}
 use Rattle.grammar.specs.Numbers.{decimal, is_digit}
-use Rattle.grammar.proofs.Conditions.{and_left, and_right, and_both, and_false, and_false_right, not_true, among_all}
+use Rattle.grammar.proofs.Conditions.{and_left, and_right, and_false, and_false_right, not_true, among_all}
 use Rattle.grammar.proofs.SequenceLaw.{good_then, good_map}
 use Rattle.grammar.proofs.ChoiceLaw.{good_choose}
 use Rattle.grammar.proofs.WordLaw.{good_word}
@@ -14,7 +14,6 @@ use Rattle.grammar.proofs.RunLaw.{lawful_run, apart_run}
 use Rattle.grammar.proofs.RepetitionLaw.{good_exactly, good_repeat, begins_any}
 use Rattle.grammar.proofs.StartLaw.{starts_then, starts_exactly, starts_byte, starts_word, starts_choose, starts_weaker, begins_from, without_from}
 use Rattle.grammar.proofs.ToolLaws.{good_byte, good_behind, good_optional, begins_optional, begins_then}
-use Rattle.grammar.proofs.RangeLaw.{Ranged}
 use Rattle.imap_command.specs.Characters.{is_astring_char, is_quoted_plain, is_quoted_special, is_char8}
 use Rattle.imap_command.specs.Utf8.{utf8_char}
 use Rattle.imap_command.specs.Strings.{crlf, quoted_char, is_no_quote, quoted, literal, string, astring}
@@ -65,13 +64,13 @@ starts_utf8 so_far = (ranged_utf8 {V = ℕ} any so_far).starts
 starts_unescaped : (so_far : List ℕ) (d : ℕ) → d ≤ 127 → ((c : ℕ) → is_quoted_plain c ≡ true → not (c == d) ≡ true) → StartsWith (λ c. not (c == d)) (unescaped so_far)
 starts_unescaped so_far d small other =
     starts_choose is_quoted_plain (plain so_far) (utf8_char so_far) (starts_weaker (plain so_far) other (starts_plain so_far))
-      (starts_weaker (utf8_char so_far) (not_byte d small) (starts_utf8 so_far))
+    (starts_weaker (utf8_char so_far) (not_byte d small) (starts_utf8 so_far))
 
 starts_quoted_char : (so_far : List ℕ) → StartsWith is_no_quote (quoted_char so_far)
 unfolding quoted_char
 starts_quoted_char so_far =
     starts_choose (λ c. c == 92) (escaped so_far) (unescaped so_far)
-      (starts_weaker (escaped so_far) (λ c h. ap (λ d. not (d == 34)) (eqb-true c 92 h)) (starts_escaped so_far)) (starts_unescaped so_far 34 (omega arith) plain_no_quote)
+    (starts_weaker (escaped so_far) (λ c h. ap (λ d. not (d == 34)) (eqb-true c 92 h)) (starts_escaped so_far)) (starts_unescaped so_far 34 (omega arith) plain_no_quote)
 
 starts_quoted : StartsWith (λ c. c == 34) quoted
 unfolding quoted
@@ -96,7 +95,7 @@ starts_string : StartsWith string_starts string
 unfolding string
 starts_string =
     starts_choose (λ c. c == 34) quoted literal (starts_weaker quoted (λ c h. ap string_starts (eqb-true c 34 h)) starts_quoted)
-      (starts_weaker literal (λ c h. ap string_starts (eqb-true c 123 h)) starts_literal)
+    (starts_weaker literal (λ c h. ap string_starts (eqb-true c 123 h)) starts_literal)
 
 no_astring_char : (c : ℕ) → string_starts c ≡ true → is_astring_char c ≡ false
 unfolding is_astring_char
@@ -126,29 +125,29 @@ module _ {V : Type 0} (after : ℕ → Bool) where
   good_unescaped : (so_far : List ℕ) → Good V after (unescaped so_far)
   good_unescaped so_far =
       good_choose is_quoted_plain (plain so_far) (utf8_char so_far) (good_plain so_far) (ranged_utf8 after so_far).good (starts_plain so_far)
-        (without_from is_quoted_plain after (utf8_char so_far) not_plain (starts_utf8 so_far))
+      (without_from is_quoted_plain after (utf8_char so_far) not_plain (starts_utf8 so_far))
 
   good_quoted_char : (so_far : List ℕ) → Good V after (quoted_char so_far)
   unfolding quoted_char
   good_quoted_char so_far =
       good_choose (λ c. c == 92) (escaped so_far) (unescaped so_far) (good_escaped so_far) (good_unescaped so_far) (starts_escaped so_far)
-        (without_from (λ c. c == 92) after (unescaped so_far) (λ c h. not_true (c == 92) h) (starts_unescaped so_far 92 (omega arith) plain_no_backslash))
+      (without_from (λ c. c == 92) after (unescaped so_far) (λ c h. not_true (c == 92) h) (starts_unescaped so_far 92 (omega arith) plain_no_backslash))
 
 begins_behind_length : (after : ℕ → Bool) (digits : List ℕ) → Begins behind_digits after (behind_length digits)
 begins_behind_length after digits =
     begins_then (optional 43) (λ _. byte 125 then λ _. octets (decimal digits))
-      (begins_optional (λ c. c == 125) 43 refl (λ c h. ap behind_digits (eqb-true c 125 h)))
-      (λ _. begins_from after (byte 125 then λ _. octets (decimal digits)) (starts_then (byte 125) (λ _. octets (decimal digits)) (starts_byte 125)))
+    (begins_optional (λ c. c == 125) 43 refl (λ c h. ap behind_digits (eqb-true c 125 h)))
+    (λ _. begins_from after (byte 125 then λ _. octets (decimal digits)) (starts_then (byte 125) (λ _. octets (decimal digits)) (starts_byte 125)))
 
 module _ {V : Type 0} (after : ℕ → Bool) where
   good_quoted : Good V after quoted
   unfolding quoted
   good_quoted =
       good_behind 34 (repeat is_no_quote quoted_char [] then λ text. map (λ _. text) (byte 34))
-        (good_then (repeat is_no_quote quoted_char []) (λ text. map (λ _. text) (byte 34))
-          (good_repeat is_no_quote (λ c. c == 34) any quoted_char (good_quoted_char any) starts_quoted_char (λ c h. ap not h) (λ _ _. refl) (λ _ _. refl) [])
-          (λ text. good_map (λ _. text) (byte 34) (good_byte after 34))
-          (λ text. begins_from after (map (λ _. text) (byte 34)) (starts_then (byte 34) (λ _. give text) (starts_byte 34))))
+      (good_then (repeat is_no_quote quoted_char []) (λ text. map (λ _. text) (byte 34))
+      (good_repeat is_no_quote (λ c. c == 34) any quoted_char (good_quoted_char any) starts_quoted_char (λ c h. ap not h) (λ _ _. refl) (λ _ _. refl) [])
+      (λ text. good_map (λ _. text) (byte 34) (good_byte after 34))
+      (λ text. begins_from after (map (λ _. text) (byte 34)) (starts_then (byte 34) (λ _. give text) (starts_byte 34))))
 
   good_octets : (n : ℕ) → Good V after (octets n)
   unfolding is_char8
@@ -157,27 +156,27 @@ module _ {V : Type 0} (after : ℕ → Bool) where
   good_behind_length : (digits : List ℕ) → Good V after (behind_length digits)
   good_behind_length digits =
       good_then (optional 43) (λ _. byte 125 then λ _. octets (decimal digits)) (good_optional (λ c. c == 125) 43 (λ c h. ap (λ d. d == 43) (eqb-true c 125 h)))
-        (λ _. good_behind 125 (octets (decimal digits)) (good_octets (decimal digits)))
-        (λ _. begins_from after (byte 125 then λ _. octets (decimal digits)) (starts_then (byte 125) (λ _. octets (decimal digits)) (starts_byte 125)))
+      (λ _. good_behind 125 (octets (decimal digits)) (good_octets (decimal digits)))
+      (λ _. begins_from after (byte 125 then λ _. octets (decimal digits)) (starts_then (byte 125) (λ _. octets (decimal digits)) (starts_byte 125)))
 
   pub good_literal : Good V after literal
   unfolding literal
   good_literal =
       good_behind 123 (word (run is_digit) then behind_length)
-        (good_then (word (run is_digit)) behind_length (good_word (run is_digit) (lawful_run is_digit 48 refl) behind_digits (apart_run is_digit behind_digits no_digit))
-          good_behind_length (begins_behind_length after))
+      (good_then (word (run is_digit)) behind_length (good_word (run is_digit) (lawful_run is_digit 48 refl) behind_digits (apart_run is_digit behind_digits no_digit))
+      good_behind_length (begins_behind_length after))
 
   good_string : Good V after string
   unfolding string
   good_string =
       good_choose (λ c. c == 34) quoted literal good_quoted good_literal starts_quoted
-        (without_from (λ c. c == 34) after literal (λ c h. ap (λ d. d == 34) (eqb-true c 123 h)) starts_literal)
+      (without_from (λ c. c == 34) after literal (λ c h. ap (λ d. d == 34) (eqb-true c 123 h)) starts_literal)
 
   -- an astring, before a byte that is no ASTRING-CHAR
   pub good_astring : ((c : ℕ) → after c ≡ true → is_astring_char c ≡ false) → Good V after astring
   unfolding astring is_astring_char
   good_astring apart =
       good_choose is_astring_char (word (run is_astring_char)) string
-        (good_word (run is_astring_char) (lawful_run is_astring_char 97 refl) after (apart_run is_astring_char after apart)) good_string
-        (starts_word (run is_astring_char) is_astring_char (lawful_run is_astring_char 97 refl) refl (λ c h. and_left (is_astring_char c) true h))
-        (without_from is_astring_char after string no_astring_char starts_string)
+      (good_word (run is_astring_char) (lawful_run is_astring_char 97 refl) after (apart_run is_astring_char after apart)) good_string
+      (starts_word (run is_astring_char) is_astring_char (lawful_run is_astring_char 97 refl) refl (λ c h. and_left (is_astring_char c) true h))
+      (without_from is_astring_char after string no_astring_char starts_string)

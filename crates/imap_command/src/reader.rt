@@ -11,7 +11,9 @@ use crate::fault::{Bad, ReadFault};
 use crate::login::login_of;
 use crate::status::status_of;
 use crate::strings::crlf_of;
-use grammar::{AnyCase, Class, Grammar, Only, ReadError, RunUpTo, begins, byte_of, names, whole_of, word_of};
+use grammar::{
+    AnyCase, Class, Grammar, Only, ReadError, RunUpTo, begins, byte_of, names, whole_of, word_of,
+};
 use mur_base::{Bytes, Memory};
 use mur_model::Tag;
 use std::alloc::Global;
@@ -27,7 +29,8 @@ impl Class for TagByte {
 
     #[tactic(auto, unfolding(mur_model::specs::Spells::is_tag_byte))]
     fn holds(&self, byte: u8) -> bool {
-        matches!(byte, 33..=126) && !matches!(byte, b'(' | b')' | b'{' | b'%' | b'*' | b'"' | b'\\' | b'+')
+        matches!(byte, 33..=126)
+            && !matches!(byte, b'(' | b')' | b'{' | b'%' | b'*' | b'"' | b'\\' | b'+')
     }
 }
 
@@ -36,7 +39,11 @@ const COMMAND_NAMES: [&[u8]; 4] = [b"LOGIN", b"CREATE", b"APPEND", b"STATUS"];
 
 /// Reads what stands behind the name of a command.
 #[tactic(auto, unfolding(crate::specs::Spells::arguments))]
-fn arguments_of<'a>(alloc: Global, name: &[u8], bytes: &'a [u8]) -> Result<(Command, &'a [u8]), ReadError>
+fn arguments_of<'a>(
+    alloc: Global,
+    name: &[u8],
+    bytes: &'a [u8],
+) -> Result<(Command, &'a [u8]), ReadError>
     ensures { Gives (λ x. (x.0, x.1.now)) result ((arguments name.now).at bytes.now) }
 {
     if names(b"LOGIN", name) {
@@ -60,10 +67,25 @@ impl Grammar for Commands {
     ghost part = { λ _. tagged_command };
 
     #[tactic(auto, unfolding(crate::specs::Spells::tagged_command))]
-    fn read<'a>(&self, alloc: Global, bytes: &'a [u8]) -> Result<((Tag, Command), &'a [u8]), ReadError> {
-        let (tag, rest) = word_of(&RunUpTo { of: TagByte, most: 32 }, bytes)?;
+    fn read<'a>(
+        &self,
+        alloc: Global,
+        bytes: &'a [u8],
+    ) -> Result<((Tag, Command), &'a [u8]), ReadError> {
+        let (tag, rest) = word_of(
+            &RunUpTo {
+                of: TagByte,
+                most: 32,
+            },
+            bytes,
+        )?;
         let rest = byte_of(b' ', rest)?;
-        let (name, rest) = word_of(&AnyCase { names: &COMMAND_NAMES }, rest)?;
+        let (name, rest) = word_of(
+            &AnyCase {
+                names: &COMMAND_NAMES,
+            },
+            rest,
+        )?;
         let (command, rest) = arguments_of(alloc, name, rest)?;
         let rest = crlf_of(rest)?;
         let tag = Tag::Text(Bytes::from_slice(alloc, tag)?);
@@ -75,7 +97,13 @@ impl Grammar for Commands {
 fn first_tag(alloc: Global, frame: &[u8]) -> Result<Option<Tag>, Memory>
     ensures { IfOk result (λ tag. IsFirstTag frame.now tag) }
 {
-    match word_of(&RunUpTo { of: TagByte, most: 32 }, frame) {
+    match word_of(
+        &RunUpTo {
+            of: TagByte,
+            most: 32,
+        },
+        frame,
+    ) {
         Ok((text, rest)) => {
             if begins(&Only(b' '), rest) {
                 let text = Bytes::from_slice(alloc, text)?;
