@@ -34,6 +34,9 @@ impl Class for TagByte {
     }
 }
 
+/// The greatest length of a tag in bytes.
+const TAG_MOST: usize = 32;
+
 /// The names of the commands.
 const COMMAND_NAMES: [&[u8]; 4] = [b"LOGIN", b"CREATE", b"APPEND", b"STATUS"];
 
@@ -75,7 +78,7 @@ impl Grammar for Commands {
         let (tag, rest) = word_of(
             &RunUpTo {
                 of: TagByte,
-                most: 32,
+                most: TAG_MOST,
             },
             bytes,
         )?;
@@ -100,7 +103,7 @@ fn first_tag(alloc: Global, frame: &[u8]) -> Result<Option<Tag>, Memory>
     match word_of(
         &RunUpTo {
             of: TagByte,
-            most: 32,
+            most: TAG_MOST,
         },
         frame,
     ) {
