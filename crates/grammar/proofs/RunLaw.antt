@@ -1,0 +1,62 @@
+-- Runs of bytes are lawful words, and end before a byte that doesn't pass.
+use Rattle.std.proofs.Common.{◌≡◌, ℕ, ◌<◌, List, [], ◌∷◌, ◌++◌, length, Bool, true, false, ◌&&◌, refl, ap, ◌∙◌, append-nil, length-append, arith, leb, leb-true, le-leb}
+use Rattle.std.specs.List.{list_all}
+use Rattle.grammar.specs.Words.{Lawful, Apart}
+use Rattle.grammar.specs.Runs.{run, run_upto, some}
+use Rattle.grammar.proofs.Conditions.{and_both, and_left, and_right, and_false}
+
+module _ (test : ℕ → Bool) where
+  -- a text passes where both halves do
+  pub all_join : (s t : List ℕ) → list_all test s ≡ true → list_all test t ≡ true → list_all test (s ++ t) ≡ true
+  all_join [] t h k = k
+  all_join (c ∷ s) t h k = and_both (test c) _ (and_left _ _ h) (all_join s t (and_right _ _ h) k)
+
+  pub all_front : (s t : List ℕ) → list_all test (s ++ t) ≡ true → list_all test s ≡ true
+  all_front [] t h = refl
+  all_front (c ∷ s) t h = and_both (test c) _ (and_left _ _ h) (all_front s t (and_right _ _ h))
+
+  -- one byte more is what the text adds to the test
+  pub all_push : (s : List ℕ) (c : ℕ) → list_all test s ≡ true → list_all test (s ++ c ∷ []) ≡ test c
+  all_push [] c h = by_case (test c)
+    where
+      by_case : (b : Bool) → b && true ≡ b
+      by_case true = refl
+      by_case false = refl
+  all_push (d ∷ s) c h = ap (λ b. b && list_all test (s ++ c ∷ [])) (and_left _ _ h) ∙ all_push s c (and_right _ _ h)
+
+  pub some_push : (s : List ℕ) (c : ℕ) → some (s ++ c ∷ []) ≡ true
+  some_push [] c = refl
+  some_push (d ∷ s) c = refl
+
+  pub lawful_run : (example : ℕ) → test example ≡ true → Lawful (run test)
+  lawful_run example passes = record {
+    opens = refl;
+    front = all_front;
+    whole = λ s h. and_left _ _ h;
+    goes_on = λ s h. (example ∷ [], and_both _ _ (all_push s example h ∙ passes) (some_push s example));
+  }
+
+  pub apart_run : (after : ℕ → Bool) → ((c : ℕ) → after c ≡ true → test c ≡ false) → Apart (run test) after
+  apart_run after other s h c k = all_push s c (and_left _ _ h) ∙ other c k
+
+  module _ (most : ℕ) where
+    upto_front : (s t : List ℕ) → list_all test (s ++ t) && leb (length (s ++ t)) most ≡ true → list_all test s && leb (length s) most ≡ true
+    upto_front s t h =
+        let short = leb-true _ _ (and_right (list_all test (s ++ t)) _ h) in
+        and_both _ _ (all_front s t (and_left _ _ h)) (le-leb _ _ (omega (arith, length-append s t)))
+
+    -- a text that begins a run of at most `most` bytes goes on to one
+    upto_goes_on : (example : ℕ) → test example ≡ true → 0 < most → (s : List ℕ) → list_all test s && leb (length s) most ≡ true → (t : List ℕ) × (run_upto most test).whole (s ++ t) ≡ true
+    upto_goes_on example passes room [] h = (example ∷ [], and_both _ _ (and_both _ _ (and_both _ _ passes refl) (le-leb _ _ room)) refl)
+    upto_goes_on example passes room (c ∷ s) h = ([], ap (λ t. list_all test t && leb (length t) most && some t) (append-nil (c ∷ s)) ∙ and_both _ _ h refl)
+
+    pub lawful_run_upto : (example : ℕ) → test example ≡ true → 0 < most → Lawful (run_upto most test)
+    lawful_run_upto example passes room = record {
+      opens = and_both true _ refl (le-leb _ _ (omega arith));
+      front = upto_front;
+      whole = λ s h. and_left _ _ h;
+      goes_on = upto_goes_on example passes room;
+    }
+
+    pub apart_run_upto : (after : ℕ → Bool) → ((c : ℕ) → after c ≡ true → test c ≡ false) → Apart (run_upto most test) after
+    apart_run_upto after other s h c k = and_false _ _ (all_push s c (and_left _ _ (and_left _ _ h)) ∙ other c k)

@@ -1,0 +1,31 @@
+-- Words of a table, in any case of letters.
+use Rattle.std.specs.Prelude.{ℕ, Bool, true, false, ◌&&◌, not, List, [], ◌∷◌}
+use Rattle.std.specs.List.{list_all, list_any}
+use Rattle.std.specs.Char.{eq_ignore_ascii_case}
+use Rattle.grammar.specs.Words.{Words}
+
+-- the name begins with the text, in any case
+abbrev pub starts_name : List ℕ → List ℕ → Bool
+starts_name name [] = true
+starts_name [] (c ∷ text) = false
+starts_name (n ∷ name) (c ∷ text) = eq_ignore_ascii_case n c && starts_name name text
+
+-- the name is the text, in any case
+abbrev pub is_name : List ℕ → List ℕ → Bool
+is_name [] [] = true
+is_name [] (c ∷ text) = false
+is_name (n ∷ name) [] = false
+is_name (n ∷ name) (c ∷ text) = eq_ignore_ascii_case n c && is_name name text
+
+-- some name begins with the text, in any case
+abbrev pub begins_some : List (List ℕ) → List ℕ → Bool
+begins_some names [] = true
+begins_some names (c ∷ text) = list_any (λ name. starts_name name (c ∷ text)) names
+
+-- the names, in any case
+abbrev pub any_case : List (List ℕ) → Words
+any_case names = record { begins = begins_some names; whole = λ text. list_any (λ name. is_name name text) names }
+
+-- no letter of the name is the byte in any case
+abbrev pub lacks : ℕ → List ℕ → Bool
+lacks c name = list_all (λ n. not (eq_ignore_ascii_case n c)) name

@@ -1,0 +1,9 @@
+-- append = "APPEND" SP mailbox SP literal, with neither flags nor a date (RFC 9051, 6.3.12 and 9). This is what stands
+-- behind the name.
+use Rattle.grammar.specs.Part.{Part, ◌then◌, ◌sp◌, map, byte}
+use Rattle.imap_command.specs.Strings.{astring, literal}
+use Rattle.imap_command.specs.declared.command.Command.{Command}
+use Rattle.imap_command.specs.declared.command.Command.TheVariants.{Append}
+
+unfoldable pub append : Part Command
+append = byte 32 then λ _. astring sp λ mailbox. map (λ message. Append mailbox message) literal

@@ -1,0 +1,22 @@
+-- status = "STATUS" SP mailbox SP "(" status-att *(SP status-att) ")" (RFC 9051, 6.3.11 and 9). This is what stands
+-- behind the name.
+use Rattle.std.specs.Prelude.{ℕ, List, [], ◌∷◌, ◌++◌, codes}
+use Rattle.grammar.specs.Part.{Part, ◌then◌, ◌sp◌, map, byte, listed}
+use Rattle.grammar.specs.Words.{word}
+use Rattle.grammar.specs.Tables.{any_case}
+use Rattle.imap_command.specs.Strings.{astring}
+use Rattle.imap_command.specs.declared.command.Command.{Command}
+use Rattle.imap_command.specs.declared.command.Command.TheVariants.{Status}
+use Rattle.imap_command.specs.declared.command.StatusItem.{StatusItem}
+use Rattle.imap_command.specs.declared.command.StatusItem.TheVariants.{Messages}
+
+-- the names of status-att
+abbrev pub item_names : List (List ℕ)
+item_names = codes "MESSAGES" ∷ []
+
+-- status-att, put behind the items so far
+unfoldable pub status_item : List StatusItem → Part (List StatusItem)
+status_item so_far = map (λ _. so_far ++ Messages ∷ []) (word (any_case item_names))
+
+unfoldable pub status : Part Command
+status = byte 32 then λ _. astring sp λ mailbox. map (λ items. Status mailbox items) (listed status_item [])

@@ -1,0 +1,40 @@
+-- Strings (RFC 9051, 4.3 and 9).
+use Rattle.std.specs.Prelude.{ℕ, Bool, not, ◌==◌, List, [], ◌++◌}
+use Rattle.grammar.specs.Part.{Part, ◌then◌, map, byte, choose, exactly, optional, repeat}
+use Rattle.grammar.specs.Words.{word}
+use Rattle.grammar.specs.Runs.{run}
+use Rattle.grammar.specs.Numbers.{decimal, is_digit}
+use Rattle.imap_command.specs.Characters.{is_astring_char, is_quoted_plain, is_quoted_special, is_char8}
+use Rattle.imap_command.specs.Utf8.{utf8_char}
+
+-- CRLF
+unfoldable pub crlf : Part ℕ
+crlf = byte 13 then λ _. byte 10
+
+-- QUOTED-CHAR = <any TEXT-CHAR except quoted-specials> / "\" quoted-specials / UTF8-2 / UTF8-3 / UTF8-4, behind a text
+unfoldable pub quoted_char : List ℕ → Part (List ℕ)
+quoted_char so_far =
+    choose (λ c. c == 92) (byte 92 then λ _. map (λ char. so_far ++ char) (exactly is_quoted_special 1))
+    (choose is_quoted_plain (map (λ char. so_far ++ char) (exactly is_quoted_plain 1)) (utf8_char so_far))
+
+-- a byte that doesn't end a quoted string
+abbrev pub is_no_quote : ℕ → Bool
+is_no_quote c = not (c == 34)
+
+-- quoted = DQUOTE *QUOTED-CHAR DQUOTE
+unfoldable pub quoted : Part (List ℕ)
+quoted = byte 34 then λ _. repeat is_no_quote quoted_char [] then λ text. map (λ _. text) (byte 34)
+
+-- literal = "{" number64 ["+"] "}" CRLF *CHAR8, where the number counts the octets
+unfoldable pub literal : Part (List ℕ)
+literal =
+    byte 123 then λ _. word (run is_digit) then λ digits. optional 43 then λ _. byte 125 then λ _. crlf then λ _.
+    exactly is_char8 (decimal digits)
+
+-- string = quoted / literal
+unfoldable pub string : Part (List ℕ)
+string = choose (λ c. c == 34) quoted literal
+
+-- astring = 1*ASTRING-CHAR / string
+unfoldable pub astring : Part (List ℕ)
+astring = choose is_astring_char (word (run is_astring_char)) string

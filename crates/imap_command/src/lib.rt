@@ -1,0 +1,30 @@
+//! The commands of mail clients: what a frame spells (RFC 9051, 9), and its reader.
+//!
+//! A frame is a line with its literals and its CRLF. `specs/Spells.antt` says which frames spell which command, a file a
+//! command; [`read`] takes just these, and tells of each other frame the longest prefix that begins some command.
+//! A new command is a file in `specs`, one in `src`, its law, and a line in the table of names.
+#![tactic(auto)]
+
+mod append;
+mod command;
+mod create;
+mod fault;
+mod login;
+mod once;
+mod reader;
+mod status;
+mod strings;
+mod utf8;
+
+pub use append::append_of;
+pub use command::{Command, StatusItem, StatusItems};
+pub use create::create_of;
+pub use fault::{Bad, ReadFault};
+pub use login::login_of;
+pub use once::a_frame_spells_one_command;
+pub use reader::read;
+pub use status::status_of;
+pub use strings::{astring_of, crlf_of, literal_of};
+
+#[cfg(test)]
+mod tests;

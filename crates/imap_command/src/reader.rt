@@ -1,0 +1,136 @@
+// The reader of commands.
+ghost use Rattle.std.specs.Prelude.{◌≡◌, ◌⊎◌, Result, Ok, Err, IfOk};
+ghost use Rattle.grammar.specs.Gives.{Gives};
+ghost use Rattle.imap_command.specs.Spells.{Spells, arguments, tagged_command, tags};
+ghost use Rattle.imap_command.specs.Bad.{IsBad, IsFirstTag};
+
+use crate::append::append_of;
+use crate::command::Command;
+use crate::create::create_of;
+use crate::fault::{Bad, ReadFault};
+use crate::login::login_of;
+use crate::status::status_of;
+use crate::strings::crlf_of;
+use grammar::{
+    AnyCase, Class, Grammar, Only, ReadError, RunUpTo, begins, byte_of, names, whole_of, word_of,
+};
+use mur_base::{Bytes, Memory};
+use mur_model::Tag;
+use std::alloc::Global;
+
+/// A byte of a tag.
+#[derive(Clone, Copy)]
+struct TagByte;
+
+impl Class for TagByte {
+    ghost use Rattle.mur_model.specs.Spells.{is_tag_byte};
+
+    ghost test = { λ _. is_tag_byte };
+
+    #[tactic(auto, unfolding(mur_model::specs::Spells::is_tag_byte))]
+    fn holds(&self, byte: u8) -> bool {
+        matches!(byte, 33..=126)
+            && !matches!(byte, b'(' | b')' | b'{' | b'%' | b'*' | b'"' | b'\\' | b'+')
+    }
+}
+
+/// The greatest length of a tag in bytes.
+const TAG_MOST: usize = 32;
+
+/// The names of the commands.
+const COMMAND_NAMES: [&[u8]; 4] = [b"LOGIN", b"CREATE", b"APPEND", b"STATUS"];
+
+/// Reads what stands behind the name of a command.
+#[tactic(auto, unfolding(crate::specs::Spells::arguments))]
+fn arguments_of<'a>(
+    alloc: Global,
+    name: &[u8],
+    bytes: &'a [u8],
+) -> Result<(Command, &'a [u8]), ReadError>
+    ensures { Gives (λ x. (x.0, x.1.now)) result ((arguments name.now).at bytes.now) }
+{
+    if names(b"LOGIN", name) {
+        login_of(alloc, bytes)
+    } else if names(b"CREATE", name) {
+        create_of(alloc, bytes)
+    } else if names(b"APPEND", name) {
+        append_of(alloc, bytes)
+    } else {
+        status_of(alloc, bytes)
+    }
+}
+
+/// The commands under their tags.
+#[derive(Clone, Copy)]
+struct Commands;
+
+impl Grammar for Commands {
+    type Value = (Tag, Command);
+
+    ghost part = { λ _. tagged_command };
+
+    #[tactic(auto, unfolding(crate::specs::Spells::tagged_command))]
+    fn read<'a>(
+        &self,
+        alloc: Global,
+        bytes: &'a [u8],
+    ) -> Result<((Tag, Command), &'a [u8]), ReadError> {
+        let (tag, rest) = word_of(
+            &RunUpTo {
+                of: TagByte,
+                most: TAG_MOST,
+            },
+            bytes,
+        )?;
+        let rest = byte_of(b' ', rest)?;
+        let (name, rest) = word_of(
+            &AnyCase {
+                names: &COMMAND_NAMES,
+            },
+            rest,
+        )?;
+        let (command, rest) = arguments_of(alloc, name, rest)?;
+        let rest = crlf_of(rest)?;
+        let tag = Tag::Text(Bytes::from_slice(alloc, tag)?);
+        Ok(((tag, command), rest))
+    }
+}
+
+/// The first word of a frame, where it is a tag with a space behind it.
+fn first_tag(alloc: Global, frame: &[u8]) -> Result<Option<Tag>, Memory>
+    ensures { IfOk result (λ tag. IsFirstTag frame.now tag) }
+{
+    match word_of(
+        &RunUpTo {
+            of: TagByte,
+            most: TAG_MOST,
+        },
+        frame,
+    ) {
+        Ok((text, rest)) => {
+            if begins(&Only(b' '), rest) {
+                let text = Bytes::from_slice(alloc, text)?;
+                Ok(Some(Tag::Text(text)))
+            } else {
+                Ok(None)
+            }
+        }
+        Err(_) => Ok(None),
+    }
+}
+
+/// Reads a frame: the command that it spells, under its tag, or where and under which tag it spells none.
+pub fn read(alloc: Global, frame: &[u8]) -> Result<(Tag, Command), ReadFault>
+    ensures found { IfOk result (λ tagged. Spells frame.now tagged) }
+    ensures only { (tagged : Tag × Command) → Spells frame.now tagged → (result ≡ Ok tagged) ⊎ (result ≡ Err ReadFault.Memory) }
+    ensures bad { (bad : Bad) → result ≡ Err (ReadFault.Bad bad) → IsBad frame.now bad }
+{
+    match whole_of(alloc, &Commands, frame) {
+        Ok(tagged) => Ok(tagged),
+        Err(ReadError::Memory) => Err(ReadFault::Memory),
+        Err(ReadError::Stopped(stop)) => Err(ReadFault::Bad(Bad {
+            tag: first_tag(alloc, frame)?,
+            at: frame.len() - stop.left,
+        })),
+    }
+}

@@ -1,0 +1,163 @@
+// Strings (RFC 9051, 4.3 and 9).
+ghost use Rattle.std.specs.Prelude.{◌≡◌, ◌==◌, not};
+ghost use Rattle.grammar.specs.Gives.{Finds, Gives};
+ghost use Rattle.imap_command.specs.Characters.{is_astring_char, is_quoted_plain, is_quoted_special, is_char8};
+ghost use Rattle.imap_command.specs.Strings.{crlf, quoted_char, is_no_quote, quoted, literal, string, astring};
+
+use crate::utf8::utf8_of;
+use grammar::{
+    Between, Class, Only, ReadError, Run, Stop, Turn, begins, byte_of, counted_of, exactly_of,
+    optional_of, repeated_of, word_of,
+};
+use mur_base::Bytes;
+use std::alloc::Global;
+
+/// ASTRING-CHAR.
+#[derive(Clone, Copy)]
+struct AstringChar;
+
+impl Class for AstringChar {
+    ghost test = { λ _. is_astring_char };
+
+    #[tactic(auto, unfolding(crate::specs::Characters::is_astring_char))]
+    fn holds(&self, byte: u8) -> bool {
+        matches!(byte, 33..=126) && !matches!(byte, b'(' | b')' | b'{' | b'%' | b'*' | b'"' | b'\\')
+    }
+}
+
+/// A character of a quoted string that stands for itself.
+#[derive(Clone, Copy)]
+struct QuotedPlain;
+
+impl Class for QuotedPlain {
+    ghost test = { λ _. is_quoted_plain };
+
+    #[tactic(auto, unfolding(crate::specs::Characters::is_quoted_plain))]
+    fn holds(&self, byte: u8) -> bool {
+        matches!(byte, 1..=127) && !matches!(byte, b'\r' | b'\n' | b'"' | b'\\')
+    }
+}
+
+/// A character that stands behind a backslash in a quoted string.
+#[derive(Clone, Copy)]
+struct QuotedSpecial;
+
+impl Class for QuotedSpecial {
+    ghost test = { λ _. is_quoted_special };
+
+    #[tactic(auto, unfolding(crate::specs::Characters::is_quoted_special))]
+    fn holds(&self, byte: u8) -> bool {
+        matches!(byte, b'"' | b'\\')
+    }
+}
+
+/// CHAR8.
+#[derive(Clone, Copy)]
+struct Char8;
+
+impl Class for Char8 {
+    ghost test = { λ _. is_char8 };
+
+    #[tactic(auto, unfolding(crate::specs::Characters::is_char8))]
+    fn holds(&self, byte: u8) -> bool {
+        byte != 0
+    }
+}
+
+/// Reads CRLF.
+#[tactic(auto, unfolding(crate::specs::Strings::crlf))]
+pub fn crlf_of(bytes: &[u8]) -> Result<&[u8], Stop>
+    ensures { Finds (λ rest. (10, rest.now)) result (crlf.at bytes.now) }
+{
+    let rest = byte_of(b'\r', bytes)?;
+    let rest = byte_of(b'\n', rest)?;
+    Ok(rest)
+}
+
+/// The characters of a quoted string, which are put behind a text.
+#[derive(Clone, Copy)]
+struct QuotedChars;
+
+impl Turn for QuotedChars {
+    type State = Bytes;
+
+    ghost starts = { λ _. is_no_quote };
+
+    ghost part = { λ _. quoted_char };
+
+    fn starts(&self, byte: u8) -> bool {
+        byte != b'"'
+    }
+
+    #[tactic(auto, unfolding(crate::specs::Strings::quoted_char))]
+    fn turn<'a>(&self, state: Bytes, bytes: &'a [u8]) -> Result<(Bytes, &'a [u8]), ReadError> {
+        let mut text = state;
+        if begins(&Only(b'\\'), bytes) {
+            let rest = byte_of(b'\\', bytes)?;
+            let (char, rest) = exactly_of(&QuotedSpecial, 1, rest)?;
+            text.extend_from_slice(char)?;
+            Ok((text, rest))
+        } else if begins(&QuotedPlain, bytes) {
+            let (char, rest) = exactly_of(&QuotedPlain, 1, bytes)?;
+            text.extend_from_slice(char)?;
+            Ok((text, rest))
+        } else {
+            utf8_of(text, bytes)
+        }
+    }
+}
+
+/// Reads a quoted string.
+#[tactic(auto, unfolding(crate::specs::Strings::quoted))]
+fn quoted_of(alloc: Global, bytes: &[u8]) -> Result<(Bytes, &[u8]), ReadError>
+    ensures { Gives (λ x. (x.0, x.1.now)) result (quoted.at bytes.now) }
+{
+    let rest = byte_of(b'"', bytes)?;
+    let (text, rest) = repeated_of(&QuotedChars, Bytes::new(alloc), rest)?;
+    let rest = byte_of(b'"', rest)?;
+    Ok((text, rest))
+}
+
+/// Reads a literal of either kind.
+#[tactic(auto, unfolding(crate::specs::Strings::literal))]
+pub fn literal_of(alloc: Global, bytes: &[u8]) -> Result<(Bytes, &[u8]), ReadError>
+    ensures { Gives (λ x. (x.0, x.1.now)) result (literal.at bytes.now) }
+{
+    let rest = byte_of(b'{', bytes)?;
+    let (digits, rest) = word_of(
+        &Run {
+            of: Between(b'0', b'9'),
+        },
+        rest,
+    )?;
+    let (_, rest) = optional_of(b'+', rest);
+    let rest = byte_of(b'}', rest)?;
+    let rest = crlf_of(rest)?;
+    let (octets, rest) = counted_of(&Char8, digits, rest)?;
+    Ok((Bytes::from_slice(alloc, octets)?, rest))
+}
+
+/// Reads a quoted string or a literal.
+#[tactic(auto, unfolding(crate::specs::Strings::string))]
+fn string_of(alloc: Global, bytes: &[u8]) -> Result<(Bytes, &[u8]), ReadError>
+    ensures { Gives (λ x. (x.0, x.1.now)) result (string.at bytes.now) }
+{
+    if begins(&Only(b'"'), bytes) {
+        quoted_of(alloc, bytes)
+    } else {
+        literal_of(alloc, bytes)
+    }
+}
+
+/// Reads an astring.
+#[tactic(auto, unfolding(crate::specs::Strings::astring))]
+pub fn astring_of(alloc: Global, bytes: &[u8]) -> Result<(Bytes, &[u8]), ReadError>
+    ensures { Gives (λ x. (x.0, x.1.now)) result (astring.at bytes.now) }
+{
+    if begins(&AstringChar, bytes) {
+        let (text, rest) = word_of(&Run { of: AstringChar }, bytes)?;
+        Ok((Bytes::from_slice(alloc, text)?, rest))
+    } else {
+        string_of(alloc, bytes)
+    }
+}
