@@ -1,0 +1,6 @@
+pub mod Host
+pub mod Output
+pub mod Replay
+pub mod Status
+pub mod Words
+pub mod Writing

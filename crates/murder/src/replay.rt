@@ -1,0 +1,119 @@
+// `replay CONFIG SCHEDULE`: reads both files, runs the cluster and writes the text of the run.
+ghost use Rattle.std.specs.Prelude.{◌≡◌, ◌<◌, ◌^◌, Err, IfOk, IsSome};
+ghost use Rattle.cluster_core.specs.Nodes.{frontend_of};
+ghost use Rattle.cluster_core.specs.World.{weight_of_all};
+ghost use Rattle.mur_edge.specs.Counts.{HaveNotFallen, Rose};
+ghost use Rattle.murder.specs.Replay.{DidReadConfig, DidReadSchedule, EndsWriting, DidReplay, run_text};
+ghost use Rattle.murder.specs.declared.status.Status.TheVariants.{Schedule, Read, Write};
+ghost use Rattle.cluster_core.specs.ScheduleRules.{rule_number};
+
+use crate::file::read_file;
+use crate::output::write_output;
+use crate::status::Status;
+use crate::words::Names;
+use cluster_core::{
+    Config, ConfigFault, Events, ReadFault, SchedFault, read_config, read_schedule, run,
+};
+use mur_edge::{Host, HostFault, Used};
+use std::alloc::Global;
+
+/// Runs a schedule on the cluster of a configuration, and writes what clients were given and the history.
+pub fn replay<H: Host>(alloc: Global, host: &mut H, names: &Names<'_>) -> Status
+    ensures did { DidReplay (record { config = names.now.config.now; schedule = names.now.schedule.now }) (record { asked = H.asked host.old; returned = H.returned host.old }) (record { asked = H.asked host.new; returned = H.returned host.new }) result }
+    ensures read { result ≡ Read → Rose (H.faults host.old).sources (H.faults host.new).sources }
+    ensures write { result ≡ Write → Rose (H.faults host.old).outputs (H.faults host.new).outputs }
+    ensures counts { HaveNotFallen (H.faults host.old) (H.faults host.new) }
+    ensures held { H.held host.new ≡ H.held host.old }
+{
+    let config = match configuration(alloc, host, names.config) {
+        Ok(config) => config,
+        Err(status) => return status,
+    };
+    let events = match schedule(alloc, host, names.schedule, &config) {
+        Ok(events) => events,
+        Err(status) => return status,
+    };
+    write_run(alloc, host, config, events)
+}
+
+// The configuration of a file, or how the call ends.
+fn configuration<H: Host>(alloc: Global, host: &mut H, name: &[u8]) -> Result<Config, Status>
+    ensures did { DidReadConfig name.now (record { asked = H.asked host.old; returned = H.returned host.old }) (record { asked = H.asked host.new; returned = H.returned host.new }) result }
+    ensures frontend { IfOk result (λ config. IsSome (frontend_of config.nodes)) }
+    ensures read { result ≡ Err Read → Rose (H.faults host.old).sources (H.faults host.new).sources }
+    ensures counts { HaveNotFallen (H.faults host.old) (H.faults host.new) }
+    ensures held { H.held host.new ≡ H.held host.old }
+{
+    let text = match read_file(alloc, host, name) {
+        Ok(text) => text,
+        Err(HostFault::Failed) => return Err(Status::Read),
+        Err(HostFault::Memory) => return Err(Status::Memory),
+    };
+    match read_config(alloc, text.as_slice()) {
+        Ok(config) => Ok(config),
+        Err(ConfigFault::Unknown) => Err(Status::Config { rule: 0 }),
+        Err(ConfigFault::Memory) => Err(Status::Memory),
+    }
+}
+
+// The events of a file, whose bytes are let go, or how the call ends.
+fn schedule<H: Host>(
+    alloc: Global,
+    host: &mut H,
+    name: &[u8],
+    config: &Config,
+) -> Result<Events, Status>
+    ensures did { DidReadSchedule config.now name.now (record { asked = H.asked host.old; returned = H.returned host.old }) (record { asked = H.asked host.new; returned = H.returned host.new }) result }
+    ensures room { IfOk result (λ events. weight_of_all events < 2 ^ 64) }
+    ensures read { result ≡ Err Read → Rose (H.faults host.old).sources (H.faults host.new).sources }
+    ensures counts { HaveNotFallen (H.faults host.old) (H.faults host.new) }
+    ensures held { H.held host.new ≡ H.held host.old }
+{
+    let text = match read_file(alloc, host, name) {
+        Ok(text) => text,
+        Err(HostFault::Failed) => return Err(Status::Read),
+        Err(HostFault::Memory) => return Err(Status::Memory),
+    };
+    match read_schedule(alloc, text.as_slice(), config) {
+        Ok(events) => Ok(events),
+        Err(ReadFault::Refused(fault)) => Err(refused(fault)),
+        Err(ReadFault::Memory) => Err(Status::Memory),
+    }
+}
+
+// How a call ends whose schedule is refused.
+fn refused(fault: SchedFault) -> Status
+    ensures { result ≡ Schedule fault.line (rule_number fault.why) }
+{
+    Status::Schedule {
+        line: fault.line,
+        rule: fault.why.number(),
+    }
+}
+
+// Runs the events and writes the text of the run.
+fn write_run<H: Host>(alloc: Global, host: &mut H, config: Config, events: Events) -> Status
+    requires frontend { IsSome (frontend_of config.nodes) }
+    requires room { weight_of_all events < 2 ^ 64 }
+    ensures did { EndsWriting (run_text config events) (record { asked = H.asked host.old; returned = H.returned host.old }) (record { asked = H.asked host.new; returned = H.returned host.new }) result }
+    ensures write { result ≡ Write → Rose (H.faults host.old).outputs (H.faults host.new).outputs }
+    ensures counts { HaveNotFallen (H.faults host.old) (H.faults host.new) }
+    ensures held { H.held host.new ≡ H.held host.old }
+{
+    let Ok(cluster) = run(alloc, &config, events) else {
+        return Status::Memory;
+    };
+    drop(config);
+    let mut out = match host.out() {
+        Ok(out) => out,
+        Err(HostFault::Failed) => return Status::Write,
+        Err(HostFault::Memory) => return Status::Memory,
+    };
+    let written = write_output(alloc, cluster.world(), &mut out);
+    host.back(Used::Out(out));
+    match written {
+        Ok(()) => Status::Done,
+        Err(HostFault::Failed) => Status::Write,
+        Err(HostFault::Memory) => Status::Memory,
+    }
+}
