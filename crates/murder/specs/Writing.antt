@@ -1,0 +1,16 @@
+-- Writing lines through a part that is kept back until it is large enough.
+use Rattle.std.specs.Prelude.{◌≡◌, ℕ, List, ◌++◌, Option}
+use Rattle.mur_edge.specs.Sink.{Took}
+
+-- lines were taken in: a front of what was kept back and the lines went to the sink, and the rest is kept back
+pub record TakesIn (before now : Option (List ℕ)) (part kept lines : List ℕ) : Type 0 where
+  pub front : List ℕ
+  pub took : Took before now front
+  pub whole : front ++ kept ≡ part ++ lines
+
+-- a front of a text went to the sink
+pub record TookPart (before now : Option (List ℕ)) (text : List ℕ) : Type 0 where
+  pub front : List ℕ
+  pub back : List ℕ
+  pub took : Took before now front
+  pub whole : front ++ back ≡ text
