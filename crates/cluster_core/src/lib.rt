@@ -19,7 +19,7 @@ mod world;
 pub use cluster::{Cluster, HomeRow, HomeRows, Points, headline, run};
 pub use config::{Config, ConfigFault, KNOWN_CONFIG, Kind, Node, Nodes, read_config};
 pub use event::{Event, Events};
-pub use pieces::{Pieces, line_in};
+pub use pieces::Pieces;
 pub use schedule::{ReadFault, Rule, SchedFault, read_schedule};
 pub use text::{put_name, put_text, read_text};
 pub use world::{Connection, Home, World};

@@ -34,13 +34,13 @@ pub enum Character {
 }
 
 /// Writes bytes in their one canonical spelling, which `read_text` reads back: a byte from 0x20 to 0x7E other than
-/// `\` as itself, then `\r`, `\n`, `\\`, and any other as `\x` with two lower case digits.
+/// `\` as itself, then `\r`, `\n`, `\\`, and any other as `\x` with two lower case digits. Want of memory spends `out`.
 #[tactic(auto, unfolding(crate::specs::Text::text_of))]
-pub fn put_text(b: &[u8], out: &mut Bytes) -> Result<(), Memory>
-    ensures written { OnOk result (out.new ≡ out.old ++ text_of b.now) }
-    ensures read_back { bytes_of (text_of b.now) ≡ Some b.now }
+pub fn put_text(bytes: &[u8], out: &mut Bytes) -> Result<(), Memory>
+    ensures written { OnOk result (out.new ≡ out.old ++ text_of bytes.now) }
+    ensures read_back { bytes_of (text_of bytes.now) ≡ Some bytes.now }
 {
-    for byte in b {
+    for byte in bytes {
         put_byte(*byte, out)?;
     }
     Ok(())
@@ -107,13 +107,13 @@ fn hex_digit(digit: u8) -> u8
 /// The bytes that a text spells, in any of the forms. `None` exactly where it has a byte outside 0x20 to 0x7E, or a
 /// backslash that begins none of them.
 #[tactic(auto, using(crate::proofs::TextLaws::by_reading), unfolding(crate::specs::Text::bytes_of, crate::specs::Text::bytes_from, crate::specs::Text::bytes_behind, crate::specs::Text::at_end, crate::proofs::TextLaws::bytes_onto))]
-pub fn read_text(alloc: Global, b: &[u8]) -> Result<Option<Bytes>, Memory>
-    ensures { IfOk result (λ bytes. bytes ≡ bytes_of b.now) }
+pub fn read_text(alloc: Global, text: &[u8]) -> Result<Option<Bytes>, Memory>
+    ensures { IfOk result (λ bytes. bytes ≡ bytes_of text.now) }
 {
     let mut bytes = Bytes::new(alloc);
     let mut place = Place::Between;
-    for byte in b {
-        match character_at(place, *byte) {
+    for character in text {
+        match character_at(place, *character) {
             Character::Inside(next) => place = next,
             Character::Ends(byte) => {
                 bytes.push(byte)?;

@@ -13,6 +13,7 @@ use Rattle.cluster_core.specs.declared.config.Config.{Config as Configuration}
 use Rattle.cluster_core.specs.declared.event.Event.{Event}
 use Rattle.cluster_core.specs.World.{start, run}
 use Rattle.cluster_core.specs.Config.{config_of}
+use Rattle.cluster_core.specs.Headline.{IsOneServer}
 use Rattle.cluster_core.specs.Schedule.{schedule_of}
 use Rattle.cluster_core.specs.ScheduleRules.{rule_number}
 use Rattle.cluster_core.specs.declared.schedule.fault.SchedFault.{SchedFault}
@@ -174,7 +175,8 @@ pub record EndsBehindConfig (names : Names) (before now : Told) (status : Status
   pub configured : HasConfig names.config config before between
   pub ended : EndsAtSchedule config names.schedule between now status
 
--- both were right, and the call ended as it wrote the text of the run
+-- both were right, and the call ended as it wrote the text of the run. Of this run the headline holds: its clients were given what one
+-- mailbox store replies to the printed history, a mailbox has at most one writable home, and each refusal of relocation has its cause
 pub record EndsBehindRun (names : Names) (before now : Told) (status : Status) : Type 0 where
   pub config : Configuration
   pub events : List Event
@@ -182,6 +184,7 @@ pub record EndsBehindRun (names : Names) (before now : Told) (status : Status) :
   pub between : Told
   pub configured : HasConfig names.config config before configured_at
   pub scheduled : HasEvents config names.schedule events configured_at between
+  pub one_server : IsOneServer config events
   pub ended : EndsWriting (run_text config events) between now status
 
 -- a replay ends at the configuration, else at the schedule, else as it writes the text of the run

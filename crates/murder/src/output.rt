@@ -7,6 +7,8 @@ ghost use Rattle.murder.specs.Output.{client_lines, point_line, box_line, output
 ghost use Rattle.murder.specs.Writing.{TakesIn, TookPart};
 
 mod lines;
+#[cfg(test)]
+mod tests;
 
 use cluster_core::{Connection, Pieces, Points, World};
 use lines::{BoxRow, End, Given, Line};

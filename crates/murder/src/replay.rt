@@ -1,5 +1,6 @@
 // `replay CONFIG SCHEDULE`: reads both files, runs the cluster and writes the text of the run.
 ghost use Rattle.std.specs.Prelude.{◌≡◌, ◌<◌, ◌^◌, Err, IfOk, IsSome};
+ghost use Rattle.cluster_core.specs.Headline.{IsOneServer};
 ghost use Rattle.cluster_core.specs.Nodes.{frontend_of};
 ghost use Rattle.cluster_core.specs.World.{weight_of_all};
 ghost use Rattle.mur_edge.specs.Counts.{HaveNotFallen, Rose};
@@ -64,7 +65,7 @@ fn schedule<H: Host>(
     config: &Config,
 ) -> Result<Events, Status>
     ensures did { DidReadSchedule config.now name.now (record { asked = H.asked host.old; returned = H.returned host.old }) (record { asked = H.asked host.new; returned = H.returned host.new }) result }
-    ensures room { IfOk result (λ events. weight_of_all events < 2 ^ 64) }
+    ensures room { IfOk result (λ events. weight_of_all events < 2 ^ 32) }
     ensures read { result ≡ Err Read → Rose (H.faults host.old).sources (H.faults host.new).sources }
     ensures counts { HaveNotFallen (H.faults host.old) (H.faults host.new) }
     ensures held { H.held host.new ≡ H.held host.old }
@@ -94,7 +95,8 @@ fn refused(fault: SchedFault) -> Status
 // Runs the events and writes the text of the run.
 fn write_run<H: Host>(alloc: Global, host: &mut H, config: Config, events: Events) -> Status
     requires frontend { IsSome (frontend_of config.nodes) }
-    requires room { weight_of_all events < 2 ^ 64 }
+    requires room { weight_of_all events < 2 ^ 32 }
+    ensures one_server { IsOneServer config events }
     ensures did { EndsWriting (run_text config events) (record { asked = H.asked host.old; returned = H.returned host.old }) (record { asked = H.asked host.new; returned = H.returned host.new }) result }
     ensures write { result ≡ Write → Rose (H.faults host.old).outputs (H.faults host.new).outputs }
     ensures counts { HaveNotFallen (H.faults host.old) (H.faults host.new) }

@@ -3,8 +3,8 @@ use Rattle.cluster_core.specs.Text.{bytes_of, bytes_from, IsPlace}
 use Rattle.cluster_core.proofs.TextLaws.{bytes_onto}
 use Rattle.cluster_core.proofs.text.read_text.Given as goal
 
-abbrev pub invariant-loop-byte : goal.invariant-loop-byte
-invariant-loop-byte l = record {
+abbrev pub invariant-loop-character : goal.invariant-loop-character
+invariant-loop-character l = record {
   place : IsPlace l.place;
-  spelled : bytes_onto l.bytes (bytes_from (drop l.byte-index l.b) l.place) ≡ bytes_of l.b;
+  spelled : bytes_onto l.bytes (bytes_from (drop l.character-index l.text) l.place) ≡ bytes_of l.text;
 }
