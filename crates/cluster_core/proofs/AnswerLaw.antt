@@ -1,5 +1,5 @@
 -- The home's answer to a line is the one store's answer to its frame.
-use Rattle.std.proofs.Common.{◌≡◌, ◌≢◌, ℕ, ◌+◌, ◌-◌, ◌^◌, ◌<◌, ◌≤◌, Bool, true, false, cond, nat_eq, List, Option, None, Some, refl, sym, ◌∙◌, ap, subst, arith}
+use Rattle.std.proofs.Common.{◌≡◌, ℕ, ◌+◌, ◌-◌, ◌^◌, ◌<◌, ◌≤◌, Bool, true, false, nat_eq, List, Some, refl, sym, ◌∙◌, ap, subst, arith}
 use Rattle.std.proofs.lemmas.Bool.Decides.{nat_tests}
 use Rattle.mur_model.specs.declared.command.Command.{Command}
 use Rattle.mur_model.specs.declared.command.Tag.TheVariants.{Text}
@@ -9,14 +9,14 @@ use Rattle.mur_model.specs.declared.reply.BadText.TheVariants.{Syntax}
 use Rattle.mur_model.specs.declared.session.Sess.{Sess}
 use Rattle.mur_model.specs.declared.session.Sess.TheVariants.{Off, In, Ended}
 use Rattle.mur_model.specs.declared.store.Store.{Store}
-use Rattle.mur_model.specs.Act.{serve, act_of, reply_of}
+use Rattle.mur_model.specs.Act.{act_of, reply_of}
 use Rattle.mur_model.specs.History.{Course, with_session, Answers}
 use Rattle.mur_model.specs.History.Answers.{command, no_command}
 use Rattle.mur_model.specs.ReplyText.{reply_text}
 use Rattle.mur_model.specs.Spells.{Spells}
 use Rattle.cluster_core.specs.declared.line.Line.{Line}
 use Rattle.cluster_core.specs.declared.world.Home.{Home}
-use Rattle.cluster_core.specs.Home.{Served, answer}
+use Rattle.cluster_core.specs.Home.{answer}
 use Rattle.cluster_core.proofs.ReadLineLaw.{Reading}
 use Rattle.cluster_core.proofs.ReadLineLaw.Reading.{a_command, no_command as nothing}
 use Rattle.cluster_core.proofs.ServeLaw.{IsStoreOf, ServesAlike, serves_alike}
@@ -73,7 +73,8 @@ command_alike course home conn frame tag it spells h same =
           (reply_alike course.store home it (course.sessions conn) alike) (command tag it (home.last_serial + 1) spells alike.free);
       sessions = λ other. session_stays course.sessions conn acted.session (session_alike course.store it (home.last_serial + 1) (course.sessions conn)) other (nat_eq other conn) refl;
       still = store_alike course.store home it (course.sessions conn) same alike;
-      rises = serial_alike course.store home it (course.sessions conn) alike }
+      rises = serial_alike course.store home it (course.sessions conn) alike;
+    }
 
 -- whatever was read, both sides answer alike
 pub answers_alike : (course : Course) (home : Home) (conn : ℕ) (frame : List ℕ) (line : Line) → Reading frame line → home.last_serial < 2 ^ 32 - 1
@@ -85,4 +86,5 @@ answers_alike course home conn frame line (nothing tag refusal none) h same = re
   step = subst (λ t. Answers course conn frame (reply_text t (reply_of (bad_reply Syntax))) course) (sym refusal) (no_command none);
   sessions = λ other. refl;
   still = same;
-  rises = omega arith }
+  rises = omega arith;
+}

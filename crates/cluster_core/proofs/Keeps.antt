@@ -1,7 +1,6 @@
 -- Every event keeps the one-store law.
-use Rattle.std.proofs.Common.{◌≡◌, ◌≢◌, ℕ, ◌+◌, ◌-◌, ◌^◌, ◌<◌, ◌≤◌, Bool, true, false, cond, nat_eq, List, [], ◌∷◌, ◌++◌, length, Option, None, Some, refl, sym, ◌∙◌, ap, subst, arith}
+use Rattle.std.proofs.Common.{◌≡◌, ◌≢◌, ℕ, ◌+◌, ◌^◌, ◌<◌, ◌≤◌, true, false, nat_eq, List, [], ◌∷◌, ◌++◌, length, Option, None, Some, refl, sym, ◌∙◌, subst, arith}
 use Rattle.std.specs.Ordering.{nat_cmp}
-use Rattle.std.specs.Prelude.{All}
 use Rattle.std.proofs.lemmas.Bool.{cases_eq}
 use Rattle.std.proofs.lemmas.Bool.Decides.{nat_tests}
 use Rattle.std.proofs.lemmas.List.{append-nil}
@@ -9,14 +8,14 @@ use Rattle.std.proofs.Math.Logic.{⊎_elim}
 use Rattle.mur_base.proofs.MapLaws.{numbers_apart, value_at-with_entry, value_at-with_entry-other, value_at-with_value, value_at-with_value-other}
 use Rattle.mur_model.specs.declared.session.Sess.{Sess}
 use Rattle.mur_model.specs.declared.session.Sess.TheVariants.{In}
-use Rattle.mur_model.specs.Frames.{has_crlf, joined, IsLine, AreFrames}
+use Rattle.mur_model.specs.Frames.{has_crlf}
 use Rattle.mur_model.specs.History.{Course}
 use Rattle.mur_model.specs.History.Follows.{no_points}
 use Rattle.mur_model.specs.ReplyText.{greeting}
 use Rattle.mur_model.proofs.HistoryGrows.{one_up_to}
 use Rattle.cluster_core.specs.declared.config.Config.{Config}
 use Rattle.cluster_core.specs.declared.event.Event.{Event}
-use Rattle.cluster_core.specs.declared.event.Event.TheVariants.{Open, Data, Hang, Deliver, Cut, Join, Crash, Arm, Start, Flow, Heal}
+use Rattle.cluster_core.specs.declared.event.Event.TheVariants.{Open, Data}
 use Rattle.cluster_core.specs.declared.world.Connection.{Connection}
 use Rattle.cluster_core.specs.declared.world.World.{World}
 use Rattle.cluster_core.specs.OneStore.{opens, adds, hears, heard_from, first_course}
@@ -52,7 +51,8 @@ same_heard heard after world same keeps = record {
   course = keeps.course;
   told = keeps.told;
   connections = λ conn. subst (λ h. ConnectionIs (keeps.frames conn) (keeps.replies conn) (keeps.course.sessions conn) h (connection_at world conn)) (sym (same conn)) (keeps.connections conn);
-  all_in = keeps.all_in }
+  all_in = keeps.all_in;
+}
 
 -- a connection that is opened now
 new_known : (frames replies : List (List ℕ)) (session : Sess) → frames ≡ [] → replies ≡ [] → session ≡ In first_user → IsKnown [] new_connection frames replies session
@@ -62,7 +62,8 @@ new_known frames replies session f r s = record {
   cut = rw f (record { parts = refl; lines = λ k d h. absurd (omega arith); unfinished = refl });
   commands = rw f refl;
   all_answered = rw (f, r) refl;
-  given = rw r (sym (append-nil greeting)) }
+  given = rw r (sym (append-nil greeting));
+}
 
 opened : (frames replies : List (List ℕ)) (session : Sess) (heard : Option (List ℕ)) (found : Option Connection) (node : List ℕ) (conn : ℕ) → found ≡ None → session ≡ In first_user
     → ConnectionIs frames replies session heard found → ConnectionIs frames replies session (hears conn heard (Open node conn)) (Some new_connection)
@@ -96,14 +97,15 @@ open_keeps heard world node conn None at keeps = record {
   told = keeps.told;
   connections = λ other. ⊎_elim
       (λ (same : other ≡ conn). subst (λ c. ConnectionIs (keeps.frames c) (keeps.replies c) (keeps.course.sessions c) (hears c (heard c) (Open node conn)) (connection_at (open_at world conn None) c)) (sym same)
-          (subst (λ found. ConnectionIs (keeps.frames conn) (keeps.replies conn) (keeps.course.sessions conn) (hears conn (heard conn) (Open node conn)) found)
-              (sym (value_at-with_entry nat_cmp numbers_apart world.connections conn new_connection))
-              (opened _ _ _ _ _ node conn at (keeps.all_in conn) (keeps.connections conn))))
+      (subst (λ found. ConnectionIs (keeps.frames conn) (keeps.replies conn) (keeps.course.sessions conn) (hears conn (heard conn) (Open node conn)) found)
+      (sym (value_at-with_entry nat_cmp numbers_apart world.connections conn new_connection))
+      (opened _ _ _ _ _ node conn at (keeps.all_in conn) (keeps.connections conn))))
       (λ (ne : other ≢ conn). subst (λ found. ConnectionIs (keeps.frames other) (keeps.replies other) (keeps.course.sessions other) (hears other (heard other) (Open node conn)) found)
-          (sym (value_at-with_entry-other nat_cmp numbers_apart world.connections conn other new_connection ne))
-          (other_opened _ _ _ _ _ node other conn ne (keeps.connections other)))
+      (sym (value_at-with_entry-other nat_cmp numbers_apart world.connections conn other new_connection ne))
+      (other_opened _ _ _ _ _ node other conn ne (keeps.connections other)))
       (cases_eq other conn);
-  all_in = keeps.all_in }
+  all_in = keeps.all_in;
+}
 open_keeps heard world node conn (Some there) at keeps = record {
   frames = keeps.frames;
   replies = keeps.replies;
@@ -111,10 +113,11 @@ open_keeps heard world node conn (Some there) at keeps = record {
   told = keeps.told;
   connections = λ other. ⊎_elim
       (λ (same : other ≡ conn). subst (λ c. ConnectionIs (keeps.frames c) (keeps.replies c) (keeps.course.sessions c) (hears c (heard c) (Open node conn)) (connection_at world c)) (sym same)
-          (opened_again _ _ _ _ _ there node conn at (keeps.connections conn)))
+      (opened_again _ _ _ _ _ there node conn at (keeps.connections conn)))
       (λ (ne : other ≢ conn). other_opened _ _ _ _ _ node other conn ne (keeps.connections other))
       (cases_eq other conn);
-  all_in = keeps.all_in }
+  all_in = keeps.all_in;
+}
 
 -- bytes for a connection that isn't there
 unheard : (frames replies : List (List ℕ)) (session : Sess) (heard : Option (List ℕ)) (found : Option Connection) (conn : ℕ) (bytes : List ℕ) → found ≡ None
@@ -157,18 +160,26 @@ data_keeps heard world conn bytes None at small keeps = record {
   told = keeps.told;
   connections = λ other. ⊎_elim
       (λ (same : other ≡ conn). subst (λ c. ConnectionIs (keeps.frames c) (keeps.replies c) (keeps.course.sessions c) (hears c (heard c) (Data conn bytes)) (connection_at world c)) (sym same)
-          (unheard _ _ _ _ _ conn bytes at (keeps.connections conn)))
+      (unheard _ _ _ _ _ conn bytes at (keeps.connections conn)))
       (λ (ne : other ≢ conn). other_heard _ _ _ _ _ other conn bytes ne (keeps.connections other))
       (cases_eq other conn);
-  all_in = keeps.all_in }
+  all_in = keeps.all_in;
+}
 data_keeps heard world conn bytes (Some there) at small keeps =
     let was : WasHeard (keeps.frames conn) (keeps.replies conn) (keeps.course.sessions conn) (heard conn) there = was_heard _ _ _ _ _ there at (keeps.connections conn) in
     let turn : Turn = record { connection = there; home = world.home; points = world.points } in
     let base : IsKept conn was.bytes turn keeps.frames keeps.replies = record {
-      now_frames = keeps.frames; now_replies = keeps.replies; course = keeps.course; told = keeps.told; mine = was.all;
-      other_frames = λ other ne. refl; other_replies = λ other ne. refl; all_in = keeps.all_in } in
+      now_frames = keeps.frames;
+      now_replies = keeps.replies;
+      course = keeps.course;
+      told = keeps.told;
+      mine = was.all;
+      other_frames = λ other ne. refl;
+      other_replies = λ other ne. refl;
+      all_in = keeps.all_in;
+    } in
     let kept : IsKept conn (was.bytes ++ bytes) (take_bytes (record { step = world.steps; conn = conn }) turn bytes) keeps.frames keeps.replies =
-        bytes_kept world.steps conn was.bytes turn bytes keeps.frames keeps.replies small base in
+    bytes_kept world.steps conn was.bytes turn bytes keeps.frames keeps.replies small base in
     let after : Turn = take_bytes (record { step = world.steps; conn = conn }) turn bytes in
     record {
       frames = kept.now_frames;
@@ -177,20 +188,21 @@ data_keeps heard world conn bytes (Some there) at small keeps =
       told = kept.told;
       connections = λ other. ⊎_elim
           (λ (same : other ≡ conn). subst (λ c. ConnectionIs (kept.now_frames c) (kept.now_replies c) (kept.course.sessions c) (hears c (heard c) (Data conn bytes)) (connection_at (with_turn world conn after) c)) (sym same)
-              (subst (λ found. ConnectionIs (kept.now_frames conn) (kept.now_replies conn) (kept.course.sessions conn) (hears conn (heard conn) (Data conn bytes)) found)
-                  (sym (value_at-with_value nat_cmp numbers_apart world.connections conn after.connection there at))
-                  (subst (λ h. ConnectionIs (kept.now_frames conn) (kept.now_replies conn) (kept.course.sessions conn) h (Some after.connection))
-                      (sym (heard_more conn (heard conn) was.bytes bytes was.is))
-                      (known (was.bytes ++ bytes) after.connection kept.mine))))
+          (subst (λ found. ConnectionIs (kept.now_frames conn) (kept.now_replies conn) (kept.course.sessions conn) (hears conn (heard conn) (Data conn bytes)) found)
+          (sym (value_at-with_value nat_cmp numbers_apart world.connections conn after.connection there at))
+          (subst (λ h. ConnectionIs (kept.now_frames conn) (kept.now_replies conn) (kept.course.sessions conn) h (Some after.connection))
+          (sym (heard_more conn (heard conn) was.bytes bytes was.is))
+          (known (was.bytes ++ bytes) after.connection kept.mine))))
           (λ (ne : other ≢ conn).
-              subst (λ f. ConnectionIs f (kept.now_replies other) (kept.course.sessions other) (hears other (heard other) (Data conn bytes)) (connection_at (with_turn world conn after) other)) (sym (kept.other_frames other ne))
-                (subst (λ r. ConnectionIs (keeps.frames other) r (kept.course.sessions other) (hears other (heard other) (Data conn bytes)) (connection_at (with_turn world conn after) other)) (sym (kept.other_replies other ne))
-                  (subst (λ s. ConnectionIs (keeps.frames other) (keeps.replies other) s (hears other (heard other) (Data conn bytes)) (connection_at (with_turn world conn after) other)) (keeps.all_in other ∙ sym (kept.all_in other))
-                    (subst (λ found. ConnectionIs (keeps.frames other) (keeps.replies other) (keeps.course.sessions other) (hears other (heard other) (Data conn bytes)) found)
-                        (sym (value_at-with_value-other nat_cmp numbers_apart world.connections conn other after.connection ne))
-                        (other_heard _ _ _ _ _ other conn bytes ne (keeps.connections other))))))
+          subst (λ f. ConnectionIs f (kept.now_replies other) (kept.course.sessions other) (hears other (heard other) (Data conn bytes)) (connection_at (with_turn world conn after) other)) (sym (kept.other_frames other ne))
+          (subst (λ r. ConnectionIs (keeps.frames other) r (kept.course.sessions other) (hears other (heard other) (Data conn bytes)) (connection_at (with_turn world conn after) other)) (sym (kept.other_replies other ne))
+          (subst (λ s. ConnectionIs (keeps.frames other) (keeps.replies other) s (hears other (heard other) (Data conn bytes)) (connection_at (with_turn world conn after) other)) (keeps.all_in other ∙ sym (kept.all_in other))
+          (subst (λ found. ConnectionIs (keeps.frames other) (keeps.replies other) (keeps.course.sessions other) (hears other (heard other) (Data conn bytes)) found)
+          (sym (value_at-with_value-other nat_cmp numbers_apart world.connections conn other after.connection ne))
+          (other_heard _ _ _ _ _ other conn bytes ne (keeps.connections other))))))
           (cases_eq other conn);
-      all_in = kept.all_in }
+      all_in = kept.all_in;
+    }
 
 -- an event that changes nothing but the number of steps
 quiet_keeps : (heard : ℕ → Option (List ℕ)) (world : World) (event : Event) → ((conn : ℕ) → opens conn event ≡ None) → ((conn : ℕ) (bytes : List ℕ) → adds conn bytes event ≡ Some bytes)
@@ -200,7 +212,13 @@ quiet_keeps heard world event o a keeps =
 
 stepped_keeps : (heard : ℕ → Option (List ℕ)) (world : World) → KeepsLaw heard world → KeepsLaw heard (stepped world)
 stepped_keeps heard world keeps = record {
-  frames = keeps.frames; replies = keeps.replies; course = keeps.course; told = keeps.told; connections = keeps.connections; all_in = keeps.all_in }
+  frames = keeps.frames;
+  replies = keeps.replies;
+  course = keeps.course;
+  told = keeps.told;
+  connections = keeps.connections;
+  all_in = keeps.all_in;
+}
 
 takes_keeps : (heard : ℕ → Option (List ℕ)) (world : World) (event : Event) → length world.points + weight_of event < 2 ^ 32 → KeepsLaw heard world
     → KeepsLaw (λ conn. hears conn (heard conn) event) (takes world event)
@@ -240,8 +258,8 @@ unfolding run heard_from weight_of_all
 run_keeps heard world [] small keeps = keeps
 run_keeps heard world (event ∷ events) small keeps =
     run_keeps (λ conn. hears conn (heard conn) event) (happens world event) events
-        (omega (arith, points_by_step world event))
-        (happens_keeps heard world event (omega arith) keeps)
+    (omega (arith, points_by_step world event))
+    (happens_keeps heard world event (omega arith) keeps)
 
 nothing_counts : (number : ℕ) → 0 ≡ one_up_to 0 number
 unfolding one_up_to
@@ -260,6 +278,8 @@ start_keeps config = record {
     counts = λ conn number. nothing_counts number;
     kinds = λ k d h. absurd (omega arith);
     numbers = λ k d h. absurd (omega arith);
-    in_order = λ i j d h k. absurd (omega arith) };
+    in_order = λ i j d h k. absurd (omega arith);
+  };
   connections = λ conn. unknown refl refl;
-  all_in = λ conn. refl }
+  all_in = λ conn. refl;
+}

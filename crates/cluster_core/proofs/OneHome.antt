@@ -1,5 +1,5 @@
 -- After every step each name has at most one writable home.
-use Rattle.std.proofs.Common.{◌≡◌, ◌≢◌, ℕ, ◌+◌, ◌≤◌, Bool, true, false, ◌&&◌, cond, nat_eq, List, [], ◌∷◌, ◌++◌, length, map, Option, None, Some, refl, sym, ◌∙◌, ap, subst, arith, zero-add}
+use Rattle.std.proofs.Common.{◌≡◌, ℕ, ◌+◌, ◌≤◌, Bool, true, false, cond, nat_eq, List, [], ◌∷◌, map, Option, None, Some, refl, sym, ◌∙◌, ap, arith, zero-add}
 use Rattle.std.specs.Prelude.{All, count_by}
 use Rattle.std.specs.declared.cmp.Ordering.TheVariants.{Less, Equal}
 use Rattle.std.specs.Ordering.{nat_cmp}
@@ -13,7 +13,7 @@ use Rattle.std.proofs.lemmas.List.Elements.{All-head, All-tail}
 use Rattle.std.proofs.lemmas.List.Sums.{sum_by-append}
 use Rattle.std.proofs.lemmas.Map.Views.{All-after_first}
 use Rattle.mur_base.specs.declared.name.NameFault.{NameFault}
-use Rattle.mur_base.specs.Map.{with_entry, IsInOrder}
+use Rattle.mur_base.specs.Map.{IsInOrder}
 use Rattle.mur_base.proofs.MapOrder.{with_entry-in_order}
 use Rattle.mur_model.specs.declared.command.Command.{Command}
 use Rattle.mur_model.specs.declared.command.Command.TheVariants.{Create}
@@ -24,7 +24,7 @@ use Rattle.mur_model.specs.Store.{new_box}
 use Rattle.cluster_core.specs.declared.cluster.HomeRow.{HomeRow}
 use Rattle.cluster_core.specs.declared.config.Config.{Config}
 use Rattle.cluster_core.specs.declared.event.Event.{Event}
-use Rattle.cluster_core.specs.declared.event.Event.TheVariants.{Open, Data, Hang, Deliver, Cut, Join, Crash, Arm, Start, Flow, Heal}
+use Rattle.cluster_core.specs.declared.event.Event.TheVariants.{Open, Data}
 use Rattle.cluster_core.specs.declared.line.Line.{Line}
 use Rattle.cluster_core.specs.declared.turn.Place.{Place}
 use Rattle.cluster_core.specs.declared.world.Connection.{Connection}
@@ -34,7 +34,7 @@ use Rattle.cluster_core.specs.Home.{answer, serve, create, create_at, make}
 use Rattle.cluster_core.specs.HomeLaw.{is_open, is_writable_home, HasOneHomeEach, KeepsOneHomeEach}
 use Rattle.cluster_core.specs.Shown.{home_row, home_rows}
 use Rattle.cluster_core.specs.Turn.{Turn, take_line, take_byte, take_byte_by, take_bytes}
-use Rattle.cluster_core.specs.World.{start, open_at, data_at, stepped, takes, happens, run, connection_at}
+use Rattle.cluster_core.specs.World.{start, open_at, data_at, stepped, takes, happens, run}
 
 -- the names of a home rise
 abbrev pub RisesIn : Home → Type 0
@@ -146,7 +146,7 @@ none_later : (node first name : List ℕ) (es : List (List ℕ × MailBox)) → 
 none_later node first name [] same below = refl
 none_later node first name (e ∷ es) same below =
     later_by node first name e es same (All-head (λ q. slice_cmp nat_cmp first q ≡ Less) e.0 (keys_of es) below) (bytes_eq e.0 name) refl
-        (none_later node first name es same (All-tail (λ q. slice_cmp nat_cmp first q ≡ Less) e.0 (keys_of es) below))
+    (none_later node first name es same (All-tail (λ q. slice_cmp nat_cmp first q ≡ Less) e.0 (keys_of es) below))
 
 one_by : (node name : List ℕ) (e : List ℕ × MailBox) (es : List (List ℕ × MailBox)) → All (λ q. slice_cmp nat_cmp e.0 q ≡ Less) (keys_of es) → (b : Bool) → bytes_eq e.0 name ≡ b
     → count_by (is_writable_home name) (map (home_row node) es) ≤ 1 → count_by (is_writable_home name) (map (home_row node) (e ∷ es)) ≤ 1

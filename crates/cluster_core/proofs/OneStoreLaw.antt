@@ -1,14 +1,13 @@
 -- The one-store law of every run whose events fit the serials.
-use Rattle.std.proofs.Common.{◌≡◌, ℕ, ◌+◌, ◌^◌, ◌<◌, ◌≤◌, Bool, true, false, ◌&&◌, cond, nat_eq, nat_lt, nat_le, List, [], ◌∷◌, ◌++◌, length, get_or, Option, None, Some, refl, sym, ◌∙◌, ap, subst, arith}
-use Rattle.std.specs.Prelude.{All, AllPairs, count_by, unwrap_or, is_some}
+use Rattle.std.proofs.Common.{◌≡◌, ℕ, ◌^◌, ◌<◌, ◌≤◌, true, false, List, [], ◌∷◌, length, get_or, Option, None, Some, refl, ap, arith}
+use Rattle.std.specs.Prelude.{All, count_by, unwrap_or, is_some}
 use Rattle.std.proofs.lemmas.Bool.Decides.{nat_tests}
 use Rattle.std.proofs.lemmas.List.Elements.{All-head, All-tail, All-weaker, All-get_or}
 use Rattle.mur_base.specs.declared.point.Point.{Point}
-use Rattle.mur_base.specs.declared.point.What.{What}
 use Rattle.mur_base.specs.declared.point.What.TheVariants.{Reply as replied}
 use Rattle.mur_model.specs.declared.session.Sess.{Sess}
-use Rattle.mur_model.specs.Frames.{has_crlf, IsLine, AreFrames}
-use Rattle.mur_model.specs.History.{Course, IsLegal, answers, loses, reads, is_about, EndsAtLoss}
+use Rattle.mur_model.specs.Frames.{has_crlf, AreFrames}
+use Rattle.mur_model.specs.History.{Course, IsLegal, loses, reads, is_about}
 use Rattle.mur_model.specs.Transcript.{transcript_of}
 use Rattle.mur_model.proofs.HistoryGrows.{one_up_to}
 use Rattle.cluster_core.specs.declared.config.Config.{Config}
@@ -20,7 +19,7 @@ use Rattle.cluster_core.specs.Shown.{given_to, given_by}
 use Rattle.cluster_core.specs.World.{start, connection_at, run, weight_of_all}
 use Rattle.cluster_core.proofs.Keeps.{ConnectionIs, KeepsLaw, run_keeps, start_keeps}
 use Rattle.cluster_core.proofs.Keeps.ConnectionIs.{unknown, known}
-use Rattle.cluster_core.proofs.TurnLaw.{IsTold, IsKnown}
+use Rattle.cluster_core.proofs.TurnLaw.{IsTold}
 
 -- the bytes behind the last whole line of a connection
 rest_by : Option Connection → List ℕ
@@ -73,7 +72,8 @@ legal_history points world frames replies course told = record {
   lost_once = λ conn number. omega (arith, no_loss_of conn number world.points told.kinds);
   lost_last = λ i j d h k. λ lost same. not_lost (get_or world.points i d) (All-get_or (λ (p : Point). p.what ≡ replied) world.points i d (omega arith) told.kinds) lost;
   never_read = All-weaker (λ (p : Point). p.what ≡ replied) (λ (p : Point). reads p.what ≡ false) no_read world.points told.kinds;
-  in_order = told.in_order }
+  in_order = told.in_order;
+}
 
 told_law : (events : List Event) (world : World) → KeepsLaw (λ conn. heard_from conn None events) world → IsToldByOneStore events world
 unfolding given_to
@@ -84,7 +84,8 @@ told_law events world keeps = record {
   cut = λ conn. cut_by _ _ _ _ _ (keeps.connections conn);
   all_answered = λ conn. answered_by _ _ _ _ _ (keeps.connections conn);
   legal = legal_history world.points world keeps.frames keeps.replies keeps.course keeps.told;
-  told = λ conn. given_as _ _ _ _ _ (keeps.connections conn) }
+  told = λ conn. given_as _ _ _ _ _ (keeps.connections conn);
+}
 
 no_points_yet : (config : Config) → length (start config).points ≡ 0
 unfolding start
@@ -93,7 +94,7 @@ no_points_yet config = refl
 pub told_by_one_store : (config : Config) (events : List Event) → weight_of_all events < 2 ^ 32 → IsToldByOneStore events (run (start config) events)
 told_by_one_store config events small =
     told_law events (run (start config) events)
-        (run_keeps (λ conn. None) (start config) events (omega (arith, no_points_yet config)) (start_keeps config))
+    (run_keeps (λ conn. None) (start config) events (omega (arith, no_points_yet config)) (start_keeps config))
 
 -- every point of a run replies
 pub all_reply : (config : Config) (events : List Event) → weight_of_all events < 2 ^ 32 → All (λ (point : Point). point.what ≡ replied) (run (start config) events).points

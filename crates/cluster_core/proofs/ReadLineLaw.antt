@@ -1,16 +1,15 @@
 -- A line is read as the command that its frame spells, and as none where it spells none.
-use Rattle.std.proofs.Common.{◌≡◌, ℕ, ◌+◌, ◌-◌, Bool, true, false, ◌&&◌, not, cond, nat_eq, List, [], ◌∷◌, ◌++◌, length, take, map, Option, None, Some, refl, sym, ◌∙◌, ap, subst, arith, append_assoc, length-append, codes}
+use Rattle.std.proofs.Common.{◌≡◌, ℕ, ◌-◌, Bool, true, false, ◌&&◌, not, nat_eq, List, [], ◌∷◌, ◌++◌, length, take, map, Option, None, Some, refl, sym, ◌∙◌, ap, subst, arith, append_assoc, length-append, codes}
 use Rattle.std.specs.Char.{to_ascii_lowercase}
 use Rattle.std.specs.List.{list_all}
 use Rattle.std.specs.Cmp.Lexicographic.{pointwise}
-use Rattle.std.specs.Str.{str_to_ascii_lowercase, bytes_eq}
 use Rattle.std.proofs.lemmas.Bool.Decides.{nat_tests}
 use Rattle.mur_model.specs.declared.command.Command.{Command}
 use Rattle.mur_model.specs.declared.command.Command.TheVariants.{Create}
 use Rattle.mur_model.specs.declared.command.Tag.{Tag}
 use Rattle.mur_model.specs.declared.command.Tag.TheVariants.{Star, Text}
 use Rattle.mur_model.specs.ReplyText.{crlf}
-use Rattle.mur_model.specs.Spells.{is_tag, is_tag_byte, is_word, is_create_name, SpellsCreate, Spells, split_once, split_word, without_crlf, refusal_tag}
+use Rattle.mur_model.specs.Spells.{is_tag, is_tag_byte, is_word, is_create_name, SpellsCreate, Spells, split_once, without_crlf, refusal_tag}
 use Rattle.mur_model.proofs.SplitOnce.{lacks, split_once-first, split_once-parts}
 use Rattle.cluster_core.specs.declared.line.Line.{Line}
 use Rattle.cluster_core.specs.ReadLine.{create_of, command_of, tagged_line, split_line, line_of}
@@ -73,7 +72,7 @@ create_lacks_space word h =
     let e = same_bytes (map to_ascii_lowercase word) (codes "create") h in
     let lowered : list_all (λ b. not (nat_eq b 32)) (map to_ascii_lowercase word) ≡ true = rw e refl in
     all_imply (λ b. not (nat_eq (to_ascii_lowercase b) 32)) (λ b. not (nat_eq b 32)) (λ b. word_byte_by b (nat_eq b 32) refl) word
-        (rw all_mapped at lowered)
+    (rw all_mapped at lowered)
 
 -- a frame that spells a command, without its CRLF
 spelled_text : (frame tag : List ℕ) (it : Command) (s : Spells frame tag it) → without_crlf frame ≡ tag ++ 32 ∷ s.text
@@ -84,7 +83,7 @@ create_spelled : (text name : List ℕ) → SpellsCreate text name → command_o
 unfolding command_of create_of
 create_spelled text name s =
     let split : split_once 32 text ≡ Some (s.word, name) =
-        ap (split_once 32) (s.parts ∙ append_assoc s.word (codes " ") name) ∙ split_once-first 32 s.word name (create_lacks_space s.word s.keyword) in
+    ap (split_once 32) (s.parts ∙ append_assoc s.word (codes " ") name) ∙ split_once-first 32 s.word name (create_lacks_space s.word s.keyword) in
     rw (split, s.keyword, s.named) refl
 
 -- a frame that spells a command is read as that command
@@ -92,7 +91,7 @@ pub spelled_line : (frame tag : List ℕ) (it : Command) → Spells frame tag it
 unfolding line_of split_line tagged_line
 spelled_line frame tag (Create name) s =
     let split : split_once 32 (without_crlf frame) ≡ Some (tag, s.text) =
-        ap (split_once 32) (spelled_text frame tag (Create name) s) ∙ split_once-first 32 tag s.text (tag_lacks_space tag s.tagged) in
+    ap (split_once 32) (spelled_text frame tag (Create name) s) ∙ split_once-first 32 tag s.text (tag_lacks_space tag s.tagged) in
     rw (split, s.tagged, create_spelled s.text name s.spells) refl
 
 nothing_spelled : (frame : List ℕ) (line : Line) → line_of frame ≡ line → line.command ≡ None → (tag : List ℕ) (it : Command) → Spells frame tag it → ⊥
@@ -116,7 +115,9 @@ spelled_create frame text w r word name e split tagged again named = record {
     word = word;
     parts = split_once-parts 32 r word name again ∙ sym (append_assoc word (codes " ") name);
     keyword = grind (arith, nat_tests);
-    named = grind (arith, nat_tests) } }
+    named = grind (arith, nat_tests);
+  };
+}
 
 read_name : (frame text w r word name : List ℕ) → frame ≡ text ++ crlf → split_once 32 text ≡ Some (w, r) → is_tag w ≡ true
     → split_once 32 r ≡ Some (word, name) → (named : Bool) → is_word (codes "create") word && is_create_name name ≡ named → Reading frame (line_of frame)
@@ -124,7 +125,7 @@ unfolding line_of split_line tagged_line command_of create_of refusal_tag
 read_name frame text w r word name e split tagged again true named =
     let front : without_crlf frame ≡ text = ap without_crlf e ∙ without_crlf-line text in
     read_as frame (record { tag = Text w; command = Some (Create name) }) (rw (front, split, tagged, again, named) refl)
-        (a_command w (Create name) (spelled_create frame text w r word name e split tagged again named))
+    (a_command w (Create name) (spelled_create frame text w r word name e split tagged again named))
 read_name frame text w r word name e split tagged again false named =
     let front : without_crlf frame ≡ text = ap without_crlf e ∙ without_crlf-line text in
     refused_as frame (Text w) (rw (front, split, tagged, again, named) refl) (rw (front, split, tagged) refl)

@@ -1,5 +1,5 @@
 -- After n steps and bytes no count is above n.
-use Rattle.std.proofs.Common.{◌≡◌, ◌≢◌, ℕ, ◌+◌, ◌≤◌, ◌<◌, ◌^◌, Bool, true, false, ◌&&◌, ◌==◌, List, [], ◌∷◌, ◌++◌, length, Option, None, Some, refl, sym, ◌∙◌, ap, subst, arith, IfSome}
+use Rattle.std.proofs.Common.{◌≡◌, ◌≢◌, ℕ, ◌+◌, ◌≤◌, ◌<◌, ◌^◌, Bool, true, false, List, [], ◌∷◌, length, Option, None, Some, refl, sym, ◌∙◌, subst, arith, IfSome}
 use Rattle.std.specs.Ordering.{nat_cmp}
 use Rattle.std.proofs.lemmas.Bool.{cases_eq}
 use Rattle.std.proofs.Math.Logic.{⊎_elim}
@@ -9,7 +9,7 @@ use Rattle.mur_model.specs.declared.session.Sess.{Sess}
 use Rattle.mur_model.specs.declared.session.Sess.TheVariants.{Off, In, Ended}
 use Rattle.cluster_core.specs.declared.config.Config.{Config}
 use Rattle.cluster_core.specs.declared.event.Event.{Event}
-use Rattle.cluster_core.specs.declared.event.Event.TheVariants.{Open, Data, Hang, Deliver, Cut, Join, Crash, Arm, Start, Flow, Heal}
+use Rattle.cluster_core.specs.declared.event.Event.TheVariants.{Open, Data}
 use Rattle.cluster_core.specs.declared.turn.Place.{Place}
 use Rattle.cluster_core.specs.declared.world.Connection.{Connection}
 use Rattle.cluster_core.specs.declared.world.World.{World}
@@ -45,20 +45,22 @@ found_after : (c conn n : ℕ) (changed : Connection) (old new : List (ℕ × Co
     → value_at nat_cmp new c ≡ Some found → found.commands ≤ n
 found_after c conn n changed old new found here others small counted is =
     ⊎_elim
-      (λ (e : c ≡ conn). let same : changed ≡ found = (let at : value_at nat_cmp new conn ≡ Some found = subst (λ k. value_at nat_cmp new k ≡ Some found) e is in cc) in
-          subst (λ (x : Connection). x.commands ≤ n) same small)
-      (λ ne. counted c found (sym (others c ne) ∙ is))
-      (cases_eq c conn)
+    (λ (e : c ≡ conn). let same : changed ≡ found = (let at : value_at nat_cmp new conn ≡ Some found = subst (λ k. value_at nat_cmp new k ≡ Some found) e is in cc) in
+    subst (λ (x : Connection). x.commands ≤ n) same small)
+    (λ ne. counted c found (sym (others c ne) ∙ is))
+    (cases_eq c conn)
 
 weaker : (world : World) (m n : ℕ) → m ≤ n → IsCounted world m → IsCounted world n
 weaker world m n h counted = record {
   steps = omega (arith, counted.steps);
-  commands = λ conn found is. let small = counted.commands conn found is in omega arith }
+  commands = λ conn found is. let small = counted.commands conn found is in omega arith;
+}
 
 stepped_counts : (world : World) (n : ℕ) → IsCounted world n → IsCounted (stepped world) (1 + n)
 stepped_counts world n counted = record {
   steps = omega (arith, counted.steps);
-  commands = λ conn found is. let small = counted.commands conn found is in omega arith }
+  commands = λ conn found is. let small = counted.commands conn found is in omega arith;
+}
 
 open_counts : (world : World) (n conn : ℕ) (there : Option Connection) → IsCounted world n → IsCounted (open_at world conn there) n
 unfolding open_at new_connection
@@ -68,7 +70,8 @@ open_counts world n conn None counted = record {
   commands = λ c found is. found_after c conn n new_connection world.connections _ found
       (value_at-with_entry nat_cmp numbers_apart world.connections conn new_connection)
       (λ q ne. value_at-with_entry-other nat_cmp numbers_apart world.connections conn q new_connection ne)
-      (omega arith) counted.commands is }
+      (omega arith) counted.commands is;
+}
 
 data_counts : (world : World) (n conn : ℕ) (bytes : List ℕ) (there : Option Connection) → connection_at world conn ≡ there → IsCounted world n
     → IsCounted (data_at world conn bytes there) (n + length bytes)
@@ -83,7 +86,8 @@ data_counts world n conn bytes (Some there) at counted =
       commands = λ c found is. found_after c conn (n + length bytes) turn.connection world.connections _ found
           (value_at-with_value nat_cmp numbers_apart world.connections conn turn.connection there at)
           (λ q ne. value_at-with_value-other nat_cmp numbers_apart world.connections conn q turn.connection ne)
-          (omega arith) (λ q x e. let old = counted.commands q x e in omega arith) is }
+          (omega arith) (λ q x e. let old = counted.commands q x e in omega arith) is;
+    }
 
 takes_counts : (world : World) (n : ℕ) (event : Event) → IsCounted world (1 + n) → IsCounted (takes world event) (n + weight_of event)
 unfolding takes weight_of
@@ -136,7 +140,8 @@ goes_on config events world event left way = record {
   taken = way.taken + weight_of event;
   weight = omega (arith, way.weight);
   counted = happens_counts world way.taken event way.counted;
-  ends = way.ends }
+  ends = way.ends;
+}
 
 pub way_goes_on : (config : Config) (events : List Event) (world after : World) (event : Event) (before left : List Event)
     → before ≡ event ∷ left → after ≡ happens world event → IsOnTheWay config events world before → IsOnTheWay config events after left

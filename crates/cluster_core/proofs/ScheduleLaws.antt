@@ -1,5 +1,5 @@
 -- The events that a schedule gives fit one another, and weigh no more than its bytes.
-use Rattle.std.proofs.Common.{◌≡◌, ℕ, ◌+◌, ◌*◌, ◌<◌, ◌≤◌, Bool, true, false, cond, nat_eq, nat_lt, ◌⊎◌, inl, inr, List, [], ◌∷◌, ◌++◌, length, take, slice_index, sum_by, Option, None, Some, Result, Ok, Err, refl, sym, ap, ◌∙◌, subst, append_assoc, arith}
+use Rattle.std.proofs.Common.{◌≡◌, ℕ, ◌+◌, ◌<◌, ◌≤◌, Bool, true, false, cond, nat_lt, List, [], ◌∷◌, ◌++◌, length, sum_by, Result, Ok, Err, refl, sym, subst, append_assoc, arith}
 use Rattle.std.specs.List.{list_any}
 use Rattle.std.specs.Str.{bytes_eq}
 use Rattle.mur_base.specs.declared.limits.TheConstants.{SCHEDULE_LIMIT}
@@ -8,16 +8,15 @@ use Rattle.cluster_core.specs.declared.schedule.data_line.TheConstants.{DATA}
 use Rattle.cluster_core.proofs.Shortens.{text_shortens, words_shorten, first_shortens, line_shortens, lengths-pieces}
 use Rattle.std.proofs.lemmas.List.{append-nil}
 use Rattle.std.proofs.lemmas.List.Sums.{sum_by-cons}
-use Rattle.std.proofs.lemmas.Bool.Decides.{nat_tests}
 use Rattle.cluster_core.specs.declared.config.Config.{Config}
 use Rattle.cluster_core.specs.declared.event.Event.{Event}
-use Rattle.cluster_core.specs.declared.event.Event.TheVariants.{Open, Data, Hang, Deliver, Cut, Join, Crash, Arm, Start, Flow, Heal}
+use Rattle.cluster_core.specs.declared.event.Event.TheVariants.{Open, Data}
 use Rattle.cluster_core.specs.declared.schedule.fault.Rule.{Rule}
 use Rattle.cluster_core.specs.declared.schedule.fault.Rule.TheVariants.{UnknownWord, UnknownNode, Connection, TooLong}
 use Rattle.cluster_core.specs.ScheduleWords.{two_words, number_in, word_and_rest, first_word}
 use Rattle.cluster_core.specs.declared.schedule.fault.SchedFault.{SchedFault}
 use Rattle.cluster_core.specs.World.{weight_of, weight_of_all}
-use Rattle.cluster_core.specs.Pieces.{pieces_of, line_in, without_end}
+use Rattle.cluster_core.specs.Pieces.{pieces_of, line_in}
 use Rattle.cluster_core.specs.ScheduleRules.{◌>>=◌}
 use Rattle.cluster_core.specs.ScheduleOpen.{open_of, frontend_in, is_frontend_named, unopened}
 use Rattle.cluster_core.specs.ScheduleData.{data_of, opened_before, text_in}

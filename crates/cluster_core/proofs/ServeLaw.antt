@@ -1,5 +1,5 @@
 -- What the home does with a command is what the one store does with it, where the mailbox that is made gets the serial behind the home's last.
-use Rattle.std.proofs.Common.{◌≡◌, ◌≢◌, ℕ, ◌+◌, ◌-◌, ◌^◌, ◌<◌, ◌≤◌, Bool, true, false, nat_eq, List, [], ◌∷◌, ◌++◌, Option, None, Some, refl, sym, ◌∙◌, ap, subst, arith, codes}
+use Rattle.std.proofs.Common.{◌≡◌, ◌≢◌, ℕ, ◌+◌, ◌-◌, ◌^◌, ◌<◌, ◌≤◌, Bool, true, false, nat_eq, List, Option, None, Some, refl, ◌∙◌, arith}
 use Rattle.std.specs.Prelude.{All}
 use Rattle.std.specs.Ordering.{nat_cmp}
 use Rattle.std.specs.Cmp.Lexicographic.{slice_cmp}
@@ -35,7 +35,8 @@ next_is_free : (store : Store) (home : Home) (name : List ℕ) → IsStoreOf sto
 next_is_free store home name same = record {
   positive = omega arith;
   unused = All-weaker (λ (pair : Pair). pair.serial ≤ home.last_serial) (λ (pair : Pair). pair.serial ≢ home.last_serial + 1) (λ pair h. λ e. absurd (omega arith)) store.given same.serials;
-  rises = All-weaker (λ (pair : Pair). pair.serial ≤ home.last_serial) (λ (pair : Pair). pair.name ≡ name → pair.serial < home.last_serial + 1) (λ pair h. λ e. omega arith) store.given same.serials }
+  rises = All-weaker (λ (pair : Pair). pair.serial ≤ home.last_serial) (λ (pair : Pair). pair.name ≡ name → pair.serial < home.last_serial + 1) (λ pair h. λ e. omega arith) store.given same.serials;
+}
 
 made_alike : (store : Store) (home : Home) (name : List ℕ) → IsStoreOf store home
     → IsStoreOf (with_box store name (home.last_serial + 1)) (record { boxes = with_entry (slice_cmp nat_cmp) home.boxes name (new_box (home.last_serial + 1)); last_serial = home.last_serial + 1 })
@@ -43,7 +44,8 @@ made_alike store home name same = record {
   boxes = same_after_entry (slice_cmp nat_cmp) names_apart store.boxes home.boxes name (new_box (home.last_serial + 1)) same.boxes;
   serials = All-push (λ (pair : Pair). pair.serial ≤ home.last_serial + 1) store.given (record { name = name; serial = home.last_serial + 1 })
       (All-weaker (λ (pair : Pair). pair.serial ≤ home.last_serial) (λ (pair : Pair). pair.serial ≤ home.last_serial + 1) (λ pair h. omega arith) store.given same.serials)
-      (omega arith) }
+      (omega arith);
+}
 
 make_by : (store : Store) (home : Home) (name : List ℕ) (spent : Bool) → nat_eq home.last_serial (2 ^ 32 - 1) ≡ spent → home.last_serial < 2 ^ 32 - 1
     → mail_name_fault name ≡ None → box_at store name ≡ None → value_at (slice_cmp nat_cmp) home.boxes name ≡ None
@@ -54,7 +56,8 @@ make_by store home name false e h named here there same = record {
   free = λ _. next_is_free store home name same;
   same_verdict = rw (named, here, there, e) refl;
   still = rw (named, here, there, e) (made_alike store home name same);
-  rises = rw (named, there, e) (omega arith) }
+  rises = rw (named, there, e) (omega arith);
+}
 
 there_by : (store : Store) (home : Home) (name : List ℕ) (found : Option MailBox) → value_at (slice_cmp nat_cmp) home.boxes name ≡ found → home.last_serial < 2 ^ 32 - 1
     → mail_name_fault name ≡ None → IsStoreOf store home → ServesAlike store home (Create name)
@@ -67,7 +70,8 @@ there_by store home name (Some box) there h named same =
       free = λ _. next_is_free store home name same;
       same_verdict = rw (named, here, there) refl;
       still = rw (named, here, there) same;
-      rises = rw (named, there) (omega arith) }
+      rises = rw (named, there) (omega arith);
+    }
 
 create_by : (store : Store) (home : Home) (text : List ℕ) (fault : Option NameFault) → mail_name_fault text ≡ fault → home.last_serial < 2 ^ 32 - 1
     → IsStoreOf store home → ServesAlike store home (Create text)
@@ -77,7 +81,8 @@ create_by store home text (Some fault) named h same = record {
   free = λ _. next_is_free store home text same;
   same_verdict = rw named refl;
   still = rw named same;
-  rises = rw named (omega arith) }
+  rises = rw named (omega arith);
+}
 
 -- as long as a serial is left the home serves as the store does
 pub serves_alike : (store : Store) (home : Home) (it : Command) → home.last_serial < 2 ^ 32 - 1 → IsStoreOf store home → ServesAlike store home it

@@ -1,5 +1,5 @@
 -- What is read from a text is no longer than the text.
-use Rattle.std.proofs.Common.{◌≡◌, ℕ, suc, ◌+◌, ◌-◌, ◌<◌, ◌≤◌, Bool, true, false, nat_eq, nat_lt, cond, List, [], ◌∷◌, length, take, slice_index, sum_by, Option, None, Some, Result, Ok, Err, refl, sym, ap, ◌∙◌, subst, arith}
+use Rattle.std.proofs.Common.{◌≡◌, ℕ, ◌+◌, ◌-◌, ◌<◌, ◌≤◌, Bool, true, false, nat_eq, nat_lt, List, [], ◌∷◌, length, slice_index, sum_by, Option, None, Some, Ok, Err, refl, subst, arith}
 use Rattle.std.specs.Option.{ok_or}
 use Rattle.std.proofs.lemmas.List.{length-take}
 use Rattle.std.proofs.lemmas.List.Sums.{sum_by-cons}
@@ -8,7 +8,6 @@ use Rattle.cluster_core.specs.declared.text.Place.{Place}
 use Rattle.cluster_core.specs.declared.text.Place.TheVariants.{Between, Escape, Hex, HexDigit}
 use Rattle.cluster_core.specs.declared.text.Character.{Character}
 use Rattle.cluster_core.specs.declared.text.Character.TheVariants.{Inside, Ends, Bad}
-use Rattle.cluster_core.specs.declared.schedule.fault.Rule.{Rule}
 use Rattle.cluster_core.specs.declared.schedule.fault.Rule.TheVariants.{WrongCount, BadText}
 use Rattle.cluster_core.specs.Text.{bytes_of, bytes_from, bytes_behind, with_byte, at_end, character_at}
 use Rattle.cluster_core.specs.Pieces.{pieces_of, line_in, without_end}

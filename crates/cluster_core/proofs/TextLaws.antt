@@ -1,12 +1,8 @@
 -- The canonical text of bytes is read back as those bytes.
-use Rattle.std.proofs.Common.{◌≡◌, ℕ, suc, ◌+◌, ◌*◌, ◌/◌, ◌%◌, ◌<◌, ◌≤◌, Bool, true, false, nat_eq, nat_le, nat_lt, List, [], ◌∷◌, ◌++◌, get_or, Fits, w8, Option, None, Some, refl, sym, ap, ◌∙◌, append_assoc, arith}
-use Rattle.std.specs.List.{flat_map}
+use Rattle.std.proofs.Common.{◌≡◌, ℕ, suc, ◌+◌, ◌*◌, ◌/◌, ◌%◌, ◌<◌, Bool, true, false, nat_eq, List, [], ◌∷◌, ◌++◌, get_or, Fits, w8, Option, None, Some, refl, sym, ap, ◌∙◌, append_assoc, arith}
 use Rattle.std.proofs.lemmas.Bool.{eqb-true}
 use Rattle.std.proofs.lemmas.Bool.Decides.{nat_tests}
-use Rattle.cluster_core.specs.declared.text.Place.{Place}
-use Rattle.cluster_core.specs.declared.text.Place.TheVariants.{Between, Escape, Hex, HexDigit}
-use Rattle.cluster_core.specs.declared.text.Character.{Character}
-use Rattle.cluster_core.specs.declared.text.Character.TheVariants.{Inside, Ends, Bad}
+use Rattle.cluster_core.specs.declared.text.Place.TheVariants.{Between}
 use Rattle.cluster_core.specs.Text.{bytes_of, bytes_from, bytes_behind, with_byte, character_at, at_end, text_of, spelling_of, is_printed, hex_digit, hex_value, between_spellings, behind_escape, first_digit, second_digit}
 
 -- bytes behind those that were read

@@ -1,9 +1,7 @@
 -- Configurations. So far exactly one text is known, byte by byte, and its nodes are a master, a frontend and a backend.
 use Rattle.std.specs.Prelude.{◌≡◌, ℕ, if◌then◌else◌, List, [], ◌∷◌, Option, None, Some, Result, Err, MatchResult}
 use Rattle.std.specs.Str.{bytes_eq}
-use Rattle.cluster_core.specs.declared.config.Kind.{Kind}
 use Rattle.cluster_core.specs.declared.config.Kind.TheVariants.{Master, Frontend, Backend}
-use Rattle.cluster_core.specs.declared.config.Node.{Node}
 use Rattle.cluster_core.specs.declared.config.Config.{Config}
 use Rattle.cluster_core.specs.declared.config.ConfigFault.{ConfigFault}
 use Rattle.cluster_core.specs.declared.config.ConfigFault.TheVariants.{Unknown, Memory}

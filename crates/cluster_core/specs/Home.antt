@@ -32,8 +32,10 @@ make home name true = refused home (no_reply Limit)
 make home name false = record {
   home = record {
     boxes = with_entry (slice_cmp nat_cmp) home.boxes name (new_box (home.last_serial + 1));
-    last_serial = home.last_serial + 1 };
-  verdict = ok_reply no_code (codes "CREATE") }
+    last_serial = home.last_serial + 1;
+  };
+  verdict = ok_reply no_code (codes "CREATE");
+}
 
 -- CREATE of a name, by what stands there
 unfoldable pub create_at : Home → List ℕ → Option MailBox → Served

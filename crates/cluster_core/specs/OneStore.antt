@@ -1,12 +1,12 @@
 -- The one-store law: what each client was given is what one mailbox store replies to the printed history.
-use Rattle.std.specs.Prelude.{◌≡◌, ℕ, Bool, true, false, ◌==◌, if◌then◌else◌, List, [], ◌∷◌, ◌++◌, length, Option, None, Some, unwrap_or, is_some}
+use Rattle.std.specs.Prelude.{◌≡◌, ℕ, ◌==◌, if◌then◌else◌, List, [], ◌∷◌, ◌++◌, length, Option, None, Some, unwrap_or, is_some}
 use Rattle.mur_model.specs.declared.session.Sess.TheVariants.{In}
 use Rattle.mur_model.specs.Frames.{AreFrames}
 use Rattle.mur_model.specs.History.{Course, IsLegal}
 use Rattle.mur_model.specs.Store.{empty_store}
 use Rattle.mur_model.specs.Transcript.{transcript_of}
 use Rattle.cluster_core.specs.declared.event.Event.{Event}
-use Rattle.cluster_core.specs.declared.event.Event.TheVariants.{Open, Data, Hang, Deliver, Cut, Join, Crash, Arm, Start, Flow, Heal}
+use Rattle.cluster_core.specs.declared.event.Event.TheVariants.{Open, Data}
 use Rattle.cluster_core.specs.declared.world.World.{World}
 use Rattle.cluster_core.specs.Shown.{given_to}
 use Rattle.cluster_core.specs.World.{first_user}

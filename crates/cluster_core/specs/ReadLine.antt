@@ -2,7 +2,6 @@
 use Rattle.std.specs.Prelude.{ℕ, Bool, true, false, ◌&&◌, if◌then◌else◌, List, Option, None, Some, codes}
 use Rattle.mur_model.specs.declared.command.Command.{Command}
 use Rattle.mur_model.specs.declared.command.Command.TheVariants.{Create}
-use Rattle.mur_model.specs.declared.command.Tag.{Tag}
 use Rattle.mur_model.specs.declared.command.Tag.TheVariants.{Star, Text}
 use Rattle.mur_model.specs.Spells.{is_tag, is_word, is_create_name, split_word, without_crlf}
 use Rattle.cluster_core.specs.declared.line.Line.{Line}

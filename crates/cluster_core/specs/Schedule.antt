@@ -1,5 +1,5 @@
 -- A schedule: lines that LF ends (the last may lack it), each an event, a comment, or empty. A CR before LF is dropped.
-use Rattle.std.specs.Prelude.{◌≡◌, ℕ, ◌+◌, ⊤, Bool, true, ◌==◌, nat_lt, if◌then◌else◌, List, [], ◌∷◌, ◌++◌, length, sum_by, Result, Ok, Err}
+use Rattle.std.specs.Prelude.{◌≡◌, ℕ, ◌+◌, ⊤, Bool, true, ◌==◌, nat_lt, if◌then◌else◌, List, [], ◌∷◌, ◌++◌, length, Result, Ok, Err}
 use Rattle.std.specs.Str.{bytes_eq}
 use Rattle.mur_base.specs.declared.limits.TheConstants.{SCHEDULE_LIMIT}
 use Rattle.cluster_core.specs.declared.config.Config.{Config}
@@ -13,7 +13,7 @@ use Rattle.cluster_core.specs.declared.schedule.open_line.TheConstants.{OPEN}
 use Rattle.cluster_core.specs.declared.schedule.data_line.TheConstants.{DATA}
 use Rattle.cluster_core.specs.Pieces.{pieces_of, line_in}
 use Rattle.cluster_core.specs.ScheduleRules.{◌>>=◌}
-use Rattle.cluster_core.specs.ScheduleWords.{Words, first_word}
+use Rattle.cluster_core.specs.ScheduleWords.{first_word}
 use Rattle.cluster_core.specs.ScheduleOpen.{open_of}
 use Rattle.cluster_core.specs.ScheduleData.{data_of}
 

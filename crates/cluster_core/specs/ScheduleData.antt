@@ -1,6 +1,6 @@
 -- The line `data C TEXT`: bytes come from the client of connection C, which a line before opened. TEXT is the rest of
 -- the line, and may hold spaces or be empty.
-use Rattle.std.specs.Prelude.{◌≡◌, ℕ, if◌then◌else◌, List, Result, Ok, Err}
+use Rattle.std.specs.Prelude.{ℕ, if◌then◌else◌, List, Result, Ok, Err}
 use Rattle.std.specs.Option.{ok_or}
 use Rattle.cluster_core.specs.declared.event.Event.{Event}
 use Rattle.cluster_core.specs.declared.event.Event.TheVariants.{Data}

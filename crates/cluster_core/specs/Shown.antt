@@ -18,7 +18,13 @@ given_to world conn = given_by (connection_at world conn)
 -- a mailbox at the node that holds it
 abbrev pub home_row : List ℕ → List ℕ × MailBox → HomeRow
 home_row node entry = record {
-  name = entry.0; backend = node; phase = open_here; serial = (entry.1).serial; next = (entry.1).next; count = 0 }
+  name = entry.0;
+  backend = node;
+  phase = open_here;
+  serial = (entry.1).serial;
+  next = (entry.1).next;
+  count = 0;
+}
 
 -- the mailboxes of all nodes, in byte order of names
 unfoldable pub home_rows : World → List HomeRow

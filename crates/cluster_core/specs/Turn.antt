@@ -1,5 +1,5 @@
 -- What the bytes of one client do: a byte is kept until it ends a line, and then the line is answered.
-use Rattle.std.specs.Prelude.{◌≡◌, ℕ, ◌+◌, ◌-◌, Bool, true, false, ◌&&◌, ◌==◌, List, [], ◌∷◌, ◌++◌, nat_eq}
+use Rattle.std.specs.Prelude.{ℕ, ◌+◌, Bool, true, false, ◌&&◌, ◌==◌, List, [], ◌∷◌, ◌++◌, nat_eq}
 use Rattle.std.specs.List.{ends_with}
 use Rattle.mur_base.specs.declared.point.Point.{Point}
 use Rattle.mur_base.specs.declared.point.What.TheVariants.{Reply as replied}
@@ -33,7 +33,8 @@ abbrev pub line_answered : Place → Turn → Line → Served → Turn
 line_answered place turn line served = record {
   connection = answered turn.connection (reply_text line.tag (reply_of served.verdict));
   home = served.home;
-  points = turn.points ++ answer_point place (turn.connection.commands + 1) ∷ [] }
+  points = turn.points ++ answer_point place (turn.connection.commands + 1) ∷ [];
+}
 
 -- a line is carried out and answered
 unfoldable pub take_line : Place → Turn → Line → Turn

@@ -1,5 +1,5 @@
 -- The run of the cluster: what each event does.
-use Rattle.std.specs.Prelude.{◌≡◌, ℕ, ◌+◌, ◌<◌, ◌^◌, Bool, true, false, List, [], ◌∷◌, length, Option, None, Some, ⊤, IfSome, unwrap_or, codes}
+use Rattle.std.specs.Prelude.{ℕ, ◌+◌, ◌<◌, ◌^◌, List, [], ◌∷◌, length, Option, None, Some, ⊤, IfSome, unwrap_or, codes}
 use Rattle.std.specs.Ordering.{nat_cmp}
 use Rattle.mur_base.specs.Map.{value_at, with_entry, with_value}
 use Rattle.mur_model.specs.declared.session.Sess.TheVariants.{In}
@@ -19,7 +19,8 @@ start config = record {
   connections = [];
   home = record { boxes = []; last_serial = 0 };
   points = [];
-  steps = 0 }
+  steps = 0;
+}
 
 -- the user as whom every session begins
 abbrev pub first_user : List ℕ
@@ -42,14 +43,15 @@ abbrev pub with_turn : World → ℕ → Turn → World
 with_turn world conn turn = record world {
   connections = with_value nat_cmp world.connections conn turn.connection;
   home = turn.home;
-  points = turn.points }
+  points = turn.points;
+}
 
 -- bytes of a connection that is there are taken
 unfoldable pub data_at : World → ℕ → List ℕ → Option Connection → World
 data_at world conn bytes None = world
 data_at world conn bytes (Some connection) =
     with_turn world conn (take_bytes (record { step = world.steps; conn = conn })
-        (record { connection = connection; home = world.home; points = world.points }) bytes)
+    (record { connection = connection; home = world.home; points = world.points }) bytes)
 
 -- every event is one step
 abbrev pub stepped : World → World

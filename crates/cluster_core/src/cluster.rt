@@ -147,8 +147,7 @@ pub fn run(alloc: Global, config: &Config, events: Events) -> Result<Cluster, Me
 /// UIDVALIDITYs. The call does nothing.
 pub fn headline()
     ensures { (config : Config) (events : List Event) → weight_of_all events < 2 ^ 32 → IsOneServer config events }
-{
-}
+{}
 
 fn take(cluster: &mut Cluster, event: Event) -> Result<(), Memory>
     requires { HasRoom cluster.old event }

@@ -86,7 +86,14 @@ fn take_data(alloc: Global, world: &mut World, conn: u64, bytes: &Bytes) -> Resu
         conn,
     };
     match world.connections.get_mut(&conn) {
-        Some(connection) => take_bytes(alloc, place, connection, &mut world.home, &mut world.points, bytes.as_slice()),
+        Some(connection) => take_bytes(
+            alloc,
+            place,
+            connection,
+            &mut world.home,
+            &mut world.points,
+            bytes.as_slice(),
+        ),
         None => Ok(()),
     }
 }

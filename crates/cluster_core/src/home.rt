@@ -13,7 +13,12 @@ use std::alloc::Global;
 
 /// Answers a line of a client: the command that it spells, if it does. For want of memory the home is spent.
 #[tactic(auto, unfolding(crate::specs::Home::answer))]
-pub fn answer(alloc: Global, home: &mut Home, session: &Sess, command: &Option<Command>) -> Result<Verdict, Memory>
+pub fn answer(
+    alloc: Global,
+    home: &mut Home,
+    session: &Sess,
+    command: &Option<Command>,
+) -> Result<Verdict, Memory>
     ensures { IfOk result (λ verdict. record { home = home.new; verdict = verdict } ≡ answer home.old session.now command.now) }
 {
     match command {

@@ -23,3 +23,6 @@ pub use pieces::Pieces;
 pub use schedule::{ReadFault, Rule, SchedFault, read_schedule};
 pub use text::{put_name, put_text, read_text};
 pub use world::{Connection, Home, World};
+
+#[cfg(test)]
+mod tests;

@@ -11,7 +11,10 @@ use std::alloc::Global;
 pub fn greeting(alloc: Global) -> Result<Bytes, Memory>
     ensures { IfOk result (λ text. text ≡ greeting) }
 {
-    Bytes::from_slice(alloc, b"* OK [CAPABILITY IMAP4rev2 AUTH=PLAIN] murder ready\r\n")
+    Bytes::from_slice(
+        alloc,
+        b"* OK [CAPABILITY IMAP4rev2 AUTH=PLAIN] murder ready\r\n",
+    )
 }
 
 /// Writes a reply under a tag at the end of `out` (RFC 9051, 7.1).

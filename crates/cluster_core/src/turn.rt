@@ -20,7 +20,14 @@ pub struct Place {
 
 #[tactic(auto, unfolding(crate::specs::Turn::take_bytes))]
 /// Takes bytes of a client: each line that they complete is answered. For want of memory all three are spent.
-pub fn take_bytes(alloc: Global, place: Place, connection: &mut Connection, home: &mut Home, points: &mut Items<Point>, bytes: &[u8]) -> Result<(), Memory>
+pub fn take_bytes(
+    alloc: Global,
+    place: Place,
+    connection: &mut Connection,
+    home: &mut Home,
+    points: &mut Items<Point>,
+    bytes: &[u8],
+) -> Result<(), Memory>
     requires { connection.old.commands + length bytes.now < 2 ^ 64 }
     ensures { OnOk result (record { connection = connection.new; home = home.new; points = points.new } ≡ take_bytes place (record { connection = connection.old; home = home.old; points = points.old }) bytes.now) }
 {
@@ -31,7 +38,14 @@ pub fn take_bytes(alloc: Global, place: Place, connection: &mut Connection, home
 }
 
 #[tactic(auto, unfolding(crate::specs::Turn::take_byte))]
-fn take_byte(alloc: Global, place: Place, connection: &mut Connection, home: &mut Home, points: &mut Items<Point>, byte: u8) -> Result<(), Memory>
+fn take_byte(
+    alloc: Global,
+    place: Place,
+    connection: &mut Connection,
+    home: &mut Home,
+    points: &mut Items<Point>,
+    byte: u8,
+) -> Result<(), Memory>
     requires { connection.old.commands + 1 < 2 ^ 64 }
     ensures turn { OnOk result (record { connection = connection.new; home = home.new; points = points.new } ≡ take_byte place (record { connection = connection.old; home = home.old; points = points.old }) byte connection.old.session) }
     ensures commands { OnOk result (connection.new.commands ≤ connection.old.commands + 1) }
@@ -43,7 +57,14 @@ fn take_byte(alloc: Global, place: Place, connection: &mut Connection, home: &mu
 }
 
 #[tactic(auto, unfolding(crate::specs::Turn::take_byte_by))]
-fn take_byte_by(alloc: Global, place: Place, connection: &mut Connection, home: &mut Home, points: &mut Items<Point>, byte: u8) -> Result<(), Memory>
+fn take_byte_by(
+    alloc: Global,
+    place: Place,
+    connection: &mut Connection,
+    home: &mut Home,
+    points: &mut Items<Point>,
+    byte: u8,
+) -> Result<(), Memory>
     requires { connection.old.commands + 1 < 2 ^ 64 }
     ensures turn { OnOk result (record { connection = connection.new; home = home.new; points = points.new } ≡ take_byte_by place (record { connection = connection.old; home = home.old; points = points.old }) byte (byte == 10 && ends_in_cr connection.old.rest)) }
     ensures commands { OnOk result (connection.new.commands ≤ connection.old.commands + 1) }
@@ -65,7 +86,14 @@ fn ends_in_cr(text: &[u8]) -> bool
 }
 
 #[tactic(auto, unfolding(crate::specs::Turn::take_line))]
-fn take_line(alloc: Global, place: Place, connection: &mut Connection, home: &mut Home, points: &mut Items<Point>, line: &Line) -> Result<(), Memory>
+fn take_line(
+    alloc: Global,
+    place: Place,
+    connection: &mut Connection,
+    home: &mut Home,
+    points: &mut Items<Point>,
+    line: &Line,
+) -> Result<(), Memory>
     requires { connection.old.commands + 1 < 2 ^ 64 }
     ensures turn { OnOk result (record { connection = connection.new; home = home.new; points = points.new } ≡ take_line place (record { connection = connection.old; home = home.old; points = points.old }) line.now) }
     ensures commands { OnOk result (connection.new.commands ≤ connection.old.commands + 1) }

@@ -1,12 +1,11 @@
 -- A history with one more point at its end.
-use Rattle.std.proofs.Common.{◌≡◌, ◌≢◌, ℕ, suc, zero, ◌+◌, ◌<◌, ◌≤◌, Bool, true, false, ◌&&◌, cond, nat_eq, nat_lt, nat_le, List, [], ◌∷◌, ◌++◌, length, Option, Some, refl, sym, ◌∙◌, ap, subst, arith, add-one, length-append}
+use Rattle.std.proofs.Common.{◌≡◌, ◌≢◌, ℕ, suc, zero, ◌+◌, Bool, true, false, ◌&&◌, cond, nat_eq, nat_lt, nat_le, List, [], ◌∷◌, ◌++◌, length, Some, refl, ◌∙◌, ap, arith, add-one}
 use Rattle.std.specs.Prelude.{slice_get, All, AllPairs, count_by}
 use Rattle.std.proofs.lemmas.Bool.Decides.{nat_tests}
 use Rattle.std.proofs.lemmas.List.Elements.{All-push}
 use Rattle.std.proofs.lemmas.List.Kept.{AllPairs-cons}
 use Rattle.std.proofs.lemmas.List.Sums.{sum_by-append}
 use Rattle.mur_base.specs.declared.point.Point.{Point}
-use Rattle.mur_base.specs.declared.point.What.{What}
 use Rattle.mur_base.specs.declared.point.What.TheVariants.{Reply as replied}
 use Rattle.mur_model.specs.History.{Course, Answers, numbered, point_of, Follows, answers, is_about}
 use Rattle.mur_model.specs.History.Follows.{no_points, a_reply, a_loss}
@@ -59,10 +58,10 @@ pub follows_more : (frames replies : ℕ → List (List ℕ)) (conn : ℕ) (fram
 follows_more frames replies conn frame reply first last points (no_points course) = no_points course
 follows_more frames replies conn frame reply first last points (a_reply course middle end step other number it text rest f r answer later) =
     a_reply course middle end step other number it text rest (numbered_stays frames conn frame other number it f) (numbered_stays replies conn reply other number text r) answer
-        (follows_more frames replies conn frame reply middle end rest later)
+    (follows_more frames replies conn frame reply middle end rest later)
 follows_more frames replies conn frame reply first last points (a_loss course middle end step other number it text rest f answer later) =
     a_loss course middle end step other number it text rest (numbered_stays frames conn frame other number it f) answer
-        (follows_more frames replies conn frame reply _ end rest later)
+    (follows_more frames replies conn frame reply _ end rest later)
 
 -- a reply is put at the end of a history
 pub follows_push : (frames replies : ℕ → List (List ℕ)) (first last after : Course) (points : List Point) (step conn number : ℕ) (frame text : List ℕ)
@@ -92,7 +91,7 @@ pub pairs_push : (R : Point → Point → Type 0) (xs : List Point) (y : Point) 
 pairs_push R [] y pairs all = λ i j d h k. absurd (omega arith)
 pairs_push R (x ∷ xs) y pairs all =
     AllPairs-cons R x (xs ++ y ∷ []) (All-push (R x) xs y (head_pairs R x xs pairs) (head_all (λ p. R p y) x xs all))
-        (pairs_push R xs y (tail_pairs R x xs pairs) (tail_all (λ p. R p y) x xs all))
+    (pairs_push R xs y (tail_pairs R x xs pairs) (tail_all (λ p. R p y) x xs all))
 
 -- one where a number is among the first so many, else none
 unfoldable pub one_up_to : ℕ → ℕ → ℕ

@@ -1,7 +1,7 @@
 -- Where a text has its first CRLF.
-use Rattle.std.proofs.Common.{◌≡◌, ℕ, suc, ◌+◌, ◌-◌, Bool, true, false, ◌||◌, ◌&&◌, nat_eq, List, [], ◌∷◌, ◌++◌, length, take, drop, refl, sym, ◌∙◌, ap, arith}
+use Rattle.std.proofs.Common.{◌≡◌, ℕ, Bool, true, false, ◌||◌, ◌&&◌, nat_eq, List, [], ◌∷◌, ◌++◌, refl, sym, ◌∙◌, ap, arith}
 use Rattle.std.proofs.lemmas.Bool.Decides.{nat_tests}
-use Rattle.mur_model.specs.Frames.{has_crlf, begins_with_lf}
+use Rattle.mur_model.specs.Frames.{has_crlf}
 
 -- a CR stands last
 unfoldable pub last_is_cr : List ℕ → Bool

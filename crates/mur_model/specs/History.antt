@@ -32,8 +32,8 @@ after course conn acted = record { store = acted.store; sessions = with_session 
 pub data Answers (course : Course) (conn : ℕ) (frame : List ℕ) : List ℕ → Course → Type 0 where
   command : (tag : List ℕ) (it : Command) (serial : ℕ) → Spells frame tag it → MayGive course.store it serial
       → Answers course conn frame
-          (reply_text (Text tag) (act_of course.store (course.sessions conn) it serial).reply)
-          (after course conn (act_of course.store (course.sessions conn) it serial))
+      (reply_text (Text tag) (act_of course.store (course.sessions conn) it serial).reply)
+      (after course conn (act_of course.store (course.sessions conn) it serial))
   no_command : ((tag : List ℕ) (it : Command) → Spells frame tag it → ⊥)
       → Answers course conn frame (reply_text (refusal_tag frame) (reply_of (bad_reply Syntax))) course
 

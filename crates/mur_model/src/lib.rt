@@ -13,3 +13,6 @@ pub use model::act;
 pub use reply::{BadText, Code, NoText, Reply, Verdict};
 pub use session::Sess;
 pub use store::{MailBox, Pair, Store};
+
+#[cfg(test)]
+mod tests;

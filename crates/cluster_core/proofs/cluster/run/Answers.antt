@@ -1,5 +1,4 @@
 use Rattle.std.proofs.Common.{◌≡◌, ℕ, ◌+◌, List, [], ◌∷◌, length, refl, rules, arith, ap, sym, ◌∙◌}
-use Rattle.std.specs.Vec.Iter.{into_iter_items, into_iter_len}
 use Rattle.cluster_core.proofs.HeadlineLaw.{one_server}
 use Rattle.cluster_core.proofs.Room.{way_begins, way_goes_on, way_has_room, way_ends}
 use Rattle.cluster_core.proofs.cluster.run.Goals as goal
@@ -19,9 +18,11 @@ take-requires c = way_has_room c.args.config.now c.args.events _ _ _ _ (omega (a
 
 pub loop-event-preserved : goal.loop-event-preserved
 loop-event-preserved c = (
-  tt, tt,
+  tt,
+  tt,
   shorter _ _ _ _ _ c.loop-event.invariant.2 c.in-Some.ensures.steps.0 c.in-Some.ensures.steps.1,
-  way_goes_on _ _ _ _ _ _ _ c.in-Some.ensures.steps.0 c.in_ok-take.ensures c.loop-event.invariant.3)
+  way_goes_on _ _ _ _ _ _ _ c.in-Some.ensures.steps.0 c.in_ok-take.ensures c.loop-event.invariant.3,
+)
 
 pub returns-clause-ran : goal.returns-clause-ran
 returns-clause-ran c = way_ends _ _ _ _ (empty_by_length _ (sym c.loop-event.invariant.2 ∙ c.in-None.ensures.steps.0)) c.loop-event.invariant.3

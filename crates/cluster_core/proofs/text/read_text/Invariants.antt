@@ -1,4 +1,4 @@
-use Rattle.std.proofs.Common.{◌≡◌, ◌++◌, drop}
+use Rattle.std.proofs.Common.{◌≡◌, drop}
 use Rattle.cluster_core.specs.Text.{bytes_of, bytes_from, IsPlace}
 use Rattle.cluster_core.proofs.TextLaws.{bytes_onto}
 use Rattle.cluster_core.proofs.text.read_text.Given as goal
