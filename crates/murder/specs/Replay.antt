@@ -1,6 +1,6 @@
 -- What a call did, by cases on how it ended: the objects that it asked the host for, and those that came back, each with
 -- all that it tells.
-use Rattle.std.specs.Prelude.{◌≡◌, ℕ, ◌<◌, List, [], ◌∷◌, ◌++◌, ◌⊎◌, Option, None, Some, MatchOption, Result, Ok, Err}
+use Rattle.std.specs.Prelude.{◌≡◌, ℕ, List, [], ◌∷◌, ◌++◌, ◌⊎◌, Option, None, Some, MatchOption, Result, Ok, Err}
 use Rattle.mur_edge.specs.Counts.{Rose}
 use Rattle.mur_edge.specs.Host.{Came, source_came, out_came, errors_came}
 use Rattle.mur_edge.specs.Source.{IsReadWhole}
