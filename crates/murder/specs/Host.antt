@@ -1,5 +1,5 @@
 -- What comes back to the host of a process: the counts of its objects, and no bytes.
-use Rattle.std.specs.Prelude.{ℕ, None}
+use Rattle.std.specs.Prelude.{None}
 use Rattle.mur_edge.specs.Host.{Came, came_of}
 use Rattle.mur_edge.specs.declared.host.Used.{Used}
 use Rattle.murder.specs.declared.host.ReadCounts.{ReadCounts}

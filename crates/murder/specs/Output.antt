@@ -1,5 +1,5 @@
 -- The output of a run: what clients were given, the history, the mailboxes, and a last line. Each line ends with an LF.
-use Rattle.std.specs.Prelude.{ℕ, List, [], ◌∷◌, ◌++◌, length, codes}
+use Rattle.std.specs.Prelude.{ℕ, List, ◌++◌, length, codes}
 use Rattle.std.specs.List.{flat_map}
 use Rattle.std.specs.Fmt.{decimal}
 use Rattle.mur_base.specs.declared.point.Point.{Point}

@@ -1,6 +1,6 @@
 -- What a call did, by cases on how it ended: the objects that it asked the host for, and those that came back, each with
 -- all that it tells.
-use Rattle.std.specs.Prelude.{◌≡◌, ℕ, ◌<◌, List, [], ◌∷◌, ◌++◌, ◌⊎◌, Option, None, Some, MatchOption, Result, Ok, Err}
+use Rattle.std.specs.Prelude.{◌≡◌, ℕ, List, [], ◌∷◌, ◌++◌, ◌⊎◌, Option, None, Some, MatchOption, Result, Ok, Err}
 use Rattle.mur_edge.specs.Counts.{Rose}
 use Rattle.mur_edge.specs.Host.{Came, source_came, out_came, errors_came}
 use Rattle.mur_edge.specs.Source.{IsReadWhole}
@@ -72,7 +72,7 @@ pub record Reads (name text : List ℕ) (before now : Told) : Type 0 where
 abbrev pub FailsToRead : List ℕ → Told → Told → Type 0
 FailsToRead name before now = Adds before now (Source name ∷ []) [] ⊎ Uses name before now
 
--- memory was wanting at a file, before it was asked for or while it was read
+-- memory was wanting at a file: before it was asked for, or while its text was read or looked at
 abbrev pub StopsReading : List ℕ → Told → Told → Type 0
 StopsReading name before now = Adds before now [] [] ⊎ Uses name before now
 
@@ -88,7 +88,7 @@ pub record HasConfig (name : List ℕ) (config : Configuration) (before now : To
   pub reads : Reads name text before now
   pub right : config_of text ≡ Some config
 
--- the rule that a configuration breaks
+-- the rule that a text breaks which spells no configuration; so far there is one, numbered 0
 abbrev pub config_rule : Option Configuration → Option ℕ
 config_rule None = Some 0
 config_rule (Some config) = None
@@ -202,15 +202,15 @@ DidWords None before now status = RefusesWords before now status
 DidWords (Some names) before now status = DidReplay names before now status
 
 -- the error output, which holds a front of the line, and all of it where no fault was counted
-abbrev pub IsTold : List ℕ → Came → Type 0
-IsTold line (source_came name faults shorts whole left) = ⊥
-IsTold line (out_came faults taken) = ⊥
-IsTold line (errors_came faults taken) = HoldsFront taken line × (faults ≡ 0 → HoldsAll taken line)
+abbrev pub HoldsLine : List ℕ → Came → Type 0
+HoldsLine line (source_came name faults shorts whole left) = ⊥
+HoldsLine line (out_came faults taken) = ⊥
+HoldsLine line (errors_came faults taken) = HoldsFront taken line × (faults ≡ 0 → HoldsAll taken line)
 
 -- the error output was asked for and came back with the line
-pub record Tells (line : List ℕ) (before now : Told) : Type 0 where
+pub record TellsLine (line : List ℕ) (before now : Told) : Type 0 where
   pub entry : Came
-  pub told : IsTold line entry
+  pub told : HoldsLine line entry
   pub adds : Adds before now (Errors ∷ []) (entry ∷ [])
 
 -- the error output was asked for and refused, and that was counted
@@ -220,7 +220,7 @@ pub record IsRefusedErrors (errors_before errors_now : ℕ) (before now : Told) 
 
 -- a line that is written to the error output, or refused there
 abbrev pub WritesLine : List ℕ → ℕ → ℕ → Told → Told → Type 0
-WritesLine line errors_before errors_now before now = IsRefusedErrors errors_before errors_now before now ⊎ Tells line before now
+WritesLine line errors_before errors_now before now = IsRefusedErrors errors_before errors_now before now ⊎ TellsLine line before now
 
 -- nothing is asked for where there is no line, or memory is wanting for it; else the line is written, or refused
 abbrev pub DidTell : Option (List ℕ) → ℕ → ℕ → Told → Told → Type 0

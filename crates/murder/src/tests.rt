@@ -85,17 +85,17 @@ fn host(alloc: Global, given: &Given<'_>) -> Result<MemHost, Memory> {
     mem_host(alloc, sources, out, errors, calls(alloc, given.host_fails)?)
 }
 
-fn words(alloc: Global, all: &[&str]) -> Result<Vec<String>, AllocError> {
+fn words(alloc: Global, line: &str) -> Result<Vec<String>, AllocError> {
     let mut words = Vec::new(alloc);
-    for word in all {
+    for word in line.split_whitespace() {
         words.push(String::from_str(alloc, word)?)?;
     }
     Ok(words)
 }
 
 // It has no clause, so that the tests' proofs stay small.
-fn play(alloc: Global, host: &mut MemHost, all: &[&str]) -> Result<Status, AllocError> {
-    let words = words(alloc, all)?;
+fn play(alloc: Global, host: &mut MemHost, line: &str) -> Result<Status, AllocError> {
+    let words = words(alloc, line)?;
     Ok(murder(alloc, host, &words))
 }
 
@@ -109,7 +109,7 @@ fn assert_ends(
     errors: &[u8],
 ) -> Result<(), Fail> {
     let mut host = host(alloc, given)?;
-    let ended = play(alloc, &mut host, &["replay", "config", "schedule"])?;
+    let ended = play(alloc, &mut host, "replay config schedule")?;
     assert_eq!(rt; ended, status);
     assert_eq!(rt; host.output(), output);
     assert_eq!(rt; host.error_output(), errors);
@@ -193,15 +193,15 @@ fn each_call_of_the_host_may_be_refused(rt: HostRuntime) -> Result<(), Fail> {
 
 #[test]
 fn other_words_are_refused(rt: HostRuntime) -> Result<(), Fail> {
-    for all in [
-        ["replay", "config", "-v"].as_slice(),
-        ["replay", "config"].as_slice(),
-        ["replay", "config", "schedule", "more"].as_slice(),
-        ["serve", "config", "schedule"].as_slice(),
-        [].as_slice(),
+    for line in [
+        "replay config -v",
+        "replay config",
+        "replay config schedule more",
+        "serve config schedule",
+        "",
     ] {
         let mut host = host(rt.alloc(), &ROW)?;
-        assert_eq!(rt; play(rt.alloc(), &mut host, all)?, Status::Words);
+        assert_eq!(rt; play(rt.alloc(), &mut host, line)?, Status::Words);
         assert_eq!(rt; host.error_output(), b"murder: words refused\n".as_slice());
         assert_eq!(rt; host.asked.len(), 1);
     }

@@ -32,8 +32,14 @@ fn prints_each_kind_of_line(rt: HostRuntime) -> Result<(), Fail> {
     connections.insert(2, connection(alloc, b"* OK\r\n\r\n")?)?;
     connections.insert(3, connection(alloc, b"")?)?;
     let mut boxes = Map::new(alloc);
-    boxes.insert(mail_name(alloc, b"user.bob")?, MailBox { serial: 2, next: 5 })?;
-    boxes.insert(mail_name(alloc, b"user.a b")?, MailBox { serial: 1, next: 1 })?;
+    boxes.insert(
+        mail_name(alloc, b"user.bob")?,
+        MailBox { serial: 2, next: 5 },
+    )?;
+    boxes.insert(
+        mail_name(alloc, b"user.a b")?,
+        MailBox { serial: 1, next: 1 },
+    )?;
     let mut points = Items::new(alloc);
     points.push(point(1, 1, What::Reply))?;
     points.push(point(3, 2, What::Read))?;
@@ -43,7 +49,10 @@ fn prints_each_kind_of_line(rt: HostRuntime) -> Result<(), Fail> {
     let world = World {
         node: node_name(alloc, b"f1")?,
         connections,
-        home: Home { boxes, last_serial: 2 },
+        home: Home {
+            boxes,
+            last_serial: 2,
+        },
         points,
         steps: 6,
     };

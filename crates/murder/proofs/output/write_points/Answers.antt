@@ -1,4 +1,4 @@
-use Rattle.std.proofs.Common.{rules, ap, arith}
+use Rattle.std.proofs.Common.{rules, arith}
 use Rattle.std.proofs.lemmas.List.{at_drop_all}
 use Rattle.std.specs.List.{flat_map}
 use Rattle.murder.specs.Output.{point_line}
