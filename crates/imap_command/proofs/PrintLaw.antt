@@ -1,12 +1,12 @@
 -- What is printed is spelled.
-use Rattle.std.proofs.Common.{◌≡◌, ℕ, zero, suc, ◌+◌, ◌*◌, ◌-◌, ◌^◌, ◌<◌, ◌≤◌, List, [], ◌∷◌, ◌++◌, length, Bool, true, false, cond, ◌&&◌, ◌⊎◌, inl, inr, Some, None, nat_lt, ◌==◌, refl, sym, ap, ◌∙◌, subst, append-nil, append_assoc, eq-eqb, arith, codes, decimal, drop, drop-cons, add-one}
+use Rattle.std.proofs.Common.{◌≡◌, ℕ, ◌+◌, ◌*◌, ◌-◌, ◌^◌, ◌<◌, List, [], ◌∷◌, ◌++◌, length, Bool, true, false, cond, ◌&&◌, ◌⊎◌, inl, inr, Some, None, nat_lt, ◌==◌, refl, sym, ap, ◌∙◌, subst, append-nil, append_assoc, arith, codes, decimal, drop, drop-cons, add-one}
 use Rattle.std.specs.List.{list_all}
 use Rattle.mur_base.specs.Number.{number_of, digits_behind, is_numeral, is_digit as is_numeral_digit}
-use Rattle.grammar.specs.Part.{Part, Joins, ◌then◌, ◌sp◌, map, give, byte, one_of, exactly, optional, choose, turns, repeat, listed, spaced}
+use Rattle.grammar.specs.Part.{Part, ◌then◌, ◌sp◌, map, byte, exactly, optional, turns, repeat, listed, spaced}
 use Rattle.grammar.specs.Words.{word}
 use Rattle.grammar.specs.Runs.{run, some}
 use Rattle.grammar.specs.Numbers.{is_digit, decimal_from, decimal as value_of}
-use Rattle.grammar.proofs.Conditions.{and_left, and_right, and_both}
+use Rattle.grammar.proofs.Conditions.{and_both}
 use Rattle.imap_command.specs.Characters.{is_astring_char, is_char8}
 use Rattle.imap_command.specs.Strings.{crlf, quoted, literal, string, astring}
 use Rattle.imap_command.specs.Login.{login}

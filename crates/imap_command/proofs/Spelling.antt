@@ -1,7 +1,7 @@
 -- Spellings of parts make spellings of what is made of them.
-use Rattle.std.proofs.Common.{◌≡◌, ℕ, zero, suc, ◌+◌, ◌≤◌, List, [], ◌∷◌, ◌++◌, length, Bool, true, false, ◌&&◌, ◌⊎◌, inl, inr, refl, sym, ap, ◌∙◌, append-nil, eq-eqb, arith}
+use Rattle.std.proofs.Common.{◌≡◌, ℕ, List, [], ◌∷◌, ◌++◌, length, Bool, true, refl, sym, append-nil, eq-eqb}
 use Rattle.std.specs.List.{list_all}
-use Rattle.grammar.specs.Part.{Part, Joins, ◌then◌, ◌sp◌, map, give, byte, one_of, exactly, turns}
+use Rattle.grammar.specs.Part.{Part, ◌then◌, ◌sp◌, map, byte, exactly}
 use Rattle.grammar.proofs.Conditions.{and_left, and_right}
 
 module _ {A B : Type 0} where

@@ -1,5 +1,5 @@
 -- How a command is printed: each string as an atom where it is one, else as a literal that waits for nothing.
-use Rattle.std.specs.Prelude.{◌≡◌, ℕ, ◌<◌, Bool, true, ◌&&◌, List, [], ◌∷◌, ◌++◌, length, codes, decimal, if◌then◌else◌}
+use Rattle.std.specs.Prelude.{◌≡◌, ℕ, ◌<◌, true, ◌&&◌, List, [], ◌∷◌, ◌++◌, length, codes, decimal, if◌then◌else◌}
 use Rattle.std.specs.List.{list_all}
 use Rattle.grammar.specs.Runs.{some}
 use Rattle.mur_model.specs.declared.command.Tag.{Tag}

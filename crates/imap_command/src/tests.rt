@@ -77,7 +77,7 @@ fn commands(rt: HostRuntime) -> Result<(), Fail> {
     Ok(())
 }
 
-/// The text of a STATUS or a LOGIN of two strings that hold no NUL.
+/// The text of a LOGIN of two strings that hold no NUL.
 fn printed(rt: &HostRuntime, user: &[u8], password: &[u8]) -> Result<Bytes, Memory>
     requires user { IsString user.now }
     requires password { IsString password.now }
