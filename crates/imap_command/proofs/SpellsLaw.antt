@@ -40,7 +40,7 @@ starts_arguments name =
     starts_when _ login _ starts_login (starts_when _ create _ starts_create (starts_when _ append status starts_append starts_status))
 
 -- what stands behind the name of a command
-abbrev behind_name : Tag → List ℕ → Part (Tag × Command)
+abbrev pub behind_name : Tag → List ℕ → Part (Tag × Command)
 behind_name tag name = arguments name then λ command. map (λ _. (tag, command)) crlf
 
 module _ {V : Type 0} where

@@ -77,10 +77,10 @@ unfolding quoted
 starts_quoted = starts_then (byte 34) (λ _. repeat is_no_quote quoted_char [] then λ text. map (λ _. text) (byte 34)) (starts_byte 34)
 
 -- what stands behind the length of a literal
-abbrev octets : ℕ → Part (List ℕ)
+abbrev pub octets : ℕ → Part (List ℕ)
 octets n = crlf then λ _. exactly is_char8 n
 
-abbrev behind_length : List ℕ → Part (List ℕ)
+abbrev pub behind_length : List ℕ → Part (List ℕ)
 behind_length digits = optional 43 then λ _. byte 125 then λ _. octets (decimal digits)
 
 starts_literal : StartsWith (λ c. c == 123) literal

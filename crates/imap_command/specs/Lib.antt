@@ -3,6 +3,7 @@ pub mod Bad
 pub mod Characters
 pub mod Create
 pub mod Login
+pub mod Print
 pub mod Spells
 pub mod Status
 pub mod Strings

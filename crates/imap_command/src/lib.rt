@@ -1,7 +1,7 @@
-//! The commands of mail clients: what a frame spells (RFC 9051, 9), and its reader.
+//! The commands of mail clients: what a frame spells (RFC 9051, 9), its reader and its printer.
 //!
 //! A frame is a line with its literals and its CRLF. `specs/Spells.antt` says which frames spell which command, a file a
-//! command; [`read`] takes just these, and tells of each other frame the longest prefix that begins some command.
+//! command; [`read`] takes just these, and tells of each other frame the longest prefix that begins some command. What [`print`] gives spells just its command.
 //! A new command is a file in `specs`, one in `src`, its law, and a line in the table of names.
 #![tactic(auto)]
 
@@ -11,6 +11,7 @@ mod create;
 mod fault;
 mod login;
 mod once;
+mod printer;
 mod reader;
 mod status;
 mod strings;
@@ -22,6 +23,7 @@ pub use create::create_of;
 pub use fault::{Bad, ReadFault};
 pub use login::login_of;
 pub use once::a_frame_spells_one_command;
+pub use printer::print;
 pub use reader::read;
 pub use status::status_of;
 pub use strings::{astring_of, crlf_of, literal_of};

@@ -14,7 +14,7 @@ use std::alloc::Global;
 
 /// ASTRING-CHAR.
 #[derive(Clone, Copy)]
-struct AstringChar;
+pub struct AstringChar;
 
 impl Class for AstringChar {
     ghost test = { λ _. is_astring_char };

@@ -1,6 +1,8 @@
 // Frames of each command, and where the others stop.
+ghost use Rattle.imap_command.specs.Print.{IsString};
+
 use super::*;
-use mur_base::Bytes;
+use mur_base::{Bytes, Memory};
 use mur_model::Tag;
 use std::test::Fail;
 
@@ -72,5 +74,26 @@ fn commands(rt: HostRuntime) -> Result<(), Fail> {
     let (mailbox, _, items) = strings(&rt, b"b Status x] (messages)\r\n").ok_or("no STATUS")?;
     assert_eq!(rt; mailbox.as_slice(), b"x]".as_slice());
     assert_eq!(rt; items, 1);
+    Ok(())
+}
+
+/// The text of a LOGIN of two strings that hold no NUL.
+fn printed(rt: &HostRuntime, user: &[u8], password: &[u8]) -> Result<Bytes, Memory>
+    requires user { IsString user.now }
+    requires password { IsString password.now }
+{
+    let tag = Tag::Text(Bytes::from_slice(rt.alloc(), b"a1")?);
+    let user = Bytes::from_slice(rt.alloc(), user)?;
+    let password = Bytes::from_slice(rt.alloc(), password)?;
+    print(rt.alloc(), &tag, &Command::Login(user, password))
+}
+
+#[test]
+fn atoms_and_literals(rt: HostRuntime) -> Result<(), Fail> {
+    let frame = printed(&rt, b"adm", b"a b")?;
+    assert_eq!(rt;
+        frame.as_slice(),
+        b"a1 LOGIN adm {3+}\r\na b\r\n".as_slice()
+    );
     Ok(())
 }
