@@ -16,7 +16,7 @@ use Rattle.mur_base.specs.declared.name.NameFault.{NameFault}
 use Rattle.mur_base.specs.Map.{IsInOrder}
 use Rattle.mur_base.proofs.MapOrder.{with_entry-in_order}
 use Rattle.mur_model.specs.declared.command.Command.{Command}
-use Rattle.mur_model.specs.declared.command.Command.TheVariants.{Create}
+use Rattle.mur_model.specs.declared.command.Command.TheVariants.{Login, Create, Append, Status}
 use Rattle.mur_model.specs.declared.session.Sess.{Sess}
 use Rattle.mur_model.specs.declared.session.Sess.TheVariants.{Off, In, Ended}
 use Rattle.mur_model.specs.declared.store.MailBox.{MailBox}
@@ -58,6 +58,9 @@ create_rises home text None rises = create_at_rises home text _ rises
 serve_rises : (home : Home) (it : Command) → RisesIn home → RisesIn (serve home it).home
 unfolding serve
 serve_rises home (Create text) rises = create_rises home text _ rises
+serve_rises home (Login user password) rises = rises
+serve_rises home (Append mailbox message) rises = rises
+serve_rises home (Status mailbox items) rises = rises
 
 answer_rises : (home : Home) (session : Sess) (it : Option Command) → RisesIn home → RisesIn (answer home session it).home
 unfolding answer

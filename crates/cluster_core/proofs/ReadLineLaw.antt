@@ -5,7 +5,7 @@ use Rattle.std.specs.List.{list_all}
 use Rattle.std.specs.Cmp.Lexicographic.{pointwise}
 use Rattle.std.proofs.lemmas.Bool.Decides.{nat_tests}
 use Rattle.mur_model.specs.declared.command.Command.{Command}
-use Rattle.mur_model.specs.declared.command.Command.TheVariants.{Create}
+use Rattle.mur_model.specs.declared.command.Command.TheVariants.{Login, Create, Append, Status}
 use Rattle.mur_model.specs.declared.command.Tag.{Tag}
 use Rattle.mur_model.specs.declared.command.Tag.TheVariants.{Star, Text}
 use Rattle.mur_model.specs.ReplyText.{crlf}
@@ -89,6 +89,9 @@ create_spelled text name s =
 -- a frame that spells a command is read as that command
 pub spelled_line : (frame tag : List ℕ) (it : Command) → Spells frame tag it → line_of frame ≡ record { tag = Text tag; command = Some it }
 unfolding line_of split_line tagged_line
+spelled_line frame tag (Login user password) s = absurd s.spells
+spelled_line frame tag (Append mailbox message) s = absurd s.spells
+spelled_line frame tag (Status mailbox items) s = absurd s.spells
 spelled_line frame tag (Create name) s =
     let split : split_once 32 (without_crlf frame) ≡ Some (tag, s.text) =
     ap (split_once 32) (spelled_text frame tag (Create name) s) ∙ split_once-first 32 tag s.text (tag_lacks_space tag s.tagged) in

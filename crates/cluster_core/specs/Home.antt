@@ -6,7 +6,7 @@ use Rattle.mur_base.specs.declared.name.NameFault.{NameFault}
 use Rattle.mur_base.specs.Map.{value_at, with_entry}
 use Rattle.mur_base.specs.Names.{mail_name_fault}
 use Rattle.mur_model.specs.declared.command.Command.{Command}
-use Rattle.mur_model.specs.declared.command.Command.TheVariants.{Create}
+use Rattle.mur_model.specs.declared.command.Command.TheVariants.{Login, Create, Append, Status}
 use Rattle.mur_model.specs.declared.reply.Verdict.{Verdict}
 use Rattle.mur_model.specs.declared.reply.Verdict.TheVariants.{Ok as ok_reply, No as no_reply, Bad as bad_reply}
 use Rattle.mur_model.specs.declared.reply.Code.TheVariants.{None as no_code}
@@ -48,7 +48,10 @@ create home text (Some fault) = refused home (no_reply NonExistent)
 create home text None = create_at home text (value_at (slice_cmp nat_cmp) home.boxes text)
 
 unfoldable pub serve : Home → Command → Served
+serve home (Login user password) = refused home (bad_reply Syntax)
 serve home (Create text) = create home text (mail_name_fault text)
+serve home (Append mailbox message) = refused home (bad_reply Syntax)
+serve home (Status mailbox items) = refused home (bad_reply Syntax)
 
 -- a line that spells a command or none, in a session
 unfoldable pub answer : Home → Sess → Option Command → Served

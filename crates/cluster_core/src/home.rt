@@ -36,6 +36,9 @@ fn serve(alloc: Global, home: &mut Home, command: &Command) -> Result<Verdict, M
 {
     match command {
         Command::Create(text) => create(alloc, home, text),
+        Command::Login(_, _) | Command::Append(_, _) | Command::Status(_, _) => {
+            Ok(Verdict::Bad(BadText::Syntax))
+        }
     }
 }
 

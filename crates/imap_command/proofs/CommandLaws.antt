@@ -16,8 +16,8 @@ use Rattle.imap_command.specs.Login.{login}
 use Rattle.imap_command.specs.Create.{create}
 use Rattle.imap_command.specs.Append.{append}
 use Rattle.imap_command.specs.Status.{status, status_item, item_names}
-use Rattle.imap_command.specs.declared.command.Command.TheVariants.{Login, Create, Append, Status}
-use Rattle.imap_command.specs.declared.command.StatusItem.{StatusItem}
+use Rattle.mur_model.specs.declared.command.Command.TheVariants.{Login, Create, Append, Status}
+use Rattle.mur_model.specs.declared.command.StatusItem.{StatusItem}
 use Rattle.imap_command.proofs.StringsLaw.{good_astring, good_literal}
 
 -- a space or the end of the line, which ends an atom

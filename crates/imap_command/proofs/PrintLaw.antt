@@ -15,10 +15,10 @@ use Rattle.imap_command.specs.Append.{append}
 use Rattle.imap_command.specs.Status.{status, status_item, item_names}
 use Rattle.imap_command.specs.Spells.{tags, command_names, arguments, tagged_command, Spells}
 use Rattle.imap_command.specs.Print.{literal_text, astring_text, more_items_text, items_text, arguments_text, name_text, tag_text, printed, IsString, IsPrintable, AreSpelled, IsTag}
-use Rattle.imap_command.specs.declared.command.Command.{Command}
-use Rattle.imap_command.specs.declared.command.Command.TheVariants.{Login, Create, Append, Status}
-use Rattle.imap_command.specs.declared.command.StatusItem.{StatusItem}
-use Rattle.imap_command.specs.declared.command.StatusItem.TheVariants.{Messages}
+use Rattle.mur_model.specs.declared.command.Command.{Command}
+use Rattle.mur_model.specs.declared.command.Command.TheVariants.{Login, Create, Append, Status}
+use Rattle.mur_model.specs.declared.command.StatusItem.{StatusItem}
+use Rattle.mur_model.specs.declared.command.StatusItem.TheVariants.{Messages}
 use Rattle.mur_model.specs.declared.command.Tag.{Tag}
 use Rattle.mur_model.specs.declared.command.Tag.TheVariants.{Text, Star}
 use Rattle.grammar.specs.Tables.{any_case}

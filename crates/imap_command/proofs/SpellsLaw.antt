@@ -19,7 +19,7 @@ use Rattle.imap_command.specs.Create.{create}
 use Rattle.imap_command.specs.Append.{append}
 use Rattle.imap_command.specs.Status.{status}
 use Rattle.imap_command.specs.Spells.{tags, command_names, arguments, tagged_command, Spells}
-use Rattle.imap_command.specs.declared.command.Command.{Command}
+use Rattle.mur_model.specs.declared.command.Command.{Command}
 use Rattle.imap_command.proofs.StringsLaw.{good_crlf}
 use Rattle.imap_command.proofs.CommandLaws.{ends_atom, good_login, good_create, good_append, good_status, starts_login, starts_create, starts_append, starts_status}
 

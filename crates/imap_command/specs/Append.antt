@@ -2,8 +2,8 @@
 -- behind the name.
 use Rattle.grammar.specs.Part.{Part, ◌then◌, ◌sp◌, map, byte}
 use Rattle.imap_command.specs.Strings.{astring, literal}
-use Rattle.imap_command.specs.declared.command.Command.{Command}
-use Rattle.imap_command.specs.declared.command.Command.TheVariants.{Append}
+use Rattle.mur_model.specs.declared.command.Command.{Command}
+use Rattle.mur_model.specs.declared.command.Command.TheVariants.{Append}
 
 unfoldable pub append : Part Command
 append = byte 32 then λ _. astring sp λ mailbox. map (λ message. Append mailbox message) literal

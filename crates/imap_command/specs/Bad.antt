@@ -2,7 +2,7 @@
 use Rattle.std.specs.Prelude.{◌≡◌, ℕ, ◌<◌, ◌≤◌, List, ◌∷◌, ◌++◌, length, take, Option, None, Some, true}
 use Rattle.mur_model.specs.declared.command.Tag.{Tag}
 use Rattle.mur_model.specs.declared.command.Tag.TheVariants.{Text}
-use Rattle.imap_command.specs.declared.command.Command.{Command}
+use Rattle.mur_model.specs.declared.command.Command.{Command}
 use Rattle.imap_command.specs.declared.fault.Bad.{Bad}
 use Rattle.imap_command.specs.Spells.{Spells, tags}
 

@@ -4,9 +4,9 @@ use Rattle.std.specs.List.{list_all}
 use Rattle.grammar.specs.Runs.{some}
 use Rattle.mur_model.specs.declared.command.Tag.{Tag}
 use Rattle.mur_model.specs.declared.command.Tag.TheVariants.{Text, Star}
-use Rattle.imap_command.specs.declared.command.Command.{Command}
-use Rattle.imap_command.specs.declared.command.Command.TheVariants.{Login, Create, Append, Status}
-use Rattle.imap_command.specs.declared.command.StatusItem.{StatusItem}
+use Rattle.mur_model.specs.declared.command.Command.{Command}
+use Rattle.mur_model.specs.declared.command.Command.TheVariants.{Login, Create, Append, Status}
+use Rattle.mur_model.specs.declared.command.StatusItem.{StatusItem}
 use Rattle.imap_command.specs.Characters.{is_astring_char, is_char8}
 use Rattle.imap_command.specs.Spells.{tags}
 use Rattle.imap_command.specs.Strings.{astring, literal}

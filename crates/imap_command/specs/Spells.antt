@@ -12,7 +12,7 @@ use Rattle.imap_command.specs.Login.{login}
 use Rattle.imap_command.specs.Create.{create}
 use Rattle.imap_command.specs.Append.{append}
 use Rattle.imap_command.specs.Status.{status}
-use Rattle.imap_command.specs.declared.command.Command.{Command}
+use Rattle.mur_model.specs.declared.command.Command.{Command}
 
 -- tag = 1*<any ASTRING-CHAR except "+">, of at most 32 bytes
 abbrev pub tags : Words

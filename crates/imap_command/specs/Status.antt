@@ -5,10 +5,10 @@ use Rattle.grammar.specs.Part.{Part, ◌then◌, ◌sp◌, map, byte, listed}
 use Rattle.grammar.specs.Words.{word}
 use Rattle.grammar.specs.Tables.{any_case}
 use Rattle.imap_command.specs.Strings.{astring}
-use Rattle.imap_command.specs.declared.command.Command.{Command}
-use Rattle.imap_command.specs.declared.command.Command.TheVariants.{Status}
-use Rattle.imap_command.specs.declared.command.StatusItem.{StatusItem}
-use Rattle.imap_command.specs.declared.command.StatusItem.TheVariants.{Messages}
+use Rattle.mur_model.specs.declared.command.Command.{Command}
+use Rattle.mur_model.specs.declared.command.Command.TheVariants.{Status}
+use Rattle.mur_model.specs.declared.command.StatusItem.{StatusItem}
+use Rattle.mur_model.specs.declared.command.StatusItem.TheVariants.{Messages}
 
 -- the names of status-att
 abbrev pub item_names : List (List ℕ)

@@ -2,9 +2,9 @@
 ghost use Rattle.grammar.specs.Gives.{Gives};
 ghost use Rattle.imap_command.specs.Create.{create};
 
-use crate::command::Command;
 use crate::strings::astring_of;
 use grammar::{ReadError, byte_of};
+use mur_model::Command;
 use std::alloc::Global;
 
 /// Reads what stands behind the name CREATE.

@@ -6,7 +6,6 @@
 #![tactic(auto)]
 
 mod append;
-mod command;
 mod create;
 mod fault;
 mod login;
@@ -18,7 +17,6 @@ mod strings;
 mod utf8;
 
 pub use append::append_of;
-pub use command::{Command, StatusItem, StatusItems};
 pub use create::create_of;
 pub use fault::{Bad, ReadFault};
 pub use login::login_of;

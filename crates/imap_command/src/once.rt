@@ -1,7 +1,7 @@
 // A frame spells one command at most. Nothing here runs.
 ghost use Rattle.std.specs.Prelude.{◌≡◌, ℕ, List};
 ghost use Rattle.imap_command.specs.Spells.{Spells};
-ghost use Rattle.imap_command.specs.declared.command.Command.{Command};
+ghost use Rattle.mur_model.specs.declared.command.Command.{Command};
 ghost use Rattle.mur_model.specs.declared.command.Tag.{Tag};
 
 /// No frame spells two commands, nor one under two tags.

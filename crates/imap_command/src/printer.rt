@@ -7,11 +7,10 @@ ghost use Rattle.imap_command.specs.Strings.{astring, literal};
 ghost use Rattle.imap_command.specs.Spells.{Spells};
 ghost use Rattle.imap_command.specs.Print.{literal_text, astring_text, more_items_text, items_text, arguments_text, name_text, tag_text, printed, IsString, IsPrintable, IsTag, AreSpelled};
 
-use crate::command::{Command, StatusItem};
 use crate::strings::AstringChar;
 use grammar::Class;
 use mur_base::{Bytes, Memory, put_number};
-use mur_model::Tag;
+use mur_model::{Command, StatusItem, Tag};
 use std::alloc::Global;
 
 /// Prints a literal that waits for nothing.

@@ -5,7 +5,6 @@ ghost use Rattle.imap_command.specs.Spells.{Spells, arguments, tagged_command, t
 ghost use Rattle.imap_command.specs.Bad.{IsBad, IsFirstTag};
 
 use crate::append::append_of;
-use crate::command::Command;
 use crate::create::create_of;
 use crate::fault::{Bad, ReadFault};
 use crate::login::login_of;
@@ -15,7 +14,7 @@ use grammar::{
     AnyCase, Class, Grammar, Only, ReadError, RunUpTo, begins, byte_of, names, whole_of, word_of,
 };
 use mur_base::{Bytes, Memory};
-use mur_model::Tag;
+use mur_model::{Command, Tag};
 use std::alloc::Global;
 
 /// A byte of a tag.

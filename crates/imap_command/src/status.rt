@@ -3,10 +3,10 @@ ghost use Rattle.std.specs.Prelude.{◌==◌};
 ghost use Rattle.grammar.specs.Gives.{Gives};
 ghost use Rattle.imap_command.specs.Status.{status, status_item};
 
-use crate::command::{Command, StatusItem, StatusItems};
 use crate::strings::astring_of;
 use grammar::{AnyCase, ReadError, Turn, byte_of, listed_of, word_of};
 use mur_base::Items;
+use mur_model::{Command, StatusItem, StatusItems};
 use std::alloc::Global;
 
 /// The names of status-att.

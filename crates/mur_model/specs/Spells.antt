@@ -5,7 +5,7 @@ use Rattle.std.specs.Option.{option_map}
 use Rattle.std.specs.Str.{str_to_ascii_lowercase, bytes_eq}
 use Rattle.mur_base.specs.Names.{mail_name_fault}
 use Rattle.mur_model.specs.declared.command.Command.{Command}
-use Rattle.mur_model.specs.declared.command.Command.TheVariants.{Create}
+use Rattle.mur_model.specs.declared.command.Command.TheVariants.{Login, Create, Append, Status}
 use Rattle.mur_model.specs.declared.command.Tag.{Tag}
 use Rattle.mur_model.specs.declared.command.Tag.TheVariants.{Star, Text}
 use Rattle.mur_model.specs.ReplyText.{crlf}
@@ -65,9 +65,12 @@ pub record SpellsCreate (text name : List ℕ) : Type 0 where
   pub keyword : is_word (codes "create") word ≡ true
   pub named : is_create_name name ≡ true
 
--- a command without its tag and its CRLF
+-- a command without its tag and its CRLF; the others are not spelled yet
 abbrev pub SpellsCommand : List ℕ → Command → Type 0
+SpellsCommand text (Login user password) = ⊥
 SpellsCommand text (Create name) = SpellsCreate text name
+SpellsCommand text (Append mailbox message) = ⊥
+SpellsCommand text (Status mailbox items) = ⊥
 
 -- tag SP command CRLF
 pub record Spells (frame tag : List ℕ) (command : Command) : Type 0 where

@@ -8,7 +8,7 @@ mod reply;
 mod session;
 mod store;
 
-pub use command::{Command, Tag};
+pub use command::{Command, StatusItem, StatusItems, Tag};
 pub use model::act;
 pub use reply::{BadText, Code, NoText, Reply, Verdict};
 pub use session::Sess;
