@@ -1,13 +1,12 @@
 -- After every step each name has at most one writable home.
-use Rattle.std.proofs.Common.{◌≡◌, ℕ, ◌+◌, ◌≤◌, Bool, true, false, cond, nat_eq, List, [], ◌∷◌, map, Option, None, Some, refl, sym, ◌∙◌, ap, arith, zero-add}
+use Rattle.std.proofs.Common.{◌≡◌, ℕ, ◌+◌, ◌≤◌, Bool, true, false, cond, List, [], ◌∷◌, map, Option, None, Some, refl, sym, ◌∙◌, ap, arith, zero-add}
 use Rattle.std.specs.Prelude.{All, count_by}
 use Rattle.std.specs.declared.cmp.Ordering.TheVariants.{Less, Equal}
 use Rattle.std.specs.Ordering.{nat_cmp}
-use Rattle.std.specs.Cmp.Lexicographic.{slice_cmp, pointwise}
+use Rattle.std.specs.Cmp.Lexicographic.{slice_cmp}
 use Rattle.std.specs.Map.{keys_of}
 use Rattle.std.specs.Str.{bytes_eq}
 use Rattle.std.specs.List.Sorted.{IsStrictlySortedBy}
-use Rattle.std.proofs.lemmas.Bool.Decides.{nat_tests}
 use Rattle.std.proofs.lemmas.Cmp.{tied_itself, nat_list_cmp_total}
 use Rattle.std.proofs.lemmas.List.Elements.{All-head, All-tail}
 use Rattle.std.proofs.lemmas.List.Sums.{sum_by-append}
@@ -34,6 +33,7 @@ use Rattle.cluster_core.specs.Home.{answer, serve, create, create_at, make}
 use Rattle.cluster_core.specs.HomeLaw.{is_open, is_writable_home, HasOneHomeEach, KeepsOneHomeEach}
 use Rattle.cluster_core.specs.Shown.{home_row, home_rows}
 use Rattle.cluster_core.specs.Turn.{Turn, take_line, take_byte, take_byte_by, take_bytes}
+use Rattle.cluster_core.proofs.ReadLineLaw.{same_bytes}
 use Rattle.cluster_core.specs.World.{start, open_at, data_at, stepped, takes, happens, run}
 
 -- the names of a home rise
@@ -113,14 +113,6 @@ run_rises world (event ∷ events) rises = run_rises (happens world event) event
 start_rises : (config : Config) → RisesIn (start config).home
 unfolding start IsStrictlySortedBy
 start_rises config = tt
-
-same_bytes : (xs ys : List ℕ) → pointwise nat_eq xs ys ≡ true → xs ≡ ys
-same_bytes [] [] h = refl
-same_bytes [] (y ∷ ys) h = cc
-same_bytes (x ∷ xs) [] h = cc
-same_bytes (x ∷ xs) (y ∷ ys) h =
-    let heads : x ≡ y = grind (arith, nat_tests) in
-    let tails = same_bytes xs ys (grind (arith, nat_tests)) in cc
 
 is_home_if : (node name : List ℕ) (e : List ℕ × MailBox) → is_writable_home name (home_row node e) ≡ bytes_eq e.0 name
 unfolding is_open

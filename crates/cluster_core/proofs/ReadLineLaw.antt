@@ -1,5 +1,5 @@
 -- A line is read as the command that its frame spells, and as none where it spells none.
-use Rattle.std.proofs.Common.{◌≡◌, ℕ, ◌-◌, Bool, true, false, ◌&&◌, not, nat_eq, List, [], ◌∷◌, ◌++◌, length, take, map, Option, None, Some, refl, sym, ◌∙◌, ap, subst, arith, append_assoc, length-append, codes}
+use Rattle.std.proofs.Common.{◌≡◌, ℕ, ◌-◌, Bool, true, false, ◌&&◌, not, nat_eq, List, [], ◌∷◌, ◌++◌, length, map, Option, None, Some, refl, sym, ◌∙◌, ap, subst, arith, append_assoc, length-append, codes}
 use Rattle.std.specs.Char.{to_ascii_lowercase}
 use Rattle.std.specs.List.{list_all}
 use Rattle.std.specs.Cmp.Lexicographic.{pointwise}
@@ -10,7 +10,7 @@ use Rattle.mur_model.specs.declared.command.Tag.{Tag}
 use Rattle.mur_model.specs.declared.command.Tag.TheVariants.{Star, Text}
 use Rattle.mur_model.specs.ReplyText.{crlf}
 use Rattle.mur_model.specs.Spells.{is_tag, is_tag_byte, is_word, is_create_name, SpellsCreate, Spells, split_once, without_crlf, refusal_tag}
-use Rattle.mur_model.proofs.SplitOnce.{lacks, split_once-first, split_once-parts}
+use Rattle.mur_model.proofs.SplitOnce.{lacks, split_once-first, split_once-parts, take_front}
 use Rattle.cluster_core.specs.declared.line.Line.{Line}
 use Rattle.cluster_core.specs.ReadLine.{create_of, command_of, tagged_line, split_line, line_of}
 
@@ -18,10 +18,6 @@ use Rattle.cluster_core.specs.ReadLine.{create_of, command_of, tagged_line, spli
 pub data Reading (frame : List ℕ) : Line → Type 0 where
   a_command : (tag : List ℕ) (it : Command) → Spells frame tag it → Reading frame (record { tag = Text tag; command = Some it })
   no_command : (tag : Tag) → tag ≡ refusal_tag frame → ((other : List ℕ) (it : Command) → Spells frame other it → ⊥) → Reading frame (record { tag = tag; command = None })
-
-take_front : (w r : List ℕ) → take (length w) (w ++ r) ≡ w
-take_front [] r = refl
-take_front (b ∷ w) r = ap (λ t. b ∷ t) (take_front w r)
 
 without_crlf-line : (text : List ℕ) → without_crlf (text ++ crlf) ≡ text
 without_crlf-line text =
@@ -58,7 +54,8 @@ all_mapped : (p : ℕ → Bool) (f : ℕ → ℕ) (text : List ℕ) → list_all
 all_mapped p f [] = refl
 all_mapped p f (b ∷ text) = ap (λ t. p (f b) && t) (all_mapped p f text)
 
-same_bytes : (xs ys : List ℕ) → pointwise nat_eq xs ys ≡ true → xs ≡ ys
+-- texts that compare equal are the same
+pub same_bytes : (xs ys : List ℕ) → pointwise nat_eq xs ys ≡ true → xs ≡ ys
 same_bytes [] [] h = refl
 same_bytes [] (y ∷ ys) h = cc
 same_bytes (x ∷ xs) [] h = cc

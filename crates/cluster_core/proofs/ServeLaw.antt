@@ -94,7 +94,8 @@ unknown_alike store home it free h s same = record {
   free = free;
   same_verdict = rw (h, s) refl;
   still = rw (h, s) same;
-  rises = rw h (omega arith) }
+  rises = rw h (omega arith);
+}
 
 -- as long as a serial is left the home serves as the store does
 pub serves_alike : (store : Store) (home : Home) (it : Command) → home.last_serial < 2 ^ 32 - 1 → IsStoreOf store home → ServesAlike store home it

@@ -21,7 +21,8 @@ place : (byte : ℕ) (w r : List ℕ) → list_all (λ c. not (nat_eq c byte)) w
 place byte [] r free = let same : nat_eq byte byte ≡ true = grind (arith, nat_tests) in rw same refl
 place byte (b ∷ w) r free = place_by byte b w r (nat_eq b byte) refl (place byte w r) free
 
-take_front : (w r : List ℕ) → take (length w) (w ++ r) ≡ w
+-- the first bytes of a text that begins so
+pub take_front : (w r : List ℕ) → take (length w) (w ++ r) ≡ w
 take_front [] r = refl
 take_front (b ∷ w) r = ap (λ t. b ∷ t) (take_front w r)
 
