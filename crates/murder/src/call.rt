@@ -41,8 +41,8 @@ fn work<H: Host>(alloc: Global, host: &mut H, words: &Vec<String>) -> Status
     }
 }
 
-// Tells how a call ended. A fault there changes nothing.
-fn tell<H: Host>(alloc: Global, host: &mut H, status: &Status)
+/// Tells on the error output how a call ended, unless all was done. A fault there changes nothing.
+pub fn tell<H: Host>(alloc: Global, host: &mut H, status: &Status)
     ensures told { DidTell (line_of status.now) (H.faults host.old).errors (H.faults host.new).errors (record { asked = H.asked host.old; returned = H.returned host.old }) (record { asked = H.asked host.new; returned = H.returned host.new }) }
     ensures counts { HaveNotFallen (H.faults host.old) (H.faults host.new) }
     ensures held { H.held host.new ≡ H.held host.old }

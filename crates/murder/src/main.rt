@@ -10,26 +10,32 @@ mod replay;
 mod status;
 mod words;
 
-use crate::call::murder;
+use crate::call::{murder, tell};
 use crate::host::SystemHost;
+use crate::status::Status;
+use mur_base::Memory;
 use std::env;
+use std::io::ErrorKind;
 use std::process::ExitCode;
 
-// The words behind the program's name. Where they can't be had, there are none.
-fn given_words(rt: &HostRuntime) -> Vec<String> {
+// The words behind the program's name. Where one of them isn't text, there are none.
+fn given_words(rt: &HostRuntime) -> Result<Vec<String>, Memory> {
     match env::args(rt) {
-        Ok(args) => args
-            .skip(1)
-            .collect(rt.alloc())
-            .unwrap_or_else(|_| Vec::new(rt.alloc())),
-        Err(_) => Vec::new(rt.alloc()),
+        Ok(args) => Ok(args.skip(1).collect(rt.alloc())?),
+        Err(error) if error.kind() == ErrorKind::OutOfMemory => Err(Memory),
+        Err(_) => Ok(Vec::new(rt.alloc())),
     }
 }
 
 fn main(rt: HostRuntime) -> ExitCode {
-    let words = given_words(&rt);
     let mut host = SystemHost::new(rt.alloc(), &rt, rt.stdout(), rt.stderr());
-    let status = murder(rt.alloc(), &mut host, &words);
+    let status = match given_words(&rt) {
+        Ok(words) => murder(rt.alloc(), &mut host, &words),
+        Err(Memory) => {
+            tell(rt.alloc(), &mut host, &Status::Memory);
+            Status::Memory
+        }
+    };
     ExitCode::from(status.code())
 }
 
