@@ -3,7 +3,7 @@ ghost use Rattle.imap_command.specs.Print.{IsString};
 
 use super::*;
 use mur_base::{Bytes, Memory};
-use mur_model::Tag;
+use mur_model::{Command, Tag};
 use std::test::Fail;
 
 /// Where a frame spells no command, and the length of the tag that it has.
