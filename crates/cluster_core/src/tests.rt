@@ -55,6 +55,30 @@ fn bytes_may_be_cut_anywhere(rt: HostRuntime) -> Result<(), Fail> {
     Ok(())
 }
 
+// What one store replies to a CREATE, at the end of `told`.
+fn create_beside(
+    alloc: Global,
+    store: &mut Store,
+    session: &mut Sess,
+    tag: &[u8],
+    serial: u32,
+    told: &mut Bytes,
+) -> Result<(), Fail> {
+    let command = Command::Create(Bytes::from_slice(alloc, b"user.bob")?);
+    let reply = act(alloc, store, session, &command, serial)?;
+    write_reply(&Tag::Text(Bytes::from_slice(alloc, tag)?), &reply, told)?;
+    Ok(())
+}
+
+// What is replied to a line that spells nothing, at the end of `told`.
+fn refuse_beside(tag: &Tag, told: &mut Bytes) -> Result<(), Fail> {
+    let refused = Reply {
+        verdict: Verdict::Bad(BadText::Syntax),
+    };
+    write_reply(tag, &refused, told)?;
+    Ok(())
+}
+
 #[test]
 fn one_store_gives_the_same_replies(rt: HostRuntime) -> Result<(), Fail> {
     let alloc = rt.alloc();
@@ -64,23 +88,10 @@ fn one_store_gives_the_same_replies(rt: HostRuntime) -> Result<(), Fail> {
     };
     let mut session = Sess::In(user_name(alloc, b"adm")?);
     let mut told = greeting(alloc)?;
-    let mut serial = 1;
-    for tag in [b"a1", b"a2"] {
-        let command = Command::Create(Bytes::from_slice(alloc, b"user.bob")?);
-        let reply = act(alloc, &mut store, &mut session, &command, serial)?;
-        write_reply(
-            &Tag::Text(Bytes::from_slice(alloc, tag)?),
-            &reply,
-            &mut told,
-        )?;
-        serial += 1;
-    }
-    for tag in [Tag::Text(Bytes::from_slice(alloc, b"a3")?), Tag::Star] {
-        let refused = Reply {
-            verdict: Verdict::Bad(BadText::Syntax),
-        };
-        write_reply(&tag, &refused, &mut told)?;
-    }
+    create_beside(alloc, &mut store, &mut session, b"a1", 1, &mut told)?;
+    create_beside(alloc, &mut store, &mut session, b"a2", 2, &mut told)?;
+    refuse_beside(&Tag::Text(Bytes::from_slice(alloc, b"a3")?), &mut told)?;
+    refuse_beside(&Tag::Star, &mut told)?;
     assert_eq!(rt; told.as_slice(), TOLD);
     Ok(())
 }

@@ -2,7 +2,7 @@
 ghost use Rattle.std.specs.Prelude.{◌≡◌, ℕ, IfOk};
 ghost use Rattle.mur_base.specs.Names.{mail_name_fault};
 ghost use Rattle.mur_model.specs.Store.{box_at};
-ghost use Rattle.mur_model.specs.Act.{act_of, serve, create, create_at, MayGive};
+ghost use Rattle.mur_model.specs.Act.{act_of, serve, create, create_at};
 
 use crate::command::Command;
 use crate::reply::{BadText, Code, NoText, Reply, Verdict};
@@ -12,7 +12,7 @@ use mur_base::{Bytes, Copied, MailName, Memory, NameFault, mail_name};
 use std::alloc::Global;
 
 /// Carries out one command on the store and gives its reply (RFC 9051, 6). A mailbox that is made gets the serial as
-/// its UIDVALIDITY, which has to be free there. For want of memory nothing is said of the store.
+/// its UIDVALIDITY; a history is legal only where that was free. For want of memory nothing is said of the store.
 #[tactic(auto, unfolding(crate::specs::Act::act_of))]
 pub fn act(
     alloc: Global,
@@ -21,7 +21,6 @@ pub fn act(
     command: &Command,
     serial: u32,
 ) -> Result<Reply, Memory>
-    requires { MayGive store.old command.now serial }
     ensures { IfOk result (λ reply. record { store = store.new; session = sess.new; reply = reply } ≡ act_of store.old sess.old command.now serial) }
 {
     match sess {

@@ -28,18 +28,16 @@ fn mailboxes_are_created_once(rt: HostRuntime) -> Result<(), Fail> {
     let alloc = rt.alloc();
     let mut store = no_store(alloc);
     let mut session = Sess::In(user_name(alloc, b"adm")?);
-    let rows: [(&[u8], &str); 4] = [
-        (b"user.bob", "ok"),
-        (b"user.bob", "there"),
-        (b"a..b", "no name"),
-        (b"user.bob.work", "ok"),
+    let rows: [(&[u8], u32, &str); 4] = [
+        (b"user.bob", 1, "ok"),
+        (b"user.bob", 2, "there"),
+        (b"a..b", 2, "no name"),
+        (b"user.bob.work", 2, "ok"),
     ];
-    let mut serial = 1;
-    for (name, wanted) in rows {
+    for (name, serial, wanted) in rows {
         let command = Command::Create(Bytes::from_slice(alloc, name)?);
         let reply = act(alloc, &mut store, &mut session, &command, serial)?;
         assert!(rt; kind(&reply) == wanted, "{name:?}");
-        serial += 1;
     }
     assert_eq!(rt; store.boxes.len(), 2);
     assert_eq!(rt; store.given.len(), 2);
