@@ -91,8 +91,8 @@ impl Cluster {
         self.world.points.copy(alloc)
     }
 
-    #[tactic(auto, unfolding(crate::specs::Shown::given_to))]
     /// The bytes given to the client of a connection so far; none where there is no such connection.
+    #[tactic(auto, unfolding(crate::specs::Shown::given_to))]
     pub fn sent(&self, conn: u64) -> &[u8]
         ensures { result.now ≡ given_to self.now conn }
     {

@@ -6,8 +6,8 @@ ghost use Rattle.cluster_core.specs.Nodes.{frontend_of};
 use crate::config::{Config, Kind};
 use mur_base::NodeName;
 
-#[tactic(auto, unfolding(crate::specs::Nodes::frontend_of))]
 /// The name of the first frontend, if the configuration has one.
+#[tactic(auto, unfolding(crate::specs::Nodes::frontend_of))]
 pub fn frontend(config: &Config) -> Option<&NodeName>
     ensures { option_copied result ≡ frontend_of config.now.nodes }
 {

@@ -1,8 +1,8 @@
 // What no clause says: that the cluster's calls succeed where there is memory, and what clients see of a short run. The
-// replies are also those of `act` on one store beside the cluster.
+// replies to a table of lines are also those of `act` on one store beside the cluster.
 use crate::reply_text::{greeting, write_reply};
-use crate::{Cluster, Event, Events, KNOWN_CONFIG, read_config, read_schedule, run};
-use mur_base::{Bytes, Items, Map, Phase, What, user_name};
+use crate::{Cluster, Event, KNOWN_CONFIG, headline, put_text, read_config, read_schedule, run};
+use mur_base::{Bytes, Items, Map, Memory, Phase, What, node_name, put_number, user_name};
 use mur_model::{BadText, Command, Reply, Sess, Store, Tag, Verdict, act};
 use std::alloc::Global;
 use std::test::Fail;
@@ -48,6 +48,17 @@ fn a_name_is_created_once(rt: HostRuntime) -> Result<(), Fail> {
 }
 
 #[test]
+fn a_connection_is_greeted_in_its_step(rt: HostRuntime) -> Result<(), Fail> {
+    let config = read_config(rt.alloc(), KNOWN_CONFIG)?;
+    let mut cluster = Cluster::new(rt.alloc(), &config)?;
+    cluster.step(&Event::Open(node_name(rt.alloc(), b"f1")?, 7))?;
+    assert_eq!(rt; cluster.steps(), 1);
+    assert_eq!(rt; cluster.sent(7), greeting(rt.alloc())?.as_slice());
+    headline();
+    Ok(())
+}
+
+#[test]
 fn bytes_may_be_cut_anywhere(rt: HostRuntime) -> Result<(), Fail> {
     let cluster = cluster_after(rt.alloc(), CUT)?;
     assert_eq!(rt; cluster.sent(1), TOLD);
@@ -55,43 +66,148 @@ fn bytes_may_be_cut_anywhere(rt: HostRuntime) -> Result<(), Fail> {
     Ok(())
 }
 
-// What one store replies to a CREATE, at the end of `told`.
-fn create_beside(
-    alloc: Global,
-    store: &mut Store,
-    session: &mut Sess,
-    tag: &[u8],
-    serial: u32,
-    told: &mut Bytes,
-) -> Result<(), Fail> {
-    let command = Command::Create(Bytes::from_slice(alloc, b"user.bob")?);
-    let reply = act(alloc, store, session, &command, serial)?;
-    write_reply(&Tag::Text(Bytes::from_slice(alloc, tag)?), &reply, told)?;
-    Ok(())
+// A line of a client without its CRLF, and what it says by hand: its tag, if one reads, and the name that it creates, if it
+// spells a command, with the UIDVALIDITY that is the next one then.
+#[derive(Clone, Copy)]
+struct Row {
+    conn: u64,
+    line: &'static [u8],
+    tag: Option<&'static [u8]>,
+    creates: Option<(&'static [u8], u32)>,
 }
 
-// What is replied to a line that spells nothing, at the end of `told`.
-fn refuse_beside(tag: &Tag, told: &mut Bytes) -> Result<(), Fail> {
-    let refused = Reply {
-        verdict: Verdict::Bad(BadText::Syntax),
+// A row whose line spells no command.
+fn refused(conn: u64, line: &'static [u8], tag: Option<&'static [u8]>) -> Row {
+    Row {
+        conn,
+        line,
+        tag,
+        creates: None,
+    }
+}
+
+// A row whose line is a CREATE.
+fn create(
+    conn: u64,
+    line: &'static [u8],
+    tag: &'static [u8],
+    name: &'static [u8],
+    serial: u32,
+) -> Row {
+    Row {
+        conn,
+        line,
+        tag: Some(tag),
+        creates: Some((name, serial)),
+    }
+}
+
+fn rows() -> [Row; 18] {
+    [
+        create(1, b"a1 CREATE user.bob", b"a1", b"user.bob", 1),
+        create(2, b"b1 create user.bob", b"b1", b"user.bob", 2),
+        create(1, b"a2 CrEaTe user.bob.work", b"a2", b"user.bob.work", 2),
+        // Names are compared byte by byte.
+        create(2, b"b2 CREATE USER.BOB", b"b2", b"USER.BOB", 3),
+        create(1, b"a3 CREATE USER.BOB", b"a3", b"USER.BOB", 4),
+        create(1, b"a4 CREATE inboxes", b"a4", b"inboxes", 4),
+        create(2, b"b3 CREATE x.Inbox", b"b3", b"x.Inbox", 5),
+        refused(1, b"a5 NOOP", Some(b"a5")),
+        refused(2, b"", None),
+        refused(2, b"b4", None),
+        refused(1, b"a6 CREATE INBOX", Some(b"a6")),
+        refused(1, b"a7 CREATE inBox.x", Some(b"a7")),
+        refused(2, b"b5 CREATE a..b", Some(b"b5")),
+        refused(2, b"b6 CREATE x ", Some(b"b6")),
+        refused(1, b"a8 CREATE x]", Some(b"a8")),
+        refused(1, b"a+9 CREATE x", None),
+        refused(2, b"abcdefghijklmnopqrstuvwxyz0123456 CREATE x", None),
+        create(
+            2,
+            b"abcdefghijklmnopqrstuvwxyz012345 CREATE x",
+            b"abcdefghijklmnopqrstuvwxyz012345",
+            b"x",
+            6,
+        ),
+    ]
+}
+
+// A schedule in which each row's line comes from its client.
+fn schedule_of(alloc: Global, rows: &[Row]) -> Result<Bytes, Memory> {
+    let mut schedule = Bytes::from_slice(alloc, b"open f1 1\nopen f1 2\n")?;
+    for row in rows {
+        schedule.extend_from_slice(b"data ")?;
+        put_number(row.conn, &mut schedule)?;
+        schedule.push(b' ')?;
+        put_text(row.line, &mut schedule)?;
+        schedule.extend_from_slice(b"\\r\\n\n")?;
+    }
+    Ok(schedule)
+}
+
+// One store beside the cluster, and what its clients 1 and 2 are told.
+#[derive(Drop)]
+struct Beside {
+    store: Store,
+    session: Sess,
+    first: Bytes,
+    second: Bytes,
+}
+
+fn beside(alloc: Global) -> Result<Beside, Fail> {
+    Ok(Beside {
+        store: Store {
+            boxes: Map::new(alloc),
+            given: Items::new(alloc),
+        },
+        session: Sess::In(user_name(alloc, b"adm")?),
+        first: greeting(alloc)?,
+        second: greeting(alloc)?,
+    })
+}
+
+// Lets the store take the command of a row, and puts its reply behind what the row's client was told.
+fn take_beside(alloc: Global, beside: &mut Beside, row: Row) -> Result<(), Fail> {
+    let reply = match row.creates {
+        Some((name, serial)) => {
+            let command = Command::Create(Bytes::from_slice(alloc, name)?);
+            act(
+                alloc,
+                &mut beside.store,
+                &mut beside.session,
+                &command,
+                serial,
+            )?
+        }
+        None => Reply {
+            verdict: Verdict::Bad(BadText::Syntax),
+        },
     };
-    write_reply(tag, &refused, told)?;
+    let tag = match row.tag {
+        Some(text) => Tag::Text(Bytes::from_slice(alloc, text)?),
+        None => Tag::Star,
+    };
+    if row.conn == 1 {
+        write_reply(&tag, &reply, &mut beside.first)?;
+    } else {
+        write_reply(&tag, &reply, &mut beside.second)?;
+    }
     Ok(())
 }
 
 #[test]
 fn one_store_gives_the_same_replies(rt: HostRuntime) -> Result<(), Fail> {
     let alloc = rt.alloc();
-    let mut store = Store {
-        boxes: Map::new(alloc),
-        given: Items::new(alloc),
-    };
-    let mut session = Sess::In(user_name(alloc, b"adm")?);
-    let mut told = greeting(alloc)?;
-    create_beside(alloc, &mut store, &mut session, b"a1", 1, &mut told)?;
-    create_beside(alloc, &mut store, &mut session, b"a2", 2, &mut told)?;
-    refuse_beside(&Tag::Text(Bytes::from_slice(alloc, b"a3")?), &mut told)?;
-    refuse_beside(&Tag::Star, &mut told)?;
-    assert_eq!(rt; told.as_slice(), TOLD);
+    let mut beside = beside(alloc)?;
+    let rows = rows();
+    for row in rows {
+        take_beside(alloc, &mut beside, row)?;
+    }
+    let schedule = schedule_of(alloc, &rows)?;
+    let cluster = cluster_after(alloc, schedule.as_slice())?;
+    assert_eq!(rt; cluster.sent(1), beside.first.as_slice());
+    assert_eq!(rt; cluster.sent(2), beside.second.as_slice());
+    assert_eq!(rt; cluster.world().home.boxes.len(), beside.store.boxes.len());
+    assert_eq!(rt; beside.store.boxes.len(), 6);
     Ok(())
 }

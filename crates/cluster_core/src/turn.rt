@@ -18,8 +18,8 @@ pub struct Place {
     pub conn: u64,
 }
 
-#[tactic(auto, unfolding(crate::specs::Turn::take_bytes))]
 /// Takes bytes of a client: each line that they complete is answered. For want of memory all three are spent.
+#[tactic(auto, unfolding(crate::specs::Turn::take_bytes))]
 pub fn take_bytes(
     alloc: Global,
     place: Place,

@@ -1,7 +1,7 @@
 // What no clause says: that each call succeeds where there is memory, and answers as the rules' readers expect.
 use crate::{
-    AskId, Bytes, Copied, Items, MailName, Map, NameFault, Point, What, mail_name, node_name,
-    put_number, read_number, user_name,
+    AskId, Bytes, Copied, Items, MailName, Map, Memory, NameFault, Point, What, mail_name,
+    node_name, put_number, read_number, user_name,
 };
 use std::test::Fail;
 
@@ -116,5 +116,26 @@ fn lists_are_filled_and_copied(rt: HostRuntime) -> Result<(), Fail> {
     text.push(b'c')?;
     text.extend_from_slice(b"de")?;
     assert_eq!(rt; text.into_vec().as_slice(), b"abcde".as_slice());
+    let mut text = Bytes::from_slice(rt.alloc(), b"ab")?;
+    assert!(rt; !text.is_empty());
+    text.clear();
+    assert!(rt; text.is_empty());
+    Ok(())
+}
+
+#[test]
+fn names_are_compared_byte_by_byte(rt: HostRuntime) -> Result<(), Fail> {
+    let name = mail_name(rt.alloc(), b"user.bob")?;
+    let capitals = mail_name(rt.alloc(), b"USER.BOB")?;
+    assert!(rt; name.copy(rt.alloc())? == name);
+    assert!(rt; name != capitals);
+    assert!(rt; capitals.cmp(&name).is_lt());
+    Ok(())
+}
+
+#[test]
+fn want_of_memory_has_a_text(rt: HostRuntime) -> Result<(), Fail> {
+    let text = format!(in rt.alloc(); "{Memory}")?;
+    assert_eq!(rt; text.as_str(), "out of memory");
     Ok(())
 }

@@ -1,4 +1,5 @@
 pub mod Counts
+pub mod Fault
 pub mod Host
 pub mod Memory
 pub mod Returned

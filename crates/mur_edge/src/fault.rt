@@ -1,6 +1,7 @@
 // What a call of the edge answers when it fails.
-ghost use Rattle.std.specs.Prelude.{◌≡◌};
+ghost use Rattle.std.specs.Prelude.{◌≡◌, Some, codes};
 ghost use Rattle.mur_edge.specs.Counts.{Counts};
+ghost use Rattle.mur_edge.specs.Fault.{host_fault_text};
 ghost use Rattle.mur_edge.specs.declared.fault.HostFault.TheVariants.{Memory, Failed as failed};
 
 use mur_base::Memory;
@@ -12,6 +13,8 @@ use std::fmt;
 pub struct Failed;
 
 impl fmt::Display for Failed {
+    ghost output = { λ _. Some (codes "failed") };
+
     fn fmt<W: fmt::Write>(&self, f: &mut fmt::Formatter<W>) -> fmt::Result {
         write!(f, "failed")
     }
@@ -29,6 +32,8 @@ pub enum HostFault {
 }
 
 impl fmt::Display for HostFault {
+    ghost output = { λ fault. Some (host_fault_text fault) };
+
     fn fmt<W: fmt::Write>(&self, f: &mut fmt::Formatter<W>) -> fmt::Result {
         match self {
             HostFault::Failed => write!(f, "failed"),

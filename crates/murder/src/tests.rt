@@ -1,9 +1,12 @@
 // The row of the stored run over a host in memory, each of its calls failing in turn, and each refusal once.
+mod byte_host;
+
 use crate::call::murder;
 use crate::status::Status;
+use crate::tests::byte_host::ByteHost;
 use cluster_core::KNOWN_CONFIG;
 use mur_base::{Bytes, Items, Memory};
-use mur_edge::{Calls, MemHost, MemSources, mem_host, mem_sink, mem_source};
+use mur_edge::{Calls, Host, MemHost, MemSources, mem_host, mem_sink, mem_source};
 use std::alloc::{AllocError, Global};
 use std::process::Abort;
 use std::test::Fail;
@@ -94,7 +97,7 @@ fn words(alloc: Global, line: &str) -> Result<Vec<String>, AllocError> {
 }
 
 // It has no clause, so that the tests' proofs stay small.
-fn play(alloc: Global, host: &mut MemHost, line: &str) -> Result<Status, AllocError> {
+fn play<H: Host>(alloc: Global, host: &mut H, line: &str) -> Result<Status, AllocError> {
     let words = words(alloc, line)?;
     Ok(murder(alloc, host, &words))
 }
@@ -189,6 +192,56 @@ fn each_call_of_the_host_may_be_refused(rt: HostRuntime) -> Result<(), Fail> {
         assert_ends(&rt, rt.alloc(), &given, status, b"", errors)?;
     }
     Ok(())
+}
+
+// How a replay ends whose files come byte by byte and whose output goes byte by byte, and what it wrote.
+fn assert_ends_by_bytes(
+    rt: &impl Abort,
+    alloc: Global,
+    given: &Given<'_>,
+    status: Status,
+    output: &[u8],
+) -> Result<(), Fail> {
+    let mut bytes = ByteHost {
+        host: host(alloc, given)?,
+    };
+    let ended = play(alloc, &mut bytes, "replay config schedule")?;
+    assert_eq!(rt; ended, status);
+    assert_eq!(rt; bytes.host.output(), output);
+    assert_eq!(rt; bytes.host.held, 0);
+    Ok(())
+}
+
+#[test]
+fn each_byte_may_fail_to_be_read(rt: HostRuntime) -> Result<(), Fail> {
+    // The last read finds the end.
+    for call in 0..=KNOWN_CONFIG.len() as u64 {
+        let given = Given {
+            config_fails: &[call],
+            ..ROW
+        };
+        assert_ends_by_bytes(&rt, rt.alloc(), &given, Status::Read, b"")?;
+    }
+    for call in 0..=SCHEDULE.len() as u64 {
+        let given = Given {
+            schedule_fails: &[call],
+            ..ROW
+        };
+        assert_ends_by_bytes(&rt, rt.alloc(), &given, Status::Read, b"")?;
+    }
+    Ok(())
+}
+
+#[test]
+fn each_byte_may_fail_to_be_written(rt: HostRuntime) -> Result<(), Fail> {
+    for call in 0..OUTPUT.len() {
+        let given = Given {
+            out_fails: &[call as u64],
+            ..ROW
+        };
+        assert_ends_by_bytes(&rt, rt.alloc(), &given, Status::Write, &OUTPUT[..call])?;
+    }
+    assert_ends_by_bytes(&rt, rt.alloc(), &ROW, Status::Done, OUTPUT)
 }
 
 #[test]
