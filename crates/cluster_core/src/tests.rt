@@ -154,54 +154,55 @@ struct Beside {
     second: Bytes,
 }
 
-fn beside(alloc: Global) -> Result<Beside, Fail> {
-    Ok(Beside {
-        store: Store {
-            boxes: Map::new(alloc),
-            given: Items::new(alloc),
-        },
-        session: Sess::In(user_name(alloc, b"adm")?),
-        first: greeting(alloc)?,
-        second: greeting(alloc)?,
-    })
-}
-
-// Lets the store take the command of a row, and puts its reply behind what the row's client was told.
-fn take_beside(alloc: Global, beside: &mut Beside, row: Row) -> Result<(), Fail> {
-    let reply = match row.creates {
-        Some((name, serial)) => {
-            let command = Command::Create(Bytes::from_slice(alloc, name)?);
-            act(
-                alloc,
-                &mut beside.store,
-                &mut beside.session,
-                &command,
-                serial,
-            )?
-        }
-        None => Reply {
-            verdict: Verdict::Bad(BadText::Syntax),
-        },
-    };
-    let tag = match row.tag {
-        Some(text) => Tag::Text(Bytes::from_slice(alloc, text)?),
-        None => Tag::Star,
-    };
-    if row.conn == 1 {
-        write_reply(&tag, &reply, &mut beside.first)?;
-    } else {
-        write_reply(&tag, &reply, &mut beside.second)?;
+impl Beside {
+    fn new(alloc: Global) -> Result<Beside, Fail> {
+        Ok(Beside {
+            store: Store {
+                boxes: Map::new(alloc),
+                given: Items::new(alloc),
+            },
+            session: Sess::In(user_name(alloc, b"adm")?),
+            first: greeting(alloc)?,
+            second: greeting(alloc)?,
+        })
     }
-    Ok(())
+
+    // Lets the store take the command of a row, and puts its reply behind what the row's client was told.
+    fn take(&mut self, alloc: Global, row: Row) -> Result<(), Fail> {
+        let reply = self.reply(alloc, row)?;
+        let tag = match row.tag {
+            Some(text) => Tag::Text(Bytes::from_slice(alloc, text)?),
+            None => Tag::Star,
+        };
+        let told = if row.conn == 1 {
+            &mut self.first
+        } else {
+            &mut self.second
+        };
+        write_reply(&tag, &reply, told)?;
+        Ok(())
+    }
+
+    fn reply(&mut self, alloc: Global, row: Row) -> Result<Reply, Fail> {
+        match row.creates {
+            Some((name, serial)) => {
+                let command = Command::Create(Bytes::from_slice(alloc, name)?);
+                Ok(act(alloc, &mut self.store, &mut self.session, &command, serial)?)
+            }
+            None => Ok(Reply {
+                verdict: Verdict::Bad(BadText::Syntax),
+            }),
+        }
+    }
 }
 
 #[test]
 fn one_store_gives_the_same_replies(rt: HostRuntime) -> Result<(), Fail> {
     let alloc = rt.alloc();
-    let mut beside = beside(alloc)?;
+    let mut beside = Beside::new(alloc)?;
     let rows = rows();
     for row in rows {
-        take_beside(alloc, &mut beside, row)?;
+        beside.take(alloc, row)?;
     }
     let schedule = schedule_of(alloc, &rows)?;
     let cluster = cluster_after(alloc, schedule.as_slice())?;
