@@ -19,7 +19,8 @@ use Rattle.cluster_core.specs.declared.world.Home.{Home}
 use Rattle.cluster_core.specs.Home.{answer}
 use Rattle.cluster_core.proofs.ReadLineLaw.{Reading}
 use Rattle.cluster_core.proofs.ReadLineLaw.Reading.{a_command, no_command as nothing}
-use Rattle.cluster_core.proofs.ServeLaw.{IsStoreOf, ServesAlike, serves_alike}
+use Rattle.cluster_core.proofs.ServedAlike.{IsStoreOf, ServesAlike}
+use Rattle.cluster_core.proofs.ServeLaw.{serves_alike}
 
 -- an answer on both sides
 pub record AnswersAlike (course : Course) (home : Home) (conn : ℕ) (frame : List ℕ) (line : Line) : Type 0 where

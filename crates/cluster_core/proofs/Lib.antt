@@ -1,6 +1,8 @@
 mod FirstUser
 mod Room
 mod ReadLineLaw
+mod ServedAlike
+mod CreateLaw
 mod ServeLaw
 mod AnswerLaw
 mod TurnLaw

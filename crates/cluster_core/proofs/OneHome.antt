@@ -29,7 +29,8 @@ use Rattle.cluster_core.specs.declared.turn.Place.{Place}
 use Rattle.cluster_core.specs.declared.world.Connection.{Connection}
 use Rattle.cluster_core.specs.declared.world.Home.{Home}
 use Rattle.cluster_core.specs.declared.world.World.{World}
-use Rattle.cluster_core.specs.Home.{answer, serve, create, create_at, make}
+use Rattle.cluster_core.specs.Home.{answer, serve}
+use Rattle.cluster_core.specs.HomeCreate.{create, create_at, make}
 use Rattle.cluster_core.specs.HomeLaw.{is_open, is_writable_home, HasOneHomeEach, KeepsOneHomeEach}
 use Rattle.cluster_core.specs.Shown.{home_row, home_rows}
 use Rattle.cluster_core.specs.Turn.{Turn, take_line, take_byte, take_byte_by, take_bytes}

@@ -28,7 +28,7 @@ use Rattle.cluster_core.specs.World.{first_user}
 use Rattle.cluster_core.specs.Turn.{Turn, answer_point, line_answered, take_line, ends_in_cr, kept, take_byte, take_byte_by, take_bytes}
 use Rattle.cluster_core.proofs.AnswerLaw.{AnswersAlike, answers_alike}
 use Rattle.cluster_core.proofs.ReadLineLaw.{reading_of}
-use Rattle.cluster_core.proofs.ServeLaw.{IsStoreOf}
+use Rattle.cluster_core.proofs.ServedAlike.{IsStoreOf}
 
 -- the history so far is that of one store, whose boxes the home has
 pub record IsTold (points : List Point) (home : Home) (frames replies : ℕ → List (List ℕ)) (course : Course) : Type 0 where

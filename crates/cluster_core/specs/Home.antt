@@ -1,51 +1,15 @@
 -- What the node that holds the mailboxes does with a command.
-use Rattle.std.specs.Prelude.{ℕ, ◌+◌, ◌-◌, ◌^◌, Bool, true, false, ◌==◌, List, Option, None, Some, codes}
-use Rattle.std.specs.Ordering.{nat_cmp}
-use Rattle.std.specs.Cmp.Lexicographic.{slice_cmp}
-use Rattle.mur_base.specs.declared.name.NameFault.{NameFault}
-use Rattle.mur_base.specs.Map.{value_at, with_entry}
+use Rattle.std.specs.Prelude.{Option, None, Some}
 use Rattle.mur_base.specs.Names.{mail_name_fault}
 use Rattle.mur_model.specs.declared.command.Command.{Command}
 use Rattle.mur_model.specs.declared.command.Command.TheVariants.{Login, Create, Append, Status}
-use Rattle.mur_model.specs.declared.reply.Verdict.{Verdict}
-use Rattle.mur_model.specs.declared.reply.Verdict.TheVariants.{Ok as ok_reply, No as no_reply, Bad as bad_reply}
-use Rattle.mur_model.specs.declared.reply.Code.TheVariants.{None as no_code}
-use Rattle.mur_model.specs.declared.reply.NoText.TheVariants.{AlreadyExists, NonExistent, Limit}
+use Rattle.mur_model.specs.declared.reply.Verdict.TheVariants.{Bad as bad_reply}
 use Rattle.mur_model.specs.declared.reply.BadText.TheVariants.{Syntax, State}
 use Rattle.mur_model.specs.declared.session.Sess.{Sess}
 use Rattle.mur_model.specs.declared.session.Sess.TheVariants.{Off, In, Ended}
-use Rattle.mur_model.specs.declared.store.MailBox.{MailBox}
-use Rattle.mur_model.specs.Store.{new_box}
 use Rattle.cluster_core.specs.declared.world.Home.{Home}
-
--- the home after a command, and the tagged line of its reply
-pub record Served : Type 0 where
-  pub home : Home
-  pub verdict : Verdict
-
-abbrev pub refused : Home → Verdict → Served
-refused home verdict = record { home = home; verdict = verdict }
-
--- a mailbox is made, unless no UIDVALIDITY is left
-unfoldable pub make : Home → List ℕ → Bool → Served
-make home name true = refused home (no_reply Limit)
-make home name false = record {
-  home = record {
-    boxes = with_entry (slice_cmp nat_cmp) home.boxes name (new_box (home.last_serial + 1));
-    last_serial = home.last_serial + 1;
-  };
-  verdict = ok_reply no_code (codes "CREATE");
-}
-
--- CREATE of a name, by what stands there
-unfoldable pub create_at : Home → List ℕ → Option MailBox → Served
-create_at home name (Some there) = refused home (no_reply AlreadyExists)
-create_at home name None = make home name (home.last_serial == 2 ^ 32 - 1)
-
--- CREATE of a text, by the rule of names that it breaks
-unfoldable pub create : Home → List ℕ → Option NameFault → Served
-create home text (Some fault) = refused home (no_reply NonExistent)
-create home text None = create_at home text (value_at (slice_cmp nat_cmp) home.boxes text)
+use Rattle.cluster_core.specs.HomeCreate.{create}
+use Rattle.cluster_core.specs.HomeServed.{Served, refused}
 
 unfoldable pub serve : Home → Command → Served
 serve home (Login user password) = refused home (bad_reply Syntax)

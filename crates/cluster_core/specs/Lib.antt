@@ -1,5 +1,7 @@
 pub mod Nodes
 pub mod ReadLine
+pub mod HomeServed
+pub mod HomeCreate
 pub mod Home
 pub mod Turn
 pub mod World

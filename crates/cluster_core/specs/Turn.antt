@@ -11,7 +11,8 @@ use Rattle.cluster_core.specs.declared.line.Line.{Line}
 use Rattle.cluster_core.specs.declared.turn.Place.{Place}
 use Rattle.cluster_core.specs.declared.world.Connection.{Connection}
 use Rattle.cluster_core.specs.declared.world.Home.{Home}
-use Rattle.cluster_core.specs.Home.{Served, answer}
+use Rattle.cluster_core.specs.Home.{answer}
+use Rattle.cluster_core.specs.HomeServed.{Served}
 use Rattle.cluster_core.specs.ReadLine.{line_of}
 
 -- a connection, the home, and the history

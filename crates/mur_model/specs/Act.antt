@@ -1,40 +1,18 @@
 -- What one command does to the store and its session, and its reply (RFC 9051, 6). Refusals are tested in the order
 -- state, missing mailbox, mailbox that is there; a refused command leaves store and session as they were.
-use Rattle.std.specs.Prelude.{◌≡◌, ℕ, List, Option, None, Some, codes, ⊤}
-use Rattle.mur_base.specs.declared.name.NameFault.{NameFault}
+use Rattle.std.specs.Prelude.{ℕ, ⊤}
 use Rattle.mur_base.specs.Names.{mail_name_fault}
 use Rattle.mur_model.specs.declared.command.Command.{Command}
 use Rattle.mur_model.specs.declared.command.Command.TheVariants.{Login, Create, Append, Status}
 use Rattle.mur_model.specs.declared.reply.Reply.{Reply}
 use Rattle.mur_model.specs.declared.reply.Verdict.{Verdict}
-use Rattle.mur_model.specs.declared.reply.Verdict.TheVariants.{Ok as ok_reply, No as no_reply, Bad as bad_reply}
-use Rattle.mur_model.specs.declared.reply.Code.TheVariants.{None as no_code}
-use Rattle.mur_model.specs.declared.reply.NoText.TheVariants.{AlreadyExists, NonExistent}
-use Rattle.mur_model.specs.declared.reply.BadText.TheVariants.{Syntax, State}
+use Rattle.mur_model.specs.declared.reply.Verdict.TheVariants.{Bad as bad_reply}
+use Rattle.mur_model.specs.declared.reply.BadText.TheVariants.{State}
 use Rattle.mur_model.specs.declared.session.Sess.{Sess}
 use Rattle.mur_model.specs.declared.session.Sess.TheVariants.{Off, In, Ended}
-use Rattle.mur_model.specs.declared.store.MailBox.{MailBox}
 use Rattle.mur_model.specs.declared.store.Store.{Store}
-use Rattle.mur_model.specs.Store.{box_at, with_box, IsFree}
-
--- the store after a command of an authenticated session, and the tagged line of its reply
-pub record Served : Type 0 where
-  pub store : Store
-  pub verdict : Verdict
-
--- CREATE of a name, by what stands there (RFC 9051, 6.3.4)
-unfoldable pub create_at : Store → List ℕ → ℕ → Option MailBox → Served
-create_at store name serial (Some there) = record { store = store; verdict = no_reply AlreadyExists }
-create_at store name serial None = record { store = with_box store name serial; verdict = ok_reply no_code (codes "CREATE") }
-
--- CREATE of a text, by the rule of names that it breaks
-unfoldable pub create : Store → List ℕ → ℕ → Option NameFault → Served
-create store text serial (Some fault) = record { store = store; verdict = no_reply NonExistent }
-create store text serial None = create_at store text serial (box_at store text)
-
--- a command that the store doesn't know yet
-abbrev pub unknown : Store → Served
-unknown store = record { store = store; verdict = bad_reply Syntax }
+use Rattle.mur_model.specs.Create.{create, MayCreate}
+use Rattle.mur_model.specs.Served.{Served, unknown}
 
 -- a command of an authenticated session
 unfoldable pub serve : Store → Command → ℕ → Served
@@ -63,6 +41,6 @@ act_of store Ended command serial = record { store = store; session = Ended; rep
 -- the serial is free where the command makes a mailbox
 unfoldable pub MayGive : Store → Command → ℕ → Type 0
 MayGive store (Login user password) serial = ⊤
-MayGive store (Create text) serial = box_at store text ≡ None → IsFree store text serial
+MayGive store (Create text) serial = MayCreate store text serial
 MayGive store (Append mailbox message) serial = ⊤
 MayGive store (Status mailbox items) serial = ⊤

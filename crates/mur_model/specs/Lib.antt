@@ -1,4 +1,6 @@
 pub mod Store
+pub mod Served
+pub mod Create
 pub mod Act
 pub mod ReplyText
 pub mod Spells

@@ -3,6 +3,7 @@
 #![tactic(auto)]
 
 mod command;
+mod create;
 mod model;
 mod reply;
 mod session;

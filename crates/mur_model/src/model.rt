@@ -1,14 +1,13 @@
 // The store as it can be run: one command at a time, on one store.
-ghost use Rattle.std.specs.Prelude.{◌≡◌, ℕ, IfOk};
-ghost use Rattle.mur_base.specs.Names.{mail_name_fault};
-ghost use Rattle.mur_model.specs.Store.{box_at};
-ghost use Rattle.mur_model.specs.Act.{act_of, serve, create, create_at};
+ghost use Rattle.std.specs.Prelude.{◌≡◌, IfOk};
+ghost use Rattle.mur_model.specs.Act.{act_of, serve};
 
 use crate::command::Command;
-use crate::reply::{BadText, Code, NoText, Reply, Verdict};
+use crate::create::create;
+use crate::reply::{BadText, Reply, Verdict};
 use crate::session::Sess;
-use crate::store::{MailBox, Pair, Store};
-use mur_base::{Bytes, Copied, MailName, Memory, NameFault, mail_name};
+use crate::store::Store;
+use mur_base::Memory;
 use std::alloc::Global;
 
 /// Carries out one command on the store and gives its reply (RFC 9051, 6). A mailbox that is made gets the serial as
@@ -48,35 +47,4 @@ fn serve(
             Ok(Verdict::Bad(BadText::Syntax))
         }
     }
-}
-
-#[tactic(auto, unfolding(crate::specs::Act::create))]
-fn create(alloc: Global, store: &mut Store, text: &Bytes, serial: u32) -> Result<Verdict, Memory>
-    ensures { IfOk result (λ verdict. record { store = store.new; verdict = verdict } ≡ create store.old text.now serial (mail_name_fault text.now)) }
-{
-    match mail_name(alloc, text.as_slice()) {
-        Ok(name) => create_at(alloc, store, name, serial),
-        Err(NameFault::Memory) => Err(Memory),
-        Err(_) => Ok(Verdict::No(NoText::NonExistent)),
-    }
-}
-
-#[tactic(auto, unfolding(crate::specs::Act::create_at))]
-fn create_at(
-    alloc: Global,
-    store: &mut Store,
-    name: MailName,
-    serial: u32,
-) -> Result<Verdict, Memory>
-    ensures { IfOk result (λ verdict. record { store = store.new; verdict = verdict } ≡ create_at store.old name serial (box_at store.old name)) }
-{
-    if store.boxes.contains_key(&name) {
-        return Ok(Verdict::No(NoText::AlreadyExists));
-    }
-    store.given.push(Pair {
-        name: name.copy(alloc)?,
-        serial,
-    })?;
-    store.boxes.insert(name, MailBox { serial, next: 1 })?;
-    Ok(Verdict::Ok(Code::None, Bytes::from_slice(alloc, b"CREATE")?))
 }
