@@ -1,12 +1,12 @@
 -- Counts of one stretch of bytes behind those of another.
-use Rattle.std.proofs.Common.{◌≡◌, ℕ, ◌+◌, ◌-◌, ◌^◌, ◌<◌, Option, None, Some, Result, Ok, Err, refl, sym, ap, ◌∙◌, arith}
+use Rattle.std.proofs.Common.{◌≡◌, ℕ, ◌+◌, ◌^◌, ◌<◌, ◌≤◌, Option, None, Some, Result, Ok, Err, refl, sym, ap, ◌∙◌, arith}
 use Rattle.std.specs.Result.{IfOk}
 use Rattle.mur_base.specs.declared.memory.Memory.{Memory}
 use Rattle.imap_wire.specs.declared.work.Work.{Work}
 use Rattle.imap_wire.specs.declared.frame.Frame.{Frame}
 use Rattle.imap_wire.specs.declared.frame.Frame.TheVariants.{Whole, NeedLiteral, TooBig, Fault}
 use Rattle.imap_wire.specs.declared.frame.FrameFault.TheVariants.{LineTooLong, PlusTooLong}
-use Rattle.imap_wire.specs.Work.{counted, more, copies, frame_copies, fed}
+use Rattle.imap_wire.specs.Work.{counted, more, copies, frame_copies, fed, IsFedPart}
 
 pub more-more : (work : Work) (taken copied taken_more copied_more : ℕ) → more (more work taken copied) taken_more copied_more ≡ more work (taken + taken_more) (copied + copied_more)
 more-more work taken copied taken_more copied_more =
@@ -45,3 +45,11 @@ more-none work taken copied =
     let taken_is : counted (work.taken + 0) ≡ work.taken = omega arith in
     let copied_is : counted (work.copied + 0) ≡ work.copied = omega arith in
     rw (taken_is, copied_is) refl
+
+-- part of a stretch behind another one
+pub fed-part : (work mid to : Work) (taken rest size : ℕ) → mid ≡ fed work None taken → IsFedPart mid rest to → taken + rest ≤ size → IsFedPart work size to
+fed-part work mid to taken rest size mid_is part within = record {
+  taken = taken + part.taken;
+  within = omega (arith, part.within);
+  counts = part.counts ∙ (ap (λ (w : Work). fed w None part.taken) mid_is ∙ more-more work taken taken part.taken part.taken);
+}

@@ -1,5 +1,5 @@
 -- How many bytes a connection brought, and how many were copied for it.
-use Rattle.std.specs.Prelude.{ℕ, ◌+◌, ◌-◌, ◌^◌, ◌<◌, length, min, Option, None, Some}
+use Rattle.std.specs.Prelude.{◌≡◌, ℕ, ◌+◌, ◌-◌, ◌^◌, ◌<◌, ◌≤◌, length, min, Option, None, Some}
 use Rattle.imap_wire.specs.declared.work.Work.{Work}
 use Rattle.imap_wire.specs.declared.frame.Frame.{Frame}
 use Rattle.imap_wire.specs.declared.frame.Frame.TheVariants.{Whole, NeedLiteral, TooBig, Fault}
@@ -35,3 +35,9 @@ copies (Some frame) taken = frame_copies frame taken
 -- the counts behind a call that takes so many bytes and gives this frame
 abbrev pub fed : Work → Option Frame → ℕ → Work
 fed work frame taken = more work taken (copies frame taken)
+
+-- some of so many bytes were taken, and no frame was given
+pub record IsFedPart (from : Work) (size : ℕ) (to : Work) : Type 0 where
+  pub taken : ℕ
+  pub within : taken ≤ size
+  pub counts : to ≡ fed from None taken

@@ -37,7 +37,7 @@ impl Begun {
     ghost use Rattle.imap_wire.specs.Begun.{state_of, line_of, IsRoomy, IsBetween, Moves, Takes};
     ghost use Rattle.imap_wire.specs.Steps.{start, step, line_step, line_end, with_literal, failing};
     ghost use Rattle.imap_wire.specs.Line.{ends_with_cr, least_length};
-    ghost use Rattle.imap_wire.specs.Work.{no_work, more, copies, fed};
+    ghost use Rattle.imap_wire.specs.Work.{no_work, more, copies, fed, IsFedPart};
 
     /// The state between two commands, at the beginning of a connection.
     pub fn new(alloc: Global) -> Begun
@@ -69,6 +69,7 @@ impl Begun {
         ensures moves { IfOk result (λ taken. Moves (state_of self.old) piece.now taken (state_of self.new)) }
         ensures some { IfOk result (λ taken. 0 < length piece.now → 0 < taken) }
         ensures work { IfOk result (λ taken. self.new.kept.work ≡ fed self.old.kept.work None taken) }
+        ensures memory { OnErr result (self.new.kept.work ≡ self.old.kept.work) }
     {
         self.kept.make_room(alloc)?;
         let room = self.literal_left.min(self.kept.room_left());
@@ -83,7 +84,7 @@ impl Begun {
     fn make_line_room(&mut self, alloc: Global) -> Result<(), Memory>
         ensures state { OnOk result (state_of self.new ≡ state_of self.old) }
         ensures room { OnOk result (IsRoomy self.new) }
-        ensures work { OnOk result (self.new.kept.work ≡ self.old.kept.work) }
+        ensures work { self.new.kept.work ≡ self.old.kept.work }
     {
         if self.kept.last.room() - self.line_at < self.line_room + 2 {
             self.kept.next_block(alloc)?;
@@ -135,6 +136,7 @@ impl Begun {
         ensures takes { IfOk result (λ r. Takes (state_of self.old) piece.now r.0 r.1 (state_of self.new)) }
         ensures whole { IfOk result (λ r. r.0 ≡ None → r.1 ≡ length piece.now) }
         ensures work { IfOk result (λ r. self.new.kept.work ≡ fed self.old.kept.work r.0 r.1) }
+        ensures memory { OnErr result (IsFedPart self.old.kept.work (length piece.now) self.new.kept.work) }
     {
         let mut taken = 0;
         while taken < piece.len() {
@@ -154,6 +156,7 @@ impl Begun {
         ensures takes { IfOk result (λ r. Takes (state_of self.old) piece.now r.0 r.1 (state_of self.new)) }
         ensures some { IfOk result (λ r. 0 < r.1) }
         ensures work { IfOk result (λ r. self.new.kept.work ≡ fed self.old.kept.work r.0 r.1) }
+        ensures memory { OnErr result (IsFedPart self.old.kept.work (length piece.now) self.new.kept.work) }
     {
         if self.literal_left > 0 {
             return Ok((None, self.take_literal(alloc, piece)?));
@@ -174,6 +177,7 @@ impl Begun {
         ensures frame { IfOk result (λ frame. frame ≡ (step (state_of self.old) byte).frame) }
         ensures after { OnOk result (state_of self.new ≡ (step (state_of self.old) byte).after) }
         ensures work { IfOk result (λ frame. self.new.kept.work ≡ fed self.old.kept.work frame 1) }
+        ensures memory { OnErr result (self.new.kept.work ≡ fed self.old.kept.work None 1) }
     {
         if byte == b'\n' && self.ends_with_cr() {
             self.take_line_end(alloc)
@@ -208,6 +212,7 @@ impl Begun {
         ensures frame { IfOk result (λ frame. frame ≡ (step (state_of self.old) 10).frame) }
         ensures after { OnOk result (state_of self.new ≡ (step (state_of self.old) 10).after) }
         ensures work { IfOk result (λ frame. self.new.kept.work ≡ fed self.old.kept.work frame 1) }
+        ensures memory { OnErr result (self.new.kept.work ≡ fed self.old.kept.work None 1) }
     {
         let line = self.line();
         let text = &line[..line.len() - 1];
@@ -228,6 +233,7 @@ impl Begun {
         ensures frame { IfOk result (λ frame. frame ≡ (line_end (state_of self.old) literal).frame) }
         ensures after { OnOk result (state_of self.new ≡ (line_end (state_of self.old) literal).after) }
         ensures work { IfOk result (λ frame. self.new.kept.work ≡ more self.old.kept.work 0 (copies frame 0)) }
+        ensures memory { OnErr result (self.new.kept.work ≡ self.old.kept.work) }
         // The line's last byte was kept.
         ensures kept { IfOk result (λ frame. copies frame 1 ≡ 1 + copies frame 0) }
     {
@@ -275,6 +281,7 @@ impl Begun {
         ensures bytes { IfOk result (λ bytes. bytes ≡ (state_of self.old).bytes) }
         ensures after { OnOk result (state_of self.new ≡ start) }
         ensures work { IfOk result (λ bytes. self.new.kept.work ≡ more self.old.kept.work 0 (length bytes)) }
+        ensures memory { OnErr result (self.new.kept.work ≡ self.old.kept.work) }
     {
         let bytes = self.kept.take_all(alloc)?;
         self.line_at = 0;

@@ -34,7 +34,7 @@ impl Model for Framer {
 impl Framer {
     ghost use Rattle.imap_wire.specs.Frames.{begun, frames as frames_of};
     ghost use Rattle.imap_wire.specs.Feeding.{Gives, Leaves};
-    ghost use Rattle.imap_wire.specs.Work.{no_work, fed as work_fed};
+    ghost use Rattle.imap_wire.specs.Work.{no_work, fed as work_fed, IsFedPart};
 
     /// The framer of a new connection. It takes no memory until bytes come.
     pub fn new(alloc: Global) -> Framer
@@ -78,6 +78,7 @@ impl Framer {
         ensures memory { OnErr result (IsNone self.new.begun) }
         // Each byte is copied as it comes, and once more into its frame.
         ensures work { IfOk result (λ fed. self.new.work ≡ work_fed self.old.work fed.0 fed.1) }
+        ensures part { OnErr result (IsFedPart self.old.work (length piece.now) self.new.work) }
     {
         if self.begun.spent {
             return Ok((None, 0));

@@ -10,8 +10,8 @@ use mur_base::{Bytes, Memory};
 use std::alloc::Global;
 use std::mem;
 
-/// Bytes of a block. Where the longest line has no room behind the bytes of a block, the block is half full, so no more memory is held
-/// than twice what came and one block.
+/// Bytes of a block: two of the longest lines with their CRLFs. A block in which a line finds no room is more than half
+/// full, so memory is held for no more than twice the bytes that came, and one block.
 pub const BLOCK_ROOM: usize = 2 * (LINE_LIMIT + 2);
 
 /// The bytes of a command, each where it was put as it came.
@@ -67,8 +67,8 @@ impl Kept {
         ensures work { self.new.work ≡ self.old.work }
     {
         self.full.reserve(1)?;
-        let full = mem::replace(&mut self.last, Block::new(alloc, BLOCK_ROOM)?);
-        self.full.push_reserved(full);
+        let before = mem::replace(&mut self.last, Block::new(alloc, BLOCK_ROOM)?);
+        self.full.push_reserved(before);
         Ok(())
     }
 
@@ -113,6 +113,7 @@ impl Kept {
         ensures last { OnOk result (self.new.last.bytes.items ≡ []) }
         ensures work { IfOk result (λ bytes. self.new.work ≡ more self.old.work 0 (length bytes)) }
         ensures err { OnErr result (self.new.last ≡ self.old.last) }
+        ensures undone { OnErr result (self.new.work ≡ self.old.work) }
     {
         let mut work = self.work;
         let joined = self.join(alloc, &mut work)?;

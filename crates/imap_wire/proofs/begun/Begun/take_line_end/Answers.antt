@@ -1,7 +1,6 @@
 -- The text is the line without its CR.
-use Rattle.std.proofs.Common.{length, take, ◌-◌, ap, ◌∙◌}
+use Rattle.std.proofs.Common.{length, take, ◌-◌, ap}
 use Rattle.imap_wire.specs.Begun.{state_of}
-use Rattle.imap_wire.specs.Steps.{Step}
 use Rattle.imap_wire.proofs.LineLaws.{length-ends_with_cr}
 use Rattle.imap_wire.proofs.LineEndLaws.{line_end-step, kept-line_end}
 use Rattle.imap_wire.proofs.WorkLaws.{fed-line_end}

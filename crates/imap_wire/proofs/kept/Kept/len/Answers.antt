@@ -1,5 +1,5 @@
 -- Block by block.
-use Rattle.std.proofs.Common.{◌≡◌, ◌+◌, ◌∙◌, length, take, ap, arith, length-append}
+use Rattle.std.proofs.Common.{length, take, ap, arith, length-append}
 use Rattle.std.proofs.lemmas.List.{take_all}
 use Rattle.imap_wire.specs.Kept.{joined_blocks}
 use Rattle.imap_wire.proofs.BlockLaws.{joined_blocks-more}
