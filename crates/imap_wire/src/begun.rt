@@ -70,6 +70,7 @@ impl Begun {
         ensures some { IfOk result (λ taken. 0 < length piece.now → 0 < taken) }
         ensures work { IfOk result (λ taken. self.new.kept.work ≡ fed self.old.kept.work None taken) }
         ensures memory { OnErr result (self.new.kept.work ≡ self.old.kept.work) }
+        ensures cause { OnErr result (vec_capacity self.old.kept.last.bytes ≤ length self.old.kept.last.bytes.items) }
     {
         self.kept.make_room(alloc)?;
         let room = self.literal_left.min(self.kept.room_left());
@@ -84,6 +85,7 @@ impl Begun {
     fn make_line_room(&mut self, alloc: Global) -> Result<(), Memory>
         ensures state { OnOk result (state_of self.new ≡ state_of self.old) }
         ensures room { OnOk result (IsRoomy self.new) }
+        ensures cause { OnErr result (¬ IsRoomy self.old) }
         ensures work { self.new.kept.work ≡ self.old.kept.work }
     {
         if self.kept.last.room() - self.line_at < self.line_room + 2 {

@@ -77,6 +77,7 @@ impl Kept {
         ensures bytes { OnOk result (joined self.new.full.items self.new.last ≡ joined self.old.full.items self.old.last) }
         ensures room { OnOk result (length self.new.last.bytes.items < vec_capacity self.new.last.bytes) }
         ensures err { OnErr result (self.new.last ≡ self.old.last) }
+        ensures cause { OnErr result (vec_capacity self.old.last.bytes ≤ length self.old.last.bytes.items) }
         ensures work { self.new.work ≡ self.old.work }
     {
         if self.room_left() == 0 {
