@@ -104,7 +104,11 @@ fn print_times(rt: &HostRuntime, load: &Load, rounds: u32) -> Result<()> {
     let search = start.elapsed(rt)?.as_micros();
     let tenths = took.saturating_mul(10) / search.max(1);
     let name = load.name;
-    println!(rt; "{name}: {frames} frames in {took} microseconds, {}.{} times the {search} of a search for {found} LFs", tenths / 10, tenths % 10)?;
+    println!(rt;
+        "{name}: {frames} frames in {took} microseconds, {}.{} times the {search} of a search for {found} LFs",
+        tenths / 10,
+        tenths % 10
+    )?;
     Ok(())
 }
 

@@ -1,4 +1,4 @@
-ghost use Rattle.std.specs.Prelude.{◌≡◌, ◌+◌, ◌<◌, ◌≤◌, length, IfOk, OnOk, OnErr, true, false, [], ◌∷◌, ◌++◌, IsTrue, ◌↔◌, None, vec_capacity};
+ghost use Rattle.std.specs.Prelude.{◌≡◌, ◌+◌, ◌<◌, ◌≤◌, length, IfOk, OnOk, OnErr, true, false, [], ◌∷◌, ◌++◌, IsTrue, ◌↔◌, None, min, vec_capacity};
 ghost use Rattle.mur_base.specs.declared.limits.TheConstants.{LINE_LIMIT};
 
 // The command that has begun, and how it grows.
@@ -35,6 +35,7 @@ pub struct Begun {
 
 impl Begun {
     ghost use Rattle.imap_wire.specs.Begun.{state_of, line_of, IsRoomy, IsBetween, Moves, Takes};
+    ghost use Rattle.imap_wire.specs.Kept.{next_room};
     ghost use Rattle.imap_wire.specs.Steps.{start, step, line_step, line_end, with_literal, failing};
     ghost use Rattle.imap_wire.specs.Line.{ends_with_cr, least_length};
     ghost use Rattle.imap_wire.specs.Work.{no_work, more, copies, fed, IsFedPart};
@@ -68,6 +69,7 @@ impl Begun {
         requires left { 0 < self.old.literal_left }
         ensures moves { IfOk result (λ taken. Moves (state_of self.old) piece.now taken (state_of self.new)) }
         ensures some { IfOk result (λ taken. 0 < length piece.now → 0 < taken) }
+        ensures bulk { IfOk result (λ taken. taken ≡ min (min self.old.literal_left (next_room self.old.kept.last)) (length piece.now)) }
         ensures work { IfOk result (λ taken. self.new.kept.work ≡ fed self.old.kept.work None taken) }
         ensures memory { OnErr result (self.new.kept.work ≡ self.old.kept.work) }
         ensures cause { OnErr result (vec_capacity self.old.kept.last.bytes ≤ length self.old.kept.last.bytes.items) }

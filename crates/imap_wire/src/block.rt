@@ -2,8 +2,13 @@
 ghost use Rattle.std.specs.Prelude.{◌≡◌, ◌+◌, ◌-◌, ◌≤◌, [], ◌++◌, length, IfOk, vec_capacity, IsTrue, ◌↔◌};
 
 use crate::work::Work;
+use mur_base::limits::LINE_LIMIT;
 use mur_base::{Bytes, Memory};
 use std::alloc::Global;
+
+/// Bytes of a block: two of the longest lines with their CRLFs. A block in which a line finds no room is more than half
+/// full, so memory is held for no more than twice the bytes that came, and one block.
+pub const BLOCK_ROOM: usize = 2 * (LINE_LIMIT + 2);
 
 /// A place for bytes that never grows, so they stay where they are put. `put` is the one function of this crate that
 /// copies bytes.

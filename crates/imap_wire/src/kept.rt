@@ -1,18 +1,13 @@
 // The bytes of the command that has begun.
 ghost use Rattle.std.specs.Prelude.{◌≡◌, ◌+◌, ◌-◌, ◌*◌, ◌^◌, ◌<◌, ◌≤◌, [], ◌++◌, length, IfOk, OnOk, OnErr, vec_capacity};
-ghost use Rattle.imap_wire.specs.Kept.{joined};
+ghost use Rattle.imap_wire.specs.Kept.{joined, next_room};
 ghost use Rattle.imap_wire.specs.Work.{counted};
 
-use crate::block::Block;
+use crate::block::{BLOCK_ROOM, Block};
 use crate::work::Work;
-use mur_base::limits::LINE_LIMIT;
 use mur_base::{Bytes, Memory};
 use std::alloc::Global;
 use std::mem;
-
-/// Bytes of a block: two of the longest lines with their CRLFs. A block in which a line finds no room is more than half
-/// full, so memory is held for no more than twice the bytes that came, and one block.
-pub const BLOCK_ROOM: usize = 2 * (LINE_LIMIT + 2);
 
 /// The bytes of a command, each where it was put as it came.
 #[derive(Drop)]
@@ -75,7 +70,8 @@ impl Kept {
     /// Lets a new block follow where the last one is full.
     pub fn make_room(&mut self, alloc: Global) -> Result<(), Memory>
         ensures bytes { OnOk result (joined self.new.full.items self.new.last ≡ joined self.old.full.items self.old.last) }
-        ensures room { OnOk result (length self.new.last.bytes.items < vec_capacity self.new.last.bytes) }
+        ensures some { OnOk result (length self.new.last.bytes.items < vec_capacity self.new.last.bytes) }
+        ensures room { OnOk result (vec_capacity self.new.last.bytes - length self.new.last.bytes.items ≡ next_room self.old.last) }
         ensures err { OnErr result (self.new.last ≡ self.old.last) }
         ensures cause { OnErr result (vec_capacity self.old.last.bytes ≤ length self.old.last.bytes.items) }
         ensures work { self.new.work ≡ self.old.work }
