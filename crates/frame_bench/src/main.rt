@@ -1,10 +1,12 @@
 //! Cuts made-up connections into frames: many short lines, a literal of the greatest length in pieces as a socket
 //! gives them, and the short lines byte by byte. `frame_bench ROUNDS` feeds each so many times and says how long it
-//! took; without a number each is fed once, and only the frames are counted.
+//! took, and how long a search for LF in the same bytes takes; without a number each is fed once, and only the frames
+//! are counted.
 #![tactic(auto)]
 
 use anyhow::Result;
 use imap_wire::Framer;
+use memchr::memchr_iter;
 use mur_base::Memory;
 use mur_base::limits::{MESSAGE_LIMIT, PIECE_LIMIT};
 use std::alloc::Global;
@@ -76,25 +78,53 @@ fn count_in_piece(framer: &mut Framer, piece: &[u8]) -> Result<u64, Memory> {
     Ok(frames)
 }
 
+/// How many LFs a load has, piece by piece: each byte is looked at once, which is the least that a framer does.
+fn count_line_feeds(load: &Load) -> u64 {
+    let mut found: u64 = 0;
+    for piece in load.bytes.chunks(load.piece.max(1)) {
+        found = found.wrapping_add(memchr_iter(b'\n', piece).count() as u64);
+    }
+    found
+}
+
+/// Times all rounds of a load, and a search for LF in the same pieces beside them.
+fn print_times(rt: &HostRuntime, load: &Load, rounds: u32) -> Result<()> {
+    let mut framer = Framer::new(rt.alloc());
+    let start = Instant::now(rt)?;
+    let mut frames: u64 = 0;
+    for _ in 0..rounds {
+        frames = frames.wrapping_add(count_frames(&mut framer, load)?);
+    }
+    let took = start.elapsed(rt)?.as_micros();
+    let start = Instant::now(rt)?;
+    let mut found: u64 = 0;
+    for _ in 0..rounds {
+        found = found.wrapping_add(count_line_feeds(load));
+    }
+    let search = start.elapsed(rt)?.as_micros();
+    let tenths = took.saturating_mul(10) / search.max(1);
+    let name = load.name;
+    println!(rt;
+        "{name}: {frames} frames in {took} microseconds, {}.{} times the {search} of a search for {found} LFs",
+        tenths / 10,
+        tenths % 10
+    )?;
+    Ok(())
+}
+
 fn main(rt: HostRuntime) -> Result<()> {
     let rounds = match env::args(&rt)?.nth(1) {
         Some(word) => Some(word.as_str().parse::<u32>()?),
         None => None,
     };
     for load in &loads(rt.alloc())? {
-        let mut framer = Framer::new(rt.alloc());
-        let start = Instant::now(&rt)?;
-        let mut frames: u64 = 0;
-        for _ in 0..rounds.unwrap_or(1) {
-            frames = frames.wrapping_add(count_frames(&mut framer, load)?);
-        }
-        let name = load.name;
         match rounds {
-            Some(_) => {
-                let took = start.elapsed(&rt)?.as_micros();
-                println!(rt; "{name}: {frames} frames in {took} microseconds")?;
+            Some(rounds) => print_times(&rt, load, rounds)?,
+            None => {
+                let frames = count_frames(&mut Framer::new(rt.alloc()), load)?;
+                let name = load.name;
+                println!(rt; "{name}: {frames} frames")?;
             }
-            None => println!(rt; "{name}: {frames} frames")?,
         }
     }
     Ok(())

@@ -7,3 +7,5 @@ pub mod LineEndLaws
 pub mod TakeLaws
 pub mod FeedLaws
 pub mod LeaveLaws
+pub mod BlockLaws
+pub mod WorkLaws

@@ -81,7 +81,7 @@ least_length-le xs =
     let shorter = length-without_last xs in
     elim (ends_with_cr xs) as (λ v. cond v (length (without_last xs)) (length xs) ≤ length xs) [ true ↦ omega (arith, shorter) | false ↦ omega arith ]
 
-least_length-ge : (xs : List ℕ) → length xs ≤ least_length xs + 1
+pub least_length-ge : (xs : List ℕ) → length xs ≤ least_length xs + 1
 least_length-ge xs =
     let shorter = length-without_last xs in
     elim (ends_with_cr xs) as (λ v. length xs ≤ cond v (length (without_last xs)) (length xs) + 1) [ true ↦ omega (arith, shorter) | false ↦ omega arith ]

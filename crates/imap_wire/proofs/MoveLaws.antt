@@ -90,20 +90,20 @@ Moves-text s to piece found (suc n) going in_line first before within room is =
       arrives = is ∙ sym (after-text s (take (suc n) piece) going in_line one (omega arith));
     }
 
--- the state of a command that is kept so
-abbrev pub kept : List ℕ → ℕ → ℕ → ℕ → ℕ → Bool → State
-kept bytes line_at line_room literal_room literal_left spent =
-    record { bytes = bytes; line = cond (nat_lt 0 literal_left) [] (drop line_at bytes); line_room = line_room; literal_room = literal_room; literal_left = literal_left; spent = spent }
+-- the state of a command with these bytes, whose last block has these
+abbrev pub kept : List ℕ → List ℕ → ℕ → ℕ → ℕ → ℕ → Bool → State
+kept bytes last line_at line_room literal_room literal_left spent =
+    record { bytes = bytes; line = cond (nat_lt 0 literal_left) [] (drop line_at last); line_room = line_room; literal_room = literal_room; literal_left = literal_left; spent = spent }
 
 -- while a literal comes the present line is empty, and so it is behind the literal
-pub kept-literal : (bytes grown more : List ℕ) (line_at at line_room literal_room left less : ℕ) (spent : Bool) → 0 < left → grown ≡ bytes ++ more → at ≡ length grown
-    → kept grown at line_room literal_room less spent ≡ literal_moved (kept bytes line_at line_room literal_room left spent) (bytes ++ more) less
-kept-literal bytes grown more line_at at line_room literal_room left less spent some grown_is at_is =
+pub kept-literal : (bytes same all before grown more : List ℕ) (line_at at line_room literal_room left less : ℕ) (spent : Bool) → 0 < left → same ≡ bytes → all ≡ same ++ more → at ≡ length grown
+    → kept all grown at line_room literal_room less spent ≡ literal_moved (kept bytes before line_at line_room literal_room left spent) (bytes ++ more) less
+kept-literal bytes same all before grown more line_at at line_room literal_room left less spent some same_is all_is at_is =
     let test : nat_lt 0 left ≡ true = grind (arith, nat_tests) in
     let empty : cond (nat_lt 0 less) [] (drop at grown) ≡ [] = no_line (nat_lt 0 less) grown at (omega arith) in
-    rw (empty, test, grown_is) refl
+    rw (empty, test, all_is, same_is) refl
 
-pub kept-text : (bytes grown more : List ℕ) (line_at line_room literal_room left : ℕ) (spent : Bool) → left ≡ 0 → grown ≡ bytes ++ more → line_at ≤ length bytes
-    → kept grown line_at line_room literal_room left spent ≡ (let s = kept bytes line_at line_room literal_room left spent in line_moved s (bytes ++ more) (s.line ++ more))
-kept-text bytes grown more line_at line_room literal_room left spent none grown_is within =
-    rw (none, grown_is, drop-append-le line_at bytes more within) refl
+pub kept-text : (bytes all last grown more : List ℕ) (line_at line_room literal_room left : ℕ) (spent : Bool) → left ≡ 0 → all ≡ bytes ++ more → grown ≡ last ++ more → line_at ≤ length last
+    → kept all grown line_at line_room literal_room left spent ≡ (let s = kept bytes last line_at line_room literal_room left spent in line_moved s (bytes ++ more) (s.line ++ more))
+kept-text bytes all last grown more line_at line_room literal_room left spent none all_is grown_is within =
+    rw (none, all_is, grown_is, drop-append-le line_at last more within) refl

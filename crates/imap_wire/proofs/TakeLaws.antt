@@ -132,6 +132,10 @@ pub Takes-nothing : (s : State) (piece : List ℕ) → Takes s piece None 0 s
 unfolding given after
 Takes-nothing s piece = record { within = omega arith; gives = refl; first = λ n before. absurd (omega arith); arrives = refl }
 
+pub none_of : (frame : Option Frame) → is_some frame ≡ false → frame ≡ None
+none_of None none = refl
+none_of (Some frame) none = cc
+
 pub Takes-none : (s to : State) (piece : List ℕ) (frame : Option Frame) (taken : ℕ) → is_some frame ≡ false → Takes s piece frame taken to → Takes s piece None taken to
 Takes-none s to piece None taken none takes = takes
 Takes-none s to piece (Some frame) taken none takes = cc

@@ -1,16 +1,25 @@
 -- The command that has begun as the program keeps it, and what it does with bytes.
-use Rattle.std.specs.Prelude.{◌≡◌, ℕ, ◌<◌, ◌≤◌, nat_lt, List, [], length, take, drop, Option, if◌then◌else◌}
+use Rattle.std.specs.Prelude.{◌≡◌, ℕ, ◌+◌, ◌<◌, ◌≤◌, nat_lt, vec_capacity, List, [], length, take, drop, Option, if◌then◌else◌}
 use Rattle.std.specs.Option.{option_to_list}
 use Rattle.imap_wire.specs.declared.frame.Frame.{Frame}
 use Rattle.imap_wire.specs.declared.begun.Begun.{Begun}
+use Rattle.imap_wire.specs.Kept.{joined}
 use Rattle.imap_wire.specs.Steps.{State, given, after}
 
 -- the present line of the command
 abbrev pub line_of : Begun → List ℕ
-line_of begun = if nat_lt 0 begun.literal_left then [] else drop begun.line_at begun.bytes
+line_of begun = if nat_lt 0 begun.literal_left then [] else drop begun.line_at begun.kept.last.bytes.items
 
 abbrev pub state_of : Begun → State
-state_of begun = record { bytes = begun.bytes; line = line_of begun; line_room = begun.line_room; literal_room = begun.literal_room; literal_left = begun.literal_left; spent = begun.spent }
+state_of begun = record { bytes = joined begun.kept.full.items begun.kept.last; line = line_of begun; line_room = begun.line_room; literal_room = begun.literal_room; literal_left = begun.literal_left; spent = begun.spent }
+
+-- the last block has room for the present line to its end, its CRLF included
+abbrev pub IsRoomy : Begun → Type 0
+IsRoomy begun = begun.line_at + begun.line_room + 2 ≤ vec_capacity begun.kept.last.bytes
+
+-- of the present line nothing has come
+abbrev pub IsBetween : Begun → Type 0
+IsBetween begun = begun.line_at ≡ length begun.kept.last.bytes.items
 
 -- so many bytes of the piece are taken, and no frame ends in them
 pub record Moves (from : State) (piece : List ℕ) (taken : ℕ) (to : State) : Type 0 where

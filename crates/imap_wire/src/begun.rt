@@ -1,20 +1,21 @@
-ghost use Rattle.std.specs.Prelude.{◌≡◌, ◌<◌, ◌≤◌, length, IfOk, OnOk, true, false, [], ◌∷◌, ◌++◌, IsTrue, ◌↔◌};
+ghost use Rattle.std.specs.Prelude.{◌≡◌, ◌+◌, ◌<◌, ◌≤◌, length, IfOk, OnOk, OnErr, true, false, [], ◌∷◌, ◌++◌, IsTrue, ◌↔◌, None, min, vec_capacity};
+ghost use Rattle.mur_base.specs.declared.limits.TheConstants.{LINE_LIMIT};
 
 // The command that has begun, and how it grows.
 use crate::frame::{Frame, FrameFault};
+use crate::kept::Kept;
 use crate::literal::{Admission, Literal, announced};
 use memchr::memchr;
 use mur_base::limits::{COMMAND_LITERALS_LIMIT, LINE_LIMIT};
 use mur_base::{Bytes, Memory};
 use std::alloc::Global;
-use std::mem;
 
 /// What has come of a command.
 #[derive(Drop)]
 pub struct Begun {
     /// All its bytes, those of its literals among them.
-    pub bytes: Bytes,
-    /// Where its present line begins, which is the end while a literal comes.
+    pub kept: Kept,
+    /// Where its present line begins in the last block, which is the end while a literal comes.
     pub line_at: usize,
     /// How many bytes the texts of this line and those behind it may have.
     pub line_room: usize,
@@ -24,20 +25,28 @@ pub struct Begun {
     pub literal_left: usize,
     /// No byte is taken any more.
     pub spent: bool,
-    ghost line_within: { line_at ≤ length bytes },
+    ghost line_within: { line_at ≤ length kept.last.bytes.items },
+    // Only a CR that may begin the line's CRLF stands past the limit.
+    ghost line_short: { length kept.last.bytes.items ≤ line_at + line_room + 1 },
+    // A line that has begun has room to its end where it stands.
+    ghost line_fits: { line_at < length kept.last.bytes.items → line_at + line_room + 2 ≤ vec_capacity kept.last.bytes },
+    ghost room_within: { line_room ≤ LINE_LIMIT },
 }
 
 impl Begun {
-    ghost use Rattle.imap_wire.specs.Begun.{state_of, line_of, Moves, Takes};
+    ghost use Rattle.imap_wire.specs.Begun.{state_of, line_of, IsRoomy, IsBetween, Moves, Takes};
+    ghost use Rattle.imap_wire.specs.Kept.{next_room};
     ghost use Rattle.imap_wire.specs.Steps.{start, step, line_step, line_end, with_literal, failing};
     ghost use Rattle.imap_wire.specs.Line.{ends_with_cr, least_length};
+    ghost use Rattle.imap_wire.specs.Work.{no_work, more, copies, fed, IsFedPart};
 
-    /// The state between two commands.
+    /// The state between two commands, at the beginning of a connection.
     pub fn new(alloc: Global) -> Begun
-        ensures { state_of result ≡ start }
+        ensures state { state_of result ≡ start }
+        ensures work { result.kept.work ≡ no_work }
     {
         Begun {
-            bytes: Bytes::new(alloc),
+            kept: Kept::new(alloc),
             line_at: 0,
             line_room: LINE_LIMIT,
             literal_room: COMMAND_LITERALS_LIMIT,
@@ -51,33 +60,56 @@ impl Begun {
         requires { self.now.literal_left ≡ 0 }
         ensures { result.now ≡ (state_of self.now).line }
     {
-        &self.bytes.as_slice()[self.line_at..]
+        &self.kept.last.as_slice()[self.line_at..]
     }
 
-    /// Takes bytes of a literal, all at once as far as they go.
-    fn take_literal(&mut self, piece: &[u8]) -> Result<usize, Memory>
+    /// Takes bytes of a literal, all at once as far as the last block has room for them.
+    fn take_literal(&mut self, alloc: Global, piece: &[u8]) -> Result<usize, Memory>
         requires going { self.old.spent ≡ false }
         requires left { 0 < self.old.literal_left }
         ensures moves { IfOk result (λ taken. Moves (state_of self.old) piece.now taken (state_of self.new)) }
         ensures some { IfOk result (λ taken. 0 < length piece.now → 0 < taken) }
+        ensures bulk { IfOk result (λ taken. taken ≡ min (min self.old.literal_left (next_room self.old.kept.last)) (length piece.now)) }
+        ensures work { IfOk result (λ taken. self.new.kept.work ≡ fed self.old.kept.work None taken) }
+        ensures memory { OnErr result (self.new.kept.work ≡ self.old.kept.work) }
+        ensures cause { OnErr result (vec_capacity self.old.kept.last.bytes ≤ length self.old.kept.last.bytes.items) }
     {
-        let taken = self.literal_left.min(piece.len());
-        self.bytes.extend_from_slice(&piece[..taken])?;
+        self.kept.make_room(alloc)?;
+        let room = self.literal_left.min(self.kept.room_left());
+        let taken = room.min(piece.len());
+        self.kept.keep(&piece[..taken]);
         self.literal_left -= taken;
-        self.line_at = self.bytes.len();
+        self.line_at = self.kept.last.len();
         Ok(taken)
     }
 
+    /// Sees to room for the present line, which stays in one block to its end.
+    fn make_line_room(&mut self, alloc: Global) -> Result<(), Memory>
+        ensures state { OnOk result (state_of self.new ≡ state_of self.old) }
+        ensures room { OnOk result (IsRoomy self.new) }
+        ensures cause { OnErr result (¬ IsRoomy self.old) }
+        ensures work { self.new.kept.work ≡ self.old.kept.work }
+    {
+        if self.kept.last.room() - self.line_at < self.line_room + 2 {
+            self.kept.next_block(alloc)?;
+            self.line_at = 0;
+        }
+        Ok(())
+    }
+
     /// Takes bytes of a line, all at once up to the next LF or as far as the line's limit is sure to allow.
-    fn take_text(&mut self, piece: &[u8]) -> Result<usize, Memory>
+    fn take_text(&mut self, piece: &[u8]) -> usize
         requires going { self.old.spent ≡ false }
         requires in_line { self.old.literal_left ≡ 0 }
-        ensures moves { IfOk result (λ taken. Moves (state_of self.old) piece.now taken (state_of self.new)) }
+        requires room { IsRoomy self.old }
+        ensures moves { Moves (state_of self.old) piece.now result (state_of self.new) }
+        ensures room { IsRoomy self.new }
+        ensures work { self.new.kept.work ≡ fed self.old.kept.work None result }
     {
         let room = self.line_room.saturating_sub(self.line().len());
         let taken = memchr(b'\n', piece).unwrap_or(piece.len()).min(room);
-        self.bytes.extend_from_slice(&piece[..taken])?;
-        Ok(taken)
+        self.kept.keep(&piece[..taken]);
+        taken
     }
 
     /// Whether the present line ends in CR.
@@ -107,6 +139,8 @@ impl Begun {
         requires going { self.old.spent ≡ false }
         ensures takes { IfOk result (λ r. Takes (state_of self.old) piece.now r.0 r.1 (state_of self.new)) }
         ensures whole { IfOk result (λ r. r.0 ≡ None → r.1 ≡ length piece.now) }
+        ensures work { IfOk result (λ r. self.new.kept.work ≡ fed self.old.kept.work r.0 r.1) }
+        ensures memory { OnErr result (IsFedPart self.old.kept.work (length piece.now) self.new.kept.work) }
     {
         let mut taken = 0;
         while taken < piece.len() {
@@ -125,11 +159,14 @@ impl Begun {
         requires some { 0 < length piece.now }
         ensures takes { IfOk result (λ r. Takes (state_of self.old) piece.now r.0 r.1 (state_of self.new)) }
         ensures some { IfOk result (λ r. 0 < r.1) }
+        ensures work { IfOk result (λ r. self.new.kept.work ≡ fed self.old.kept.work r.0 r.1) }
+        ensures memory { OnErr result (IsFedPart self.old.kept.work (length piece.now) self.new.kept.work) }
     {
         if self.literal_left > 0 {
-            return Ok((None, self.take_literal(piece)?));
+            return Ok((None, self.take_literal(alloc, piece)?));
         }
-        let taken = self.take_text(piece)?;
+        self.make_line_room(alloc)?;
+        let taken = self.take_text(piece);
         if taken > 0 {
             return Ok((None, taken));
         }
@@ -140,28 +177,34 @@ impl Begun {
     fn take_byte(&mut self, alloc: Global, byte: u8) -> Result<Option<Frame>, Memory>
         requires going { self.old.spent ≡ false }
         requires in_line { self.old.literal_left ≡ 0 }
+        requires room { IsRoomy self.old }
         ensures frame { IfOk result (λ frame. frame ≡ (step (state_of self.old) byte).frame) }
         ensures after { OnOk result (state_of self.new ≡ (step (state_of self.old) byte).after) }
+        ensures work { IfOk result (λ frame. self.new.kept.work ≡ fed self.old.kept.work frame 1) }
+        ensures memory { OnErr result (self.new.kept.work ≡ fed self.old.kept.work None 1) }
     {
         if byte == b'\n' && self.ends_with_cr() {
             self.take_line_end(alloc)
         } else {
-            self.take_line_byte(byte)
+            Ok(self.take_line_byte(byte))
         }
     }
 
     /// Takes one byte that ends no line. The fault is the only frame.
-    fn take_line_byte(&mut self, byte: u8) -> Result<Option<Frame>, Memory>
+    fn take_line_byte(&mut self, byte: u8) -> Option<Frame>
         requires going { self.old.spent ≡ false }
         requires in_line { self.old.literal_left ≡ 0 }
-        ensures frame { IfOk result (λ frame. frame ≡ (line_step (state_of self.old) byte).frame) }
-        ensures after { OnOk result (state_of self.new ≡ (line_step (state_of self.old) byte).after) }
+        requires room { IsRoomy self.old }
+        ensures frame { result ≡ (line_step (state_of self.old) byte).frame }
+        ensures after { state_of self.new ≡ (line_step (state_of self.old) byte).after }
+        ensures work { self.new.kept.work ≡ fed self.old.kept.work result 1 }
     {
         if !self.has_room_for(byte) {
-            return Ok(Some(self.fail(FrameFault::LineTooLong)));
+            self.kept.pass();
+            return Some(self.fail(FrameFault::LineTooLong));
         }
-        self.bytes.push(byte)?;
-        Ok(None)
+        self.kept.keep(&[byte]);
+        None
     }
 
     /// Takes the LF behind the CR of the present line, and gives the frame that ends with it.
@@ -169,49 +212,58 @@ impl Begun {
         requires going { self.old.spent ≡ false }
         requires in_line { self.old.literal_left ≡ 0 }
         requires cr { ends_with_cr (line_of self.old) ≡ true }
+        requires room { IsRoomy self.old }
         ensures frame { IfOk result (λ frame. frame ≡ (step (state_of self.old) 10).frame) }
         ensures after { OnOk result (state_of self.new ≡ (step (state_of self.old) 10).after) }
+        ensures work { IfOk result (λ frame. self.new.kept.work ≡ fed self.old.kept.work frame 1) }
+        ensures memory { OnErr result (self.new.kept.work ≡ fed self.old.kept.work None 1) }
     {
         let line = self.line();
         let text = &line[..line.len() - 1];
         let length = text.len();
         let literal = announced(text);
-        self.bytes.push(b'\n')?;
+        self.kept.keep(b"\n");
         // No longer text gets here, so nothing is cut off at 0.
         self.line_room = self.line_room.saturating_sub(length);
-        self.line_at = self.bytes.len();
-        Ok(self.end_line(alloc, literal))
+        self.line_at = self.kept.last.len();
+        self.end_line(alloc, literal)
     }
 
     /// Goes on behind a line that announces this literal or none, and gives the frame that ends with the line.
     #[tactic(auto, using(crate::proofs::LiteralLaws::asked_fits, crate::proofs::LiteralLaws::unasked_fits), unfolding(crate::specs::Steps::line_end, crate::specs::Steps::announced_step))]
-    fn end_line(&mut self, alloc: Global, literal: Option<Literal>) -> Option<Frame>
-        requires between { self.old.line_at ≡ length self.old.bytes }
-        ensures frame { result ≡ (line_end (state_of self.old) literal).frame }
-        ensures after { state_of self.new ≡ (line_end (state_of self.old) literal).after }
+    fn end_line(&mut self, alloc: Global, literal: Option<Literal>) -> Result<Option<Frame>, Memory>
+        requires going { self.old.spent ≡ false }
+        requires between { IsBetween self.old }
+        ensures frame { IfOk result (λ frame. frame ≡ (line_end (state_of self.old) literal).frame) }
+        ensures after { OnOk result (state_of self.new ≡ (line_end (state_of self.old) literal).after) }
+        ensures work { IfOk result (λ frame. self.new.kept.work ≡ more self.old.kept.work 0 (copies frame 0)) }
+        ensures memory { OnErr result (self.new.kept.work ≡ self.old.kept.work) }
+        // The line's last byte was kept.
+        ensures kept { IfOk result (λ frame. copies frame 1 ≡ 1 + copies frame 0) }
     {
         let Some(literal) = literal else {
-            return Some(Frame::Whole(self.restart(alloc)));
+            return Ok(Some(Frame::Whole(self.restart(alloc)?)));
         };
         match literal.admission(self.literal_room) {
             Admission::Asked => {
                 self.expect(literal.size);
-                Some(Frame::NeedLiteral(literal.size as u32))
+                Ok(Some(Frame::NeedLiteral(literal.size as u32)))
             }
             Admission::Unasked => {
                 self.expect(literal.size);
-                None
+                Ok(None)
             }
-            Admission::Refused => Some(Frame::TooBig(self.restart(alloc))),
-            Admission::RefusedUnasked => Some(self.fail(FrameFault::PlusTooLong)),
+            Admission::Refused => Ok(Some(Frame::TooBig(self.restart(alloc)?))),
+            Admission::RefusedUnasked => Ok(Some(self.fail(FrameFault::PlusTooLong))),
         }
     }
 
     /// Lets a literal of so many bytes come.
     fn expect(&mut self, size: usize)
         requires room { size ≤ self.old.literal_room }
-        requires between { self.old.line_at ≡ length self.old.bytes }
-        ensures { state_of self.new ≡ with_literal (state_of self.old) size }
+        requires between { IsBetween self.old }
+        ensures state { state_of self.new ≡ with_literal (state_of self.old) size }
+        ensures work { self.new.kept.work ≡ self.old.kept.work }
     {
         self.literal_room -= size;
         self.literal_left = size;
@@ -221,17 +273,25 @@ impl Begun {
     fn fail(&mut self, fault: FrameFault) -> Frame
         ensures frame { result ≡ Frame.Fault fault }
         ensures after { state_of self.new ≡ (failing fault (state_of self.old)).after }
+        ensures work { self.new.kept.work ≡ self.old.kept.work }
     {
         self.spent = true;
         Frame::Fault(fault)
     }
 
     /// The bytes of the command, after which a new one begins.
-    fn restart(&mut self, alloc: Global) -> Bytes
-        ensures bytes { result ≡ self.old.bytes }
-        ensures after { state_of self.new ≡ start }
+    fn restart(&mut self, alloc: Global) -> Result<Bytes, Memory>
+        requires { self.old.spent ≡ false }
+        ensures bytes { IfOk result (λ bytes. bytes ≡ (state_of self.old).bytes) }
+        ensures after { OnOk result (state_of self.new ≡ start) }
+        ensures work { IfOk result (λ bytes. self.new.kept.work ≡ more self.old.kept.work 0 (length bytes)) }
+        ensures memory { OnErr result (self.new.kept.work ≡ self.old.kept.work) }
     {
-        let Begun { bytes, .. } = mem::replace(self, Begun::new(alloc));
-        bytes
+        let bytes = self.kept.take_all(alloc)?;
+        self.line_at = 0;
+        self.line_room = LINE_LIMIT;
+        self.literal_room = COMMAND_LITERALS_LIMIT;
+        self.literal_left = 0;
+        Ok(bytes)
     }
 }

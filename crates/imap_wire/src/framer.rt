@@ -1,8 +1,9 @@
 // A connection's bytes, taken piece by piece.
-ghost use Rattle.std.specs.Prelude.{◌≡◌, ◌<◌, ◌≤◌, ◌++◌, [], List, ℕ, length, take, IfOk, OnErr, OnOk, IsSome, IsNone, is_none, IfSome};
+ghost use Rattle.std.specs.Prelude.{◌≡◌, ◌<◌, ◌≤◌, ◌*◌, ◌++◌, [], List, ℕ, length, take, IfOk, OnErr, OnOk, IsSome, IsNone, is_none, IfSome};
 
 use crate::begun::Begun;
 use crate::frame::Frame;
+use crate::work::Work;
 use mur_base::{Bytes, Items, Memory};
 use std::alloc::Global;
 use std::marker::Model;
@@ -10,7 +11,8 @@ use std::marker::Model;
 /// Cuts the bytes of one connection into frames, in whatever pieces they come.
 ///
 /// Contracts see the bytes of the command that has begun, or `None` once the framer is spent: after a fault, and
-/// after want of memory. `past` are all bytes of the connection before the call.
+/// after want of memory; and how many bytes were taken and copied. `past` are all bytes of the connection before the
+/// call.
 #[derive(Drop)]
 pub struct Framer {
     alloc: Global,
@@ -18,13 +20,13 @@ pub struct Framer {
 }
 
 impl Model for Framer {
-    ghost use Rattle.std.specs.Prelude.{List, ℕ, Option};
+    ghost use Rattle.imap_wire.specs.Feeding.{Progress};
     ghost use Rattle.imap_wire.specs.Begun.{state_of};
     ghost use Rattle.imap_wire.specs.Steps.{begun_of, IsReached};
 
-    ghost Value = { Option (List ℕ) };
+    ghost Value = { Progress };
 
-    ghost view = { λ framer. begun_of (state_of framer.begun) };
+    ghost view = { λ framer. record { begun = begun_of (state_of framer.begun); work = framer.begun.kept.work } };
 
     ghost invariant = { λ framer. IsReached (state_of framer.begun) };
 }
@@ -32,10 +34,12 @@ impl Model for Framer {
 impl Framer {
     ghost use Rattle.imap_wire.specs.Frames.{begun, frames as frames_of};
     ghost use Rattle.imap_wire.specs.Feeding.{Gives, Leaves};
+    ghost use Rattle.imap_wire.specs.Work.{no_work, fed as work_fed, IsFedPart};
 
     /// The framer of a new connection. It takes no memory until bytes come.
     pub fn new(alloc: Global) -> Framer
-        ensures { result ≡ begun [] }
+        ensures begun { result.begun ≡ begun [] }
+        ensures work { result.work ≡ no_work }
     {
         Framer {
             alloc,
@@ -45,25 +49,36 @@ impl Framer {
 
     /// Whether no byte is taken any more.
     pub fn spent(&self) -> bool
-        ensures { result ≡ is_none self.now }
+        ensures { result ≡ is_none self.now.begun }
     {
         self.begun.spent
     }
 
+    /// How many bytes of the connection were taken, and how many were copied for it: none more than twice.
+    pub fn work(&self) -> Work
+        ensures work { result ≡ self.now.work }
+        ensures twice { result.copied ≤ 2 * result.taken }
+    {
+        self.begun.kept.work()
+    }
+
     /// Takes bytes of the piece up to the end of the next frame, or all where none ends in it, and says how many.
     pub fn feed(&mut self, piece: &[u8]) -> Result<(Option<Frame>, usize), Memory>
-        ensures frame { IfOk result (λ fed. IsSome self.old → (past : List ℕ) → begun past ≡ self.old
+        ensures frame { IfOk result (λ fed. IsSome self.old.begun → (past : List ℕ) → begun past ≡ self.old.begun
             → Gives past piece.now fed.0 fed.1) }
-        ensures after { IfOk result (λ fed. (past : List ℕ) → begun past ≡ self.old
-            → begun (past ++ take fed.1 piece.now) ≡ self.new) }
-        ensures leaves { IfOk result (λ fed. IfSome fed.0 (λ frame. Leaves frame self.new)) }
+        ensures after { IfOk result (λ fed. (past : List ℕ) → begun past ≡ self.old.begun
+            → begun (past ++ take fed.1 piece.now) ≡ self.new.begun) }
+        ensures leaves { IfOk result (λ fed. IfSome fed.0 (λ frame. Leaves frame self.new.begun)) }
         // There are such bytes: those of the command that has begun, if nothing else came.
-        ensures own { IfSome self.old (λ bytes. begun bytes ≡ self.old) }
+        ensures own { IfSome self.old.begun (λ bytes. begun bytes ≡ self.old.begun) }
         ensures within { IfOk result (λ fed. fed.1 ≤ length piece.now) }
         // A framer that isn't spent gets on.
-        ensures some { IfOk result (λ fed. IsSome self.old → 0 < length piece.now → 0 < fed.1) }
-        ensures spent { IsNone self.old → (result ≡ Ok (None, 0)) × IsNone self.new }
-        ensures memory { OnErr result (IsNone self.new) }
+        ensures some { IfOk result (λ fed. IsSome self.old.begun → 0 < length piece.now → 0 < fed.1) }
+        ensures spent { IsNone self.old.begun → (result ≡ Ok (None, 0)) × IsNone self.new.begun }
+        ensures memory { OnErr result (IsNone self.new.begun) }
+        // Each byte is copied as it comes, and once more into its frame.
+        ensures work { IfOk result (λ fed. self.new.work ≡ work_fed self.old.work fed.0 fed.1) }
+        ensures part { OnErr result (IsFedPart self.old.work (length piece.now) self.new.work) }
     {
         if self.begun.spent {
             return Ok((None, 0));
@@ -79,9 +94,10 @@ impl Framer {
 
     /// Takes a whole piece and puts the frames that end in it behind those of the bytes before it.
     pub fn feed_all(&mut self, piece: &[u8], frames: &mut Items<Frame>) -> Result<(), Memory>
-        ensures frames { OnOk result ((past : List ℕ) → begun past ≡ self.old → frames.old ≡ frames_of past
+        ensures frames { OnOk result ((past : List ℕ) → begun past ≡ self.old.begun → frames.old ≡ frames_of past
             → frames.new ≡ frames_of (past ++ piece.now)) }
-        ensures after { OnOk result ((past : List ℕ) → begun past ≡ self.old → begun (past ++ piece.now) ≡ self.new) }
+        ensures after { OnOk result ((past : List ℕ) → begun past ≡ self.old.begun
+            → begun (past ++ piece.now) ≡ self.new.begun) }
     {
         let mut taken = 0;
         while taken < piece.len() && !self.spent() {

@@ -2,12 +2,16 @@
 #![tactic(auto)]
 
 mod begun;
+mod block;
 mod frame;
 mod framer;
+mod kept;
 mod literal;
+mod work;
 
 pub use frame::{Frame, FrameFault};
 pub use framer::{Framer, frames};
+pub use work::Work;
 
 #[cfg(test)]
 mod tests;

@@ -61,7 +61,7 @@ fn long_line(alloc: Global, length: usize, end: &[u8]) -> Result<Vec<u8>, Memory
 
 #[test]
 fn small_connections_give_their_frames_under_every_cut(rt: HostRuntime) -> Result<(), Fail> {
-    let rows: [(&[u8], &[u8]); 18] = [
+    let rows: [(&[u8], &[u8]); 20] = [
         (
             b"a NOOP\r\nb NOOP\r\nc",
             b"whole a NOOP\r\nwhole b NOOP\r\n",
@@ -107,11 +107,13 @@ fn small_connections_give_their_frames_under_every_cut(rt: HostRuntime) -> Resul
         ),
         (b"a {18446744073709551617+}\r\nb\r\n", b"plus too long\r\n"),
         // The limits of one literal.
+        (b"a {1048575}\r\nb\r\n", b"need 1048575\r\n"),
         (b"a {1048576}\r\nb\r\n", b"need 1048576\r\n"),
         (
             b"a {1048577}\r\nb\r\n",
             b"too big a {1048577}\r\nwhole b\r\n",
         ),
+        (b"a {4095+}\r\nb\r\n", b""),
         (b"a {4096+}\r\nb\r\n", b""),
         (b"a {4097+}\r\nb\r\n", b"plus too long\r\n"),
     ];
@@ -158,7 +160,8 @@ fn a_command_has_8192_bytes_outside_its_literals(rt: HostRuntime) -> Result<(), 
 
 #[test]
 fn the_literals_of_a_command_have_1056768_bytes(rt: HostRuntime) -> Result<(), Fail> {
-    let rows: [(&[u8], &[u8]); 5] = [
+    let rows: [(&[u8], &[u8]); 6] = [
+        (b"{8191}\r\n", b"need 8191\r\n"),
         (b"{8192}\r\n", b"need 8192\r\n"),
         (b"{8193}\r\n", b"too big "),
         (b"{4096+}\r\n", b""),
@@ -172,6 +175,66 @@ fn the_literals_of_a_command_have_1056768_bytes(rt: HostRuntime) -> Result<(), F
         assert_eq!(rt; need, b"need 1048576\r\n".as_slice());
         assert!(rt; begins(rest, want));
     }
+    Ok(())
+}
+
+#[test]
+fn a_literal_that_comes_unasked_has_4096_bytes(rt: HostRuntime) -> Result<(), Fail> {
+    let mut bytes = Vec::from_slice(rt.alloc(), b"{4096+}\r\n")?;
+    bytes.resize(9 + 4096, b'x')?;
+    bytes.extend_from_slice(b"{0}\r\n\r\n")?;
+    for at in 0..bytes.len() {
+        let text = cut_in_two(rt.alloc(), &bytes[..at], &bytes[at..])?;
+        assert!(rt;
+            begins(text.as_slice(), b"need 0\r\nwhole {4096+}\r\nx"),
+            "cut at {at}"
+        );
+        assert_eq!(rt; text.len(), 8 + 6 + bytes.len(), "cut at {at}");
+    }
+    Ok(())
+}
+
+#[test]
+fn a_size_may_have_digits_without_end(rt: HostRuntime) -> Result<(), Fail> {
+    let rows: [(usize, &[u8], &[u8]); 4] = [
+        (8_190, b"}\r\n", b"too big {1111"),
+        (8_189, b"+}\r\n", b"plus too long\r\n"),
+        (8_191, b"}\r\n", b"line too long\r\n"),
+        (8_192, b"1", b"line too long\r\n"),
+    ];
+    for (digits, end, want) in rows {
+        let mut line = vec![in rt.alloc(); b'1'; digits]?;
+        line.insert(0, b'{').map_err(|_| Memory)?;
+        line.extend_from_slice(end)?;
+        let text = byte_by_byte(rt.alloc(), line.as_slice())?;
+        assert!(rt; begins(text.as_slice(), want), "{digits} digits");
+    }
+    Ok(())
+}
+
+#[test]
+fn each_byte_is_copied_twice(rt: HostRuntime) -> Result<(), Fail> {
+    let mut bytes = Vec::from_slice(rt.alloc(), b"a LOGIN {3}\r\nbob {2+}\r\nxy {100000}\r\n")?;
+    bytes.resize(36 + 100_000, b'x')?;
+    let mut framer = Framer::new(rt.alloc());
+    for byte in &bytes {
+        framer.feed(&[*byte])?;
+    }
+    assert_eq!(rt;
+        framer.work(),
+        Work {
+            taken: 100_036,
+            copied: 100_036
+        }
+    );
+    framer.feed(b"\r\nb")?;
+    assert_eq!(rt;
+        framer.work(),
+        Work {
+            taken: 100_038,
+            copied: 200_076
+        }
+    );
     Ok(())
 }
 

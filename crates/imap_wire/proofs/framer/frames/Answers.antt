@@ -5,7 +5,7 @@ use Rattle.imap_wire.proofs.FeedLaws.{frames-nil, concat-more}
 use Rattle.imap_wire.proofs.framer.frames.Goals as goal
 
 pub loop-piece-init : goal.loop-piece-init
-loop-piece-init c = record { held = sym c.new-framer.ensures; frames = c.new-frames.ensures ∙ frames-nil }
+loop-piece-init c = record { held = sym c.new-framer.ensures.begun; frames = c.new-frames.ensures ∙ frames-nil }
 
 pub loop-piece-preserved : goal.loop-piece-preserved
 loop-piece-preserved c =

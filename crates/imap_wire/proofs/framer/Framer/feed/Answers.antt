@@ -1,6 +1,7 @@
 -- What the command that has begun makes of the piece holds of the connection.
-use Rattle.std.proofs.Common.{◌∙◌, sym}
+use Rattle.std.proofs.Common.{◌∙◌, sym, ap}
 use Rattle.imap_wire.specs.Begun.{state_of}
+use Rattle.imap_wire.specs.Feeding.{Progress}
 use Rattle.imap_wire.proofs.FeedLaws.{IsReached-takes, past-state, Gives-takes, begun-takes, Takes-some, begun-own}
 use Rattle.imap_wire.proofs.LeaveLaws.{Takes-leaves}
 use Rattle.imap_wire.proofs.framer.Framer.feed.Goals as goal
@@ -10,12 +11,12 @@ invariant_of-self c = IsReached-takes (state_of c.self.inside.begun) (state_of c
 
 pub returns-in-Ok-clause-frame : goal.returns-in-Ok-clause-frame
 returns-in-Ok-clause-frame c = λ _ past held.
-    let is = past-state (state_of c.self.inside.begun) past c.if-self.false c.self.invariant (held ∙ sym c.self.view_is) in
+    let is = past-state (state_of c.self.inside.begun) past c.if-self.false c.self.invariant (held ∙ sym (ap (λ (p : Progress). p.begun) c.self.view_is)) in
     Gives-takes (state_of c.self.inside.begun) (state_of c.take.new.self) past c.args.piece.now _ _ is c.in-Ok.ensures.takes c.in-Ok.ensures.whole
 
 pub returns-in-Ok-clause-after : goal.returns-in-Ok-clause-after
 returns-in-Ok-clause-after c = λ past held.
-    let is = past-state (state_of c.self.inside.begun) past c.if-self.false c.self.invariant (held ∙ sym c.self.view_is) in
+    let is = past-state (state_of c.self.inside.begun) past c.if-self.false c.self.invariant (held ∙ sym (ap (λ (p : Progress). p.begun) c.self.view_is)) in
     begun-takes (state_of c.self.inside.begun) (state_of c.take.new.self) past c.args.piece.now c.in-Ok.fed.0 _ is c.in-Ok.ensures.takes
 
 pub returns-in-Ok-clause-some : goal.returns-in-Ok-clause-some
@@ -29,7 +30,7 @@ pub returns-in-Ok-clause-leaves : goal.returns-in-Ok-clause-leaves
 returns-in-Ok-clause-leaves c = Takes-leaves (state_of c.self.inside.begun) (state_of c.take.new.self) c.args.piece.now c.in-Ok.fed.0 _ c.if-self.false c.in-Ok.ensures.takes
 
 pub returns-in-Ok-clause-own : goal.returns-in-Ok-clause-own
-returns-in-Ok-clause-own c = begun-own (state_of c.self.inside.begun) c.args.self.now c.self.invariant c.self.view_is
+returns-in-Ok-clause-own c = begun-own (state_of c.self.inside.begun) c.args.self.now.begun c.self.invariant (ap (λ (p : Progress). p.begun) c.self.view_is)
 
 pub returns-in-Err-clause-own : goal.returns-in-Err-clause-own
-returns-in-Err-clause-own c = begun-own (state_of c.self.inside.begun) c.args.self.now c.self.invariant c.self.view_is
+returns-in-Err-clause-own c = begun-own (state_of c.self.inside.begun) c.args.self.now.begun c.self.invariant (ap (λ (p : Progress). p.begun) c.self.view_is)

@@ -33,8 +33,8 @@ loop-taken-preserved c =
 pub returns-else-not-spent-clause-frames : goal.returns-else-not-spent-clause-frames
 returns-else-not-spent-clause-frames c = λ past held old.
     c.loop-taken.invariant.frames past held old
-    ∙ sym (frames-rest past c.args.piece.now c.loop-taken.taken c.loop-taken.self (sym c.if-not-spent.ensures) (c.loop-taken.invariant.after past held))
+    ∙ sym (frames-rest past c.args.piece.now c.loop-taken.taken c.loop-taken.self.begun (sym c.if-not-spent.ensures) (c.loop-taken.invariant.after past held))
 
 pub returns-else-not-spent-clause-after : goal.returns-else-not-spent-clause-after
 returns-else-not-spent-clause-after c = λ past held.
-    begun-rest past c.args.piece.now c.loop-taken.taken c.loop-taken.self (sym c.if-not-spent.ensures) (c.loop-taken.invariant.after past held)
+    begun-rest past c.args.piece.now c.loop-taken.taken c.loop-taken.self.begun (sym c.if-not-spent.ensures) (c.loop-taken.invariant.after past held)

@@ -1,0 +1,88 @@
+// Bytes in a place that they never leave.
+ghost use Rattle.std.specs.Prelude.{◌≡◌, ◌+◌, ◌-◌, ◌≤◌, [], ◌++◌, length, IfOk, vec_capacity, IsTrue, ◌↔◌};
+
+use crate::work::Work;
+use mur_base::limits::LINE_LIMIT;
+use mur_base::{Bytes, Memory};
+use std::alloc::Global;
+
+/// Bytes of a block: two of the longest lines with their CRLFs. A block in which a line finds no room is more than half
+/// full, so memory is held for no more than twice the bytes that came, and one block.
+pub const BLOCK_ROOM: usize = 2 * (LINE_LIMIT + 2);
+
+/// A place for bytes that never grows, so they stay where they are put. `put` is the one function of this crate that
+/// copies bytes.
+#[derive(Drop)]
+pub struct Block {
+    bytes: Vec<u8>,
+}
+
+impl Block {
+    ghost use Rattle.imap_wire.specs.Work.{more};
+
+    /// A block with no room. It takes no memory.
+    pub fn none(alloc: Global) -> Block
+        ensures { result.bytes.items ≡ [] }
+    {
+        Block {
+            bytes: Vec::new(alloc),
+        }
+    }
+
+    /// An empty block with room for so many bytes.
+    pub fn new(alloc: Global, room: usize) -> Result<Block, Memory>
+        ensures bytes { IfOk result (λ block. block.bytes.items ≡ []) }
+        ensures room { IfOk result (λ block. vec_capacity block.bytes ≡ room) }
+    {
+        Ok(Block {
+            bytes: Vec::with_capacity(alloc, room)?,
+        })
+    }
+
+    /// How many bytes there are and may come.
+    pub fn room(&self) -> usize
+        ensures room { result ≡ vec_capacity self.now.bytes }
+        ensures within { length self.now.bytes.items ≤ result }
+    {
+        self.bytes.capacity()
+    }
+
+    pub fn len(&self) -> usize
+        ensures { result ≡ length self.now.bytes.items }
+    {
+        self.bytes.len()
+    }
+
+    pub fn as_slice(&self) -> &[u8]
+        ensures { result.now ≡ self.now.bytes.items }
+    {
+        self.bytes.as_slice()
+    }
+
+    /// Puts bytes behind those that are there.
+    pub fn put(&mut self, bytes: &[u8], work: &mut Work)
+        requires room { length self.old.bytes.items + length bytes.now ≤ vec_capacity self.old.bytes }
+        ensures bytes { self.new.bytes.items ≡ self.old.bytes.items ++ bytes.now }
+        ensures room { vec_capacity self.old.bytes ≤ vec_capacity self.new.bytes }
+        ensures work { work.new ≡ more work.old 0 (length bytes.now) }
+    {
+        work.add(0, bytes.len());
+        self.bytes.extend_from_slice(bytes).unwrap();
+    }
+
+    /// Takes all bytes away and keeps the room.
+    pub fn clear(&mut self)
+        ensures bytes { self.new.bytes.items ≡ [] }
+        ensures room { vec_capacity self.new.bytes ≡ vec_capacity self.old.bytes }
+    {
+        self.bytes.clear();
+    }
+
+    /// The bytes, which aren't copied.
+    pub fn into_bytes(self) -> Bytes
+        ensures { result ≡ self.bytes.items }
+    {
+        let Block { bytes } = self;
+        Bytes::from_vec(bytes)
+    }
+}
