@@ -1,7 +1,8 @@
 // Each reader on a few rows, and a small grammar: numbers in parentheses.
 ghost use Rattle.std.specs.Prelude.{true, [], ◌∷◌, ◌++◌};
 ghost use Rattle.grammar.specs.Part.{map, listed};
-ghost use Rattle.grammar.specs.Numbers.{number, is_digit};
+ghost use Rattle.mur_base.specs.Number.{is_digit};
+ghost use Rattle.grammar.specs.Numbers.{number};
 
 use super::*;
 use mur_base::Items;
@@ -19,6 +20,7 @@ impl Turn for Numbers {
 
     ghost part = { λ _ so_far. map (λ n. so_far ++ n ∷ []) (number true 999) };
 
+    #[tactic(auto, unfolding(mur_base::specs::Number::is_digit))]
     fn starts(&self, byte: u8) -> bool {
         byte.is_ascii_digit()
     }
