@@ -79,8 +79,11 @@ fn single_bytes(rt: HostRuntime) {
 }
 
 #[test]
+#[tactic(auto, unfolding(mur_base::specs::Number::is_digit))]
 fn so_many_bytes(rt: HostRuntime) {
     let class = Between(1, 255);
+    assert_eq!(rt; class.passing_len(b"ab\0c"), 2);
+    assert_eq!(rt; Digit.passing_len(b"12"), 2);
     assert_eq!(rt;
         exactly_of(&class, 2, b"abc"),
         Ok((b"ab".as_slice(), b"c".as_slice()))
