@@ -1,5 +1,5 @@
 -- An astring as an argument, which a space or the end of the line ends.
-use Rattle.std.proofs.Common.{◌≡◌, ℕ, List, [], ◌∷◌, Bool, true, false, not, refl}
+use Rattle.std.proofs.Common.{◌≡◌, ℕ, [], ◌∷◌, Bool, true, false, not, refl}
 use Rattle.grammar.specs.Exact.{Good, among}
 use Rattle.grammar.proofs.Conditions.{not_true, among_all}
 use Rattle.imap_command.specs.Characters.{is_astring_char}

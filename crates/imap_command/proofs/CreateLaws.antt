@@ -1,5 +1,5 @@
 -- CREATE: its argument is read exactly, is spelled as it is printed, and holds no NUL.
-use Rattle.std.proofs.Common.{◌≡◌, ℕ, List, ◌∷◌, ◌==◌}
+use Rattle.std.proofs.Common.{ℕ, List, ◌==◌}
 use Rattle.grammar.specs.Part.{Part, map, byte}
 use Rattle.grammar.specs.Exact.{Good, StartsWith}
 use Rattle.grammar.proofs.SequenceLaw.{good_map}

@@ -1,5 +1,5 @@
 -- LOGIN: its arguments are read exactly, are spelled as they are printed, and hold no NUL.
-use Rattle.std.proofs.Common.{◌≡◌, ℕ, List, ◌∷◌, ◌==◌, refl}
+use Rattle.std.proofs.Common.{ℕ, List, ◌==◌, refl}
 use Rattle.grammar.specs.Part.{Part, ◌sp◌, map, byte}
 use Rattle.grammar.specs.Exact.{Good, StartsWith}
 use Rattle.grammar.proofs.SequenceLaw.{good_map}

@@ -1,6 +1,6 @@
 -- What is printed of a command is a spelling of it, where it has one.
-use Rattle.std.proofs.Common.{◌≡◌, ℕ, List, [], ◌∷◌, ◌++◌, Bool, true, false, refl, subst, sym}
-use Rattle.grammar.specs.Part.{Part, ◌then◌, ◌sp◌, map, when}
+use Rattle.std.proofs.Common.{◌≡◌, ℕ, List, [], ◌∷◌, ◌++◌, Bool, true, false, refl}
+use Rattle.grammar.specs.Part.{Part, ◌then◌, map, when}
 use Rattle.grammar.specs.Words.{word}
 use Rattle.grammar.specs.Tables.{any_case}
 use Rattle.imap_command.specs.Strings.{crlf}

@@ -1,8 +1,7 @@
 -- Each string that is spelled has no NUL.
-use Rattle.std.proofs.Common.{◌≡◌, ℕ, ◌<◌, ◌≤◌, List, [], ◌∷◌, ◌++◌, Bool, true, false, ◌&&◌, ◌||◌, not, ◌==◌, nat_le, refl, ap, eqb-true, leb-true, arith, ne_eqb, lit≤, lit<}
+use Rattle.std.proofs.Common.{◌≡◌, ℕ, ◌≤◌, List, [], ◌∷◌, ◌++◌, Bool, true, false, ◌||◌, not, ◌==◌, nat_le, refl, ap, eqb-true, leb-true, arith, ne_eqb, lit≤}
 use Rattle.std.specs.List.{list_all}
-use Rattle.mur_base.specs.Number.{is_digit}
-use Rattle.grammar.specs.Part.{Part, ◌then◌, map, byte, choose, exactly, optional, repeat, between}
+use Rattle.grammar.specs.Part.{◌then◌, map, byte, choose, exactly, repeat, between}
 use Rattle.grammar.specs.Words.{word}
 use Rattle.grammar.specs.Runs.{run}
 use Rattle.grammar.specs.Numbers.{value_of}
@@ -10,7 +9,7 @@ use Rattle.grammar.proofs.Conditions.{and_left, and_right, and_both}
 use Rattle.grammar.proofs.RunLaw.{all_join}
 use Rattle.imap_command.specs.Characters.{is_astring_char, is_quoted_plain, is_quoted_special, is_char8, is_utf8_tail}
 use Rattle.imap_command.specs.Utf8.{led, utf8_2, utf8_3, utf8_4, utf8_char}
-use Rattle.imap_command.specs.Strings.{crlf, quoted_char, is_no_quote, quoted, literal, string, astring, IsString}
+use Rattle.imap_command.specs.Strings.{quoted_char, is_no_quote, quoted, literal, string, astring, IsString}
 use Rattle.imap_command.proofs.StringsLaw.{escaped, plain, unescaped}
 use Rattle.imap_command.proofs.Values.{Only, only_then, only_map, only_behind, only_choose, only_exactly, only_repeat}
 

@@ -48,6 +48,7 @@ IsString text = list_all is_char8 text ≡ true
 -- A string is printed as an atom where it is one, else in quotes where it can stand there, else as a literal that waits
 -- for nothing. A text in quotes stands in a line, whose length is limited: so it has at most 1,024 bytes.
 
+-- QUOTED-CHAR of 7 bits
 unfoldable pub escaped : ℕ → List ℕ
 escaped c = if is_quoted_special c then 92 ∷ c ∷ [] else c ∷ []
 
@@ -55,15 +56,19 @@ unfoldable pub escaped_text : List ℕ → List ℕ
 escaped_text [] = []
 escaped_text (c ∷ text) = escaped c ++ escaped_text text
 
+-- in quotes
 unfoldable pub quoted_text : List ℕ → List ℕ
 quoted_text text = 34 ∷ (escaped_text text ++ 34 ∷ [])
 
+-- "{" number64 "+}" CRLF *CHAR8
 unfoldable pub literal_text : List ℕ → List ℕ
 literal_text text = 123 ∷ (decimal (length text) ++ (43 ∷ 125 ∷ 13 ∷ 10 ∷ text))
 
+-- 1*ASTRING-CHAR
 unfoldable pub is_atom : List ℕ → Bool
 is_atom text = list_all is_astring_char text && some text
 
+-- what is printed in quotes, where it is no atom
 unfoldable pub is_quotable : List ℕ → Bool
 is_quotable text = list_all is_text_char text && nat_le (length text) 1024
 

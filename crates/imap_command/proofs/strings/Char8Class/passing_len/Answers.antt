@@ -1,4 +1,4 @@
-use Rattle.std.proofs.Common.{◌≡◌, sym, subst}
+use Rattle.std.proofs.Common.{sym, subst}
 use Rattle.imap_command.proofs.NoNul.{StandBefore, found_before}
 use Rattle.imap_command.proofs.strings.Char8Class.passing_len.Goals as goal
 
