@@ -75,11 +75,12 @@ fn count_commands(alloc: Global, load: &Load) -> u64 {
     commands
 }
 
-/// How many searches of a round find a byte that no load has.
+/// How many searches of a round find a byte that no load has. The byte changes, so that no search stands for the next.
 fn count_found(load: &Load) -> u64 {
     let mut found: u64 = 0;
-    for _ in 0..load.times {
-        found = found.wrapping_add(u64::from(memchr(0, load.frame.as_slice()).is_some()));
+    for time in 0..load.times {
+        let absent = if time % 2 == 0 { 0 } else { 1 };
+        found = found.wrapping_add(u64::from(memchr(absent, load.frame.as_slice()).is_some()));
     }
     found
 }
@@ -105,8 +106,9 @@ fn main(rt: HostRuntime) -> Result<()> {
         let search_took = start.elapsed(&rt)?.as_micros();
         match rounds {
             Some(_) => {
-                let ratio = read_took / search_took.max(1);
-                println!(rt; "{name}: {commands} commands in {read_took} microseconds, {ratio} times the search")?;
+                let tenths = read_took.saturating_mul(10) / search_took.max(1);
+                let (whole, tenth) = (tenths / 10, tenths % 10);
+                println!(rt; "{name}: {commands} commands in {read_took} microseconds, {whole}.{tenth} times the search")?;
             }
             None => println!(rt; "{name}: {commands} commands, {found} found")?,
         }
