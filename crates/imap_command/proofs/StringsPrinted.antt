@@ -1,5 +1,5 @@
 -- A printed string is a spelling of it.
-use Rattle.std.proofs.Common.{◌≡◌, ℕ, ◌+◌, ◌^◌, ◌<◌, List, [], ◌∷◌, ◌++◌, length, Bool, true, false, cond, ◌||◌, inl, inr, Some, None, nat_lt, refl, sym, ap, ◌∙◌, subst, append-nil, append_assoc, decimal, drop, drop-cons, add-one, get_or}
+use Rattle.std.proofs.Common.{◌≡◌, ℕ, ◌+◌, ◌^◌, ◌<◌, List, [], ◌∷◌, ◌++◌, length, Bool, true, false, cond, ◌||◌, inl, inr, Some, None, nat_lt, nat_le, refl, sym, ap, ◌∙◌, subst, append-nil, append_assoc, decimal, drop, drop-cons, add-one, get_or}
 use Rattle.std.specs.List.{list_all}
 use Rattle.mur_base.specs.Number.{number_of, is_numeral, is_digit}
 use Rattle.grammar.specs.Part.{◌then◌, map, byte, exactly, optional, turns, repeat}
@@ -93,7 +93,7 @@ astring_as_atom text h = inl (refl, h)
 
 pub astring_as_quoted : (text : List ℕ) → is_quotable text ≡ true → astring.lang (quoted_text text) text
 unfolding astring string is_quotable
-astring_as_quoted text h = inr (inl (spell_quoted text (and_left _ _ h)))
+astring_as_quoted text h = inr (inl (spell_quoted text (and_right (nat_le (length text) 1024) _ h)))
 
 pub astring_as_literal : (text : List ℕ) → literal.lang (literal_text text) text → astring.lang (literal_text text) text
 unfolding astring string

@@ -70,7 +70,7 @@ is_atom text = list_all is_astring_char text && some text
 
 -- what is printed in quotes, where it is no atom
 unfoldable pub is_quotable : List ℕ → Bool
-is_quotable text = list_all is_text_char text && nat_le (length text) 1024
+is_quotable text = nat_le (length text) 1024 && list_all is_text_char text
 
 unfoldable pub astring_text : List ℕ → List ℕ
 astring_text text = if is_atom text then text else (if is_quotable text then quoted_text text else literal_text text)

@@ -204,7 +204,7 @@ const QUOTED_MOST: usize = 1024;
 fn is_quotable(text: &[u8]) -> bool
     ensures { result ≡ is_quotable text.now }
 {
-    are_all(&TextChar, text) && text.len() <= QUOTED_MOST
+    text.len() <= QUOTED_MOST && are_all(&TextChar, text)
 }
 
 /// Prints a character of a quoted string.
