@@ -44,12 +44,22 @@ fn loads(alloc: Global) -> Result<[Load; 6], Memory> {
         },
         Load {
             name: "APPEND of 512 KiB",
-            frame: filled(alloc, b"a1 APPEND INBOX {524288}\r\n", MESSAGE_LIMIT / 2, b"\r\n")?,
+            frame: filled(
+                alloc,
+                b"a1 APPEND INBOX {524288}\r\n",
+                MESSAGE_LIMIT / 2,
+                b"\r\n",
+            )?,
             times: 2,
         },
         Load {
             name: "APPEND of 1 MiB",
-            frame: filled(alloc, b"a1 APPEND INBOX {1048576}\r\n", MESSAGE_LIMIT, b"\r\n")?,
+            frame: filled(
+                alloc,
+                b"a1 APPEND INBOX {1048576}\r\n",
+                MESSAGE_LIMIT,
+                b"\r\n",
+            )?,
             times: 1,
         },
     ])
@@ -65,20 +75,21 @@ fn filled(alloc: Global, front: &[u8], count: usize, back: &[u8]) -> Result<Vec<
     Ok(bytes)
 }
 
-/// How many commands are read in a round of a load.
-fn count_commands(alloc: Global, load: &Load) -> u64 {
+/// How many commands are read in so many rounds of a load.
+fn count_commands(alloc: Global, load: &Load, rounds: u32) -> u64 {
     let mut commands: u64 = 0;
-    for _ in 0..load.times {
+    for _ in 0..u64::from(load.times) * u64::from(rounds) {
         let command = read(alloc, load.frame.as_slice());
         commands = commands.wrapping_add(u64::from(command.is_ok()));
     }
     commands
 }
 
-/// How many searches of a round find a byte that no load has. The byte changes, so that no search stands for the next.
-fn count_found(load: &Load) -> u64 {
+/// How many searches of so many rounds find a byte that no load has. The byte changes, so that no search stands for the
+/// next.
+fn count_found(load: &Load, rounds: u32) -> u64 {
     let mut found: u64 = 0;
-    for time in 0..load.times {
+    for time in 0..u64::from(load.times) * u64::from(rounds) {
         let absent = if time % 2 == 0 { 0 } else { 1 };
         found = found.wrapping_add(u64::from(memchr(absent, load.frame.as_slice()).is_some()));
     }
@@ -93,22 +104,18 @@ fn main(rt: HostRuntime) -> Result<()> {
     for load in &loads(rt.alloc())? {
         let name = load.name;
         let start = Instant::now(&rt)?;
-        let mut commands: u64 = 0;
-        for _ in 0..rounds.unwrap_or(1) {
-            commands = commands.wrapping_add(count_commands(rt.alloc(), load));
-        }
+        let commands = count_commands(rt.alloc(), load, rounds.unwrap_or(1));
         let read_took = start.elapsed(&rt)?.as_micros();
         let start = Instant::now(&rt)?;
-        let mut found: u64 = 0;
-        for _ in 0..rounds.unwrap_or(1) {
-            found = found.wrapping_add(count_found(load));
-        }
+        let found = count_found(load, rounds.unwrap_or(1));
         let search_took = start.elapsed(&rt)?.as_micros();
         match rounds {
             Some(_) => {
                 let tenths = read_took.saturating_mul(10) / search_took.max(1);
                 let (whole, tenth) = (tenths / 10, tenths % 10);
-                println!(rt; "{name}: {commands} commands in {read_took} microseconds, {whole}.{tenth} times the search")?;
+                println!(rt;
+                    "{name}: {commands} commands in {read_took} microseconds, {whole}.{tenth} times the search"
+                )?;
             }
             None => println!(rt; "{name}: {commands} commands, {found} found")?,
         }
