@@ -159,3 +159,21 @@ fn one_turn(rt: HostRuntime) -> Result<(), Fail> {
     assert_eq!(rt; rest, b"x".as_slice());
     Ok(())
 }
+
+#[test]
+fn texts_of_errors(rt: HostRuntime) -> Result<(), Fail> {
+    let alloc = rt.alloc();
+    let stop = Stop { left: 2 };
+    let stopped = ReadError::Stopped(stop);
+    let memory = ReadError::Memory;
+    assert_eq!(rt;
+        format!(in alloc; "{stop}")?.as_str(),
+        "stopped with 2 bytes left"
+    );
+    assert_eq!(rt;
+        format!(in alloc; "{stopped}")?.as_str(),
+        "stopped with 2 bytes left"
+    );
+    assert_eq!(rt; format!(in alloc; "{memory}")?.as_str(), "out of memory");
+    Ok(())
+}
