@@ -2,19 +2,27 @@
 use Rattle.std.proofs.Common.{◌≡◌, ℕ, ◌+◌, ◌-◌, ◌*◌, ◌≤◌, List, [], ◌∷◌, ◌++◌, Bool, true, false, ◌&&◌, ◌||◌, leb, refl, ap, ◌∙◌, subst, append-nil, le_trans, le_refl, arith, leb-true, le-leb}
 use Rattle.std.specs.List.{list_all}
 use Rattle.grammar.specs.Words.{Lawful, Apart}
-use Rattle.grammar.specs.Numbers.{is_digit, decimal, decimal_from, no_zero_first, numerals}
+use Rattle.mur_base.specs.Number.{is_digit, digits_behind}
+use Rattle.grammar.specs.Numbers.{value_of, no_zero_first, numerals}
 use Rattle.grammar.proofs.Conditions.{and_both, and_left, and_right, and_false}
 use Rattle.grammar.proofs.RunLaw.{all_front, all_push}
 
 -- digits behind digits
-pub decimal-append : (n : ℕ) (s t : List ℕ) → decimal_from n (s ++ t) ≡ decimal_from (decimal_from n s) t
-decimal-append n [] t = refl
-decimal-append n (c ∷ s) t = decimal-append (n * 10 + (c - 48)) s t
+pub digits_behind-append : (n : ℕ) (s t : List ℕ) → digits_behind n (s ++ t) ≡ digits_behind (digits_behind n s) t
+unfolding digits_behind
+digits_behind-append n [] t = refl
+digits_behind-append n (c ∷ s) t = digits_behind-append (10 * n + (c - 48)) s t
+
+-- a digit behind digits
+pub value_of-push : (s : List ℕ) (c : ℕ) → value_of (s ++ c ∷ []) ≡ 10 * value_of s + (c - 48)
+unfolding digits_behind
+value_of-push s c = digits_behind-append 0 s (c ∷ [])
 
 -- digits make no number smaller
-pub decimal_grows : (n : ℕ) (s : List ℕ) → n ≤ decimal_from n s
-decimal_grows n [] = le_refl n
-decimal_grows n (c ∷ s) = le_trans (omega arith) (decimal_grows (n * 10 + (c - 48)) s)
+pub digits_behind-grows : (n : ℕ) (s : List ℕ) → n ≤ digits_behind n s
+unfolding digits_behind
+digits_behind-grows n [] = le_refl n
+digits_behind-grows n (c ∷ s) = le_trans (omega arith) (digits_behind-grows (10 * n + (c - 48)) s)
 
 no_zero_front : (s t : List ℕ) → no_zero_first (s ++ t) ≡ true → no_zero_first s ≡ true
 no_zero_front [] t h = refl
@@ -25,9 +33,9 @@ module _ (zeros : Bool) (most : ℕ) where
   numeral_front s t h =
       let digits = and_left _ _ (and_left _ _ h) in
       let small = leb-true _ _ (and_right (list_all is_digit (s ++ t)) _ (and_left _ _ h)) in
-      let first = and_right (list_all is_digit (s ++ t) && leb (decimal (s ++ t)) most) _ h in
+      let first = and_right (list_all is_digit (s ++ t) && leb (value_of (s ++ t)) most) _ h in
       and_both _ _ (and_both _ _ (all_front is_digit s t digits)
-      (le-leb _ _ (le_trans (decimal_grows (decimal s) t) (subst (λ n. n ≤ most) (decimal-append 0 s t) small)))) (by_zeros zeros first)
+      (le-leb _ _ (le_trans (digits_behind-grows (value_of s) t) (subst (λ n. n ≤ most) (digits_behind-append 0 s t) small)))) (by_zeros zeros first)
     where
       by_zeros : (b : Bool) → b || no_zero_first (s ++ t) ≡ true → b || no_zero_first s ≡ true
       by_zeros true h = h

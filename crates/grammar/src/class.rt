@@ -13,6 +13,20 @@ pub trait Class {
 
     fn holds(&self, byte: u8) -> bool
         ensures { result ≡ test self.now byte };
+
+    /// How many bytes stand before the first that isn't in the set: one by one, where a set has no faster search.
+    fn passing_len(&self, bytes: &[u8]) -> usize
+        ensures there { result ≤ length bytes.now }
+        ensures passing { list_all (test self.now) (take result bytes.now) ≡ true }
+        ensures ends { result < length bytes.now → test self.now (slice_index bytes.now result) ≡ false }
+    {
+        for (i, byte) in bytes.iter().enumerate() {
+            if !self.holds(*byte) {
+                return i;
+            }
+        }
+        bytes.len()
+    }
 }
 
 /// One byte alone.
@@ -38,6 +52,21 @@ impl Class for Between {
 
     fn holds(&self, byte: u8) -> bool {
         self.0 <= byte && byte <= self.1
+    }
+}
+
+/// A decimal digit.
+#[derive(Clone, Copy)]
+pub struct Digit;
+
+impl Class for Digit {
+    ghost use Rattle.mur_base.specs.Number.{is_digit};
+
+    ghost test = { λ _. is_digit };
+
+    #[tactic(auto, unfolding(mur_base::specs::Number::is_digit))]
+    fn holds(&self, byte: u8) -> bool {
+        byte.is_ascii_digit()
     }
 }
 
@@ -83,18 +112,13 @@ pub fn optional_of(wanted: u8, bytes: &[u8]) -> (bool, &[u8])
 }
 
 /// How many of the first `most` bytes are of the set, before the first that isn't.
-fn passing_len<C: Class>(class: &C, most: usize, bytes: &[u8]) -> usize
+fn passing_upto<C: Class>(class: &C, most: usize, bytes: &[u8]) -> usize
     ensures there { result ≤ length bytes.now }
     ensures upto { result ≤ most }
     ensures passing { list_all (C.test class.now) (take result bytes.now) ≡ true }
     ensures ends { result < length bytes.now → result < most → C.test class.now (slice_index bytes.now result) ≡ false }
 {
-    for (i, byte) in bytes.iter().enumerate() {
-        if i == most || !class.holds(*byte) {
-            return i;
-        }
-    }
-    bytes.len()
+    class.passing_len(&bytes[..most.min(bytes.len())])
 }
 
 /// Reads so many bytes of the set, and gives them and the bytes behind them.
@@ -106,7 +130,7 @@ pub fn exactly_of<'a, C: Class>(
 ) -> Result<(&'a [u8], &'a [u8]), Stop>
     ensures { Finds (λ x. (x.0.now, x.1.now)) result ((exactly (C.test class.now) count).at bytes.now) }
 {
-    let len = passing_len(class, count, bytes);
+    let len = passing_upto(class, count, bytes);
     if len == count {
         Ok(bytes.split_at(count))
     } else {

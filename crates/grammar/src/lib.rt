@@ -56,7 +56,7 @@ mod turn;
 mod whole;
 mod word;
 
-pub use class::{Between, Class, Only, begins, byte_in, byte_of, exactly_of, optional_of};
+pub use class::{Between, Class, Digit, Only, begins, byte_in, byte_of, exactly_of, optional_of};
 pub use error::{ReadError, Stop};
 pub use laws::{
     Rule, Rules, bytes_are_good, choice_is_good, repetition_is_good, sequence_is_good,

@@ -2,7 +2,8 @@
 ghost use Rattle.std.specs.Prelude.{◌≡◌, ◌+◌, ◌-◌, ◌*◌, ◌≤◌, ◌<◌, ◌&&◌, ◌||◌, not, nat_le, ◌==◌, true, [], ◌++◌, ◌∷◌, length, take, drop, min};
 ghost use Rattle.std.specs.Option.{SomeIff};
 ghost use Rattle.grammar.specs.Words.{scan, halt};
-ghost use Rattle.grammar.specs.Numbers.{number, numerals, decimal, is_digit, is_next_digit};
+ghost use Rattle.mur_base.specs.Number.{is_digit};
+ghost use Rattle.grammar.specs.Numbers.{number, numerals, value_of, is_next_digit};
 ghost use Rattle.std.specs.List.{list_all};
 ghost use Rattle.grammar.specs.Part.{exactly};
 ghost use Rattle.grammar.specs.Gives.{Finds};
@@ -11,8 +12,9 @@ use crate::class::{Class, exactly_of};
 use crate::error::Stop;
 
 /// The number with one digit more, where it is at most `most` and no zero stands first that may not.
+#[tactic(auto, unfolding(mur_base::specs::Number::is_digit))]
 fn with_digit(zeros: bool, most: u64, number: u64, first: bool, byte: u8) -> Option<u64>
-    ensures { SomeIff result (is_next_digit zeros most number first byte ≡ true) (number * 10 + (byte - 48)) }
+    ensures { SomeIff result (is_next_digit zeros most number first byte ≡ true) (10 * number + (byte - 48)) }
 {
     if !byte.is_ascii_digit() || (first && !zeros && byte == b'0') {
         return None;
@@ -22,9 +24,10 @@ fn with_digit(zeros: bool, most: u64, number: u64, first: bool, byte: u8) -> Opt
 }
 
 /// The number that the scan of a numeral takes, and how many bytes it takes.
+#[tactic(auto, unfolding(mur_base::specs::Number::digits_behind))]
 fn numeral_scan(zeros: bool, most: u64, bytes: &[u8]) -> (u64, usize)
     ensures within { result.1 ≤ length bytes.now }
-    ensures value { result.0 ≡ decimal (take result.1 bytes.now) }
+    ensures value { result.0 ≡ value_of (take result.1 bytes.now) }
     ensures begins { (numerals zeros most).begins (take result.1 bytes.now) ≡ true }
     ensures halts { scan (numerals zeros most) [] bytes.now
         ≡ halt ((numerals zeros most).whole (take result.1 bytes.now)) (take result.1 bytes.now) (drop result.1 bytes.now) }
@@ -52,9 +55,10 @@ pub fn number_of(zeros: bool, most: u64, bytes: &[u8]) -> Result<(u64, &[u8]), S
 }
 
 /// The number that digits stand for, or `most` where it is greater.
+#[tactic(auto, unfolding(mur_base::specs::Number::digits_behind, mur_base::specs::Number::is_digit))]
 fn number_upto(most: usize, digits: &[u8]) -> usize
     requires { list_all is_digit digits.now ≡ true }
-    ensures { result ≡ min (decimal digits.now) most }
+    ensures { result ≡ min (value_of digits.now) most }
 {
     let mut number = 0usize;
     for digit in digits {
@@ -74,7 +78,7 @@ pub fn counted_of<'a, C: Class>(
     bytes: &'a [u8],
 ) -> Result<(&'a [u8], &'a [u8]), Stop>
     requires { list_all is_digit digits.now ≡ true }
-    ensures { Finds (λ x. (x.0.now, x.1.now)) result ((exactly (C.test class.now) (decimal digits.now)).at bytes.now) }
+    ensures { Finds (λ x. (x.0.now, x.1.now)) result ((exactly (C.test class.now) (value_of digits.now)).at bytes.now) }
 {
     exactly_of(class, number_upto(bytes.len() + 1, digits), bytes)
 }

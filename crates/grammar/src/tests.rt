@@ -1,7 +1,8 @@
 // Each reader on a few rows, and a small grammar: numbers in parentheses.
 ghost use Rattle.std.specs.Prelude.{true, [], ◌∷◌, ◌++◌};
 ghost use Rattle.grammar.specs.Part.{map, listed};
-ghost use Rattle.grammar.specs.Numbers.{number, is_digit};
+ghost use Rattle.mur_base.specs.Number.{is_digit};
+ghost use Rattle.grammar.specs.Numbers.{number};
 
 use super::*;
 use mur_base::Items;
@@ -19,6 +20,7 @@ impl Turn for Numbers {
 
     ghost part = { λ _ so_far. map (λ n. so_far ++ n ∷ []) (number true 999) };
 
+    #[tactic(auto, unfolding(mur_base::specs::Number::is_digit))]
     fn starts(&self, byte: u8) -> bool {
         byte.is_ascii_digit()
     }
@@ -77,8 +79,11 @@ fn single_bytes(rt: HostRuntime) {
 }
 
 #[test]
+#[tactic(auto, unfolding(mur_base::specs::Number::is_digit))]
 fn so_many_bytes(rt: HostRuntime) {
     let class = Between(1, 255);
+    assert_eq!(rt; class.passing_len(b"ab\0c"), 2);
+    assert_eq!(rt; Digit.passing_len(b"12"), 2);
     assert_eq!(rt;
         exactly_of(&class, 2, b"abc"),
         Ok((b"ab".as_slice(), b"c".as_slice()))
@@ -152,5 +157,23 @@ fn one_turn(rt: HostRuntime) -> Result<(), Fail> {
     let (numbers, rest) = repeated_of(&Numbers, Items::new(rt.alloc()), b"7x")?;
     assert_eq!(rt; numbers.as_slice(), [7].as_slice());
     assert_eq!(rt; rest, b"x".as_slice());
+    Ok(())
+}
+
+#[test]
+fn texts_of_errors(rt: HostRuntime) -> Result<(), Fail> {
+    let alloc = rt.alloc();
+    let stop = Stop { left: 2 };
+    let stopped = ReadError::Stopped(stop);
+    let memory = ReadError::Memory;
+    assert_eq!(rt;
+        format!(in alloc; "{stop}")?.as_str(),
+        "stopped with 2 bytes left"
+    );
+    assert_eq!(rt;
+        format!(in alloc; "{stopped}")?.as_str(),
+        "stopped with 2 bytes left"
+    );
+    assert_eq!(rt; format!(in alloc; "{memory}")?.as_str(), "out of memory");
     Ok(())
 }

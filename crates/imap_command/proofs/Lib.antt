@@ -1,7 +1,15 @@
+pub mod AppendLaws
+pub mod Arguments
 pub mod BadLaws
-pub mod CommandLaws
+pub mod CreateLaws
+pub mod LoginLaws
+pub mod NoNul
 pub mod PrintLaw
 pub mod Spelling
 pub mod SpellsLaw
+pub mod StatusLaws
+pub mod StringsHold
 pub mod StringsLaw
+pub mod StringsPrinted
 pub mod Utf8Law
+pub mod Values

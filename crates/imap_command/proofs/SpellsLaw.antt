@@ -21,7 +21,11 @@ use Rattle.imap_command.specs.Status.{status}
 use Rattle.imap_command.specs.Spells.{tags, command_names, arguments, tagged_command, Spells}
 use Rattle.mur_model.specs.declared.command.Command.{Command}
 use Rattle.imap_command.proofs.StringsLaw.{good_crlf}
-use Rattle.imap_command.proofs.CommandLaws.{ends_atom, good_login, good_create, good_append, good_status, starts_login, starts_create, starts_append, starts_status}
+use Rattle.imap_command.proofs.Arguments.{ends_atom}
+use Rattle.imap_command.proofs.LoginLaws.{good_login, starts_login}
+use Rattle.imap_command.proofs.CreateLaws.{good_create, starts_create}
+use Rattle.imap_command.proofs.AppendLaws.{good_append, starts_append}
+use Rattle.imap_command.proofs.StatusLaws.{good_status, starts_status}
 
 abbrev pub is_space : ℕ → Bool
 is_space c = c == 32

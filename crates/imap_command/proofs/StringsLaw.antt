@@ -5,7 +5,8 @@ use Rattle.grammar.specs.Part.{Part, give, ◌then◌, map, byte, choose, exactl
 use Rattle.grammar.specs.Exact.{Good, Begins, StartsWith, any, among}
 use Rattle.grammar.specs.Words.{word}
 use Rattle.grammar.specs.Runs.{run}
-use Rattle.grammar.specs.Numbers.{decimal, is_digit}
+use Rattle.mur_base.specs.Number.{is_digit}
+use Rattle.grammar.specs.Numbers.{value_of}
 use Rattle.grammar.proofs.Conditions.{and_left, and_right, and_false, and_false_right, not_true, among_all}
 use Rattle.grammar.proofs.SequenceLaw.{good_then, good_map}
 use Rattle.grammar.proofs.ChoiceLaw.{good_choose}
@@ -41,14 +42,14 @@ unfolding is_quoted_plain
 plain_no_backslash c h = and_right (nat_le 1 c && nat_le c 127 && not (c == 13) && not (c == 10) && not (c == 34)) _ h
 
 -- a backslash and what may stand behind it
-abbrev escaped : List ℕ → Part (List ℕ)
+abbrev pub escaped : List ℕ → Part (List ℕ)
 escaped so_far = byte 92 then λ _. map (λ char. so_far ++ char) (exactly is_quoted_special 1)
 
 -- a character that stands for itself
-abbrev plain : List ℕ → Part (List ℕ)
+abbrev pub plain : List ℕ → Part (List ℕ)
 plain so_far = map (λ char. so_far ++ char) (exactly is_quoted_plain 1)
 
-abbrev unescaped : List ℕ → Part (List ℕ)
+abbrev pub unescaped : List ℕ → Part (List ℕ)
 unescaped so_far = choose is_quoted_plain (plain so_far) (utf8_char so_far)
 
 starts_escaped : (so_far : List ℕ) → StartsWith (λ c. c == 92) (escaped so_far)
@@ -81,7 +82,7 @@ abbrev pub octets : ℕ → Part (List ℕ)
 octets n = crlf then λ _. exactly is_char8 n
 
 abbrev pub behind_length : List ℕ → Part (List ℕ)
-behind_length digits = optional 43 then λ _. byte 125 then λ _. octets (decimal digits)
+behind_length digits = optional 43 then λ _. byte 125 then λ _. octets (value_of digits)
 
 starts_literal : StartsWith (λ c. c == 123) literal
 unfolding literal
@@ -106,6 +107,7 @@ abbrev behind_digits : ℕ → Bool
 behind_digits = among (43 ∷ 125 ∷ [])
 
 no_digit : (c : ℕ) → behind_digits c ≡ true → is_digit c ≡ false
+unfolding is_digit
 no_digit c h = not_true (is_digit c) (among_all (λ c. not (is_digit c)) (43 ∷ 125 ∷ []) refl c h)
 
 module _ {V : Type 0} (after : ℕ → Bool) where
@@ -135,9 +137,9 @@ module _ {V : Type 0} (after : ℕ → Bool) where
 
 begins_behind_length : (after : ℕ → Bool) (digits : List ℕ) → Begins behind_digits after (behind_length digits)
 begins_behind_length after digits =
-    begins_then (optional 43) (λ _. byte 125 then λ _. octets (decimal digits))
+    begins_then (optional 43) (λ _. byte 125 then λ _. octets (value_of digits))
     (begins_optional (λ c. c == 125) 43 refl (λ c h. ap behind_digits (eqb-true c 125 h)))
-    (λ _. begins_from after (byte 125 then λ _. octets (decimal digits)) (starts_then (byte 125) (λ _. octets (decimal digits)) (starts_byte 125)))
+    (λ _. begins_from after (byte 125 then λ _. octets (value_of digits)) (starts_then (byte 125) (λ _. octets (value_of digits)) (starts_byte 125)))
 
 module _ {V : Type 0} (after : ℕ → Bool) where
   good_quoted : Good V after quoted
@@ -155,12 +157,12 @@ module _ {V : Type 0} (after : ℕ → Bool) where
 
   good_behind_length : (digits : List ℕ) → Good V after (behind_length digits)
   good_behind_length digits =
-      good_then (optional 43) (λ _. byte 125 then λ _. octets (decimal digits)) (good_optional (λ c. c == 125) 43 (λ c h. ap (λ d. d == 43) (eqb-true c 125 h)))
-      (λ _. good_behind 125 (octets (decimal digits)) (good_octets (decimal digits)))
-      (λ _. begins_from after (byte 125 then λ _. octets (decimal digits)) (starts_then (byte 125) (λ _. octets (decimal digits)) (starts_byte 125)))
+      good_then (optional 43) (λ _. byte 125 then λ _. octets (value_of digits)) (good_optional (λ c. c == 125) 43 (λ c h. ap (λ d. d == 43) (eqb-true c 125 h)))
+      (λ _. good_behind 125 (octets (value_of digits)) (good_octets (value_of digits)))
+      (λ _. begins_from after (byte 125 then λ _. octets (value_of digits)) (starts_then (byte 125) (λ _. octets (value_of digits)) (starts_byte 125)))
 
   pub good_literal : Good V after literal
-  unfolding literal
+  unfolding literal is_digit
   good_literal =
       good_behind 123 (word (run is_digit) then behind_length)
       (good_then (word (run is_digit)) behind_length (good_word (run is_digit) (lawful_run is_digit 48 refl) behind_digits (apart_run is_digit behind_digits no_digit))

@@ -14,6 +14,10 @@ is_quoted_plain c = nat_le 1 c && nat_le c 127 && not (c == 13) && not (c == 10)
 unfoldable pub is_quoted_special : ℕ → Bool
 is_quoted_special c = c == 34 || c == 92
 
+-- TEXT-CHAR: what a quoted string may hold of 7 bits, with a backslash before it or without
+unfoldable pub is_text_char : ℕ → Bool
+is_text_char c = is_quoted_plain c || is_quoted_special c
+
 -- CHAR8: any octet but NUL
 unfoldable pub is_char8 : ℕ → Bool
 is_char8 c = not (c == 0)

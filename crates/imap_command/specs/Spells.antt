@@ -34,3 +34,7 @@ tagged_command =
 -- the frame is the command under the tag
 abbrev pub Spells : List ℕ → Tag × Command → Type 0
 Spells frame tagged = tagged_command.lang frame tagged
+
+-- some frame is the command under the tag
+abbrev pub IsSpelled : Tag → Command → Type 0
+IsSpelled tag command = (frame : List ℕ) × Spells frame (tag, command)

@@ -4,7 +4,7 @@ use Rattle.std.specs.Prelude.{ℕ, List, [], ◌∷◌, ◌++◌, codes}
 use Rattle.grammar.specs.Part.{Part, ◌then◌, ◌sp◌, map, byte, listed}
 use Rattle.grammar.specs.Words.{word}
 use Rattle.grammar.specs.Tables.{any_case}
-use Rattle.imap_command.specs.Strings.{astring}
+use Rattle.imap_command.specs.Strings.{astring, astring_text}
 use Rattle.mur_model.specs.declared.command.Command.{Command}
 use Rattle.mur_model.specs.declared.command.Command.TheVariants.{Status}
 use Rattle.mur_model.specs.declared.command.StatusItem.{StatusItem}
@@ -20,3 +20,20 @@ status_item so_far = map (λ _. so_far ++ Messages ∷ []) (word (any_case item_
 
 unfoldable pub status : Part Command
 status = byte 32 then λ _. astring sp λ mailbox. map (λ items. Status mailbox items) (listed status_item [])
+
+-- How it is printed.
+
+unfoldable pub item_text : StatusItem → List ℕ
+item_text Messages = codes "MESSAGES"
+
+-- a space before each
+unfoldable pub more_items_text : List StatusItem → List ℕ
+more_items_text [] = []
+more_items_text (item ∷ items) = 32 ∷ (item_text item ++ more_items_text items)
+
+unfoldable pub items_text : List StatusItem → List ℕ
+items_text [] = codes "()"
+items_text (item ∷ items) = 40 ∷ (item_text item ++ (more_items_text items ++ 41 ∷ []))
+
+unfoldable pub status_text : List ℕ → List StatusItem → List ℕ
+status_text mailbox items = 32 ∷ astring_text mailbox ++ 32 ∷ items_text items

@@ -1,10 +1,12 @@
 -- Strings (RFC 9051, 4.3 and 9).
-use Rattle.std.specs.Prelude.{ℕ, Bool, not, ◌==◌, List, [], ◌++◌}
+use Rattle.std.specs.Prelude.{◌≡◌, ℕ, Bool, true, ◌&&◌, not, ◌==◌, nat_le, List, [], ◌∷◌, ◌++◌, length, decimal, if◌then◌else◌}
+use Rattle.std.specs.List.{list_all}
+use Rattle.mur_base.specs.Number.{is_digit}
 use Rattle.grammar.specs.Part.{Part, ◌then◌, map, byte, choose, exactly, optional, repeat}
 use Rattle.grammar.specs.Words.{word}
-use Rattle.grammar.specs.Runs.{run}
-use Rattle.grammar.specs.Numbers.{decimal, is_digit}
-use Rattle.imap_command.specs.Characters.{is_astring_char, is_quoted_plain, is_quoted_special, is_char8}
+use Rattle.grammar.specs.Runs.{run, some}
+use Rattle.grammar.specs.Numbers.{value_of}
+use Rattle.imap_command.specs.Characters.{is_astring_char, is_quoted_plain, is_quoted_special, is_text_char, is_char8}
 use Rattle.imap_command.specs.Utf8.{utf8_char}
 
 -- CRLF
@@ -29,7 +31,7 @@ quoted = byte 34 then λ _. repeat is_no_quote quoted_char [] then λ text. map 
 unfoldable pub literal : Part (List ℕ)
 literal =
     byte 123 then λ _. word (run is_digit) then λ digits. optional 43 then λ _. byte 125 then λ _. crlf then λ _.
-    exactly is_char8 (decimal digits)
+    exactly is_char8 (value_of digits)
 
 -- string = quoted / literal
 unfoldable pub string : Part (List ℕ)
@@ -38,3 +40,37 @@ string = choose (λ c. c == 34) quoted literal
 -- astring = 1*ASTRING-CHAR / string
 unfoldable pub astring : Part (List ℕ)
 astring = choose is_astring_char (word (run is_astring_char)) string
+
+-- a string that some spelling stands for
+abbrev pub IsString : List ℕ → Type 0
+IsString text = list_all is_char8 text ≡ true
+
+-- A string is printed as an atom where it is one, else in quotes where it can stand there, else as a literal that waits
+-- for nothing. A text in quotes stands in a line, whose length is limited: so it has at most 1,024 bytes.
+
+-- QUOTED-CHAR of 7 bits
+unfoldable pub escaped : ℕ → List ℕ
+escaped c = if is_quoted_special c then 92 ∷ c ∷ [] else c ∷ []
+
+unfoldable pub escaped_text : List ℕ → List ℕ
+escaped_text [] = []
+escaped_text (c ∷ text) = escaped c ++ escaped_text text
+
+-- in quotes
+unfoldable pub quoted_text : List ℕ → List ℕ
+quoted_text text = 34 ∷ (escaped_text text ++ 34 ∷ [])
+
+-- "{" number64 "+}" CRLF *CHAR8
+unfoldable pub literal_text : List ℕ → List ℕ
+literal_text text = 123 ∷ (decimal (length text) ++ (43 ∷ 125 ∷ 13 ∷ 10 ∷ text))
+
+-- 1*ASTRING-CHAR
+unfoldable pub is_atom : List ℕ → Bool
+is_atom text = list_all is_astring_char text && some text
+
+-- what is printed in quotes, where it is no atom
+unfoldable pub is_quotable : List ℕ → Bool
+is_quotable text = nat_le (length text) 1024 && list_all is_text_char text
+
+unfoldable pub astring_text : List ℕ → List ℕ
+astring_text text = if is_atom text then text else (if is_quotable text then quoted_text text else literal_text text)

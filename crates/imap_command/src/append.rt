@@ -1,9 +1,12 @@
 // APPEND (RFC 9051, 6.3.12).
+ghost use Rattle.std.specs.Prelude.{◌≡◌, ◌++◌, OnOk};
 ghost use Rattle.grammar.specs.Gives.{Gives};
-ghost use Rattle.imap_command.specs.Append.{append};
+ghost use Rattle.imap_command.specs.Append.{append, append_text};
+ghost use Rattle.imap_command.specs.Strings.{IsString};
 
-use crate::strings::{astring_of, literal_of};
+use crate::strings::{astring_of, literal_of, put_astring, put_literal};
 use grammar::{ReadError, byte_of};
+use mur_base::{Bytes, Memory};
 use mur_model::Command;
 use std::alloc::Global;
 
@@ -17,4 +20,19 @@ pub fn append_of(alloc: Global, bytes: &[u8]) -> Result<(Command, &[u8]), ReadEr
     let rest = byte_of(b' ', rest)?;
     let (message, rest) = literal_of(alloc, rest)?;
     Ok((Command::Append(mailbox, message), rest))
+}
+
+/// Prints what stands behind the name APPEND.
+#[tactic(auto, using(std::proofs::lemmas::Grind::common_steps, crate::proofs::AppendLaws::spell_append), unfolding(crate::specs::Append::append_text))]
+pub fn put_append(mailbox: &Bytes, message: &Bytes, out: &mut Bytes) -> Result<(), Memory>
+    requires mailbox { IsString mailbox.now }
+    requires message { IsString message.now }
+    ensures text { OnOk result (out.new ≡ out.old ++ append_text mailbox.now message.now) }
+    ensures spells { OnOk result (append.lang (append_text mailbox.now message.now) (Command.Append mailbox.now message.now)) }
+{
+    out.push(b' ')?;
+    put_astring(mailbox.as_slice(), out)?;
+    out.push(b' ')?;
+    put_literal(message.as_slice(), out)?;
+    Ok(())
 }

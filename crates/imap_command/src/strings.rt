@@ -1,15 +1,17 @@
 // Strings (RFC 9051, 4.3 and 9).
-ghost use Rattle.std.specs.Prelude.{◌≡◌, ◌==◌, not};
+ghost use Rattle.std.specs.Prelude.{◌≡◌, ◌==◌, ◌++◌, not, true, OnOk};
+ghost use Rattle.std.specs.List.{list_all};
 ghost use Rattle.grammar.specs.Gives.{Finds, Gives};
-ghost use Rattle.imap_command.specs.Characters.{is_astring_char, is_quoted_plain, is_quoted_special, is_char8};
-ghost use Rattle.imap_command.specs.Strings.{crlf, quoted_char, is_no_quote, quoted, literal, string, astring};
+ghost use Rattle.imap_command.specs.Characters.{is_astring_char, is_quoted_plain, is_quoted_special, is_text_char, is_char8};
+ghost use Rattle.imap_command.specs.Strings.{crlf, quoted_char, is_no_quote, quoted, literal, string, astring, IsString, escaped, escaped_text, quoted_text, literal_text, is_atom, is_quotable, astring_text};
 
 use crate::utf8::utf8_of;
 use grammar::{
-    Between, Class, Only, ReadError, Run, Stop, Turn, begins, byte_of, counted_of, exactly_of,
+    Class, Digit, Only, ReadError, Run, Stop, Turn, begins, byte_of, counted_of, exactly_of,
     optional_of, repeated_of, word_of,
 };
-use mur_base::Bytes;
+use memchr::memchr;
+use mur_base::{Bytes, Memory, put_number};
 use std::alloc::Global;
 
 /// ASTRING-CHAR.
@@ -51,6 +53,19 @@ impl Class for QuotedSpecial {
     }
 }
 
+/// TEXT-CHAR.
+#[derive(Clone, Copy)]
+struct TextChar;
+
+impl Class for TextChar {
+    ghost test = { λ _. is_text_char };
+
+    #[tactic(auto, unfolding(crate::specs::Characters::is_text_char))]
+    fn holds(&self, byte: u8) -> bool {
+        QuotedPlain.holds(byte) || QuotedSpecial.holds(byte)
+    }
+}
+
 /// CHAR8.
 #[derive(Clone, Copy)]
 struct Char8;
@@ -61,6 +76,10 @@ impl Class for Char8 {
     #[tactic(auto, unfolding(crate::specs::Characters::is_char8))]
     fn holds(&self, byte: u8) -> bool {
         byte != 0
+    }
+
+    fn passing_len(&self, bytes: &[u8]) -> usize {
+        memchr(0, bytes).unwrap_or(bytes.len())
     }
 }
 
@@ -124,12 +143,7 @@ pub fn literal_of(alloc: Global, bytes: &[u8]) -> Result<(Bytes, &[u8]), ReadErr
     ensures { Gives (λ x. (x.0, x.1.now)) result (literal.at bytes.now) }
 {
     let rest = byte_of(b'{', bytes)?;
-    let (digits, rest) = word_of(
-        &Run {
-            of: Between(b'0', b'9'),
-        },
-        rest,
-    )?;
+    let (digits, rest) = word_of(&Run { of: Digit }, rest)?;
     let (_, rest) = optional_of(b'+', rest);
     let rest = byte_of(b'}', rest)?;
     let rest = crlf_of(rest)?;
@@ -159,5 +173,98 @@ pub fn astring_of(alloc: Global, bytes: &[u8]) -> Result<(Bytes, &[u8]), ReadErr
         Ok((Bytes::from_slice(alloc, text)?, rest))
     } else {
         string_of(alloc, bytes)
+    }
+}
+
+/// Whether all bytes of a text are of a set.
+fn are_all<C: Class>(class: &C, text: &[u8]) -> bool
+    ensures { result ≡ list_all (C.test class.now) text.now }
+{
+    for byte in text {
+        if !class.holds(*byte) {
+            return false;
+        }
+    }
+    true
+}
+
+/// Whether a text is an atom, with `]` allowed.
+#[tactic(auto, unfolding(crate::specs::Strings::is_atom))]
+fn is_atom(text: &[u8]) -> bool
+    ensures { result ≡ is_atom text.now }
+{
+    are_all(&AstringChar, text) && !text.is_empty()
+}
+
+/// The greatest length in bytes of a text that is printed in quotes.
+const QUOTED_MOST: usize = 1024;
+
+/// Whether a text is one that is printed in quotes, where it is no atom.
+#[tactic(auto, unfolding(crate::specs::Strings::is_quotable))]
+fn is_quotable(text: &[u8]) -> bool
+    ensures { result ≡ is_quotable text.now }
+{
+    text.len() <= QUOTED_MOST && are_all(&TextChar, text)
+}
+
+/// Prints a character of a quoted string.
+#[tactic(auto, using(std::proofs::lemmas::Grind::common_steps), unfolding(crate::specs::Strings::escaped))]
+fn put_escaped(byte: u8, out: &mut Bytes) -> Result<(), Memory>
+    ensures { OnOk result (out.new ≡ out.old ++ escaped byte) }
+{
+    if QuotedSpecial.holds(byte) {
+        out.push(b'\\')?;
+    }
+    out.push(byte)
+}
+
+/// Prints the characters of a quoted string.
+#[tactic(auto, unfolding(crate::specs::Strings::escaped_text))]
+fn put_escaped_text(text: &[u8], out: &mut Bytes) -> Result<(), Memory>
+    ensures { OnOk result (out.new ≡ out.old ++ escaped_text text.now) }
+{
+    for byte in text {
+        put_escaped(*byte, out)?;
+    }
+    Ok(())
+}
+
+/// Prints a quoted string.
+#[tactic(auto, using(std::proofs::lemmas::Grind::common_steps), unfolding(crate::specs::Strings::quoted_text))]
+fn put_quoted(text: &[u8], out: &mut Bytes) -> Result<(), Memory>
+    ensures { OnOk result (out.new ≡ out.old ++ quoted_text text.now) }
+{
+    out.push(b'"')?;
+    put_escaped_text(text, out)?;
+    out.push(b'"')
+}
+
+/// Prints a literal that waits for nothing.
+#[tactic(auto, using(std::proofs::lemmas::Grind::common_steps), unfolding(crate::specs::Strings::literal_text))]
+pub fn put_literal(text: &[u8], out: &mut Bytes) -> Result<(), Memory>
+    requires { IsString text.now }
+    ensures text { OnOk result (out.new ≡ out.old ++ literal_text text.now) }
+    ensures spells { OnOk result (literal.lang (literal_text text.now) text.now) }
+{
+    out.push(b'{')?;
+    put_number(text.len() as u64, out)?;
+    out.extend_from_slice(b"+}\r\n")?;
+    out.extend_from_slice(text)?;
+    Ok(())
+}
+
+/// Prints a string as an atom, in quotes or as a literal, the first of them that it can be.
+#[tactic(auto, using(crate::proofs::StringsPrinted::astring_as_atom, crate::proofs::StringsPrinted::astring_as_quoted, crate::proofs::StringsPrinted::astring_as_literal), unfolding(crate::specs::Strings::astring_text))]
+pub fn put_astring(text: &[u8], out: &mut Bytes) -> Result<(), Memory>
+    requires { IsString text.now }
+    ensures text { OnOk result (out.new ≡ out.old ++ astring_text text.now) }
+    ensures spells { OnOk result (astring.lang (astring_text text.now) text.now) }
+{
+    if is_atom(text) {
+        out.extend_from_slice(text)
+    } else if is_quotable(text) {
+        put_quoted(text, out)
+    } else {
+        put_literal(text, out)
     }
 }
