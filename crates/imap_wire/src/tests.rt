@@ -145,7 +145,7 @@ fn a_command_has_8192_bytes_outside_its_literals(rt: HostRuntime) -> Result<(), 
     ];
     for (length, end, want) in rows {
         let line = long_line(rt.alloc(), length, end)?;
-        for at in length - 3..line.len() {
+        for at in 0..line.len() {
             let text = cut_in_two(rt.alloc(), &line[..at], &line[at..])?;
             assert!(rt;
                 begins(text.as_slice(), want),
@@ -169,11 +169,18 @@ fn the_literals_of_a_command_have_1056768_bytes(rt: HostRuntime) -> Result<(), F
         (b"{0+}\r\n\r\n", b"whole "),
     ];
     for (end, want) in rows {
-        let literal = long_line(rt.alloc(), 1_048_576, end)?;
-        let text = cut_in_two(rt.alloc(), b"a {1048576}\r\n", literal.as_slice())?;
+        let mut bytes = Vec::from_slice(rt.alloc(), b"a {1048576}\r\n")?;
+        bytes.resize(13 + 1_048_576, b'x')?;
+        bytes.extend_from_slice(end)?;
+        let text = byte_by_byte(rt.alloc(), bytes.as_slice())?;
         let (need, rest) = text.as_slice().split_at(14.min(text.len()));
         assert_eq!(rt; need, b"need 1048576\r\n".as_slice());
         assert!(rt; begins(rest, want));
+        // To cut it at each place would take hours.
+        for at in (0..bytes.len()).step_by(65_521) {
+            let cut = cut_in_two(rt.alloc(), &bytes[..at], &bytes[at..])?;
+            assert!(rt; cut.as_slice() == text.as_slice(), "cut at {at}");
+        }
     }
     Ok(())
 }
@@ -191,6 +198,8 @@ fn a_literal_that_comes_unasked_has_4096_bytes(rt: HostRuntime) -> Result<(), Fa
         );
         assert_eq!(rt; text.len(), 8 + 6 + bytes.len(), "cut at {at}");
     }
+    let text = byte_by_byte(rt.alloc(), bytes.as_slice())?;
+    assert_eq!(rt; text.len(), 8 + 6 + bytes.len());
     Ok(())
 }
 
