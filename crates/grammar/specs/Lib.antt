@@ -1,3 +1,4 @@
+pub mod Errors
 pub mod Exact
 pub mod Gives
 pub mod Numbers

@@ -1,5 +1,6 @@
 // How reading ends where it gives no value.
-ghost use Rattle.std.specs.Prelude.{◌≡◌};
+ghost use Rattle.std.specs.Prelude.{◌≡◌, Some};
+ghost use Rattle.grammar.specs.Errors.{stop_text, error_text};
 ghost use Rattle.grammar.specs.declared.error.ReadError.TheVariants.{Memory as OutOfMemory, Stopped};
 
 use mur_base::Memory;
@@ -13,6 +14,8 @@ pub struct Stop {
 }
 
 impl fmt::Display for Stop {
+    ghost output = { λ stop. Some (stop_text stop) };
+
     fn fmt<W: fmt::Write>(&self, f: &mut fmt::Formatter<W>) -> fmt::Result {
         write!(f, "stopped with {} bytes left", self.left)
     }
@@ -30,6 +33,8 @@ pub enum ReadError {
 }
 
 impl fmt::Display for ReadError {
+    ghost output = { λ error. Some (error_text error) };
+
     fn fmt<W: fmt::Write>(&self, f: &mut fmt::Formatter<W>) -> fmt::Result {
         match self {
             ReadError::Memory => write!(f, "out of memory"),
