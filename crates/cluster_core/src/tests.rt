@@ -48,6 +48,7 @@ fn a_name_is_created_once(rt: HostRuntime) -> Result<(), Fail> {
 }
 
 #[test]
+#[tactic(auto, unfolding(crate::specs::World::start))]
 fn a_connection_is_greeted_in_its_step(rt: HostRuntime) -> Result<(), Fail> {
     let config = read_config(rt.alloc(), KNOWN_CONFIG)?;
     let mut cluster = Cluster::new(rt.alloc(), &config)?;
