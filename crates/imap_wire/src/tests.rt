@@ -176,7 +176,7 @@ fn the_literals_of_a_command_have_1056768_bytes(rt: HostRuntime) -> Result<(), F
         let (need, rest) = text.as_slice().split_at(14.min(text.len()));
         assert_eq!(rt; need, b"need 1048576\r\n".as_slice());
         assert!(rt; begins(rest, want));
-        // To cut it at each place would take hours.
+        // To cut it at each place would take longer than a test may.
         for at in (0..bytes.len()).step_by(65_521) {
             let cut = cut_in_two(rt.alloc(), &bytes[..at], &bytes[at..])?;
             assert!(rt; cut.as_slice() == text.as_slice(), "cut at {at}");
