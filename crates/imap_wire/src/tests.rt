@@ -176,7 +176,7 @@ fn the_literals_of_a_command_have_1056768_bytes(rt: HostRuntime) -> Result<(), F
         let (need, rest) = text.as_slice().split_at(14.min(text.len()));
         assert_eq!(rt; need, b"need 1048576\r\n".as_slice());
         assert!(rt; begins(rest, want));
-        // To cut it at each place would take longer than a test may.
+        // To cut it at each place takes longer than a test may: `frame_cuts` does.
         for at in (0..bytes.len()).step_by(65_521) {
             let cut = cut_in_two(rt.alloc(), &bytes[..at], &bytes[at..])?;
             assert!(rt; cut.as_slice() == text.as_slice(), "cut at {at}");
@@ -215,6 +215,13 @@ fn a_size_may_have_digits_without_end(rt: HostRuntime) -> Result<(), Fail> {
         let mut line = vec![in rt.alloc(); b'1'; digits]?;
         line.insert(0, b'{').map_err(|_| Memory)?;
         line.extend_from_slice(end)?;
+        for at in 0..line.len() {
+            let text = cut_in_two(rt.alloc(), &line[..at], &line[at..])?;
+            assert!(rt;
+                begins(text.as_slice(), want),
+                "{digits} digits, cut at {at}"
+            );
+        }
         let text = byte_by_byte(rt.alloc(), line.as_slice())?;
         assert!(rt; begins(text.as_slice(), want), "{digits} digits");
     }

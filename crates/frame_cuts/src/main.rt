@@ -1,0 +1,123 @@
+//! Cuts the longest commands of a connection in two pieces, and compares the frames of the pieces with those wanted.
+//! `frame_cuts FIRST STEP` cuts each at FIRST and then at every STEPth place, so that runs side by side can share the
+//! places; it ends with status 1 at the first other frame.
+#![tactic(auto)]
+
+use anyhow::{Result, anyhow};
+use imap_wire::{Frame, Framer};
+use mur_base::{Bytes, Items, Memory};
+use std::alloc::Global;
+use std::env;
+
+/// The bytes of a connection and its frames, however the bytes are cut.
+#[derive(Drop)]
+struct Row {
+    name: &'static str,
+    bytes: Vec<u8>,
+    frames: Items<Frame>,
+}
+
+/// The greatest literal, and one behind it that together with it is as long as the literals of a command may be.
+fn longest_command(alloc: Global) -> Result<Row, Memory> {
+    let bytes = with_literals(alloc, b"{8192}\r\n", 8192)?;
+    let mut frames = Items::new(alloc);
+    frames.push(Frame::NeedLiteral(1_048_576))?;
+    frames.push(Frame::NeedLiteral(8192))?;
+    frames.push(Frame::Whole(Bytes::from_slice(alloc, bytes.as_slice())?))?;
+    Ok(Row {
+        name: "literals of 1056768 bytes",
+        bytes,
+        frames,
+    })
+}
+
+/// The same with one byte more, which is refused where it is announced.
+fn too_long_command(alloc: Global) -> Result<Row, Memory> {
+    let bytes = with_literals(alloc, b"{8193}\r\n", 0)?;
+    let (command, line) = bytes.as_slice().split_at(bytes.len().saturating_sub(2));
+    let mut frames = Items::new(alloc);
+    frames.push(Frame::NeedLiteral(1_048_576))?;
+    frames.push(Frame::TooBig(Bytes::from_slice(alloc, command)?))?;
+    frames.push(Frame::Whole(Bytes::from_slice(alloc, line)?))?;
+    Ok(Row {
+        name: "literals of 1056769 bytes",
+        bytes,
+        frames,
+    })
+}
+
+/// A line with a literal of 1,048,576 bytes, the line behind it, the literal that this announces, and CRLF.
+fn with_literals(alloc: Global, line: &[u8], second: usize) -> Result<Vec<u8>, Memory> {
+    let mut bytes = Vec::from_slice(alloc, b"a {1048576}\r\n")?;
+    extend_by(&mut bytes, 1_048_576)?;
+    bytes.extend_from_slice(line)?;
+    extend_by(&mut bytes, second)?;
+    bytes.extend_from_slice(b"\r\n")?;
+    Ok(bytes)
+}
+
+fn extend_by(bytes: &mut Vec<u8>, count: usize) -> Result<(), Memory> {
+    for _ in 0..count {
+        bytes.push(b'x')?;
+    }
+    Ok(())
+}
+
+fn frames_cut_at(alloc: Global, bytes: &[u8], at: usize) -> Result<Items<Frame>, Memory> {
+    let (front, back) = bytes.split_at(at.min(bytes.len()));
+    let mut framer = Framer::new(alloc);
+    let mut frames = Items::new(alloc);
+    framer.feed_all(front, &mut frames)?;
+    framer.feed_all(back, &mut frames)?;
+    Ok(frames)
+}
+
+fn are_same(frames: &[Frame], wanted: &[Frame]) -> bool {
+    frames.len() == wanted.len()
+        && frames
+            .iter()
+            .zip(wanted)
+            .all(|(frame, want)| is_same(frame, want))
+}
+
+fn is_same(frame: &Frame, want: &Frame) -> bool {
+    match (frame, want) {
+        (Frame::Whole(bytes), Frame::Whole(want)) => bytes.as_slice() == want.as_slice(),
+        (Frame::TooBig(bytes), Frame::TooBig(want)) => bytes.as_slice() == want.as_slice(),
+        (Frame::NeedLiteral(size), Frame::NeedLiteral(want)) => size == want,
+        (Frame::Fault(fault), Frame::Fault(want)) => fault == want,
+        _ => false,
+    }
+}
+
+/// Cuts a row at every `step`th place from `first` on, and says at how many.
+fn cut(alloc: Global, row: &Row, first: usize, step: usize) -> Result<u64> {
+    let mut cuts: u64 = 0;
+    for at in (first..row.bytes.len()).step_by(step.max(1)) {
+        let frames = frames_cut_at(alloc, row.bytes.as_slice(), at)?;
+        if !are_same(frames.as_slice(), row.frames.as_slice()) {
+            return Err(anyhow!("{}: other frames where it is cut at {at}", row.name));
+        }
+        cuts = cuts.wrapping_add(1);
+    }
+    Ok(cuts)
+}
+
+fn main(rt: HostRuntime) -> Result<()> {
+    let mut words = env::args(&rt)?.skip(1);
+    let first = number(words.next())?;
+    let step = number(words.next())?;
+    for row in &[longest_command(rt.alloc())?, too_long_command(rt.alloc())?] {
+        let cuts = cut(rt.alloc(), row, first, step)?;
+        let name = row.name;
+        println!(rt; "{name}: {cuts} cuts, the same frames")?;
+    }
+    Ok(())
+}
+
+fn number(word: Option<String>) -> Result<usize> {
+    match word {
+        Some(word) => Ok(word.as_str().parse::<usize>()?),
+        None => Err(anyhow!("frame_cuts FIRST STEP")),
+    }
+}
