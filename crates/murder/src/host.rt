@@ -117,12 +117,18 @@ pub struct SystemHost<'a, R: Files> {
 }
 
 impl<'a, R: Files> SystemHost<'a, R> {
+    /// The host of a process. Nothing was asked of it, nothing is out, and no fault was counted.
     pub fn new(
         alloc: Global,
         files: &'a R,
         output: Stdout,
         error_output: Stderr,
-    ) -> SystemHost<'a, R> {
+    ) -> SystemHost<'a, R>
+        ensures asked { result.asked ≡ [] }
+        ensures returned { result.returned ≡ [] }
+        ensures held { result.held ≡ 0 }
+        ensures faults { result.faults ≡ record { sources = 0; outputs = 0; errors = 0 } }
+    {
         SystemHost {
             files,
             alloc,
