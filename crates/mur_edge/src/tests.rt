@@ -3,8 +3,8 @@ ghost use Rattle.std.specs.Prelude.{None};
 ghost use Rattle.mur_edge.specs.Source.{after_read};
 
 use crate::{
-    Calls, Failed, Host, HostFault, MemHost, MemSource, MemSources, Sink, Source, Used, mem_host,
-    mem_sink, mem_source, read_to_end, write_all,
+    Calls, Failed, Host, HostFault, MemHost, MemSource, MemSources, Sink, Source, Used, count_back,
+    mem_host, mem_sink, mem_source, read_to_end, write_all,
 };
 use mur_base::{Bytes, Items, Memory};
 use std::alloc::Global;
@@ -191,4 +191,18 @@ fn a_host_tells_what_its_outputs_took(rt: HostRuntime) -> Result<(), Fail> {
     assert_eq!(rt; host.error_output(), b"murder: ".as_slice());
     assert_eq!(rt; host.faults.outputs, 1);
     Ok(())
+}
+
+#[test]
+fn an_object_with_faults_counts_once(rt: HostRuntime) {
+    let rows = [
+        (0, 0, 0),
+        (0, 3, 1),
+        (5, 0, 5),
+        (5, 1, 6),
+        (u64::MAX, 1, u64::MAX),
+    ];
+    for (count, faults, want) in rows {
+        assert_eq!(rt; count_back(count, faults), want);
+    }
 }

@@ -320,3 +320,19 @@ fn a_bad_line_is_refused_by_its_number(rt: HostRuntime) -> Result<(), Fail> {
     }
     Ok(())
 }
+
+#[test]
+fn each_status_has_its_number(rt: HostRuntime) {
+    let rows = [
+        (Status::Done, 0),
+        (Status::Words, 1),
+        (Status::Config { rule: 0 }, 2),
+        (Status::Schedule { line: 3, rule: 1 }, 3),
+        (Status::Read, 4),
+        (Status::Write, 5),
+        (Status::Memory, 6),
+    ];
+    for (status, number) in rows {
+        assert_eq!(rt; status.code(), number);
+    }
+}
