@@ -1,6 +1,6 @@
 //! Cuts the longest commands of a connection in two pieces, and compares the frames of the pieces with those wanted.
 //! `frame_cuts FIRST STEP` cuts each at FIRST and then at every STEPth place, so that runs side by side can share the
-//! places; it ends with status 1 at the first other frame.
+//! places, and takes each once byte by byte; it ends with status 1 at the first other frame.
 #![tactic(auto)]
 
 use anyhow::{Result, anyhow};
@@ -17,21 +17,35 @@ struct Row {
     frames: Items<Frame>,
 }
 
-/// The greatest literal, and one behind it that together with it is as long as the literals of a command may be.
-fn longest_command(alloc: Global) -> Result<Row, Memory> {
-    let bytes = with_literals(alloc, b"{8192}\r\n", 8192)?;
+/// The rows: one byte less than the literals of a command may have together, as many, and one more.
+fn rows(alloc: Global) -> Result<[Row; 3], Memory> {
+    Ok([
+        whole_command(alloc, "literals of 1056767 bytes", b"{8191}\r\n", 8191)?,
+        whole_command(alloc, "literals of 1056768 bytes", b"{8192}\r\n", 8192)?,
+        too_long_command(alloc)?,
+    ])
+}
+
+/// The greatest literal, and behind it a line that announces a second one.
+fn whole_command(
+    alloc: Global,
+    name: &'static str,
+    line: &[u8],
+    second: u32,
+) -> Result<Row, Memory> {
+    let bytes = with_literals(alloc, line, second as usize)?;
     let mut frames = Items::new(alloc);
     frames.push(Frame::NeedLiteral(1_048_576))?;
-    frames.push(Frame::NeedLiteral(8192))?;
+    frames.push(Frame::NeedLiteral(second))?;
     frames.push(Frame::Whole(Bytes::from_slice(alloc, bytes.as_slice())?))?;
     Ok(Row {
-        name: "literals of 1056768 bytes",
+        name,
         bytes,
         frames,
     })
 }
 
-/// The same with one byte more, which is refused where it is announced.
+/// A second literal that is one byte too long, which is refused where it is announced.
 fn too_long_command(alloc: Global) -> Result<Row, Memory> {
     let bytes = with_literals(alloc, b"{8193}\r\n", 0)?;
     let (command, line) = bytes.as_slice().split_at(bytes.len().saturating_sub(2));
@@ -63,12 +77,23 @@ fn extend_by(bytes: &mut Vec<u8>, count: usize) -> Result<(), Memory> {
     Ok(())
 }
 
-fn frames_cut_at(alloc: Global, bytes: &[u8], at: usize) -> Result<Items<Frame>, Memory> {
+/// The frames of a connection that comes in two pieces.
+fn cut_in_two(alloc: Global, bytes: &[u8], at: usize) -> Result<Items<Frame>, Memory> {
     let (front, back) = bytes.split_at(at.min(bytes.len()));
     let mut framer = Framer::new(alloc);
     let mut frames = Items::new(alloc);
     framer.feed_all(front, &mut frames)?;
     framer.feed_all(back, &mut frames)?;
+    Ok(frames)
+}
+
+/// The frames of a connection that comes byte by byte.
+fn byte_by_byte(alloc: Global, bytes: &[u8]) -> Result<Items<Frame>, Memory> {
+    let mut framer = Framer::new(alloc);
+    let mut frames = Items::new(alloc);
+    for byte in bytes {
+        framer.feed_all(&[*byte], &mut frames)?;
+    }
     Ok(frames)
 }
 
@@ -90,11 +115,15 @@ fn is_same(frame: &Frame, want: &Frame) -> bool {
     }
 }
 
-/// Cuts a row at every `step`th place from `first` on, and says at how many.
+/// Takes a row byte by byte, then cuts it at every `step`th place from `first` on, and says at how many.
 fn cut(alloc: Global, row: &Row, first: usize, step: usize) -> Result<u64> {
+    let frames = byte_by_byte(alloc, row.bytes.as_slice())?;
+    if !are_same(frames.as_slice(), row.frames.as_slice()) {
+        return Err(anyhow!("{}: other frames byte by byte", row.name));
+    }
     let mut cuts: u64 = 0;
     for at in (first..row.bytes.len()).step_by(step.max(1)) {
-        let frames = frames_cut_at(alloc, row.bytes.as_slice(), at)?;
+        let frames = cut_in_two(alloc, row.bytes.as_slice(), at)?;
         if !are_same(frames.as_slice(), row.frames.as_slice()) {
             return Err(anyhow!("{}: other frames where it is cut at {at}", row.name));
         }
@@ -107,10 +136,10 @@ fn main(rt: HostRuntime) -> Result<()> {
     let mut words = env::args(&rt)?.skip(1);
     let first = number(words.next())?;
     let step = number(words.next())?;
-    for row in &[longest_command(rt.alloc())?, too_long_command(rt.alloc())?] {
+    for row in &rows(rt.alloc())? {
         let cuts = cut(rt.alloc(), row, first, step)?;
         let name = row.name;
-        println!(rt; "{name}: {cuts} cuts, the same frames")?;
+        println!(rt; "{name}: {cuts} cuts and byte by byte, the same frames")?;
     }
     Ok(())
 }
