@@ -3,6 +3,8 @@
 //! places, and takes each once byte by byte; it ends with status 1 at the first other frame.
 #![tactic(auto)]
 
+ghost use Rattle.std.specs.Prelude.{◌≡◌, ◌↔◌, IsTrue};
+
 use anyhow::{Result, anyhow};
 use imap_wire::{Frame, Framer};
 use mur_base::{Bytes, Items, Memory};
@@ -97,15 +99,21 @@ fn byte_by_byte(alloc: Global, bytes: &[u8]) -> Result<Items<Frame>, Memory> {
     Ok(frames)
 }
 
-fn are_same(frames: &[Frame], wanted: &[Frame]) -> bool {
-    frames.len() == wanted.len()
-        && frames
-            .iter()
-            .zip(wanted)
-            .all(|(frame, want)| is_same(frame, want))
+fn are_same(frames: &[Frame], wanted: &[Frame]) -> bool
+    ensures { IsTrue result ↔ (frames.now ≡ wanted.now) }
+{
+    match (frames.split_first(), wanted.split_first()) {
+        (Some((frame, frames)), Some((want, wanted))) => {
+            is_same(frame, want) && are_same(frames, wanted)
+        }
+        (None, None) => true,
+        _ => false,
+    }
 }
 
-fn is_same(frame: &Frame, want: &Frame) -> bool {
+fn is_same(frame: &Frame, want: &Frame) -> bool
+    ensures { IsTrue result ↔ (frame.now ≡ want.now) }
+{
     match (frame, want) {
         (Frame::Whole(bytes), Frame::Whole(want)) => bytes.as_slice() == want.as_slice(),
         (Frame::TooBig(bytes), Frame::TooBig(want)) => bytes.as_slice() == want.as_slice(),
