@@ -1,9 +1,10 @@
 -- After every step each name has at most one writable home.
-use Rattle.std.proofs.Common.{◌≡◌, ℕ, ◌+◌, ◌≤◌, Bool, true, false, cond, List, [], ◌∷◌, map, Option, None, Some, refl, sym, ◌∙◌, ap, arith, zero-add}
+use Rattle.std.proofs.Common.{◌≡◌, ℕ, ◌+◌, ◌≤◌, Bool, true, false, cond, nat_eq, List, [], ◌∷◌, map, Option, None, Some, refl, sym, ◌∙◌, ap, arith, zero-add}
 use Rattle.std.specs.Prelude.{All, count_by}
 use Rattle.std.specs.declared.cmp.Ordering.TheVariants.{Less, Equal}
 use Rattle.std.specs.Ordering.{nat_cmp}
-use Rattle.std.specs.Cmp.Lexicographic.{slice_cmp}
+use Rattle.std.specs.Cmp.Lexicographic.{pointwise, slice_cmp}
+use Rattle.std.proofs.lemmas.Bool.Decides.{nat_tests}
 use Rattle.std.specs.Map.{keys_of}
 use Rattle.std.specs.Str.{bytes_eq}
 use Rattle.std.specs.List.Sorted.{IsStrictlySortedBy}
@@ -11,30 +12,30 @@ use Rattle.std.proofs.lemmas.Cmp.{tied_itself, nat_list_cmp_total}
 use Rattle.std.proofs.lemmas.List.Elements.{All-head, All-tail}
 use Rattle.std.proofs.lemmas.List.Sums.{sum_by-append}
 use Rattle.std.proofs.lemmas.Map.Views.{All-after_first}
-use Rattle.mur_base.specs.declared.name.NameFault.{NameFault}
+use Rattle.imap_wire.specs.declared.frame.Frame.{Frame}
 use Rattle.mur_base.specs.Map.{IsInOrder}
 use Rattle.mur_base.proofs.MapOrder.{with_entry-in_order}
 use Rattle.mur_model.specs.declared.command.Command.{Command}
-use Rattle.mur_model.specs.declared.command.Command.TheVariants.{Login, Create, Append, Status}
-use Rattle.mur_model.specs.declared.session.Sess.{Sess}
-use Rattle.mur_model.specs.declared.session.Sess.TheVariants.{Off, In, Ended}
+use Rattle.mur_model.specs.declared.command.Command.TheVariants.{Create}
+use Rattle.mur_model.specs.declared.create.Named.{Named}
+use Rattle.mur_model.specs.declared.create.Named.TheVariants.{Name, Refused}
 use Rattle.mur_model.specs.declared.store.MailBox.{MailBox}
+use Rattle.mur_model.specs.Create.{named_by}
 use Rattle.mur_model.specs.Store.{new_box}
 use Rattle.cluster_core.specs.declared.cluster.HomeRow.{HomeRow}
-use Rattle.cluster_core.specs.declared.config.Config.{Config}
-use Rattle.cluster_core.specs.declared.event.Event.{Event}
-use Rattle.cluster_core.specs.declared.event.Event.TheVariants.{Open, Data}
-use Rattle.cluster_core.specs.declared.line.Line.{Line}
-use Rattle.cluster_core.specs.declared.turn.Place.{Place}
-use Rattle.cluster_core.specs.declared.world.Connection.{Connection}
+use Rattle.mur_config.specs.declared.config.Config.{Config}
+use Rattle.schedule_text.specs.declared.event.Event.{Event}
+use Rattle.schedule_text.specs.declared.event.Event.TheVariants.{Open, Data}
+use Rattle.cluster_core.specs.declared.front.Ask.{Ask}
+use Rattle.cluster_core.specs.declared.world.Client.{Client}
 use Rattle.cluster_core.specs.declared.world.Home.{Home}
 use Rattle.cluster_core.specs.declared.world.World.{World}
-use Rattle.cluster_core.specs.Home.{answer, serve}
+use Rattle.cluster_core.specs.Home.{serve}
 use Rattle.cluster_core.specs.HomeCreate.{create, create_at, make}
 use Rattle.cluster_core.specs.HomeLaw.{is_open, is_writable_home, HasOneHomeEach, KeepsOneHomeEach}
 use Rattle.cluster_core.specs.Shown.{home_row, home_rows}
-use Rattle.cluster_core.specs.Turn.{Turn, take_line, take_byte, take_byte_by, take_bytes}
-use Rattle.cluster_core.proofs.ReadLineLaw.{same_bytes}
+use Rattle.cluster_core.specs.Front.{frame_in}
+use Rattle.cluster_core.specs.Turn.{Turn, with_outs, serve_ask, take_frame, take_frames}
 use Rattle.cluster_core.specs.World.{start, open_at, data_at, stepped, takes, happens, run}
 
 -- the names of a home rise
@@ -51,51 +52,37 @@ unfolding create_at
 create_at_rises home name (Some there) rises = rises
 create_at_rises home name None rises = make_rises home name _ rises
 
-create_rises : (home : Home) (text : List ℕ) (fault : Option NameFault) → RisesIn home → RisesIn (create home text fault).home
+create_rises : (home : Home) (named : Named) → RisesIn home → RisesIn (create home named).home
 unfolding create
-create_rises home text (Some fault) rises = rises
-create_rises home text None rises = create_at_rises home text _ rises
+create_rises home (Refused why) rises = rises
+create_rises home (Name name) rises = create_at_rises home name _ rises
 
 serve_rises : (home : Home) (it : Command) → RisesIn home → RisesIn (serve home it).home
 unfolding serve
-serve_rises home (Create text) rises = create_rises home text _ rises
-serve_rises home (Login user password) rises = rises
-serve_rises home (Append mailbox message) rises = rises
-serve_rises home (Status mailbox items) rises = rises
+serve_rises home (Create text) rises = create_rises home (named_by text) rises
+serve_rises home it rises = rises
 
-answer_rises : (home : Home) (session : Sess) (it : Option Command) → RisesIn home → RisesIn (answer home session it).home
-unfolding answer
-answer_rises home session None rises = rises
-answer_rises home Off (Some it) rises = rises
-answer_rises home (In user) (Some it) rises = serve_rises home it rises
-answer_rises home Ended (Some it) rises = rises
+ask_rises : (step : ℕ) (turn : Turn) (ask : Option Ask) → RisesIn turn.home → RisesIn (serve_ask step turn ask).home
+unfolding serve_ask
+ask_rises step turn None rises = rises
+ask_rises step turn (Some ask) rises = serve_rises turn.home ask.command rises
 
-line_rises : (place : Place) (turn : Turn) (line : Line) → RisesIn turn.home → RisesIn (take_line place turn line).home
-unfolding take_line
-line_rises place turn line rises = answer_rises turn.home turn.connection.session line.command rises
+frame_rises : (step conn : ℕ) (turn : Turn) (frame : Frame) → RisesIn turn.home → RisesIn (take_frame step conn turn frame).home
+unfolding take_frame
+frame_rises step conn turn frame rises =
+    ask_rises step (with_outs step turn (frame_in conn turn.connection frame turn.connection.session)) _ rises
 
-byte_by_rises : (place : Place) (turn : Turn) (byte : ℕ) (ended : Bool) → RisesIn turn.home → RisesIn (take_byte_by place turn byte ended).home
-unfolding take_byte_by
-byte_by_rises place turn byte false rises = rises
-byte_by_rises place turn byte true rises = line_rises place _ _ rises
+frames_rise : (step conn : ℕ) (turn : Turn) (frames : List Frame) → RisesIn turn.home → RisesIn (take_frames step conn turn frames).home
+unfolding take_frames
+frames_rise step conn turn [] rises = rises
+frames_rise step conn turn (frame ∷ frames) rises = frames_rise step conn (take_frame step conn turn frame) frames (frame_rises step conn turn frame rises)
 
-byte_rises : (place : Place) (turn : Turn) (byte : ℕ) (session : Sess) → RisesIn turn.home → RisesIn (take_byte place turn byte session).home
-unfolding take_byte
-byte_rises place turn byte Off rises = byte_by_rises place turn byte _ rises
-byte_rises place turn byte (In user) rises = byte_by_rises place turn byte _ rises
-byte_rises place turn byte Ended rises = rises
-
-bytes_rise : (place : Place) (turn : Turn) (bytes : List ℕ) → RisesIn turn.home → RisesIn (take_bytes place turn bytes).home
-unfolding take_bytes
-bytes_rise place turn [] rises = rises
-bytes_rise place turn (byte ∷ bytes) rises = bytes_rise place (take_byte place turn byte turn.connection.session) bytes (byte_rises place turn byte turn.connection.session rises)
-
-data_rises : (world : World) (conn : ℕ) (bytes : List ℕ) (there : Option Connection) → RisesIn world.home → RisesIn (data_at world conn bytes there).home
+data_rises : (world : World) (conn : ℕ) (bytes : List ℕ) (there : Option Client) → RisesIn world.home → RisesIn (data_at world conn bytes there).home
 unfolding data_at
 data_rises world conn bytes None rises = rises
-data_rises world conn bytes (Some there) rises = bytes_rise _ _ bytes rises
+data_rises world conn bytes (Some there) rises = frames_rise _ _ _ _ rises
 
-open_rises : (world : World) (conn : ℕ) (there : Option Connection) → RisesIn world.home → RisesIn (open_at world conn there).home
+open_rises : (world : World) (conn : ℕ) (there : Option Client) → RisesIn world.home → RisesIn (open_at world conn there).home
 unfolding open_at
 open_rises world conn None rises = rises
 open_rises world conn (Some there) rises = rises
@@ -105,6 +92,15 @@ unfolding takes
 takes_rises world (Open node conn) rises = open_rises world conn _ rises
 takes_rises world (Data conn bytes) rises = data_rises world conn bytes _ rises
 takes_rises world event rises = rises
+
+-- texts that compare equal are the same
+same_bytes : (xs ys : List ℕ) → pointwise nat_eq xs ys ≡ true → xs ≡ ys
+same_bytes [] [] h = refl
+same_bytes [] (y ∷ ys) h = cc
+same_bytes (x ∷ xs) [] h = cc
+same_bytes (x ∷ xs) (y ∷ ys) h =
+    let heads : x ≡ y = grind (arith, nat_tests) in
+    let tails = same_bytes xs ys (grind (arith, nat_tests)) in cc
 
 run_rises : (world : World) (events : List Event) → RisesIn world.home → RisesIn (run world events).home
 unfolding run happens

@@ -1,267 +1,221 @@
--- A turn keeps the law: each byte of a client, and each line that it ends.
-use Rattle.std.proofs.Common.{◌≡◌, ◌≢◌, ℕ, suc, ◌+◌, ◌-◌, ◌^◌, ◌<◌, ◌≤◌, Bool, true, false, ◌||◌, ◌&&◌, cond, nat_eq, List, [], ◌∷◌, ◌++◌, length, Some, refl, sym, ◌∙◌, ap, subst, arith, append_assoc, length-append}
-use Rattle.std.specs.Prelude.{All, AllPairs, count_by}
-use Rattle.std.proofs.lemmas.Bool.{cases_eq}
+-- The frames of one connection keep the law: each request gets its answer, a literal its continuation, a fault its line.
+use Rattle.std.proofs.Common.{◌≡◌, ◌≢◌, ℕ, ◌+◌, ◌-◌, ◌^◌, ◌<◌, ◌≤◌, Bool, true, false, nat_eq, List, [], ◌∷◌, ◌++◌, length, Option, None, Some, refl, sym, ◌∙◌, ap, subst, arith, append_assoc, length-append}
 use Rattle.std.proofs.lemmas.Bool.Decides.{nat_tests}
 use Rattle.std.proofs.lemmas.List.{append-nil}
-use Rattle.std.proofs.lemmas.List.Concat.{flat_map-append}
-use Rattle.std.proofs.lemmas.List.Elements.{All-push, All-weaker}
-use Rattle.std.proofs.Math.Logic.{⊎_elim}
-use Rattle.mur_base.specs.declared.point.Point.{Point}
-use Rattle.mur_base.specs.declared.point.What.TheVariants.{Reply as replied}
+use Rattle.imap_command.specs.Request.{request_of, too_big_request}
+use Rattle.imap_command.proofs.RequestLaws.{request_is, too_big_is}
+use Rattle.imap_reply.specs.ByeLine.{bye_line, bye_of}
+use Rattle.imap_reply.specs.Continuation.{ready}
+use Rattle.imap_reply.specs.Greeting.{greeting}
+use Rattle.imap_reply.specs.Transcript.{answer_text, replies_to}
+use Rattle.imap_reply.proofs.TranscriptGrows.{AreAnswered, Grows, whole_answered, too_big_answered, literal_awaited, fault_told}
+use Rattle.imap_wire.specs.declared.frame.Frame.{Frame}
+use Rattle.imap_wire.specs.declared.frame.FrameFault.{FrameFault}
+use Rattle.imap_wire.specs.declared.frame.Frame.TheVariants.{Whole, NeedLiteral, TooBig, Fault}
+use Rattle.imap_wire.proofs.FaultLaws.{FaultsLast}
+use Rattle.mur_model.specs.declared.request.Answer.{Answer}
+use Rattle.mur_model.specs.declared.request.Request.{Request}
 use Rattle.mur_model.specs.declared.session.Sess.{Sess}
-use Rattle.mur_model.specs.declared.session.Sess.TheVariants.{Off, In, Ended}
-use Rattle.mur_model.specs.Act.{reply_of}
-use Rattle.mur_model.specs.Frames.{has_crlf, joined, IsLine, AreFrames}
-use Rattle.mur_model.specs.History.{Course, numbered, point_of, Follows, answers, is_about, IsInOrder}
-use Rattle.mur_model.specs.ReplyText.{greeting, reply_text}
-use Rattle.mur_model.proofs.HistoryGrows.{with_item, with_item-same, with_item-other, numbered_last, follows_more, follows_push, pairs_push, one_up_to, one_up_to-next, count_push}
-use Rattle.mur_model.proofs.LineEnds.{last_is_cr, has_crlf-push, ends_in_cr_from, no_crlf_in_front}
-use Rattle.cluster_core.specs.declared.line.Line.{Line}
-use Rattle.cluster_core.specs.declared.turn.Place.{Place}
-use Rattle.cluster_core.specs.declared.world.Connection.{Connection}
-use Rattle.cluster_core.specs.declared.world.Home.{Home}
-use Rattle.cluster_core.specs.Home.{answer}
-use Rattle.cluster_core.specs.OneStore.{first_course}
-use Rattle.cluster_core.specs.ReadLine.{line_of}
+use Rattle.mur_model.specs.declared.session.Sess.TheVariants.{In, Ended}
+use Rattle.mur_model.specs.Answer.{answer_of}
+use Rattle.mur_model.specs.History.{Course, Talk, TalkGoesOn, with_session, carried_out, after}
+use Rattle.mur_model.proofs.HistoryGrows.{same_talk, talks_follow, turn_more}
+use Rattle.mur_model.proofs.Numbered.{with_item, with_item-same, with_item-other, length_with_item}
+use Rattle.cluster_core.specs.declared.front.Connection.{Connection}
+use Rattle.cluster_core.specs.Requests.{AskFor}
+use Rattle.cluster_core.specs.Requests.AskFor.{a_request, a_big_one, a_wait, a_fault}
+use Rattle.cluster_core.specs.Turn.{Turn, take_frame, take_frames}
 use Rattle.cluster_core.specs.World.{first_user}
-use Rattle.cluster_core.specs.Turn.{Turn, answer_point, line_answered, take_line, ends_in_cr, kept, take_byte, take_byte_by, take_bytes}
-use Rattle.cluster_core.proofs.AnswerLaw.{AnswersAlike, answers_alike}
-use Rattle.cluster_core.proofs.ReadLineLaw.{reading_of}
-use Rattle.cluster_core.proofs.ServedAlike.{IsStoreOf}
+use Rattle.cluster_core.proofs.AnswerLaw.{served, answer_to, AnswersAlike, answers_alike}
+use Rattle.cluster_core.proofs.FrameForms.{quiet, behind, goes_on, whole_taken, big_taken, wait_taken, fault_taken}
+use Rattle.cluster_core.proofs.Points.{points_taken}
+use Rattle.cluster_core.proofs.Told.{IsTold, count_of, answer_at, next_talk, next_course, told_push}
 
--- the history so far is that of one store, whose boxes the home has
-pub record IsTold (points : List Point) (home : Home) (frames replies : ℕ → List (List ℕ)) (course : Course) : Type 0 where
-  pub follows : Follows frames replies first_course points course
-  pub same : IsStoreOf course.store home
-  pub bound : home.last_serial ≤ length points
-  pub counts : (conn number : ℕ) → count_by (is_about answers conn number) points ≡ one_up_to (length (replies conn)) number
-  pub kinds : All (λ (point : Point). point.what ≡ replied) points
-  pub numbers : All (λ (point : Point). point.ask.command ≤ length (replies point.ask.conn)) points
-  pub in_order : AllPairs IsInOrder points
+-- a connection on which these frames were taken
+pub record IsOpen (frames : List Frame) (connection : Connection) (given : List ℕ) (requests : List Request) (answers : List Answer) : Type 0 where
+  pub session_is : connection.session ≡ In first_user
+  pub none_asked : connection.asked ≡ None
+  pub asks : AskFor frames requests
+  pub answered : AreAnswered frames answers
+  pub commands : connection.commands ≡ length answers
+  pub given_is : given ≡ greeting ++ replies_to frames answers
 
--- a connection whose client has sent these bytes
-pub record IsKnown (bytes : List ℕ) (connection : Connection) (frames replies : List (List ℕ)) (session : Sess) : Type 0 where
-  pub session_is : connection.session ≡ session
-  pub cut : AreFrames bytes frames connection.rest
-  pub commands : connection.commands ≡ length frames
-  pub all_answered : length replies ≡ length frames
-  pub given : connection.given ≡ greeting ++ joined replies
+-- one that a fault ended
+pub record IsClosed (frames : List Frame) (given : List ℕ) (requests : List Request) (answers : List Answer) : Type 0 where
+  pub asks : AskFor frames requests
+  pub given_is : given ≡ greeting ++ replies_to frames answers
 
-ends_in_cr-last : (text : List ℕ) → ends_in_cr text ≡ last_is_cr text
-unfolding ends_in_cr last_is_cr
-ends_in_cr-last [] = refl
-ends_in_cr-last (b ∷ []) = grind (arith, nat_tests)
-ends_in_cr-last (b ∷ c ∷ text) =
-    let outer : suc (suc (length text)) - 1 ≡ suc (length text) = omega arith in
-    let inner : suc (length text) - 1 ≡ length text = omega arith in
-    rw outer ((rw inner at (ends_in_cr-last (c ∷ text))))
+-- the one or the other, by the bytes of the command that has begun
+pub data IsLeft (frames : List Frame) (held : Option (List ℕ)) (connection : Connection) (given : List ℕ) (requests : List Request) (answers : List Answer) : Type 0 where
+  still_open : IsOpen frames connection given requests answers → IsLeft frames held connection given requests answers
+  has_ended : held ≡ None → IsClosed frames given requests answers → IsLeft frames held connection given requests answers
 
-longer : (texts : ℕ → List (List ℕ)) (conn : ℕ) (item : List ℕ) (other : ℕ) (same : Bool) → nat_eq other conn ≡ same → length (texts other) ≤ length (with_item texts conn item other)
-unfolding with_item
-longer texts conn item other true h = rw h (omega (arith, length-append (texts other) (item ∷ [])))
-longer texts conn item other false h = rw h (omega arith)
-
-length_with_item : (texts : ℕ → List (List ℕ)) (conn : ℕ) (item : List ℕ) → length (with_item texts conn item conn) ≡ length (texts conn) + 1
-length_with_item texts conn item = ap length (with_item-same texts conn item) ∙ length-append (texts conn) (item ∷ [])
-
-numbered_new : (texts : ℕ → List (List ℕ)) (conn : ℕ) (item : List ℕ) (n : ℕ) → n ≡ length (texts conn) → numbered (with_item texts conn item conn) (n + 1) ≡ Some item
-numbered_new texts conn item n e = rw (with_item-same texts conn item, e) (numbered_last (texts conn) item)
-
--- how often a command is answered, after one answer more
-counts_push : (replies : ℕ → List (List ℕ)) (points : List Point) (step conn : ℕ) (text : List ℕ) (n : ℕ) → n ≡ length (replies conn)
-    → ((other number : ℕ) → count_by (is_about answers other number) points ≡ one_up_to (length (replies other)) number)
-    → (other number : ℕ) → count_by (is_about answers other number) (points ++ point_of step conn (n + 1) replied ∷ []) ≡ one_up_to (length (with_item replies conn text other)) number
-counts_push replies points step conn text n e counts other number =
-    ⊎_elim
-    (λ (same : other ≡ conn).
-    let tested : nat_eq conn other ≡ true = grind (arith, nat_tests) in
-    let grown : length (with_item replies conn text other) ≡ n + 1 = ap (λ c. length (with_item replies conn text c)) same ∙ length_with_item replies conn text ∙ ap (λ k. k + 1) (sym e) in
-    let before : one_up_to (length (replies other)) number ≡ one_up_to n number = ap (λ k. one_up_to k number) (ap (λ c. length (replies c)) same ∙ sym e) in
-    count_push other number points step conn (n + 1)
-    ∙ ap (λ k. k + cond (nat_eq conn other && nat_eq (n + 1) number) 1 0) (counts other number ∙ before)
-    ∙ ap (λ t. one_up_to n number + cond (t && nat_eq (n + 1) number) 1 0) tested
-    ∙ sym (one_up_to-next n number)
-    ∙ sym (ap (λ k. one_up_to k number) grown))
-    (λ (ne : other ≢ conn).
-    let tested : nat_eq conn other ≡ false = grind (arith, nat_tests) in
-    let kept : one_up_to (length (with_item replies conn text other)) number ≡ one_up_to (length (replies other)) number = ap (λ t. one_up_to (length t) number) (with_item-other replies conn text other ne) in
-    count_push other number points step conn (n + 1)
-    ∙ ap (λ t. count_by (is_about answers other number) points + cond (t && nat_eq (n + 1) number) 1 0) tested
-    ∙ (let zero_more : count_by (is_about answers other number) points + 0 ≡ count_by (is_about answers other number) points = omega arith in zero_more)
-    ∙ counts other number ∙ sym kept)
-    (cases_eq other conn)
-
--- an answer is put at the end of the history
-told_push : (points : List Point) (home : Home) (frames replies : ℕ → List (List ℕ)) (course : Course) (step conn n : ℕ) (frame : List ℕ) (line : Line)
-    → n ≡ length (frames conn) → n ≡ length (replies conn) → IsTold points home frames replies course → (alike : AnswersAlike course home conn frame line)
-    → IsTold (points ++ point_of step conn (n + 1) replied ∷ []) (answer home (course.sessions conn) line.command).home
-    (with_item frames conn frame) (with_item replies conn (reply_text line.tag (reply_of (answer home (course.sessions conn) line.command).verdict))) alike.middle
-told_push points home frames replies course step conn n frame line f r told alike =
-    let text = reply_text line.tag (reply_of (answer home (course.sessions conn) line.command).verdict) in
-    record {
-      follows = follows_push (with_item frames conn frame) (with_item replies conn text) first_course course alike.middle points step conn (n + 1) frame text
-          (follows_more frames replies conn frame text first_course course points told.follows)
-          (numbered_new frames conn frame n f) (numbered_new replies conn text n r) alike.step;
-      same = alike.still;
-      bound = omega (arith, told.bound, alike.rises, length-append points (point_of step conn (n + 1) replied ∷ []));
-      counts = counts_push replies points step conn text n r told.counts;
-      kinds = All-push (λ (point : Point). point.what ≡ replied) points (point_of step conn (n + 1) replied) told.kinds refl;
-      numbers = All-push (λ (point : Point). point.ask.command ≤ length (with_item replies conn text point.ask.conn)) points (point_of step conn (n + 1) replied)
-          (All-weaker (λ (point : Point). point.ask.command ≤ length (replies point.ask.conn)) (λ (point : Point). point.ask.command ≤ length (with_item replies conn text point.ask.conn))
-          (λ point h. omega (arith, h, longer replies conn text point.ask.conn (nat_eq point.ask.conn conn) refl)) points told.numbers)
-          (omega (arith, length_with_item replies conn text));
-      in_order = pairs_push IsInOrder points (point_of step conn (n + 1) replied) told.in_order
-          (All-weaker (λ (point : Point). point.ask.command ≤ length (replies point.ask.conn)) (λ (point : Point). point.ask.conn ≡ conn → point.ask.command ≤ n + 1)
-          (λ point h. λ e. omega (arith, h, ap (λ c. length (replies c)) e)) points told.numbers);
-    }
-
-joined_push : (texts : List (List ℕ)) (text : List ℕ) → joined (texts ++ text ∷ []) ≡ joined texts ++ text
-joined_push texts text = flat_map-append (λ (t : List ℕ). t) texts (text ∷ []) ∙ ap (λ t. joined texts ++ t) (append-nil text)
-
--- a byte that ends no line
-cut_kept : (bytes : List ℕ) (frames : List (List ℕ)) (rest : List ℕ) (byte : ℕ) → nat_eq byte 10 && ends_in_cr rest ≡ false → AreFrames bytes frames rest → AreFrames (bytes ++ byte ∷ []) frames (rest ++ byte ∷ [])
-cut_kept bytes frames rest byte no_end cut = record {
-  parts = ap (λ b. b ++ byte ∷ []) cut.parts ∙ append_assoc (joined frames) rest (byte ∷ []);
-  lines = cut.lines;
-  unfinished =
-      let tests : nat_eq byte 10 && last_is_cr rest ≡ false = ap (λ t. nat_eq byte 10 && t) (sym (ends_in_cr-last rest)) ∙ no_end in
-      has_crlf-push rest byte ∙ ap (λ t. t || (last_is_cr rest && nat_eq byte 10)) cut.unfinished ∙ grind (arith, nat_tests);
-}
-
--- a byte that ends a line
-frame_parts : (rest : List ℕ) (byte : ℕ) → nat_eq byte 10 && ends_in_cr rest ≡ true → has_crlf rest ≡ false → IsLine (rest ++ byte ∷ [])
-frame_parts rest byte ended none =
-    let lf : byte ≡ 10 = grind (arith, nat_tests) in
-    let cr : last_is_cr rest ≡ true = sym (ends_in_cr-last rest) ∙ grind (arith, nat_tests) in
-    let at = ends_in_cr_from rest cr in
-    record {
-      text = at.front;
-      ends = ap (λ r. r ++ byte ∷ []) at.parts ∙ append_assoc at.front (13 ∷ []) (byte ∷ []) ∙ ap (λ b. at.front ++ 13 ∷ b ∷ []) lf;
-      no_earlier_end = no_crlf_in_front at.front 13 (ap has_crlf (sym at.parts) ∙ none);
-    }
-
-cut_ended : (bytes : List ℕ) (frames : List (List ℕ)) (rest : List ℕ) (byte : ℕ) → IsLine (rest ++ byte ∷ []) → AreFrames bytes frames rest → AreFrames (bytes ++ byte ∷ []) (frames ++ (rest ++ byte ∷ []) ∷ []) []
-unfolding has_crlf
-cut_ended bytes frames rest byte line cut = record {
-  parts = ap (λ b. b ++ byte ∷ []) cut.parts ∙ append_assoc (joined frames) rest (byte ∷ []) ∙ sym (joined_push frames (rest ++ byte ∷ [])) ∙ sym (append-nil _);
-  lines = All-push IsLine frames (rest ++ byte ∷ []) cut.lines line;
-  unfinished = refl;
-}
-
--- a connection that is answered
-known_push : (bytes : List ℕ) (connection : Connection) (frames replies : ℕ → List (List ℕ)) (conn byte : ℕ) (session after : Sess) (text : List ℕ)
-    → IsLine (connection.rest ++ byte ∷ []) → after ≡ session → IsKnown bytes connection (frames conn) (replies conn) session
-    → IsKnown (bytes ++ byte ∷ []) (record connection { rest = []; commands = connection.commands + 1; given = connection.given ++ text })
-    (with_item frames conn (connection.rest ++ byte ∷ []) conn) (with_item replies conn text conn) after
-known_push bytes connection frames replies conn byte session after text line same known =
-    let frame = connection.rest ++ byte ∷ [] in
-    record {
-      session_is = known.session_is ∙ sym same;
-      cut = subst (λ f. AreFrames (bytes ++ byte ∷ []) f []) (sym (with_item-same frames conn frame)) (cut_ended bytes (frames conn) connection.rest byte line known.cut);
-      commands = ap (λ n. n + 1) known.commands ∙ sym (length_with_item frames conn frame);
-      all_answered = length_with_item replies conn text ∙ ap (λ n. n + 1) known.all_answered ∙ sym (length_with_item frames conn frame);
-      given = ap (λ g. g ++ text) known.given ∙ append_assoc greeting (joined (replies conn)) text ∙ ap (λ t. greeting ++ t) (sym (joined_push (replies conn) text) ∙ ap joined (sym (with_item-same replies conn text)));
-    }
-
--- the law in the middle of the bytes of one connection; those of the others stay as they were
-pub record IsKept (conn : ℕ) (bytes : List ℕ) (turn : Turn) (frames replies : ℕ → List (List ℕ)) : Type 0 where
-  pub now_frames : ℕ → List (List ℕ)
-  pub now_replies : ℕ → List (List ℕ)
+-- the law in the middle of the frames of one connection, where so much was said before; the others stay as they were
+pub record IsKept (conn : ℕ) (turn : Turn) (before : Talk) : Type 0 where
+  pub talk : Talk
+  pub more : TalkGoesOn before talk
   pub course : Course
-  pub told : IsTold turn.points turn.home now_frames now_replies course
-  pub mine : IsKnown bytes turn.connection (now_frames conn) (now_replies conn) (course.sessions conn)
-  pub other_frames : (other : ℕ) → other ≢ conn → now_frames other ≡ frames other
-  pub other_replies : (other : ℕ) → other ≢ conn → now_replies other ≡ replies other
+  pub told : IsTold turn.points turn.home talk course
+  pub other_requests : (other : ℕ) → other ≢ conn → talk.requests other ≡ before.requests other
+  pub other_answers : (other : ℕ) → other ≢ conn → talk.answers other ≡ before.answers other
   pub all_in : (other : ℕ) → course.sessions other ≡ In first_user
 
--- a line that ends at this byte
-line_kept : (step conn : ℕ) (bytes : List ℕ) (turn : Turn) (byte : ℕ) (frames replies : ℕ → List (List ℕ)) → nat_eq byte 10 && ends_in_cr turn.connection.rest ≡ true
-    → length turn.points < 2 ^ 32 - 1 → IsKept conn bytes turn frames replies
-    → IsKept conn (bytes ++ byte ∷ []) (take_line (record { step = step; conn = conn }) (kept turn byte) (line_of (turn.connection.rest ++ byte ∷ []))) frames replies
-unfolding take_line
-line_kept step conn bytes turn byte frames replies ended small keeps =
-    let frame = turn.connection.rest ++ byte ∷ [] in
-    let line : IsLine (turn.connection.rest ++ byte ∷ []) = frame_parts turn.connection.rest byte ended keeps.mine.cut.unfinished in
-    let alike : AnswersAlike keeps.course turn.home conn (turn.connection.rest ++ byte ∷ []) (line_of (turn.connection.rest ++ byte ∷ [])) =
-    answers_alike keeps.course turn.home conn frame (line_of frame) (reading_of frame line.text line.ends) (omega (arith, keeps.told.bound)) keeps.told.same in
-    let text = reply_text (line_of frame).tag (reply_of (answer turn.home (keeps.course.sessions conn) (line_of frame).command).verdict) in
-    subst
-    (λ (session : Sess). IsKept conn (bytes ++ byte ∷ [])
-    (line_answered (record { step = step; conn = conn }) (kept turn byte) (line_of (turn.connection.rest ++ byte ∷ [])) (answer turn.home session (line_of (turn.connection.rest ++ byte ∷ [])).command))
-    frames replies)
-    (sym keeps.mine.session_is)
-    (record {
-      now_frames = with_item keeps.now_frames conn frame;
-      now_replies = with_item keeps.now_replies conn text;
-      course = alike.middle;
-      told = told_push turn.points turn.home keeps.now_frames keeps.now_replies keeps.course step conn turn.connection.commands frame (line_of frame)
-          keeps.mine.commands (keeps.mine.commands ∙ sym keeps.mine.all_answered) keeps.told alike;
-      mine = known_push bytes turn.connection keeps.now_frames keeps.now_replies conn byte (keeps.course.sessions conn) (alike.middle.sessions conn) text line (alike.sessions conn) keeps.mine;
-      other_frames = λ other ne. with_item-other keeps.now_frames conn frame other ne ∙ keeps.other_frames other ne;
-      other_replies = λ other ne. with_item-other keeps.now_replies conn text other ne ∙ keeps.other_replies other ne;
-      all_in = λ other. alike.sessions other ∙ keeps.all_in other;
-    })
+pub record IsKeptOpen (conn : ℕ) (frames : List Frame) (turn : Turn) (before : Talk) : Type 0 where
+  pub kept : IsKept conn turn before
+  pub mine : IsOpen frames turn.connection turn.given (kept.talk.requests conn) (kept.talk.answers conn)
 
-byte_kept_by : (step conn : ℕ) (bytes : List ℕ) (turn : Turn) (byte : ℕ) (frames replies : ℕ → List (List ℕ)) (ended : Bool) → nat_eq byte 10 && ends_in_cr turn.connection.rest ≡ ended
-    → length turn.points < 2 ^ 32 - 1 → IsKept conn bytes turn frames replies
-    → IsKept conn (bytes ++ byte ∷ []) (take_byte_by (record { step = step; conn = conn }) turn byte ended) frames replies
-unfolding take_byte_by
-byte_kept_by step conn bytes turn byte frames replies true ended small keeps = line_kept step conn bytes turn byte frames replies ended small keeps
-byte_kept_by step conn bytes turn byte frames replies false ended small keeps = record {
-  now_frames = keeps.now_frames;
-  now_replies = keeps.now_replies;
-  course = keeps.course;
-  told = keeps.told;
-  mine = record {
-    session_is = keeps.mine.session_is;
-    cut = cut_kept bytes (keeps.now_frames conn) turn.connection.rest byte ended keeps.mine.cut;
-    commands = keeps.mine.commands;
-    all_answered = keeps.mine.all_answered;
-    given = keeps.mine.given;
-  };
-  other_frames = keeps.other_frames;
-  other_replies = keeps.other_replies;
-  all_in = keeps.all_in;
+pub record IsKeptAs (conn : ℕ) (frames : List Frame) (held : Option (List ℕ)) (turn : Turn) (before : Talk) : Type 0 where
+  pub kept : IsKept conn turn before
+  pub mine : IsLeft frames held turn.connection turn.given (kept.talk.requests conn) (kept.talk.answers conn)
+
+-- the turn of an open connection, written out
+written_out : (turn : Turn) (n : ℕ) → turn.connection.session ≡ In first_user → turn.connection.asked ≡ None → turn.connection.commands ≡ n
+    → turn ≡ quiet (In first_user) n turn.given turn.home turn.points
+written_out turn n s a c = λ i. record {
+  connection = record { session = s i; asked = a i; commands = c i };
+  given = turn.given;
+  home = turn.home;
+  points = turn.points;
 }
 
-byte_kept_in : (step conn : ℕ) (bytes : List ℕ) (turn : Turn) (byte : ℕ) (frames replies : ℕ → List (List ℕ)) → length turn.points < 2 ^ 32 - 1 → IsKept conn bytes turn frames replies
-    → IsKept conn (bytes ++ byte ∷ []) (take_byte (record { step = step; conn = conn }) turn byte (In first_user)) frames replies
-unfolding take_byte
-byte_kept_in step conn bytes turn byte frames replies small keeps = byte_kept_by step conn bytes turn byte frames replies (nat_eq byte 10 && ends_in_cr turn.connection.rest) refl small keeps
+session_stays : (sessions : ℕ → Sess) (conn : ℕ) (session : Sess) → session ≡ In first_user → (other : ℕ) (same : Bool) → nat_eq other conn ≡ same
+    → sessions other ≡ In first_user → with_session sessions conn session other ≡ In first_user
+unfolding with_session
+session_stays sessions conn session e other true h k = rw h e
+session_stays sessions conn session e other false h k = rw h k
 
-byte_kept : (step conn : ℕ) (bytes : List ℕ) (turn : Turn) (byte : ℕ) (frames replies : ℕ → List (List ℕ)) → length turn.points < 2 ^ 32 - 1 → IsKept conn bytes turn frames replies
-    → IsKept conn (bytes ++ byte ∷ []) (take_byte (record { step = step; conn = conn }) turn byte turn.connection.session) frames replies
-byte_kept step conn bytes turn byte frames replies small keeps =
-    subst (λ (session : Sess). IsKept conn (bytes ++ byte ∷ []) (take_byte (record { step = step; conn = conn }) turn byte session) frames replies)
-    (sym (keeps.mine.session_is ∙ keeps.all_in conn)) (byte_kept_in step conn bytes turn byte frames replies small keeps)
+going : goes_on (In first_user)
+unfolding goes_on
+going = tt
 
-points_by : (place : Place) (turn : Turn) (byte : ℕ) (ended : Bool) → length (take_byte_by place turn byte ended).points ≤ length turn.points + 1
-unfolding take_byte_by take_line
-points_by place turn byte true = omega (arith, length-append turn.points (answer_point place (turn.connection.commands + 1) ∷ []))
-points_by place turn byte false = omega arith
+-- a request is answered
+request_kept : (step conn : ℕ) (frames next : List Frame) (turn : Turn) (before : Talk) (request : Request) (kept : IsKeptOpen conn frames turn before)
+    → length turn.points < 2 ^ 32 - 1
+    → AskFor next (kept.kept.talk.requests conn ++ request ∷ [])
+    → ((answer : Answer) → Grows frames next (kept.kept.talk.answers conn) (kept.kept.talk.answers conn ++ answer ∷ []) (answer_text answer))
+    → IsKeptOpen conn next (behind step conn (In first_user) (count_of kept.kept.talk conn) turn.given turn.home turn.points request) before
+request_kept step conn frames next turn before request was small asks grows =
+    let kept = was.kept in
+    let answer = answer_at turn.home (In first_user) request in
+    let alike : AnswersAlike kept.course.store turn.home (In first_user) request = answers_alike kept.course.store turn.home (In first_user) request (omega (arith, kept.told.bound)) kept.told.same in
+    let longer = next_talk kept.talk conn turn.home (In first_user) request in
+    let grown = grows answer in
+    record {
+      kept = record {
+        talk = longer;
+        more = talks_follow before kept.talk longer kept.more (turn_more kept.talk conn request answer (turn.home.last_serial + 1));
+        course = next_course kept.course conn turn.home request;
+        told = told_push turn.points turn.home kept.talk kept.course step conn (In first_user) request (kept.all_in conn) alike kept.told;
+        other_requests = λ other ne. with_item-other kept.talk.requests conn request other ne ∙ kept.other_requests other ne;
+        other_answers = λ other ne. with_item-other kept.talk.answers conn answer other ne ∙ kept.other_answers other ne;
+        all_in = λ other. session_stays kept.course.sessions conn _
+            (ap (λ (sess : Sess). (answer_of kept.course.store sess request (turn.home.last_serial + 1)).session) (kept.all_in conn) ∙ alike.same_session) other (nat_eq other conn) refl (kept.all_in other);
+      };
+      mine = record {
+        session_is = refl;
+        none_asked = refl;
+        asks = subst (λ r. AskFor next r) (sym (with_item-same kept.talk.requests conn request)) asks;
+        answered = subst (λ a. AreAnswered next a) (sym (with_item-same kept.talk.answers conn answer)) grown.answered;
+        commands = sym (length_with_item kept.talk.answers conn answer);
+        given_is = ap (λ g. g ++ answer_text answer) was.mine.given_is ∙ append_assoc greeting (replies_to frames (kept.talk.answers conn)) (answer_text answer)
+            ∙ ap (λ t. greeting ++ t) (sym grown.text_is) ∙ ap (λ a. greeting ++ replies_to next a) (sym (with_item-same kept.talk.answers conn answer));
+      };
+    }
 
--- each byte adds one point at most
-points_after : (place : Place) (turn : Turn) (byte : ℕ) (session : Sess) → length (take_byte place turn byte session).points ≤ length turn.points + 1
-unfolding take_byte
-points_after place turn byte Off = points_by place turn byte _
-points_after place turn byte (In user) = points_by place turn byte _
-points_after place turn byte Ended = omega arith
+whole_kept : (step conn : ℕ) (frames : List Frame) (turn : Turn) (before : Talk) (bytes : List ℕ) → length turn.points < 2 ^ 32 - 1 → IsKeptOpen conn frames turn before
+    → IsKeptOpen conn (frames ++ Whole bytes ∷ []) (take_frame step conn turn (Whole bytes)) before
+whole_kept step conn frames turn before bytes small was =
+    let n = count_of was.kept.talk conn in
+    let form = ap (λ t. take_frame step conn t (Whole bytes)) (written_out turn n was.mine.session_is was.mine.none_asked was.mine.commands)
+    ∙ whole_taken step conn (In first_user) n turn.given turn.home turn.points bytes going in
+    subst (λ t. IsKeptOpen conn (frames ++ Whole bytes ∷ []) t before) (sym form)
+    (request_kept step conn frames (frames ++ Whole bytes ∷ []) turn before (request_of bytes) was small
+    (a_request frames (was.kept.talk.requests conn) bytes (request_of bytes) was.mine.asks (request_is bytes))
+    (λ answer. whole_answered frames (was.kept.talk.answers conn) bytes answer was.mine.answered))
 
-pub points_after_all : (place : Place) (turn : Turn) (bytes : List ℕ) → length (take_bytes place turn bytes).points ≤ length turn.points + length bytes
-unfolding take_bytes
-points_after_all place turn [] = omega arith
-points_after_all place turn (byte ∷ bytes) =
-    omega (arith, points_after_all place (take_byte place turn byte turn.connection.session) bytes, points_after place turn byte turn.connection.session)
+big_kept : (step conn : ℕ) (frames : List Frame) (turn : Turn) (before : Talk) (bytes : List ℕ) → length turn.points < 2 ^ 32 - 1 → IsKeptOpen conn frames turn before
+    → IsKeptOpen conn (frames ++ TooBig bytes ∷ []) (take_frame step conn turn (TooBig bytes)) before
+big_kept step conn frames turn before bytes small was =
+    let n = count_of was.kept.talk conn in
+    let form = ap (λ t. take_frame step conn t (TooBig bytes)) (written_out turn n was.mine.session_is was.mine.none_asked was.mine.commands)
+    ∙ big_taken step conn (In first_user) n turn.given turn.home turn.points bytes going in
+    subst (λ t. IsKeptOpen conn (frames ++ TooBig bytes ∷ []) t before) (sym form)
+    (request_kept step conn frames (frames ++ TooBig bytes ∷ []) turn before (too_big_request bytes) was small
+    (a_big_one frames (was.kept.talk.requests conn) bytes (too_big_request bytes) was.mine.asks (too_big_is bytes))
+    (λ answer. too_big_answered frames (was.kept.talk.answers conn) bytes answer was.mine.answered))
 
--- the bytes of one client keep the law
-pub bytes_kept : (step conn : ℕ) (heard : List ℕ) (turn : Turn) (bytes : List ℕ) (frames replies : ℕ → List (List ℕ)) → length turn.points + length bytes < 2 ^ 32
-    → IsKept conn heard turn frames replies → IsKept conn (heard ++ bytes) (take_bytes (record { step = step; conn = conn }) turn bytes) frames replies
-unfolding take_bytes
-bytes_kept step conn heard turn [] frames replies small keeps = subst (λ h. IsKept conn h turn frames replies) (sym (append-nil heard)) keeps
-bytes_kept step conn heard turn (byte ∷ bytes) frames replies small keeps =
-    let next : Turn = take_byte (record { step = step; conn = conn }) turn byte turn.connection.session in
-    subst (λ h. IsKept conn h (take_bytes (record { step = step; conn = conn }) next bytes) frames replies) (append_assoc heard (byte ∷ []) bytes)
-    (bytes_kept step conn (heard ++ byte ∷ []) next bytes frames replies
-    (omega (arith, points_after (record { step = step; conn = conn }) turn byte turn.connection.session))
-    (byte_kept step conn heard turn byte frames replies (omega arith) keeps))
+wait_kept : (step conn : ℕ) (frames : List Frame) (turn : Turn) (before : Talk) (size : ℕ) → IsKeptOpen conn frames turn before
+    → IsKeptOpen conn (frames ++ NeedLiteral size ∷ []) (take_frame step conn turn (NeedLiteral size)) before
+wait_kept step conn frames turn before size was =
+    let kept = was.kept in
+    let n = count_of kept.talk conn in
+    let grown = literal_awaited frames (kept.talk.answers conn) size was.mine.answered in
+    let form = ap (λ t. take_frame step conn t (NeedLiteral size)) (written_out turn n was.mine.session_is was.mine.none_asked was.mine.commands)
+    ∙ wait_taken step conn (In first_user) n turn.given turn.home turn.points size going in
+    subst (λ t. IsKeptOpen conn (frames ++ NeedLiteral size ∷ []) t before) (sym form)
+    (record {
+      kept = record {
+        talk = kept.talk;
+        more = kept.more;
+        course = kept.course;
+        told = kept.told;
+        other_requests = kept.other_requests;
+        other_answers = kept.other_answers;
+        all_in = kept.all_in;
+      };
+      mine = record {
+        session_is = refl;
+        none_asked = refl;
+        asks = a_wait frames (kept.talk.requests conn) size was.mine.asks;
+        answered = grown.answered;
+        commands = refl;
+        given_is = ap (λ g. g ++ ready) was.mine.given_is ∙ append_assoc greeting (replies_to frames (kept.talk.answers conn)) ready ∙ ap (λ t. greeting ++ t) (sym grown.text_is);
+      };
+    })
+
+fault_kept : (step conn : ℕ) (frames : List Frame) (turn : Turn) (before : Talk) (fault : FrameFault) (held : Option (List ℕ)) → held ≡ None → IsKeptOpen conn frames turn before
+    → IsKeptAs conn (frames ++ Fault fault ∷ []) held (take_frame step conn turn (Fault fault)) before
+fault_kept step conn frames turn before fault held none was =
+    let kept = was.kept in
+    let n = count_of kept.talk conn in
+    let form = ap (λ t. take_frame step conn t (Fault fault)) (written_out turn n was.mine.session_is was.mine.none_asked was.mine.commands)
+    ∙ fault_taken step conn (In first_user) n turn.given turn.home turn.points fault going in
+    subst (λ t. IsKeptAs conn (frames ++ Fault fault ∷ []) held t before) (sym form)
+    (record {
+      kept = record {
+        talk = kept.talk;
+        more = kept.more;
+        course = kept.course;
+        told = kept.told;
+        other_requests = kept.other_requests;
+        other_answers = kept.other_answers;
+        all_in = kept.all_in;
+      };
+      mine = has_ended none (record {
+        asks = a_fault frames (kept.talk.requests conn) fault was.mine.asks;
+        given_is = ap (λ g. g ++ bye_line (bye_of fault)) was.mine.given_is ∙ append_assoc greeting (replies_to frames (kept.talk.answers conn)) (bye_line (bye_of fault))
+            ∙ ap (λ t. greeting ++ t) (sym (fault_told frames (kept.talk.answers conn) fault was.mine.answered));
+      });
+    })
+
+-- the frames of a piece, one after another
+pub frames_kept : (step conn : ℕ) (frames new : List Frame) (turn : Turn) (before : Talk) (held : Option (List ℕ)) → FaultsLast new held → length turn.points + length new < 2 ^ 32
+    → IsKeptOpen conn frames turn before → IsKeptAs conn (frames ++ new) held (take_frames step conn turn new) before
+unfolding take_frames FaultsLast
+frames_kept step conn frames [] turn before held last small was =
+    subst (λ f. IsKeptAs conn f held turn before) (sym (append-nil frames)) (record { kept = was.kept; mine = still_open was.mine })
+frames_kept step conn frames (Whole bytes ∷ new) turn before held last small was =
+    subst (λ f. IsKeptAs conn f held (take_frames step conn (take_frame step conn turn (Whole bytes)) new) before) (append_assoc frames (Whole bytes ∷ []) new)
+    (frames_kept step conn (frames ++ Whole bytes ∷ []) new (take_frame step conn turn (Whole bytes)) before held last
+    (omega (arith, points_taken step conn turn (Whole bytes))) (whole_kept step conn frames turn before bytes (omega arith) was))
+frames_kept step conn frames (TooBig bytes ∷ new) turn before held last small was =
+    subst (λ f. IsKeptAs conn f held (take_frames step conn (take_frame step conn turn (TooBig bytes)) new) before) (append_assoc frames (TooBig bytes ∷ []) new)
+    (frames_kept step conn (frames ++ TooBig bytes ∷ []) new (take_frame step conn turn (TooBig bytes)) before held last
+    (omega (arith, points_taken step conn turn (TooBig bytes))) (big_kept step conn frames turn before bytes (omega arith) was))
+frames_kept step conn frames (NeedLiteral size ∷ new) turn before held last small was =
+    subst (λ f. IsKeptAs conn f held (take_frames step conn (take_frame step conn turn (NeedLiteral size)) new) before) (append_assoc frames (NeedLiteral size ∷ []) new)
+    (frames_kept step conn (frames ++ NeedLiteral size ∷ []) new (take_frame step conn turn (NeedLiteral size)) before held last
+    (omega (arith, points_taken step conn turn (NeedLiteral size))) (wait_kept step conn frames turn before size was))
+frames_kept step conn frames (Fault fault ∷ new) turn before held last small was =
+    subst (λ n. IsKeptAs conn (frames ++ Fault fault ∷ n) held (take_frames step conn (take_frame step conn turn (Fault fault)) n) before) (sym last.0)
+    (fault_kept step conn frames turn before fault held last.1 was)

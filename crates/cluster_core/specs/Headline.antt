@@ -1,7 +1,7 @@
 -- The headline, of a run of the cluster.
 use Rattle.std.specs.Prelude.{List}
-use Rattle.cluster_core.specs.declared.config.Config.{Config}
-use Rattle.cluster_core.specs.declared.event.Event.{Event}
+use Rattle.mur_config.specs.declared.config.Config.{Config}
+use Rattle.schedule_text.specs.declared.event.Event.{Event}
 use Rattle.cluster_core.specs.HomeLaw.{KeepsOneHomeEach, RefusesForCause}
 use Rattle.cluster_core.specs.OneStore.{IsToldByOneStore}
 use Rattle.cluster_core.specs.World.{start, run}
@@ -9,6 +9,6 @@ use Rattle.cluster_core.specs.World.{start, run}
 -- what the clients were given is what one mailbox store replies to the printed history, one command at a time, in each session's order;
 -- a mailbox has at most one writable home; a refusal of relocation comes only at a reserved name or an unreached node
 pub record IsOneServer (config : Config) (events : List Event) : Type 0 where
-  pub one_store : IsToldByOneStore events (run (start config) events)
+  pub one_store : IsToldByOneStore config events
   pub one_home : KeepsOneHomeEach config events
   pub refusals : RefusesForCause (run (start config) events)

@@ -2,11 +2,12 @@
 use Rattle.std.specs.Prelude.{ℕ, ◌+◌, ◌-◌, ◌^◌, Bool, true, false, ◌==◌, List, Option, None, Some, codes}
 use Rattle.std.specs.Ordering.{nat_cmp}
 use Rattle.std.specs.Cmp.Lexicographic.{slice_cmp}
-use Rattle.mur_base.specs.declared.name.NameFault.{NameFault}
 use Rattle.mur_base.specs.Map.{value_at, with_entry}
 use Rattle.mur_model.specs.declared.reply.Verdict.TheVariants.{Ok as ok_reply, No as no_reply}
 use Rattle.mur_model.specs.declared.reply.Code.TheVariants.{None as no_code}
-use Rattle.mur_model.specs.declared.reply.NoText.TheVariants.{AlreadyExists, NonExistent, Limit}
+use Rattle.mur_model.specs.declared.reply.NoText.TheVariants.{AlreadyExists, Limit}
+use Rattle.mur_model.specs.declared.create.Named.{Named}
+use Rattle.mur_model.specs.declared.create.Named.TheVariants.{Name, Refused}
 use Rattle.mur_model.specs.declared.store.MailBox.{MailBox}
 use Rattle.mur_model.specs.Store.{new_box}
 use Rattle.cluster_core.specs.declared.world.Home.{Home}
@@ -28,7 +29,7 @@ unfoldable pub create_at : Home → List ℕ → Option MailBox → Served
 create_at home name (Some there) = refused home (no_reply AlreadyExists)
 create_at home name None = make home name (home.last_serial == 2 ^ 32 - 1)
 
--- CREATE of a text, by the rule of names that it breaks
-unfoldable pub create : Home → List ℕ → Option NameFault → Served
-create home text (Some fault) = refused home (no_reply NonExistent)
-create home text None = create_at home text (value_at (slice_cmp nat_cmp) home.boxes text)
+-- CREATE of what its text names
+unfoldable pub create : Home → Named → Served
+create home (Refused why) = refused home (no_reply why)
+create home (Name name) = create_at home name (value_at (slice_cmp nat_cmp) home.boxes name)

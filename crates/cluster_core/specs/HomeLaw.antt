@@ -2,24 +2,20 @@
 use Rattle.std.specs.Prelude.{◌≡◌, ℕ, ◌≤◌, Bool, true, false, ◌&&◌, List, ◌++◌, count_by, All, ⊤}
 use Rattle.std.specs.Str.{bytes_eq}
 use Rattle.mur_base.specs.declared.home.Phase.{Phase}
-use Rattle.mur_base.specs.declared.home.Phase.TheVariants.{Creating, Open as open_here, Closing, Receiving, Ready, Pointer}
+use Rattle.mur_base.specs.declared.home.Phase.TheVariants.{Open as open_here}
 use Rattle.mur_base.specs.declared.point.Point.{Point}
 use Rattle.mur_base.specs.declared.point.What.{What}
-use Rattle.mur_base.specs.declared.point.What.TheVariants.{Reply as replied, Read as read, Lost as lost, Reserved as reserved, Unreached as unreached}
+use Rattle.mur_base.specs.declared.point.What.TheVariants.{Reserved as reserved, Unreached as unreached}
 use Rattle.cluster_core.specs.declared.cluster.HomeRow.{HomeRow}
-use Rattle.cluster_core.specs.declared.config.Config.{Config}
-use Rattle.cluster_core.specs.declared.event.Event.{Event}
+use Rattle.mur_config.specs.declared.config.Config.{Config}
+use Rattle.schedule_text.specs.declared.event.Event.{Event}
 use Rattle.cluster_core.specs.declared.world.World.{World}
 use Rattle.cluster_core.specs.Shown.{home_rows}
 use Rattle.cluster_core.specs.World.{start, run}
 
 unfoldable pub is_open : Phase → Bool
-is_open Creating = false
 is_open open_here = true
-is_open Closing = false
-is_open Receiving = false
-is_open Ready = false
-is_open (Pointer server) = false
+is_open _ = false
 
 -- a writable home of a name is a node that has the name Open
 abbrev pub is_writable_home : List ℕ → HomeRow → Bool
@@ -34,11 +30,9 @@ KeepsOneHomeEach config events = (before later : List Event) → events ≡ befo
 
 -- on one node no name is reserved and no node is unreached, so there is no cause for a refusal of relocation
 abbrev pub HasCause : What → Type 0
-HasCause replied = ⊤
-HasCause read = ⊤
-HasCause lost = ⊤
 HasCause reserved = ⊥
 HasCause (unreached node) = ⊥
+HasCause _ = ⊤
 
 -- a refusal of relocation comes only at a reserved name or an unreached node
 abbrev pub RefusesForCause : World → Type 0

@@ -3,17 +3,17 @@ use Rattle.std.specs.Prelude.{ℕ, List, [], Option, None, Some, map}
 use Rattle.mur_base.specs.declared.home.Phase.TheVariants.{Open as open_here}
 use Rattle.mur_model.specs.declared.store.MailBox.{MailBox}
 use Rattle.cluster_core.specs.declared.cluster.HomeRow.{HomeRow}
-use Rattle.cluster_core.specs.declared.world.Connection.{Connection}
+use Rattle.cluster_core.specs.declared.world.Client.{Client}
 use Rattle.cluster_core.specs.declared.world.World.{World}
-use Rattle.cluster_core.specs.World.{connection_at}
+use Rattle.cluster_core.specs.World.{client_at}
 
-abbrev pub given_by : Option Connection → List ℕ
+abbrev pub given_by : Option Client → List ℕ
 given_by None = []
-given_by (Some connection) = connection.given
+given_by (Some client) = client.given
 
 -- the bytes given to the client of a connection
 unfoldable pub given_to : World → ℕ → List ℕ
-given_to world conn = given_by (connection_at world conn)
+given_to world conn = given_by (client_at world conn)
 
 -- a mailbox at the node that holds it
 abbrev pub home_row : List ℕ → List ℕ × MailBox → HomeRow

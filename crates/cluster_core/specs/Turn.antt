@@ -1,65 +1,58 @@
--- What the bytes of one client do: a byte is kept until it ends a line, and then the line is answered.
-use Rattle.std.specs.Prelude.{ℕ, ◌+◌, Bool, true, false, ◌&&◌, ◌==◌, List, [], ◌∷◌, ◌++◌, nat_eq}
-use Rattle.std.specs.List.{ends_with}
+-- What the bytes of one client do: each of their frames is taken by the frontend, and what it lets out is carried out; a
+-- command that asks the home is answered in the same step.
+use Rattle.std.specs.Prelude.{ℕ, List, [], ◌∷◌, Option, None, Some}
+use Rattle.imap_wire.specs.declared.frame.Frame.{Frame}
+use Rattle.mur_base.specs.declared.point.AskId.{AskId}
 use Rattle.mur_base.specs.declared.point.Point.{Point}
-use Rattle.mur_base.specs.declared.point.What.TheVariants.{Reply as replied}
-use Rattle.mur_model.specs.declared.session.Sess.{Sess}
-use Rattle.mur_model.specs.declared.session.Sess.TheVariants.{Off, In, Ended}
-use Rattle.mur_model.specs.Act.{reply_of}
-use Rattle.mur_model.specs.ReplyText.{reply_text}
-use Rattle.cluster_core.specs.declared.line.Line.{Line}
-use Rattle.cluster_core.specs.declared.turn.Place.{Place}
-use Rattle.cluster_core.specs.declared.world.Connection.{Connection}
+use Rattle.cluster_core.specs.declared.front.Ask.{Ask}
+use Rattle.cluster_core.specs.declared.front.Connection.{Connection}
+use Rattle.cluster_core.specs.declared.front.Out.{Out}
+use Rattle.cluster_core.specs.declared.world.Client.{Client}
 use Rattle.cluster_core.specs.declared.world.Home.{Home}
-use Rattle.cluster_core.specs.Home.{answer}
+use Rattle.cluster_core.specs.Carry.{Carried, carry_all}
+use Rattle.cluster_core.specs.Front.{Turned, frame_in, answer_in}
+use Rattle.cluster_core.specs.Home.{serve}
 use Rattle.cluster_core.specs.HomeServed.{Served}
-use Rattle.cluster_core.specs.ReadLine.{line_of}
 
--- a connection, the home, and the history
+-- a connection, what its client was given, the home, and the history
 pub record Turn : Type 0 where
   pub connection : Connection
+  pub given : List ℕ
   pub home : Home
   pub points : List Point
 
--- a point of an answer
-abbrev pub answer_point : Place → ℕ → Point
-answer_point place command = record { step = place.step; ask = record { conn = place.conn; command = command }; what = replied }
+-- a client, the home and the history between two frames
+abbrev pub turn_from : Client → Home → List Point → Turn
+turn_from client home points = record { connection = client.connection; given = client.given; home = home; points = points }
 
--- the connection after an answer
-abbrev pub answered : Connection → List ℕ → Connection
-answered connection text = record connection { rest = []; commands = connection.commands + 1; given = connection.given ++ text }
+-- what the outputs of this step leave
+abbrev pub carried : ℕ → Turn → List Out → Carried
+carried step turn outs = carry_all step (record { given = turn.given; points = turn.points; ask = None }) outs
 
--- a line is answered by what the home made of it
-abbrev pub line_answered : Place → Turn → Line → Served → Turn
-line_answered place turn line served = record {
-  connection = answered turn.connection (reply_text line.tag (reply_of served.verdict));
-  home = served.home;
-  points = turn.points ++ answer_point place (turn.connection.commands + 1) ∷ [];
+abbrev pub with_outs : ℕ → Turn → Turned → Turn
+with_outs step turn turned = record turn {
+  connection = turned.connection;
+  given = (carried step turn turned.outs).given;
+  points = (carried step turn turned.outs).points;
 }
 
--- a line is carried out and answered
-unfoldable pub take_line : Place → Turn → Line → Turn
-take_line place turn line = line_answered place turn line (answer turn.home turn.connection.session line.command)
+-- the home's answer goes to the frontend
+abbrev pub answered : ℕ → Turn → AskId → Served → Turn
+answered step turn id served =
+    with_outs step (record turn { home = served.home }) (answer_in id.conn turn.connection served.verdict turn.connection.asked)
 
--- a CR stands last
-unfoldable pub ends_in_cr : List ℕ → Bool
-ends_in_cr text = ends_with nat_eq text (13 ∷ [])
+-- an ask goes to the home
+unfoldable pub serve_ask : ℕ → Turn → Option Ask → Turn
+serve_ask step turn None = turn
+serve_ask step turn (Some ask) = answered step turn ask.id (serve turn.home ask.command)
 
-abbrev pub kept : Turn → ℕ → Turn
-kept turn byte = record turn { connection = record turn.connection { rest = turn.connection.rest ++ byte ∷ [] } }
+-- what a frame leaves that the frontend has taken so
+abbrev pub with_turned : ℕ → Turn → Turned → Turn
+with_turned step turn turned = serve_ask step (with_outs step turn turned) (carried step turn turned.outs).ask
 
--- a byte of the client, by whether it ends a line
-unfoldable pub take_byte_by : Place → Turn → ℕ → Bool → Turn
-take_byte_by place turn byte false = kept turn byte
-take_byte_by place turn byte true = take_line place (kept turn byte) (line_of (turn.connection.rest ++ byte ∷ []))
+unfoldable pub take_frame : ℕ → ℕ → Turn → Frame → Turn
+take_frame step conn turn frame = with_turned step turn (frame_in conn turn.connection frame turn.connection.session)
 
--- a byte of the client, unless the session has ended
-unfoldable pub take_byte : Place → Turn → ℕ → Sess → Turn
-take_byte place turn byte Off = take_byte_by place turn byte (byte == 10 && ends_in_cr turn.connection.rest)
-take_byte place turn byte (In user) = take_byte_by place turn byte (byte == 10 && ends_in_cr turn.connection.rest)
-take_byte place turn byte Ended = turn
-
--- the bytes of the client, one after another
-unfoldable pub take_bytes : Place → Turn → List ℕ → Turn
-take_bytes place turn [] = turn
-take_bytes place turn (byte ∷ bytes) = take_bytes place (take_byte place turn byte turn.connection.session) bytes
+unfoldable pub take_frames : ℕ → ℕ → Turn → List Frame → Turn
+take_frames step conn turn [] = turn
+take_frames step conn turn (frame ∷ frames) = take_frames step conn (take_frame step conn turn frame) frames

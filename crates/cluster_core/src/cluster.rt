@@ -1,17 +1,17 @@
 // The cluster as one value.
-ghost use Rattle.std.specs.Prelude.{◌≡◌, ◌<◌, ◌^◌, List, IfOk, OnOk, IsSome};
-ghost use Rattle.cluster_core.specs.declared.config.Config.{Config};
-ghost use Rattle.cluster_core.specs.declared.event.Event.{Event};
+ghost use Rattle.std.specs.Prelude.{◌≡◌, ◌<◌, ◌^◌, List, IfOk, OnOk};
+ghost use Rattle.mur_config.specs.declared.config.Config.{Config};
+ghost use Rattle.schedule_text.specs.declared.event.Event.{Event};
 ghost use Rattle.cluster_core.specs.Headline.{IsOneServer};
-ghost use Rattle.cluster_core.specs.Nodes.{frontend_of};
 ghost use Rattle.cluster_core.specs.Shown.{given_to, home_rows};
-ghost use Rattle.cluster_core.specs.World.{start, happens, run, weight_of_all, HasRoom};
+ghost use Rattle.cluster_core.specs.World.{start, happens, run, HasRoom};
+ghost use Rattle.schedule_text.specs.Brings.{steps_of_all, bytes_of_all};
 
-use crate::config::Config;
-use crate::event::{Event, Events};
 use crate::happens::{happens, start};
 use crate::world::World;
 use mur_base::{Copied, Items, MailName, Memory, NodeName, Phase, Point};
+use mur_config::Config;
+use schedule_text::{Event, Events};
 use std::alloc::Global;
 use std::marker::Model;
 
@@ -53,7 +53,6 @@ impl Model for Cluster {
 impl Cluster {
     /// The cluster before its first event.
     pub fn new(alloc: Global, config: &Config) -> Result<Cluster, Memory>
-        requires { IsSome (frontend_of config.now.nodes) }
         ensures { IfOk result (λ cluster. cluster ≡ start config.now) }
     {
         Ok(Cluster {
@@ -96,8 +95,8 @@ impl Cluster {
     pub fn sent(&self, conn: u64) -> &[u8]
         ensures { result.now ≡ given_to self.now conn }
     {
-        match self.world.connections.get(&conn) {
-            Some(connection) => connection.given.as_slice(),
+        match self.world.clients.get(&conn) {
+            Some(client) => client.given.as_slice(),
             None => &[],
         }
     }
@@ -131,8 +130,8 @@ fn home_rows(alloc: Global, world: &World) -> Result<HomeRows, Memory>
 /// Runs the events one after another from the start. Each event is let go once it was taken. The headline holds of the run:
 /// its events are few enough for the UIDVALIDITYs.
 pub fn run(alloc: Global, config: &Config, events: Events) -> Result<Cluster, Memory>
-    requires frontend { IsSome (frontend_of config.now.nodes) }
-    requires room { weight_of_all events < 2 ^ 32 }
+    requires steps { steps_of_all events < 2 ^ 64 }
+    requires bytes { bytes_of_all events < 2 ^ 32 }
     ensures ran { IfOk result (λ cluster. cluster ≡ run (start config.now) events) }
     ensures one_server { IsOneServer config.now events }
 {
@@ -146,7 +145,7 @@ pub fn run(alloc: Global, config: &Config, events: Events) -> Result<Cluster, Me
 /// The headline as a law of its own: it holds of every configuration and of all events that are few enough for the
 /// UIDVALIDITYs. The call does nothing.
 pub fn headline()
-    ensures { (config : Config) (events : List Event) → weight_of_all events < 2 ^ 32 → IsOneServer config events }
+    ensures { (config : Config) (events : List Event) → bytes_of_all events < 2 ^ 32 → IsOneServer config events }
 {}
 
 fn take(cluster: &mut Cluster, event: Event) -> Result<(), Memory>

@@ -1,27 +1,26 @@
 // What each event does.
-ghost use Rattle.std.specs.Prelude.{◌≡◌, ◌+◌, ◌<◌, ◌^◌, OnOk, IfOk, IfSome, IsSome, length};
-ghost use Rattle.cluster_core.specs.Nodes.{frontend_of};
-ghost use Rattle.cluster_core.specs.World.{start, first_user, new_connection, connection_at, open_at, data_at, takes, happens, HasRoom};
+ghost use Rattle.std.specs.Prelude.{◌≡◌, ◌+◌, ◌<◌, ◌^◌, OnOk, IfOk, IfSome, length};
+ghost use Rattle.cluster_core.specs.World.{start, first_user, new_client, client_at, open_at, data_at, takes, happens, HasRoom};
 
-use crate::config::Config;
-use crate::event::Event;
-use crate::nodes::frontend;
-use crate::reply_text::greeting;
-use crate::turn::{Place, take_bytes};
-use crate::world::{Connection, Home, World};
+use crate::front::Connection;
+use crate::reader::Reader;
+use crate::turn::take_bytes;
+use crate::world::{Client, Home, World};
+use imap_reply::put_greeting;
 use mur_base::{Bytes, Copied, Items, Map, Memory, NameFault, UserName, user_name};
+use mur_config::Config;
 use mur_model::Sess;
+use schedule_text::Event;
 use std::alloc::Global;
 
 /// The cluster before its first event.
 #[tactic(auto, unfolding(crate::specs::World::start))]
 pub fn start(alloc: Global, config: &Config) -> Result<World, Memory>
-    requires { IsSome (frontend_of config.now.nodes) }
     ensures { IfOk result (λ world. world ≡ start config.now) }
 {
     Ok(World {
-        node: frontend(config).unwrap().copy(alloc)?,
-        connections: Map::new(alloc),
+        node: config.nodes.frontend().unwrap().copy(alloc)?,
+        clients: Map::new(alloc),
         home: Home {
             boxes: Map::new(alloc),
             last_serial: 0,
@@ -41,55 +40,50 @@ pub fn happens(alloc: Global, world: &mut World, event: &Event) -> Result<(), Me
     match event {
         Event::Open(_, conn) => open_connection(alloc, world, *conn),
         Event::Data(conn, bytes) => take_data(alloc, world, *conn, bytes),
-        Event::Hang(_)
-        | Event::Deliver(_, _)
-        | Event::Cut(_, _, _, _)
-        | Event::Join(_, _)
-        | Event::Crash(_, _, _)
-        | Event::Arm(_, _, _, _)
-        | Event::Start(_)
-        | Event::Flow(_)
-        | Event::Heal => Ok(()),
+        _ => Ok(()),
     }
 }
 
 #[tactic(auto, unfolding(crate::specs::World::open_at))]
 fn open_connection(alloc: Global, world: &mut World, conn: u64) -> Result<(), Memory>
-    ensures { OnOk result (world.new ≡ open_at world.old conn (connection_at world.old conn)) }
+    ensures { OnOk result (world.new ≡ open_at world.old conn (client_at world.old conn)) }
 {
-    if world.connections.contains_key(&conn) {
+    if world.clients.contains_key(&conn) {
         return Ok(());
     }
-    world.connections.insert(conn, new_connection(alloc)?)?;
+    world.clients.insert(conn, new_client(alloc)?)?;
     Ok(())
 }
 
-#[tactic(auto, unfolding(crate::specs::World::new_connection))]
-fn new_connection(alloc: Global) -> Result<Connection, Memory>
-    ensures { IfOk result (λ connection. connection ≡ new_connection) }
+#[tactic(auto, unfolding(crate::specs::World::new_client))]
+fn new_client(alloc: Global) -> Result<Client, Memory>
+    ensures { IfOk result (λ client. client ≡ new_client) }
 {
-    Ok(Connection {
-        session: Sess::In(first_user(alloc)?),
-        rest: Bytes::new(alloc),
-        commands: 0,
-        given: greeting(alloc)?,
+    let mut given = Bytes::new(alloc);
+    put_greeting(&mut given)?;
+    Ok(Client {
+        reader: Reader::new(alloc),
+        connection: Connection {
+            session: Sess::In(first_user(alloc)?),
+            asked: None,
+            commands: 0,
+        },
+        given,
     })
 }
 
 #[tactic(auto, unfolding(crate::specs::World::data_at))]
 fn take_data(alloc: Global, world: &mut World, conn: u64, bytes: &Bytes) -> Result<(), Memory>
-    requires { IfSome (connection_at world.old conn) (λ connection. connection.commands + length bytes.now < 2 ^ 64) }
-    ensures { OnOk result (world.new ≡ data_at world.old conn bytes.now (connection_at world.old conn)) }
+    requires { IfSome (client_at world.old conn) (λ client. client.connection.commands + length bytes.now < 2 ^ 64) }
+    ensures { OnOk result (world.new ≡ data_at world.old conn bytes.now (client_at world.old conn)) }
 {
-    let place = Place {
-        step: world.steps,
-        conn,
-    };
-    match world.connections.get_mut(&conn) {
-        Some(connection) => take_bytes(
+    let step = world.steps;
+    match world.clients.get_mut(&conn) {
+        Some(client) => take_bytes(
             alloc,
-            place,
-            connection,
+            step,
+            conn,
+            client,
             &mut world.home,
             &mut world.points,
             bytes.as_slice(),

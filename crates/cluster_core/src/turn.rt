@@ -1,113 +1,105 @@
-// The bytes of one client.
-ghost use Rattle.std.specs.Prelude.{◌≡◌, ◌+◌, ◌<◌, ◌≤◌, ◌^◌, ◌&&◌, ◌==◌, ◌∷◌, ◌++◌, [], OnOk, length};
-ghost use Rattle.cluster_core.specs.ReadLine.{line_of};
-ghost use Rattle.cluster_core.specs.Turn.{ends_in_cr, take_line, take_byte, take_byte_by, take_bytes};
+// The bytes of one client in one step.
+ghost use Rattle.std.specs.Prelude.{◌≡◌, ◌+◌, ◌<◌, ◌≤◌, ◌^◌, OnOk, length};
+ghost use Rattle.std.specs.Option.{option_to_list};
+ghost use Rattle.imap_wire.specs.More.{frames_of_more, begun_by_more};
+ghost use Rattle.cluster_core.specs.Turn.{turn_from, take_frame, take_frames, serve_ask};
+ghost use Rattle.cluster_core.specs.Front.{Turned};
 
-use crate::home::answer;
-use crate::line::{Line, read_line};
-use crate::reply_text::write_reply;
-use crate::world::{Connection, Home};
-use mur_base::{AskId, Items, Memory, Point, What};
-use mur_model::{Reply, Sess};
+use crate::carry::carry_out;
+use crate::front::{Ask, answer_in, frame_in};
+use crate::home::serve;
+use crate::world::{Client, Home};
+use imap_wire::Frame;
+use mur_base::{Items, Memory, Point};
 use std::alloc::Global;
 
-/// Which step takes the bytes, and of which connection they are.
-#[derive(Clone, Copy)]
-pub struct Place {
-    pub step: u64,
-    pub conn: u64,
-}
-
-/// Takes bytes of a client: each line that they complete is answered. For want of memory all three are spent.
-#[tactic(auto, unfolding(crate::specs::Turn::take_bytes))]
+/// Takes bytes of a client: each frame that ends in them is answered. For want of memory all three are spent.
 pub fn take_bytes(
     alloc: Global,
-    place: Place,
-    connection: &mut Connection,
+    step: u64,
+    conn: u64,
+    client: &mut Client,
     home: &mut Home,
     points: &mut Items<Point>,
     bytes: &[u8],
 ) -> Result<(), Memory>
-    requires { connection.old.commands + length bytes.now < 2 ^ 64 }
-    ensures { OnOk result (record { connection = connection.new; home = home.new; points = points.new } ≡ take_bytes place (record { connection = connection.old; home = home.old; points = points.old }) bytes.now) }
+    requires { client.old.connection.commands + length bytes.now < 2 ^ 64 }
+    ensures turn { OnOk result (turn_from client.new home.new points.new
+        ≡ take_frames step conn (turn_from client.old home.old points.old) (frames_of_more client.old.reader bytes.now)) }
+    ensures reader { OnOk result (client.new.reader ≡ begun_by_more client.old.reader bytes.now) }
 {
-    for byte in bytes {
-        take_byte(alloc, place, connection, home, points, *byte)?;
+    let mut taken = 0;
+    while taken < bytes.len() && !client.reader.ended() {
+        let (frame, more) = client.reader.next(&bytes[taken..])?;
+        taken += more;
+        take_next(alloc, step, conn, client, home, points, frame)?;
     }
     Ok(())
 }
 
-#[tactic(auto, unfolding(crate::specs::Turn::take_byte))]
-fn take_byte(
+#[tactic(auto, unfolding(crate::specs::Turn::take_frames))]
+fn take_next(
     alloc: Global,
-    place: Place,
-    connection: &mut Connection,
+    step: u64,
+    conn: u64,
+    client: &mut Client,
     home: &mut Home,
     points: &mut Items<Point>,
-    byte: u8,
+    frame: Option<Frame>,
 ) -> Result<(), Memory>
-    requires { connection.old.commands + 1 < 2 ^ 64 }
-    ensures turn { OnOk result (record { connection = connection.new; home = home.new; points = points.new } ≡ take_byte place (record { connection = connection.old; home = home.old; points = points.old }) byte connection.old.session) }
-    ensures commands { OnOk result (connection.new.commands ≤ connection.old.commands + 1) }
+    requires { client.old.connection.commands + 1 < 2 ^ 64 }
+    ensures turn { OnOk result (turn_from client.new home.new points.new
+        ≡ take_frames step conn (turn_from client.old home.old points.old) (option_to_list frame)) }
+    ensures reader { OnOk result (client.new.reader ≡ client.old.reader) }
+    ensures commands { OnOk result (client.new.connection.commands ≤ client.old.connection.commands + 1) }
 {
-    match connection.session {
-        Sess::Ended => Ok(()),
-        Sess::Off | Sess::In(_) => take_byte_by(alloc, place, connection, home, points, byte),
+    match frame {
+        Some(frame) => take_frame(alloc, step, conn, client, home, points, &frame),
+        None => Ok(()),
     }
 }
 
-#[tactic(auto, unfolding(crate::specs::Turn::take_byte_by))]
-fn take_byte_by(
+#[tactic(auto, unfolding(crate::specs::Turn::take_frame))]
+fn take_frame(
     alloc: Global,
-    place: Place,
-    connection: &mut Connection,
+    step: u64,
+    conn: u64,
+    client: &mut Client,
     home: &mut Home,
     points: &mut Items<Point>,
-    byte: u8,
+    frame: &Frame,
 ) -> Result<(), Memory>
-    requires { connection.old.commands + 1 < 2 ^ 64 }
-    ensures turn { OnOk result (record { connection = connection.new; home = home.new; points = points.new } ≡ take_byte_by place (record { connection = connection.old; home = home.old; points = points.old }) byte (byte == 10 && ends_in_cr connection.old.rest)) }
-    ensures commands { OnOk result (connection.new.commands ≤ connection.old.commands + 1) }
+    requires { client.old.connection.commands + 1 < 2 ^ 64 }
+    ensures turn { OnOk result (turn_from client.new home.new points.new
+        ≡ take_frame step conn (turn_from client.old home.old points.old) frame.now) }
+    ensures reader { OnOk result (client.new.reader ≡ client.old.reader) }
+    ensures commands { OnOk result (client.new.connection.commands ≤ client.old.connection.commands + 1) }
 {
-    let ends_line = byte == b'\n' && ends_in_cr(connection.rest.as_slice());
-    connection.rest.push(byte)?;
-    if !ends_line {
+    let outs = frame_in(alloc, conn, &mut client.connection, frame)?;
+    let ask = carry_out(step, outs, &mut client.given, points)?;
+    serve_ask(alloc, step, client, home, points, ask)
+}
+
+// Lets the home answer the command that asks it, if one does.
+#[tactic(auto, unfolding(crate::specs::Turn::serve_ask))]
+fn serve_ask(
+    alloc: Global,
+    step: u64,
+    client: &mut Client,
+    home: &mut Home,
+    points: &mut Items<Point>,
+    ask: Option<Ask>,
+) -> Result<(), Memory>
+    ensures turn { OnOk result (turn_from client.new home.new points.new
+        ≡ serve_ask step (turn_from client.old home.old points.old) ask) }
+    ensures reader { OnOk result (client.new.reader ≡ client.old.reader) }
+    ensures commands { OnOk result (client.new.connection.commands ≡ client.old.connection.commands) }
+{
+    let Some(ask) = ask else {
         return Ok(());
-    }
-    let line = read_line(alloc, connection.rest.as_slice())?;
-    take_line(alloc, place, connection, home, points, &line)
-}
-
-#[tactic(auto, unfolding(crate::specs::Turn::ends_in_cr))]
-fn ends_in_cr(text: &[u8]) -> bool
-    ensures { result ≡ ends_in_cr text.now }
-{
-    text.ends_with(b"\r")
-}
-
-#[tactic(auto, unfolding(crate::specs::Turn::take_line))]
-fn take_line(
-    alloc: Global,
-    place: Place,
-    connection: &mut Connection,
-    home: &mut Home,
-    points: &mut Items<Point>,
-    line: &Line,
-) -> Result<(), Memory>
-    requires { connection.old.commands + 1 < 2 ^ 64 }
-    ensures turn { OnOk result (record { connection = connection.new; home = home.new; points = points.new } ≡ take_line place (record { connection = connection.old; home = home.old; points = points.old }) line.now) }
-    ensures commands { OnOk result (connection.new.commands ≤ connection.old.commands + 1) }
-{
-    let verdict = answer(alloc, home, &connection.session, &line.command)?;
-    connection.rest.clear();
-    connection.commands += 1;
-    write_reply(&line.tag, &Reply { verdict }, &mut connection.given)?;
-    points.push(Point {
-        step: place.step,
-        ask: AskId {
-            conn: place.conn,
-            command: connection.commands,
-        },
-        what: What::Reply,
-    })
+    };
+    let verdict = serve(alloc, home, &ask.command)?;
+    let outs = answer_in(alloc, ask.id.conn, &mut client.connection, verdict)?;
+    carry_out(step, outs, &mut client.given, points)?;
+    Ok(())
 }

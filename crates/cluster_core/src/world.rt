@@ -1,17 +1,14 @@
 // The whole cluster at one moment.
+use crate::front::Connection;
+use crate::reader::Reader;
 use mur_base::{Bytes, Items, MailName, Map, NodeName, Point};
-use mur_model::{MailBox, Sess};
+use mur_model::MailBox;
 
-/// A connection of a mail client at a frontend.
+/// A mail client: its connection, as its bytes are cut and as the frontend has it, and all bytes that it was given.
 #[derive(Drop)]
-pub struct Connection {
-    /// The session; once it is `Ended` nothing more is read or given.
-    pub session: Sess,
-    /// The bytes behind the last CRLF.
-    pub rest: Bytes,
-    /// How many commands the client gave.
-    pub commands: u64,
-    /// The bytes given to the client.
+pub struct Client {
+    pub reader: Reader,
+    pub connection: Connection,
     pub given: Bytes,
 }
 
@@ -23,12 +20,13 @@ pub struct Home {
     pub last_serial: u32,
 }
 
-/// The cluster: its connections, its mailboxes, the history and the number of steps.
+/// The cluster: its clients, its mailboxes, the history and the number of steps.
 #[derive(Drop)]
 pub struct World {
     /// The node that the clients reach, and that holds the mailboxes.
     pub node: NodeName,
-    pub connections: Map<u64, Connection>,
+    /// The clients, by the numbers of their connections.
+    pub clients: Map<u64, Client>,
     pub home: Home,
     /// The points of the history, in order.
     pub points: Items<Point>,

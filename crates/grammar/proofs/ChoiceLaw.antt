@@ -63,7 +63,8 @@ module _ {V A : Type 0} {after : ℕ → Bool} (test : ℕ → Bool) (p q : Part
           value = s.value;
           begins = choice_only _ _ (left_one _ _ s.begins);
           ends = λ c tail more w same taken. s.ends c tail more w same
-              (sym (at_start _ true (same_start test s.front c more tail ∙ sym (ap (λ t. starts test (s.front ++ t)) same) ∙ sym (ap (starts test) s.parts) ∙ first)) ∙ taken);
+              (sym (at_start _ true (same_start test s.front c more tail ∙ sym (ap (λ t. starts test (s.front ++ t)) same) ∙ sym (ap (starts test) s.parts)
+              ∙ first)) ∙ taken);
         }
     choice_stops bytes left false first e =
         let s = viable (h.exact next v f) bytes left e in
@@ -76,7 +77,8 @@ module _ {V A : Type 0} {after : ℕ → Bool} (test : ℕ → Bool) (p q : Part
           value = s.value;
           begins = choice_only _ _ (right_one _ _ s.begins);
           ends = λ c tail more w same taken. s.ends c tail more w same
-              (sym (at_start _ false (same_start test s.front c more tail ∙ sym (ap (λ t. starts test (s.front ++ t)) same) ∙ sym (ap (starts test) s.parts) ∙ first)) ∙ taken);
+              (sym (at_start _ false (same_start test s.front c more tail ∙ sym (ap (λ t. starts test (s.front ++ t)) same) ∙ sym (ap (starts test) s.parts)
+              ∙ first)) ∙ taken);
         }
 
   -- one of two by the first byte
@@ -104,12 +106,14 @@ module _ (test : ℕ → Bool) where
       sound : (bytes rest : List ℕ) (a : ℕ) → one_at test bytes ≡ Ok (a, rest) → (front : List ℕ) × (bytes ≡ front ++ rest) × (one_of test).lang front a
       sound bytes rest a e = let s = one_sound bytes rest a e in (s.0, s.1, (s.2, s.3))
 
-      only : (next : ℕ → List ℕ → Result V ℕ) (bytes : List ℕ) (w : V) → Joins (one_of test).lang (λ a. Taken (next a)) bytes w → one_at test bytes >>= next ≡ Ok w
+      only : (next : ℕ → List ℕ → Result V ℕ) (bytes : List ℕ) (w : V) → Joins (one_of test).lang (λ a. Taken (next a)) bytes w → one_at test bytes >>=
+          next ≡ Ok w
       only next bytes w j =
           ap (λ s. one_at test s >>= next) (j.parts ∙ ap (λ s. s ++ j.back) j.begins.0)
           ∙ ap (λ r. r >>= next) (one_reads j.between j.back true j.begins.1) ∙ j.goes_on
 
-      empty_stop : (next : ℕ → List ℕ → Result V ℕ) (left : ℕ) → 0 ≡ left → (more : List ℕ) (value : V) → next example more ≡ Ok value → Stops (Taken (λ s. one_at test s >>= next)) [] left
+      empty_stop : (next : ℕ → List ℕ → Result V ℕ) (left : ℕ) → 0 ≡ left → (more : List ℕ) (value : V) → next example more ≡ Ok value
+          → Stops (Taken (λ s. one_at test s >>= next)) [] left
       empty_stop next left e more value t = record {
         front = [];
         rest = [];
@@ -121,7 +125,8 @@ module _ (test : ℕ → Bool) where
         ends = λ c tail more w same taken. cc;
       }
 
-      by_test : (next : ℕ → List ℕ → Result V ℕ) → ((a : ℕ) → IsViable (next a)) → (c : ℕ) (rest : List ℕ) (left : ℕ) (b : Bool) → test c ≡ b → taken b c rest >>= next ≡ Err left →
+      by_test : (next : ℕ → List ℕ → Result V ℕ) → ((a : ℕ) → IsViable (next a)) → (c : ℕ) (rest : List ℕ) (left : ℕ) (b : Bool) → test c ≡ b
+          → taken b c rest >>= next ≡ Err left →
           Stops (Taken (λ s. one_at test s >>= next)) (c ∷ rest) left
       by_test next v c rest left true is e =
           let s = v c rest left e in

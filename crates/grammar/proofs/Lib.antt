@@ -12,7 +12,6 @@ pub mod Conditions
 pub mod TableLaw
 pub mod RepetitionLaw
 pub mod TurnSteps
-pub mod SampleLaw
 pub mod StartLaw
 pub mod ToolLaws
 pub mod NameSteps

@@ -41,14 +41,15 @@ module _ (zeros : Bool) (most : ℕ) where
       by_zeros true h = h
       by_zeros false h = no_zero_front s t h
 
-  numeral_goes_on : (d : ℕ) → (numerals zeros most).whole (d ∷ []) ≡ true → (s : List ℕ) → (numerals zeros most).begins s ≡ true → (t : List ℕ) × ((numerals zeros most).whole (s ++ t) ≡ true)
+  numeral_goes_on : (d : ℕ) → (numerals zeros most).whole (d ∷ []) ≡ true → (s : List ℕ) → (numerals zeros most).begins s ≡ true
+      → (t : List ℕ) × ((numerals zeros most).whole (s ++ t) ≡ true)
   numeral_goes_on d one [] h = (d ∷ [], one)
   numeral_goes_on d one (c ∷ s) h = ([], ap (numerals zeros most).whole (append-nil (c ∷ s)) ∙ and_both _ _ h refl)
 
   -- numerals of which one has one digit
   pub lawful_numerals : (d : ℕ) → (numerals zeros most).whole (d ∷ []) ≡ true → Lawful (numerals zeros most)
   lawful_numerals d one = record {
-    opens = numeral_front [] (d ∷ []) (and_left _ _ one);
+    empty_begins = numeral_front [] (d ∷ []) (and_left _ _ one);
     front = numeral_front;
     whole = λ s h. and_left _ _ h;
     goes_on = numeral_goes_on d one;

@@ -28,7 +28,8 @@ module _ (zeros : Bool) (most : ℕ) where
       (zeros_push zeros front c (and_right (list_all is_digit front && leb (value_of front) most) _ h))
 
   -- the scan at a place
-  module _ (bytes : List ℕ) (i number : ℕ) (within : i < length bytes) (value : number ≡ value_of (take i bytes)) (begins : (numerals zeros most).begins (take i bytes) ≡ true)
+  module _ (bytes : List ℕ) (i number : ℕ) (within : i < length bytes) (value : number ≡ value_of (take i bytes))
+      (begins : (numerals zeros most).begins (take i bytes) ≡ true)
       (scanned : scan (numerals zeros most) (take i bytes) (drop i bytes) ≡ scan (numerals zeros most) [] bytes) where
     push_is : (numerals zeros most).begins (take i bytes ++ get_or bytes i 0 ∷ []) ≡ is_next_digit zeros most number (nat_eq i 0) (get_or bytes i 0)
     push_is = numeral_push (take i bytes) (get_or bytes i 0) begins

@@ -40,7 +40,8 @@ module _ {S : Type 0} (test : ℕ → Bool) (turn : S → Part S) (one : (s : S)
   }
 
   -- a text of n bytes takes n turns at most
-  few_turns : (n : ℕ) (s : S) (bytes : List ℕ) (last : S) → (turns test turn n s).lang bytes last → (m : ℕ) → length bytes ≤ m → (turns test turn m s).lang bytes last
+  few_turns : (n : ℕ) (s : S) (bytes : List ℕ) (last : S) → (turns test turn n s).lang bytes last → (m : ℕ) → length bytes ≤ m
+      → (turns test turn m s).lang bytes last
   unfolding turns
   few_turns zero s bytes last l zero h = l
   few_turns zero s bytes last l (suc m) h = inr l
@@ -58,7 +59,8 @@ module _ {S : Type 0} (test : ℕ → Bool) (turn : S → Part S) (one : (s : S)
   few_turns (suc n) s bytes last (inr l) (suc m) h = inr l
 
 module _ {V S : Type 0} (test after between : ℕ → Bool) (turn : S → Part S) (g : (s : S) → Good V between (turn s)) (one : (s : S) → StartsWith test (turn s))
-    (apart : (c : ℕ) → after c ≡ true → test c ≡ false) (turn_next : (c : ℕ) → test c ≡ true → between c ≡ true) (after_next : (c : ℕ) → after c ≡ true → between c ≡ true) where
+    (apart : (c : ℕ) → after c ≡ true → test c ≡ false) (turn_next : (c : ℕ) → test c ≡ true → between c ≡ true)
+    (after_next : (c : ℕ) → after c ≡ true → between c ≡ true) where
   begins_turns : (n : ℕ) (s : S) → Begins between after (turns test turn n s)
   unfolding turns
   begins_turns zero s = record { full = λ c tail a l. absurd (no_byte l.0); empty = λ a l c h. after_next c h }
@@ -114,7 +116,8 @@ module _ {V S : Type 0} (test after between : ℕ → Bool) (turn : S → Part S
           between = j.between;
           parts = j.parts;
           goes_on = j.goes_on;
-          begins = few_turns test turn one j.begins.0 s j.front j.between j.begins.1 (length bytes) (omega (arith, length-append j.front j.back, ap length j.parts));
+          begins = few_turns test turn one j.begins.0 s j.front j.between j.begins.1 (length bytes)
+              (omega (arith, length-append j.front j.back, ap length j.parts));
         })
 
     repeat_stops : IsViable (λ bytes. (repeat test turn s).at bytes >>= next)
@@ -135,7 +138,8 @@ module _ {V S : Type 0} (test after between : ℕ → Bool) (turn : S → Part S
           ends = λ c tail more u same taken.
               let longer = stop.front ++ (c ∷ more) in
               let m = length longer + n in
-              let again = viable ((good_turns m s).exact next v f) bytes left (ap (λ r. r >>= next) (enough_turns m n s bytes (omega arith) (omega arith)) ∙ e) in
+              let again = viable ((good_turns m s).exact next v f) bytes left
+              (ap (λ r. r >>= next) (enough_turns m n s bytes (omega arith) (omega arith)) ∙ e) in
               let split = same_split again.front again.rest stop.front stop.rest (sym again.parts ∙ stop.parts) (again.left_is ∙ sym stop.left_is) in
               again.ends c tail more u (split.1 ∙ same)
               (ap (λ t. (turns test turn m s).at (t ++ (c ∷ more)) >>= next) split.0
@@ -147,5 +151,6 @@ module _ {V S : Type 0} (test after between : ℕ → Bool) (turn : S → Part S
   unfolding repeat
   good_repeat s = good_from (repeat test turn s) sound (λ next v f. repeat_only next v f s) (λ next v f. repeat_stops next v f s)
     where
-      sound : (bytes rest : List ℕ) (a : S) → (repeat test turn s).at bytes ≡ Ok (a, rest) → (front : List ℕ) × (bytes ≡ front ++ rest) × (repeat test turn s).lang front a
+      sound : (bytes rest : List ℕ) (a : S) → (repeat test turn s).at bytes ≡ Ok (a, rest)
+          → (front : List ℕ) × (bytes ≡ front ++ rest) × (repeat test turn s).lang front a
       sound bytes rest a e = let f = (good_turns (length bytes) s).sound bytes rest a e in (f.0, f.1, (length bytes, f.2))

@@ -30,7 +30,7 @@ module _ (test : ℕ → Bool) where
 
   pub lawful_run : (example : ℕ) → test example ≡ true → Lawful (run test)
   lawful_run example passes = record {
-    opens = refl;
+    empty_begins = refl;
     front = all_front;
     whole = λ s h. and_left _ _ h;
     goes_on = λ s h. (example ∷ [], and_both _ _ (all_push s example h ∙ passes) (some_push s example));
@@ -46,13 +46,14 @@ module _ (test : ℕ → Bool) where
         and_both _ _ (all_front s t (and_left _ _ h)) (le-leb _ _ (omega (arith, length-append s t)))
 
     -- a text that begins a run of at most `most` bytes goes on to one
-    upto_goes_on : (example : ℕ) → test example ≡ true → 0 < most → (s : List ℕ) → list_all test s && leb (length s) most ≡ true → (t : List ℕ) × (run_upto most test).whole (s ++ t) ≡ true
+    upto_goes_on : (example : ℕ) → test example ≡ true → 0 < most → (s : List ℕ) → list_all test s && leb (length s) most ≡ true
+        → (t : List ℕ) × (run_upto most test).whole (s ++ t) ≡ true
     upto_goes_on example passes room [] h = (example ∷ [], and_both _ _ (and_both _ _ (and_both _ _ passes refl) (le-leb _ _ room)) refl)
     upto_goes_on example passes room (c ∷ s) h = ([], ap (λ t. list_all test t && leb (length t) most && some t) (append-nil (c ∷ s)) ∙ and_both _ _ h refl)
 
     pub lawful_run_upto : (example : ℕ) → test example ≡ true → 0 < most → Lawful (run_upto most test)
     lawful_run_upto example passes room = record {
-      opens = and_both true _ refl (le-leb _ _ (omega arith));
+      empty_begins = and_both true _ refl (le-leb _ _ (omega arith));
       front = upto_front;
       whole = λ s h. and_left _ _ h;
       goes_on = upto_goes_on example passes room;

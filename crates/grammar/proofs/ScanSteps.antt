@@ -10,7 +10,8 @@ module _ (w : Words) (bytes : List ℕ) (i : ℕ) (within : i < length bytes) (s
       let next : take (i + 1) bytes ≡ take i bytes ++ get_or bytes i 0 ∷ [] = ap (λ n. take n bytes) (add-one i) ∙ take-suc bytes i 0 within in
       let left = drop-cons bytes i 0 within in
       sym scanned ∙ ap (scan w (take i bytes)) left
-      ∙ ap (λ b. cond b (scan w (take i bytes ++ get_or bytes i 0 ∷ []) (drop (suc i) bytes)) (halt (w.whole (take i bytes)) (take i bytes) (get_or bytes i 0 ∷ drop (suc i) bytes)))
+      ∙ ap (λ b. cond b (scan w (take i bytes ++ get_or bytes i 0 ∷ []) (drop (suc i) bytes))
+      (halt (w.whole (take i bytes)) (take i bytes) (get_or bytes i 0 ∷ drop (suc i) bytes)))
       (ap w.begins (sym next) ∙ e)
       ∙ ap₂ (cond b) (ap₂ (scan w) (sym next) (ap (λ n. drop n bytes) (sym (add-one i)))) (ap (halt (w.whole (take i bytes)) (take i bytes)) (sym left))
 

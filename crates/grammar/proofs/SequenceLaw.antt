@@ -20,7 +20,8 @@ module _ {V : Type 0} where
   pub good_give : {A : Type 0} (set : ℕ → Bool) (a : A) → Good V set (give a)
   good_give {A} set a = record {
     sound = λ bytes rest b e. let same = ok_parts e in ([], same.1, (refl, sym same.0));
-    exact = λ next v f. exact_from (λ bytes w h. record { front = []; back = bytes; between = a; parts = refl; begins = (refl, refl); goes_on = h }) (given next) (v a);
+    exact = λ next v f. exact_from (λ bytes w h. record { front = []; back = bytes; between = a; parts = refl; begins = (refl, refl); goes_on = h })
+        (given next) (v a);
   }
     where
       given : (next : A → List ℕ → Result V ℕ) (bytes : List ℕ) (w : V) → Joins (give a).lang (λ b. Taken (next b)) bytes w → next a bytes ≡ Ok w

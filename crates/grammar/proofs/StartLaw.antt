@@ -49,7 +49,8 @@ starts_one_of test = record { full = λ c tail a l. full c tail a l.0 l.1; empty
     empty a e = cc
 
 -- a word, where the empty text is none and the first byte of what begins one passes
-pub starts_word : (w : Words) (test : ℕ → Bool) → Lawful w → w.whole [] ≡ false → ((c : ℕ) → w.begins (c ∷ []) ≡ true → test c ≡ true) → StartsWith test (word w)
+pub starts_word : (w : Words) (test : ℕ → Bool) → Lawful w → w.whole [] ≡ false → ((c : ℕ) → w.begins (c ∷ []) ≡ true → test c ≡ true)
+    → StartsWith test (word w)
 starts_word w test lawful none first = record { full = λ c tail a l. full c tail a l.0 l.1; empty = λ a l. empty a l.0 l.1 }
   where
     full : (c : ℕ) (tail a : List ℕ) → (let s : List ℕ = c ∷ tail in s ≡ a) → w.whole a ≡ true → test c ≡ true

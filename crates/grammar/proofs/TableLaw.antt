@@ -45,7 +45,8 @@ lacks_ends (n ∷ name) [] c h = and_false (eq_ignore_ascii_case n c) true (not_
 lacks_ends (n ∷ name) (d ∷ s) c h = and_false_right _ _ (lacks_ends name s c (and_right _ _ h))
 
 -- a text and one byte more begin some name where a name begins with them
-pub some_push : (names : List (List ℕ)) (text : List ℕ) (c : ℕ) → begins_some names (text ++ c ∷ []) ≡ list_any (λ name. starts_name name (text ++ c ∷ [])) names
+pub some_push : (names : List (List ℕ)) (text : List ℕ) (c : ℕ)
+    → begins_some names (text ++ c ∷ []) ≡ list_any (λ name. starts_name name (text ++ c ∷ [])) names
 some_push names [] c = refl
 some_push names (d ∷ text) c = refl
 
@@ -54,14 +55,15 @@ module _ (names : List (List ℕ)) where
   to_some [] h = refl
   to_some (c ∷ s) h = h
 
-  from_some : list_any (λ name. starts_name name []) names ≡ true → (s : List ℕ) → begins_some names s ≡ true → list_any (λ name. starts_name name s) names ≡ true
+  from_some : list_any (λ name. starts_name name []) names ≡ true → (s : List ℕ) → begins_some names s ≡ true
+      → list_any (λ name. starts_name name s) names ≡ true
   from_some first [] h = first
   from_some first (c ∷ s) h = h
 
   -- a table with a name
   pub lawful_any_case : list_any (λ name. starts_name name []) names ≡ true → Lawful (any_case names)
   lawful_any_case first = record {
-    opens = refl;
+    empty_begins = refl;
     front = λ s t h. to_some s (any_weaker _ _ (λ name k. starts_front name s t k) names (from_some first (s ++ t) h));
     whole = λ s h. to_some s (any_weaker _ _ (λ name k. starts_whole name s k) names h);
     goes_on = λ s h.
@@ -73,4 +75,5 @@ module _ (names : List (List ℕ)) where
   -- bytes that no name has
   pub apart_any_case : (set : List ℕ) → list_all (λ c. list_all (lacks c) names) set ≡ true → Apart (any_case names) (among set)
   apart_any_case set none s h c k = some_push names s c
-      ∙ any_none (lacks c) (λ name. starts_name name (s ++ c ∷ [])) (λ name l. lacks_ends name s c l) names (among_all (λ c. list_all (lacks c) names) set none c k)
+      ∙ any_none (lacks c) (λ name. starts_name name (s ++ c ∷ [])) (λ name l. lacks_ends name s c l) names
+      (among_all (λ c. list_all (lacks c) names) set none c k)

@@ -25,7 +25,8 @@ module _ {S : Type 0} (test : ℕ → Bool) (turn : S → Part S) (first s : S) 
   unfolding repeat
   repeat_none e = sym so_far ∙ turns_none test turn s rest (length bytes - i) e
 
-  turn_of : i < length bytes → starts test rest ≡ true → (repeat test turn first).at bytes ≡ (turn s).at rest >>= (λ t. (turns test turn (length bytes - (i + 1)) t).at)
+  turn_of : i < length bytes → starts test rest ≡ true → (repeat test turn first).at bytes ≡ (turn s).at rest >>=
+      (λ t. (turns test turn (length bytes - (i + 1)) t).at)
   unfolding repeat
   turn_of h e =
       let one : length bytes - i ≡ suc (length bytes - (i + 1)) = omega arith in

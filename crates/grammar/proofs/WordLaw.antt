@@ -11,7 +11,8 @@ module _ (w : Words) (lawful : Lawful w) where
       scan w front (c ∷ rest) ≡ cond b (scan w (front ++ c ∷ []) rest) (halt (w.whole front) front (c ∷ rest))
   scan_step front c rest b e = ap (λ b. cond b (scan w (front ++ c ∷ []) rest) (halt (w.whole front) front (c ∷ rest))) e
 
-  halt_sound : (b : Bool) (front bytes rest v : List ℕ) → w.whole front ≡ b → halt b front bytes ≡ Ok (v, rest) → (front ≡ v) × (bytes ≡ rest) × (w.whole v ≡ true)
+  halt_sound : (b : Bool) (front bytes rest v : List ℕ) → w.whole front ≡ b → halt b front bytes ≡ Ok (v, rest)
+      → (front ≡ v) × (bytes ≡ rest) × (w.whole v ≡ true)
   halt_sound true front bytes rest v is e = let same = ok_parts e in (same.0, same.1, ap w.whole (sym same.0) ∙ is)
   halt_sound false front bytes rest v is e = cc
 
@@ -22,7 +23,8 @@ module _ (w : Words) (lawful : Lawful w) where
   scan_sound front (c ∷ bytes) rest v e =
       by_test (w.begins (front ++ c ∷ [])) (λ e. scan_sound (front ++ c ∷ []) bytes rest v e) e
     where
-      by_test : (b : Bool) → (scan w (front ++ c ∷ []) bytes ≡ Ok (v, rest) → (x : List ℕ) × (bytes ≡ x ++ rest) × ((front ++ c ∷ []) ++ x ≡ v) × (w.whole v ≡ true)) →
+      by_test : (b : Bool) →
+          (scan w (front ++ c ∷ []) bytes ≡ Ok (v, rest) → (x : List ℕ) × (bytes ≡ x ++ rest) × ((front ++ c ∷ []) ++ x ≡ v) × (w.whole v ≡ true)) →
           cond b (scan w (front ++ c ∷ []) bytes) (halt (w.whole front) front (c ∷ bytes)) ≡ Ok (v, rest) →
           (x : List ℕ) × ((let s : List ℕ = c ∷ bytes in s) ≡ x ++ rest) × (front ++ x ≡ v) × (w.whole v ≡ true)
       by_test true again e = let s = again e in (c ∷ s.0, ap (λ t. c ∷ t) s.1, sym (append_assoc front (c ∷ []) s.0) ∙ s.2, s.3)
@@ -38,7 +40,8 @@ module _ (w : Words) (lawful : Lawful w) where
       ∙ scan_over (front ++ c ∷ []) x rest all ∙ ap (λ s. scan w s rest) together
 
   -- a whole word before a byte that goes on with none is read
-  pub word_reads : (front rest : List ℕ) (c : ℕ) → w.whole front ≡ true → w.begins (front ++ c ∷ []) ≡ false → scan w [] (front ++ (c ∷ rest)) ≡ Ok (front, c ∷ rest)
+  pub word_reads : (front rest : List ℕ) (c : ℕ) → w.whole front ≡ true → w.begins (front ++ c ∷ []) ≡ false
+      → scan w [] (front ++ (c ∷ rest)) ≡ Ok (front, c ∷ rest)
   word_reads front rest c whole ends =
       scan_over [] front (c ∷ rest) (lawful.whole front whole) ∙ scan_step front c rest false ends ∙ ap (λ b. halt b front (c ∷ rest)) whole
 
@@ -84,7 +87,9 @@ module _ {V : Type 0} (w : Words) (lawful : Lawful w) (after : ℕ → Bool) (ap
             ∙ ap (λ r. r >>= next) (scan_over w lawful [] front (s.front ++ s.more) begins) ∙ at_word front (s.front ++ s.more) s.value whole s.begins;
         ends = λ c tail more u same taken. s.ends c tail more u same
             (sym (ap (λ t. scan w [] t >>= next) (append_assoc front s.front (c ∷ more))
-            ∙ ap (λ r. r >>= next) (scan_over w lawful [] front (s.front ++ (c ∷ more)) begins ∙ halts front bytes last s.front c tail more (s.parts ∙ ap (λ t. s.front ++ t) same))
+            ∙ ap (λ r. r >>= next)
+            (scan_over w lawful [] front (s.front ++ (c ∷ more)) begins
+            ∙ halts front bytes last s.front c tail more (s.parts ∙ ap (λ t. s.front ++ t) same))
             ∙ ap (λ b. halt b front (s.front ++ (c ∷ more)) >>= next) whole) ∙ taken);
       }
   at_halt front bytes left false begins whole last e =
@@ -97,7 +102,16 @@ module _ {V : Type 0} (w : Words) (lawful : Lawful w) (after : ℕ → Bool) (ap
         left_is = cc;
         more = on.0 ++ some.0;
         value = some.1;
-        begins = word_only _ _ (record { front = front ++ on.0; back = some.0; between = front ++ on.0; parts = sym (append_assoc front on.0 some.0); begins = (refl, on.1); goes_on = some.2 });
+        begins = word_only _ _
+            (record {
+              front = front ++ on.0;
+              back = some.0;
+              between = front ++ on.0;
+              parts =
+                  sym (append_assoc front on.0 some.0);
+              begins = (refl, on.1);
+              goes_on = some.2;
+            });
         ends = λ c tail more u same taken.
             let stop : halt false front (c ∷ more) >>= next ≡ Ok u =
             sym (ap (λ r. r >>= next) (scan_over w lawful [] front (c ∷ more) begins ∙ halts front bytes last [] c tail more same)
@@ -110,16 +124,19 @@ module _ {V : Type 0} (w : Words) (lawful : Lawful w) (after : ℕ → Bool) (ap
   scan_stops front (c ∷ bytes) left begins e =
       by_test (w.begins (front ++ c ∷ [])) refl (λ is e. scan_stops (front ++ c ∷ []) bytes left is e) e
     where
-      by_test : (b : Bool) → w.begins (front ++ c ∷ []) ≡ b → (w.begins (front ++ c ∷ []) ≡ true → scan w (front ++ c ∷ []) bytes >>= next ≡ Err left → Stopped (front ++ c ∷ []) bytes left) →
+      by_test : (b : Bool) → w.begins (front ++ c ∷ []) ≡ b
+          → (w.begins (front ++ c ∷ []) ≡ true → scan w (front ++ c ∷ []) bytes >>= next ≡ Err left → Stopped (front ++ c ∷ []) bytes left) →
           cond b (scan w (front ++ c ∷ []) bytes) (halt (w.whole front) front (c ∷ bytes)) >>= next ≡ Err left → Stopped front (c ∷ bytes) left
       by_test true is again e = subst (λ s. Stops (Taken (λ s. scan w [] s >>= next)) s left) (append_assoc front (c ∷ []) bytes) (again is e)
       by_test false is again e =
-          at_halt front (c ∷ bytes) left (w.whole front) begins refl (λ d tail same. let first : c ≡ d = cc in ap (λ x. w.begins (front ++ x ∷ [])) (sym first) ∙ is) e
+          at_halt front (c ∷ bytes) left (w.whole front) begins refl
+          (λ d tail same. let first : c ≡ d = cc in ap (λ x. w.begins (front ++ x ∷ [])) (sym first) ∙ is) e
 
 -- a word, behind which no byte of the set goes on with one
 pub good_word : {V : Type 0} (w : Words) → Lawful w → (after : ℕ → Bool) → Apart w after → Good V after (word w)
 good_word {V} w lawful after apart =
-    good_from (word w) sound (λ next v f. word_only w lawful after apart next v f) (λ next v f bytes left e. scan_stops w lawful after apart next v f [] bytes left lawful.opens e)
+    good_from (word w) sound (λ next v f. word_only w lawful after apart next v f)
+    (λ next v f bytes left e. scan_stops w lawful after apart next v f [] bytes left lawful.empty_begins e)
   where
     sound : (bytes rest a : List ℕ) → scan w [] bytes ≡ Ok (a, rest) → (front : List ℕ) × (bytes ≡ front ++ rest) × (word w).lang front a
     sound bytes rest a e = let s = scan_sound w lawful [] bytes rest a e in (s.0, s.1, (s.2, s.3))

@@ -1,7 +1,6 @@
 -- What a reader's code gives, beside what its part says.
 use Rattle.std.specs.Prelude.{◌≡◌, ℕ, List, Result, Ok, Err, MatchResult}
 use Rattle.grammar.specs.Exact.{Stops}
-use Rattle.grammar.specs.Exact.{Stops}
 use Rattle.grammar.specs.declared.error.Stop.{Stop}
 use Rattle.grammar.specs.declared.error.ReadError.{ReadError}
 use Rattle.grammar.specs.declared.error.ReadError.TheVariants.{Stopped}

@@ -1,4 +1,3 @@
-pub mod Errors
 pub mod Exact
 pub mod Gives
 pub mod Numbers

@@ -1,6 +1,7 @@
 -- Numbers in decimal digits.
 use Rattle.std.specs.Prelude.{ℕ, ◌+◌, ◌-◌, ◌*◌, Bool, true, ◌&&◌, ◌||◌, not, ◌==◌, nat_le, List, [], ◌∷◌}
 use Rattle.std.specs.List.{list_all}
+use Rattle.mur_base.specs.Ascii.{digit_zero}
 use Rattle.mur_base.specs.Number.{is_digit, digits_behind}
 use Rattle.grammar.specs.Part.{Part, map}
 use Rattle.grammar.specs.Words.{Words, word}
@@ -13,7 +14,7 @@ value_of = digits_behind 0
 -- no zero stands first
 abbrev pub no_zero_first : List ℕ → Bool
 no_zero_first [] = true
-no_zero_first (c ∷ text) = not (c == 48)
+no_zero_first (c ∷ text) = not (c == digit_zero)
 
 -- numerals of at most `most`; a zero stands first only where `zeros` is true
 abbrev pub numerals : Bool → ℕ → Words
@@ -28,4 +29,4 @@ number zeros most = map value_of (word (numerals zeros most))
 
 -- behind digits that stand for n, the byte is a digit that keeps the number at `most` and is no zero that may not stand first
 abbrev pub is_next_digit : Bool → ℕ → ℕ → Bool → ℕ → Bool
-is_next_digit zeros most n first c = (is_digit c && nat_le (10 * n + (c - 48)) most) && (zeros || not (first && (c == 48)))
+is_next_digit zeros most n first c = (is_digit c && nat_le (10 * n + (c - digit_zero)) most) && (zeros || not (first && (c == digit_zero)))

@@ -1,5 +1,6 @@
 -- Parts of a grammar: which bytes spell which value, and what a reader makes of bytes that begin with a part.
 use Rattle.std.specs.Prelude.{◌≡◌, ℕ, zero, suc, ◌⊎◌, Bool, true, false, cond, ◌==◌, ◌&&◌, nat_le, List, [], ◌∷◌, ◌++◌, length, Result, Ok, Err}
+use Rattle.mur_base.specs.Ascii.{space, open_paren, close_paren}
 
 infixl 20 ◌>>=◌
 infixr 15 ◌then◌
@@ -75,7 +76,7 @@ between low high c = nat_le low c && nat_le c high
 
 -- one part, a space and another part (the RFCs' SP)
 abbrev pub ◌sp◌ : {A B : Type 0} → Part A → (A → Part B) → Part B
-p sp f = p then λ a. byte 32 then λ _. f a
+p sp f = p then λ a. byte space then λ _. f a
 
 -- the one part where the test holds, else the other
 abbrev pub when : {A : Type 0} → Bool → Part A → Part A → Part A
@@ -105,9 +106,9 @@ optional c = choose (λ b. b == c) (map (λ _. true) (byte c)) (give false)
 
 -- a space and a turn
 abbrev pub spaced : {S : Type 0} → (S → Part S) → S → Part S
-spaced turn s = byte 32 then λ _. turn s
+spaced turn s = byte space then λ _. turn s
 
 -- one turn or more in parentheses, a space between any two (the RFCs' "(" X *(SP X) ")")
 unfoldable pub listed : {S : Type 0} → (S → Part S) → S → Part S
 listed turn s =
-    byte 40 then λ _. turn s then λ t. repeat (λ b. b == 32) (spaced turn) t then λ last. map (λ _. last) (byte 41)
+    byte open_paren then λ _. turn s then λ t. repeat (λ b. b == space) (spaced turn) t then λ last. map (λ _. last) (byte close_paren)

@@ -24,7 +24,7 @@ word w = record { lang = λ s v. (s ≡ v) × (w.whole v ≡ true); at = scan w 
 -- the tests belong to one set of words: the empty text begins one, what begins with no word begins none, a word begins
 -- itself, and each text that begins a word goes on to one
 pub record Lawful (w : Words) : Type 0 where
-  pub opens : w.begins [] ≡ true
+  pub empty_begins : w.begins [] ≡ true
   pub front : (s t : List ℕ) → w.begins (s ++ t) ≡ true → w.begins s ≡ true
   pub whole : (s : List ℕ) → w.whole s ≡ true → w.begins s ≡ true
   pub goes_on : (s : List ℕ) → w.begins s ≡ true → (t : List ℕ) × (w.whole (s ++ t) ≡ true)

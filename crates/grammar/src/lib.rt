@@ -8,12 +8,12 @@
 //!
 //! # A production, from grammar to code
 //!
-//! RFC 9051 says `login = "LOGIN" SP userid SP password`, both of them an `astring`. Behind the name it is
+//! `login = "LOGIN" SP userid SP password`, both of them an `astring` (RFC 9051, 9). Behind the name it is
 //!
 //! ```text
 //! -- specs/Login.antt
 //! unfoldable pub login : Part Command
-//! login = byte 32 then λ _. astring sp λ user. map (λ password. Login user password) astring
+//! login = byte space then λ _. astring sp λ user. map (λ password. Login user password) astring
 //! ```
 //!
 //! where `p sp f` is one part, a space and another. Its reader is the same text as code, and needs no proof file:
@@ -36,9 +36,9 @@
 //!
 //! ```text
 //! -- proofs/LoginLaw.antt
-//! pub good_login : {V : Type 0} → Good V (among (13 ∷ [])) login
+//! pub good_login : {V : Type 0} → Good V (among (cr ∷ [])) login
 //! unfolding login
-//! good_login = good_behind 32 _ (good_sp astring _ refl good_astring (λ user. good_map _ astring good_astring_end))
+//! good_login = good_behind space _ (good_sp astring _ refl good_astring (λ user. good_map _ astring good_astring_end))
 //! ```
 //!
 //! At the top [`whole_of`] reads a frame by a [`Grammar`]: its contract is that of the whole language.
@@ -68,6 +68,3 @@ pub use table::{AnyCase, names};
 pub use turn::{Turn, listed_of, repeated_of};
 pub use whole::{Grammar, ended, whole_of};
 pub use word::{Kind, word_of};
-
-#[cfg(test)]
-mod tests;

@@ -2,6 +2,7 @@
 ghost use Rattle.std.specs.Prelude.{◌≡◌, ◌+◌, ◌-◌, ◌*◌, ◌≤◌, ◌<◌, ◌&&◌, ◌||◌, not, nat_le, ◌==◌, true, [], ◌++◌, ◌∷◌, length, take, drop, min};
 ghost use Rattle.std.specs.Option.{SomeIff};
 ghost use Rattle.grammar.specs.Words.{scan, halt};
+ghost use Rattle.mur_base.specs.Ascii.{digit_zero};
 ghost use Rattle.mur_base.specs.Number.{is_digit};
 ghost use Rattle.grammar.specs.Numbers.{number, numerals, value_of, is_next_digit};
 ghost use Rattle.std.specs.List.{list_all};
@@ -14,7 +15,7 @@ use crate::error::Stop;
 /// The number with one digit more, where it is at most `most` and no zero stands first that may not.
 #[tactic(auto, unfolding(mur_base::specs::Number::is_digit))]
 fn with_digit(zeros: bool, most: u64, number: u64, first: bool, byte: u8) -> Option<u64>
-    ensures { SomeIff result (is_next_digit zeros most number first byte ≡ true) (10 * number + (byte - 48)) }
+    ensures { SomeIff result (is_next_digit zeros most number first byte ≡ true) (10 * number + (byte - digit_zero)) }
 {
     if !byte.is_ascii_digit() || (first && !zeros && byte == b'0') {
         return None;

@@ -24,7 +24,7 @@ impl<C: Class> Kind for Run<C> {
 
     ghost use Rattle.std.specs.Prelude.{refl};
 
-    ghost opens = { λ _. refl };
+    ghost empty_begins = { λ _. refl };
 }
 
 /// One byte of the set to `most` bytes.
@@ -47,5 +47,5 @@ impl<C: Class> Kind for RunUpTo<C> {
 
     ghost use Rattle.std.proofs.Common.{rules};
 
-    ghost opens = { λ kind. Prim.search rules };
+    ghost empty_begins = { λ kind. Prim.search rules };
 }

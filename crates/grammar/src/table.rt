@@ -78,5 +78,5 @@ impl Kind for AnyCase<'_> {
 
     ghost use Rattle.std.specs.Prelude.{refl};
 
-    ghost opens = { λ _. refl };
+    ghost empty_begins = { λ _. refl };
 }

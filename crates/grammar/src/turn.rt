@@ -1,5 +1,6 @@
 // Turns of a part that changes a state: repetitions and lists.
 ghost use Rattle.std.specs.Prelude.{◌≡◌, ◌==◌, ℕ, Bool};
+ghost use Rattle.mur_base.specs.Ascii.{space};
 ghost use Rattle.grammar.specs.Part.{Part, repeat, listed, spaced, starts};
 ghost use Rattle.grammar.specs.Gives.{Gives};
 
@@ -71,7 +72,7 @@ impl<T> Drop for Spaced<'_, T> {
 impl<T: Turn> Turn for Spaced<'_, T> {
     type State = T::State;
 
-    ghost starts = { λ _ c. c == 32 };
+    ghost starts = { λ _ c. c == space };
 
     ghost part = { λ behind. spaced (T.part behind.turn.now) };
 

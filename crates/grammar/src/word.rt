@@ -21,7 +21,7 @@ pub trait Kind {
         ensures { result ≡ (words self.now).whole text.now };
 
     /// The empty text begins a word.
-    ghost opens: { (kind : Self) → (words kind).begins [] ≡ true };
+    ghost empty_begins: { (kind : Self) → (words kind).begins [] ≡ true };
 }
 
 /// How many bytes a scan takes.

@@ -45,7 +45,8 @@ longest_from_stop frame left s = record {
     front_is : take (length frame - left) frame ≡ s.front
     front_is = ap (λ n. take n frame) at_front ∙ ap (take (length s.front)) s.parts ∙ take_front s.front s.rest
 
-    by_rest : (rest : List ℕ) → s.rest ≡ rest → (n : ℕ) (more : List ℕ) (command : Tag × Command) → length frame - left < n → n ≤ length frame → ¬ Spells (take n frame ++ more) command
+    by_rest : (rest : List ℕ) → s.rest ≡ rest → (n : ℕ) (more : List ℕ) (command : Tag × Command) → length frame - left < n → n ≤ length frame
+        → ¬ Spells (take n frame ++ more) command
     by_rest [] e n more command h k l = absurd (omega (arith, length-append s.front s.rest, ap length s.parts, s.left_is, ap length e))
     by_rest (c ∷ tail) e n more command h k l =
         let longer = take_more s.front c tail n (omega (arith, at_front)) in
@@ -62,7 +63,7 @@ tag_found frame text (c ∷ tail) e h =
     (tail, s.1 ∙ ap (λ x. x ++ c ∷ tail) s.2.0 ∙ ap (λ d. text ++ d ∷ tail) (eqb-true c 32 h), s.2.1)
 
 -- a tag with a space behind it is read so
-tag_reads : (frame text rest : List ℕ) → frame ≡ text ++ 32 ∷ rest → tags.whole text ≡ true → scan tags [] frame ≡ Ok (text, 32 ∷ rest)
+pub tag_reads : (frame text rest : List ℕ) → frame ≡ text ++ 32 ∷ rest → tags.whole text ≡ true → scan tags [] frame ≡ Ok (text, 32 ∷ rest)
 tag_reads frame text rest e whole = ap (scan tags []) e ∙ word_reads tags lawful_tags text rest 32 whole (apart_tags text whole 32 refl)
 
 -- no first word is a tag where the reading stops

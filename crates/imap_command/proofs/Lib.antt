@@ -13,3 +13,4 @@ pub mod StringsLaw
 pub mod StringsPrinted
 pub mod Utf8Law
 pub mod Values
+pub mod RequestLaws

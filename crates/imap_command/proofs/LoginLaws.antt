@@ -21,7 +21,8 @@ password_of user = map (λ password. Login user password) astring
 pub good_login : {V : Type 0} → Good V ends_atom login
 unfolding login
 good_login =
-    good_behind 32 (astring sp password_of) (good_sp astring password_of refl good_argument (λ user. good_map (λ password. Login user password) astring good_argument))
+    good_behind 32 (astring sp password_of)
+    (good_sp astring password_of refl good_argument (λ user. good_map (λ password. Login user password) astring good_argument))
 
 pub starts_login : StartsWith (λ c. c == 32) login
 unfolding login

@@ -3,7 +3,7 @@ use Rattle.std.proofs.Common.{◌≡◌, ℕ, List, [], ◌∷◌, ◌++◌, Boo
 use Rattle.grammar.specs.Part.{Part, ◌then◌, map, when}
 use Rattle.grammar.specs.Words.{word}
 use Rattle.grammar.specs.Tables.{any_case}
-use Rattle.imap_command.specs.Strings.{crlf}
+use Rattle.imap_command.specs.Strings.{crlf_part}
 use Rattle.imap_command.specs.Login.{login}
 use Rattle.imap_command.specs.Create.{create}
 use Rattle.imap_command.specs.Append.{append}
@@ -43,14 +43,15 @@ only_arguments name =
 
 only_behind_name : (tag : Tag) → IsTag tag → (name : List ℕ) → Only (behind_name tag name) IsTagged
 only_behind_name tag t name =
-    only_then (arguments name) (λ command. map (λ _. (tag, command)) crlf) IsPrintable IsTagged (only_arguments name)
-    (λ command p. only_map (λ _. (tag, command)) crlf IsTagged (λ bytes c l. (t, p)))
+    only_then (arguments name) (λ command. map (λ _. (tag, command)) crlf_part) IsPrintable IsTagged (only_arguments name)
+    (λ command p. only_map (λ _. (tag, command)) crlf_part IsTagged (λ bytes c l. (t, p)))
 
 only_tagged : Only tagged_command IsTagged
 unfolding tagged_command
 only_tagged =
     only_sp (word tags) (λ tag. word (any_case command_names) then behind_name (Text tag)) (λ text. tags.whole text ≡ true) IsTagged (λ bytes text l. l.1)
-    (λ text t. only_then (word (any_case command_names)) (behind_name (Text text)) (λ name. Unit {0}) IsTagged (λ bytes name l. tt) (λ name _. only_behind_name (Text text) t name))
+    (λ text t. only_then (word (any_case command_names)) (behind_name (Text text)) (λ name. Unit {0}) IsTagged (λ bytes name l. tt)
+    (λ name _. only_behind_name (Text text) t name))
 
 -- the strings of a command that is spelled have no NUL, and its tag is one
 pub printable : (tag : Tag) (command : Command) → IsSpelled tag command → IsTag tag × IsPrintable command
@@ -71,6 +72,8 @@ spell_printed Star command t a = absurd t
 spell_printed (Text text) command t a =
     let tail = arguments_text command ++ (13 ∷ 10 ∷ []) in
     spell_sp (word tags) (λ tag. word (any_case command_names) then behind_name (Text tag)) text (name_text command ++ tail) text (Text text, command) (refl, t)
-    (spell_then (word (any_case command_names)) (behind_name (Text text)) (name_text command) tail (name_text command) (Text text, command) (refl, named command)
-    (spell_then (arguments (name_text command)) (λ command. map (λ _. (Text text, command)) crlf) (arguments_text command) (13 ∷ 10 ∷ []) command (Text text, command)
-    a (spell_map (λ _. (Text text, command)) crlf (13 ∷ 10 ∷ []) 10 spell_crlf)))
+    (spell_then (word (any_case command_names)) (behind_name (Text text)) (name_text command) tail (name_text command) (Text text, command)
+    (refl, named command)
+    (spell_then (arguments (name_text command)) (λ command. map (λ _. (Text text, command)) crlf_part) (arguments_text command) (13 ∷ 10 ∷ []) command
+    (Text text, command)
+    a (spell_map (λ _. (Text text, command)) crlf_part (13 ∷ 10 ∷ []) 10 spell_crlf)))

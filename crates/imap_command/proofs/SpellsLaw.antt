@@ -10,10 +10,10 @@ use Rattle.grammar.proofs.RunLaw.{lawful_run_upto, apart_run_upto}
 use Rattle.grammar.proofs.TableLaw.{lawful_any_case, apart_any_case}
 use Rattle.grammar.proofs.StartLaw.{starts_then, starts_byte, starts_when, starts_weaker, begins_from}
 use Rattle.grammar.proofs.ToolLaws.{good_sp, good_when}
-use Rattle.mur_model.specs.Spells.{is_tag_byte}
+use Rattle.imap_command.specs.Characters.{is_tag_byte}
 use Rattle.mur_model.specs.declared.command.Tag.{Tag}
 use Rattle.mur_model.specs.declared.command.Tag.TheVariants.{Text}
-use Rattle.imap_command.specs.Strings.{crlf}
+use Rattle.imap_command.specs.Strings.{crlf_part}
 use Rattle.imap_command.specs.Login.{login}
 use Rattle.imap_command.specs.Create.{create}
 use Rattle.imap_command.specs.Append.{append}
@@ -45,7 +45,7 @@ starts_arguments name =
 
 -- what stands behind the name of a command
 abbrev pub behind_name : Tag → List ℕ → Part (Tag × Command)
-behind_name tag name = arguments name then λ command. map (λ _. (tag, command)) crlf
+behind_name tag name = arguments name then λ command. map (λ _. (tag, command)) crlf_part
 
 module _ {V : Type 0} where
   good_arguments : (name : List ℕ) → Good V ends_atom (arguments name)
@@ -54,13 +54,13 @@ module _ {V : Type 0} where
       good_when _ login _ good_login (good_when _ create _ good_create (good_when _ append status good_append good_status))
 
   good_behind_name : (tag : Tag) (name : List ℕ) → Good V ends_atom (behind_name tag name)
-  unfolding crlf
+  unfolding crlf_part
   good_behind_name tag name =
-      good_then (arguments name) (λ command. map (λ _. (tag, command)) crlf) (good_arguments name)
-      (λ command. good_map (λ _. (tag, command)) crlf (good_crlf ends_atom))
-      (λ command. begins_from ends_atom (map (λ _. (tag, command)) crlf)
-      (starts_weaker (map (λ _. (tag, command)) crlf) (λ c h. ap ends_atom (eqb-true c 13 h))
-      (starts_then crlf _ (starts_then (byte 13) (λ _. byte 10) (starts_byte 13)))))
+      good_then (arguments name) (λ command. map (λ _. (tag, command)) crlf_part) (good_arguments name)
+      (λ command. good_map (λ _. (tag, command)) crlf_part (good_crlf ends_atom))
+      (λ command. begins_from ends_atom (map (λ _. (tag, command)) crlf_part)
+      (starts_weaker (map (λ _. (tag, command)) crlf_part) (λ c h. ap ends_atom (eqb-true c 13 h))
+      (starts_then crlf_part _ (starts_then (byte 13) (λ _. byte 10) (starts_byte 13)))))
 
   good_command : Good V ends_atom tagged_command
   unfolding tagged_command
@@ -71,7 +71,7 @@ module _ {V : Type 0} where
       (good_behind_name (Text tag))
       (λ name. begins_from ends_atom (behind_name (Text tag) name)
       (starts_weaker (behind_name (Text tag) name) (λ c h. ap (among (32 ∷ [])) (eqb-true c 32 h))
-      (starts_then (arguments name) (λ command. map (λ _. (Text tag, command)) crlf) (starts_arguments name)))))
+      (starts_then (arguments name) (λ command. map (λ _. (Text tag, command)) crlf_part) (starts_arguments name)))))
 
 -- what is read is spelled, what is spelled is read, and a stop is behind the longest prefix that begins some command
 pub exact_command : Exact Spells (whole_at tagged_command)

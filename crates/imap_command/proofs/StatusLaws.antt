@@ -31,7 +31,8 @@ items_of mailbox = map (λ items. Status mailbox items) (listed status_item [])
 good_status_item : {V : Type 0} (so_far : List StatusItem) → Good V ends_item (status_item so_far)
 unfolding status_item
 good_status_item so_far =
-    good_map _ (word (any_case item_names)) (good_word (any_case item_names) (lawful_any_case item_names refl) ends_item (apart_any_case item_names (32 ∷ 41 ∷ []) refl))
+    good_map _ (word (any_case item_names))
+    (good_word (any_case item_names) (lawful_any_case item_names refl) ends_item (apart_any_case item_names (32 ∷ 41 ∷ []) refl))
 
 pub good_status : {V : Type 0} → Good V ends_atom status
 unfolding status
@@ -47,7 +48,8 @@ spell_item : (so_far : List StatusItem) → (status_item so_far).lang (codes "ME
 unfolding status_item
 spell_item so_far = spell_map (λ _. so_far ++ Messages ∷ []) (word (any_case item_names)) (codes "MESSAGES") (codes "MESSAGES") (refl, refl)
 
-spell_turns : (items so_far : List StatusItem) → (turns (λ c. c == 32) (spaced status_item) (length items) so_far).lang (more_items_text items) (so_far ++ items)
+spell_turns : (items so_far : List StatusItem) → (turns (λ c. c == 32) (spaced status_item) (length items) so_far).lang (more_items_text items)
+    (so_far ++ items)
 unfolding turns more_items_text item_text
 spell_turns [] so_far = (refl, append-nil so_far)
 spell_turns (Messages ∷ items) so_far =
@@ -68,8 +70,10 @@ spell_items : (items : List StatusItem) → 0 < length items → (listed status_
 unfolding listed items_text item_text repeat
 spell_items [] some = absurd (omega arith)
 spell_items (Messages ∷ items) some =
-    spell_byte 40 (status_item [] then λ t. repeat (λ c. c == 32) (spaced status_item) t then closing) (codes "MESSAGES" ++ (more_items_text items ++ 41 ∷ [])) (Messages ∷ items)
-    (spell_then (status_item []) (λ t. repeat (λ c. c == 32) (spaced status_item) t then closing) (codes "MESSAGES") (more_items_text items ++ 41 ∷ []) (Messages ∷ []) (Messages ∷ items)
+    spell_byte 40 (status_item [] then λ t. repeat (λ c. c == 32) (spaced status_item) t then closing)
+    (codes "MESSAGES" ++ (more_items_text items ++ 41 ∷ [])) (Messages ∷ items)
+    (spell_then (status_item []) (λ t. repeat (λ c. c == 32) (spaced status_item) t then closing) (codes "MESSAGES") (more_items_text items ++ 41 ∷ [])
+    (Messages ∷ []) (Messages ∷ items)
     (spell_item [])
     (spell_then (repeat (λ c. c == 32) (spaced status_item) (Messages ∷ [])) closing (more_items_text items) (41 ∷ []) (Messages ∷ items) (Messages ∷ items)
     (length items, spell_turns items (Messages ∷ []))
@@ -100,6 +104,8 @@ only_status =
     (λ bytes items l. (m, only_listed IsSome status_item [] (only_item []) (λ t _. only_item t) bytes items l))))
 
 -- one item more
-pub items_step : (items : List StatusItem) (i : ℕ) → i < length items → more_items_text (drop i items) ≡ 32 ∷ (item_text (get_or items i Messages) ++ more_items_text (drop (i + 1) items))
+pub items_step : (items : List StatusItem) (i : ℕ) → i < length items
+    → more_items_text (drop i items) ≡ 32 ∷ (item_text (get_or items i Messages) ++ more_items_text (drop (i + 1) items))
 unfolding more_items_text
-items_step items i h = ap more_items_text (drop-cons items i Messages h) ∙ ap (λ n. 32 ∷ (item_text (get_or items i Messages) ++ more_items_text (drop n items))) (sym (add-one i))
+items_step items i h =
+    ap more_items_text (drop-cons items i Messages h) ∙ ap (λ n. 32 ∷ (item_text (get_or items i Messages) ++ more_items_text (drop n items))) (sym (add-one i))

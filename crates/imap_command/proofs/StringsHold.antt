@@ -79,7 +79,8 @@ module _ (so_far : List ℕ) (before : IsString so_far) where
       only_choose IsString (between 224 224) (led 224 224 160 191 1 so_far)
       (choose (between 225 236) (led 225 236 128 191 1 so_far) (choose (between 237 237) (led 237 237 128 159 1 so_far) (led 238 239 128 191 1 so_far)))
       (only_led 224 224 160 191 1 (lit≤ tt) (lit≤ tt))
-      (only_choose IsString (between 225 236) (led 225 236 128 191 1 so_far) (choose (between 237 237) (led 237 237 128 159 1 so_far) (led 238 239 128 191 1 so_far))
+      (only_choose IsString (between 225 236) (led 225 236 128 191 1 so_far)
+      (choose (between 237 237) (led 237 237 128 159 1 so_far) (led 238 239 128 191 1 so_far))
       (only_led 225 236 128 191 1 (lit≤ tt) (lit≤ tt))
       (only_choose IsString (between 237 237) (led 237 237 128 159 1 so_far) (led 238 239 128 191 1 so_far)
       (only_led 237 237 128 159 1 (lit≤ tt) (lit≤ tt)) (only_led 238 239 128 191 1 (lit≤ tt) (lit≤ tt))))
@@ -87,7 +88,8 @@ module _ (so_far : List ℕ) (before : IsString so_far) where
   only_utf8_4 : Only (utf8_4 so_far) IsString
   unfolding utf8_4
   only_utf8_4 =
-      only_choose IsString (between 240 240) (led 240 240 144 191 2 so_far) (choose (between 241 243) (led 241 243 128 191 2 so_far) (led 244 244 128 143 2 so_far))
+      only_choose IsString (between 240 240) (led 240 240 144 191 2 so_far)
+      (choose (between 241 243) (led 241 243 128 191 2 so_far) (led 244 244 128 143 2 so_far))
       (only_led 240 240 144 191 2 (lit≤ tt) (lit≤ tt))
       (only_choose IsString (between 241 243) (led 241 243 128 191 2 so_far) (led 244 244 128 143 2 so_far)
       (only_led 241 243 128 191 2 (lit≤ tt) (lit≤ tt)) (only_led 244 244 128 143 2 (lit≤ tt) (lit≤ tt)))

@@ -17,7 +17,7 @@ use Rattle.grammar.proofs.StartLaw.{starts_then, starts_exactly, starts_byte, st
 use Rattle.grammar.proofs.ToolLaws.{good_byte, good_behind, good_optional, begins_optional, begins_then}
 use Rattle.imap_command.specs.Characters.{is_astring_char, is_quoted_plain, is_quoted_special, is_char8}
 use Rattle.imap_command.specs.Utf8.{utf8_char}
-use Rattle.imap_command.specs.Strings.{crlf, quoted_char, is_no_quote, quoted, literal, string, astring}
+use Rattle.imap_command.specs.Strings.{crlf_part, quoted_char, is_no_quote, quoted, literal, string, astring}
 use Rattle.imap_command.proofs.Utf8Law.{ranged_utf8}
 
 -- the first byte of a character of more bytes than one is no byte of 7 bits
@@ -62,7 +62,8 @@ starts_utf8 : (so_far : List ℕ) → StartsWith (between 194 244) (utf8_char so
 starts_utf8 so_far = (ranged_utf8 {V = ℕ} any so_far).starts
 
 -- no character begins with a byte that no plain one is, unless it is escaped
-starts_unescaped : (so_far : List ℕ) (d : ℕ) → d ≤ 127 → ((c : ℕ) → is_quoted_plain c ≡ true → not (c == d) ≡ true) → StartsWith (λ c. not (c == d)) (unescaped so_far)
+starts_unescaped : (so_far : List ℕ) (d : ℕ) → d ≤ 127 → ((c : ℕ) → is_quoted_plain c ≡ true → not (c == d) ≡ true)
+    → StartsWith (λ c. not (c == d)) (unescaped so_far)
 starts_unescaped so_far d small other =
     starts_choose is_quoted_plain (plain so_far) (utf8_char so_far) (starts_weaker (plain so_far) other (starts_plain so_far))
     (starts_weaker (utf8_char so_far) (not_byte d small) (starts_utf8 so_far))
@@ -71,7 +72,8 @@ starts_quoted_char : (so_far : List ℕ) → StartsWith is_no_quote (quoted_char
 unfolding quoted_char
 starts_quoted_char so_far =
     starts_choose (λ c. c == 92) (escaped so_far) (unescaped so_far)
-    (starts_weaker (escaped so_far) (λ c h. ap (λ d. not (d == 34)) (eqb-true c 92 h)) (starts_escaped so_far)) (starts_unescaped so_far 34 (omega arith) plain_no_quote)
+    (starts_weaker (escaped so_far) (λ c h. ap (λ d. not (d == 34)) (eqb-true c 92 h)) (starts_escaped so_far))
+    (starts_unescaped so_far 34 (omega arith) plain_no_quote)
 
 starts_quoted : StartsWith (λ c. c == 34) quoted
 unfolding quoted
@@ -79,7 +81,7 @@ starts_quoted = starts_then (byte 34) (λ _. repeat is_no_quote quoted_char [] t
 
 -- what stands behind the length of a literal
 abbrev pub octets : ℕ → Part (List ℕ)
-octets n = crlf then λ _. exactly is_char8 n
+octets n = crlf_part then λ _. exactly is_char8 n
 
 abbrev pub behind_length : List ℕ → Part (List ℕ)
 behind_length digits = optional 43 then λ _. byte 125 then λ _. octets (value_of digits)
@@ -111,8 +113,8 @@ unfolding is_digit
 no_digit c h = not_true (is_digit c) (among_all (λ c. not (is_digit c)) (43 ∷ 125 ∷ []) refl c h)
 
 module _ {V : Type 0} (after : ℕ → Bool) where
-  pub good_crlf : Good V after crlf
-  unfolding crlf
+  pub good_crlf : Good V after crlf_part
+  unfolding crlf_part
   good_crlf = good_behind 13 (byte 10) (good_byte after 10)
 
   good_escaped : (so_far : List ℕ) → Good V after (escaped so_far)
@@ -153,11 +155,13 @@ module _ {V : Type 0} (after : ℕ → Bool) where
 
   good_octets : (n : ℕ) → Good V after (octets n)
   unfolding is_char8
-  good_octets n = good_then crlf (λ _. exactly is_char8 n) (good_crlf any) (λ _. good_exactly is_char8 after 1 refl n) (λ _. begins_any after (exactly is_char8 n))
+  good_octets n = good_then crlf_part (λ _. exactly is_char8 n) (good_crlf any) (λ _. good_exactly is_char8 after 1 refl n)
+      (λ _. begins_any after (exactly is_char8 n))
 
   good_behind_length : (digits : List ℕ) → Good V after (behind_length digits)
   good_behind_length digits =
-      good_then (optional 43) (λ _. byte 125 then λ _. octets (value_of digits)) (good_optional (λ c. c == 125) 43 (λ c h. ap (λ d. d == 43) (eqb-true c 125 h)))
+      good_then (optional 43) (λ _. byte 125 then λ _. octets (value_of digits))
+      (good_optional (λ c. c == 125) 43 (λ c h. ap (λ d. d == 43) (eqb-true c 125 h)))
       (λ _. good_behind 125 (octets (value_of digits)) (good_octets (value_of digits)))
       (λ _. begins_from after (byte 125 then λ _. octets (value_of digits)) (starts_then (byte 125) (λ _. octets (value_of digits)) (starts_byte 125)))
 
@@ -165,7 +169,8 @@ module _ {V : Type 0} (after : ℕ → Bool) where
   unfolding literal is_digit
   good_literal =
       good_behind 123 (word (run is_digit) then behind_length)
-      (good_then (word (run is_digit)) behind_length (good_word (run is_digit) (lawful_run is_digit 48 refl) behind_digits (apart_run is_digit behind_digits no_digit))
+      (good_then (word (run is_digit)) behind_length
+      (good_word (run is_digit) (lawful_run is_digit 48 refl) behind_digits (apart_run is_digit behind_digits no_digit))
       good_behind_length (begins_behind_length after))
 
   good_string : Good V after string

@@ -8,7 +8,7 @@ use Rattle.grammar.specs.Runs.{run}
 use Rattle.grammar.specs.Numbers.{value_of}
 use Rattle.grammar.proofs.Conditions.{and_left, and_right, and_both}
 use Rattle.imap_command.specs.Characters.{is_quoted_plain, is_quoted_special, is_text_char, is_char8}
-use Rattle.imap_command.specs.Strings.{crlf, quoted_char, is_no_quote, quoted, literal, string, astring, IsString, escaped, escaped_text, quoted_text, literal_text, is_atom, is_quotable}
+use Rattle.imap_command.specs.Strings.{crlf_part, quoted_char, is_no_quote, quoted, literal, string, astring, IsString, escaped, escaped_text, quoted_text, literal_text, is_astring_atom, is_quotable}
 use Rattle.imap_command.proofs.StringsLaw.{octets, behind_length}
 use Rattle.imap_command.proofs.Spelling.{spell_then, spell_map, spell_byte, spell_one, spell_exactly}
 
@@ -28,8 +28,8 @@ digits_from n (c ∷ text) e = by_case (list_all is_digit (c ∷ text)) (nat_lt 
     by_case true false is e = cc
     by_case false small is e = cc
 
-pub spell_crlf : crlf.lang (13 ∷ 10 ∷ []) 10
-unfolding crlf
+pub spell_crlf : crlf_part.lang (13 ∷ 10 ∷ []) 10
+unfolding crlf_part
 spell_crlf = spell_byte 13 (byte 10) (10 ∷ []) 10 (spell_one 10)
 
 spell_plus : (optional 43).lang (43 ∷ []) true
@@ -45,7 +45,7 @@ spell_literal text octets_only read_back =
     (spell_then (word (run is_digit)) behind_length digits (43 ∷ 125 ∷ 13 ∷ 10 ∷ text) digits text (refl, d.word)
     (spell_then (optional 43) (λ _. byte 125 then λ _. octets (value_of digits)) (43 ∷ []) (125 ∷ 13 ∷ 10 ∷ text) true text spell_plus
     (spell_byte 125 (octets (value_of digits)) (13 ∷ 10 ∷ text) text
-    (spell_then crlf (λ _. exactly is_char8 (value_of digits)) (13 ∷ 10 ∷ []) text 10 text spell_crlf
+    (spell_then crlf_part (λ _. exactly is_char8 (value_of digits)) (13 ∷ 10 ∷ []) text 10 text spell_crlf
     (subst (λ n. (exactly is_char8 n).lang text text) (sym d.value) (spell_exactly is_char8 text octets_only))))))
 
 or_false : (a : Bool) → a || false ≡ true → a ≡ true
@@ -59,13 +59,15 @@ spell_char_by so_far c true e h =
     inl (spell_byte 92 (map (λ char. so_far ++ char) (exactly is_quoted_special 1)) (c ∷ []) (so_far ++ c ∷ [])
     (spell_map (λ char. so_far ++ char) (exactly is_quoted_special 1) (c ∷ []) (c ∷ []) (spell_exactly is_quoted_special (c ∷ []) (and_both _ _ e refl))))
 spell_char_by so_far c false e h =
-    inr (inl (spell_map (λ char. so_far ++ char) (exactly is_quoted_plain 1) (c ∷ []) (c ∷ []) (spell_exactly is_quoted_plain (c ∷ []) (and_both _ _ (or_false _ h) refl))))
+    inr (inl (spell_map (λ char. so_far ++ char) (exactly is_quoted_plain 1) (c ∷ []) (c ∷ [])
+    (spell_exactly is_quoted_plain (c ∷ []) (and_both _ _ (or_false _ h) refl))))
 
 spell_char : (so_far : List ℕ) (c : ℕ) → is_text_char c ≡ true → (quoted_char so_far).lang (escaped c) (so_far ++ c ∷ [])
 unfolding is_text_char escaped
 spell_char so_far c h = spell_char_by so_far c (is_quoted_special c) refl h
 
-spell_chars : (text so_far : List ℕ) → list_all is_text_char text ≡ true → (turns is_no_quote quoted_char (length text) so_far).lang (escaped_text text) (so_far ++ text)
+spell_chars : (text so_far : List ℕ) → list_all is_text_char text ≡ true → (turns is_no_quote quoted_char (length text) so_far).lang (escaped_text text)
+    (so_far ++ text)
 unfolding turns escaped_text
 spell_chars [] so_far h = (refl, append-nil so_far)
 spell_chars (c ∷ text) so_far h =
@@ -87,8 +89,8 @@ spell_quoted text h =
     (length text, spell_chars text [] h) (spell_map (λ _. text) (byte 34) (34 ∷ []) 34 (spell_one 34)))
 
 -- a string in each of its forms
-pub astring_as_atom : (text : List ℕ) → is_atom text ≡ true → astring.lang text text
-unfolding astring is_atom
+pub astring_as_atom : (text : List ℕ) → is_astring_atom text ≡ true → astring.lang text text
+unfolding astring is_astring_atom
 astring_as_atom text h = inl (refl, h)
 
 pub astring_as_quoted : (text : List ℕ) → is_quotable text ≡ true → astring.lang (quoted_text text) text

@@ -31,7 +31,8 @@ pub only_exactly : (test : ℕ → Bool) (n : ℕ) → Only (exactly test n) (λ
 unfolding exactly
 only_exactly test zero bytes value l = subst (λ s. list_all test s ≡ true) (sym l.1) refl
 only_exactly test (suc n) bytes value j =
-    only_map (λ rest. j.between ∷ rest) (exactly test n) (λ s. list_all test s ≡ true) (λ rest s l. and_both _ _ j.begins.1 (only_exactly test n rest s l)) j.back value j.goes_on
+    only_map (λ rest. j.between ∷ rest) (exactly test n) (λ s. list_all test s ≡ true)
+    (λ rest s l. and_both _ _ j.begins.1 (only_exactly test n rest s l)) j.back value j.goes_on
 
 -- turns that keep the property
 module _ {S : Type 0} (P : S → Type 0) (test : ℕ → Bool) (turn : S → Part S) (keeps : (s : S) → P s → Only (turn s) P) where

@@ -1,5 +1,6 @@
 -- What is told of a frame that spells no command.
 use Rattle.std.specs.Prelude.{◌≡◌, ℕ, ◌<◌, ◌≤◌, List, ◌∷◌, ◌++◌, length, take, Option, None, Some, true}
+use Rattle.mur_base.specs.Ascii.{space}
 use Rattle.mur_model.specs.declared.command.Tag.{Tag}
 use Rattle.mur_model.specs.declared.command.Tag.TheVariants.{Text}
 use Rattle.mur_model.specs.declared.command.Command.{Command}
@@ -16,8 +17,8 @@ pub record IsLongest (frame : List ℕ) (at : ℕ) : Type 0 where
 
 -- the first word of the frame, exactly where it is a tag with a space behind it
 abbrev pub IsFirstTag : List ℕ → Option Tag → Type 0
-IsFirstTag frame None = (text rest : List ℕ) → frame ≡ text ++ 32 ∷ rest → ¬ (tags.whole text ≡ true)
-IsFirstTag frame (Some tag) = (text : List ℕ) × (rest : List ℕ) × (tag ≡ Text text) × (frame ≡ text ++ 32 ∷ rest) × (tags.whole text ≡ true)
+IsFirstTag frame None = (text rest : List ℕ) → frame ≡ text ++ space ∷ rest → ¬ (tags.whole text ≡ true)
+IsFirstTag frame (Some tag) = (text : List ℕ) × (rest : List ℕ) × (tag ≡ Text text) × (frame ≡ text ++ space ∷ rest) × (tags.whole text ≡ true)
 
 -- what is told of such a frame
 pub record IsBad (frame : List ℕ) (bad : Bad) : Type 0 where

@@ -1,18 +1,32 @@
 -- The character classes of the grammar (RFC 9051, 9).
 use Rattle.std.specs.Prelude.{ℕ, Bool, ◌&&◌, ◌||◌, not, ◌==◌, nat_le}
-use Rattle.mur_model.specs.Spells.{is_visible, is_atom_special}
+use Rattle.std.specs.Char.{is_ascii_graphic}
+use Rattle.mur_base.specs.Ascii.{nul, lf, cr, quote, percent, open_paren, close_paren, star, plus, backslash, open_brace, delete}
+
+-- printable ASCII other than a space
+abbrev pub is_visible : ℕ → Bool
+is_visible b = is_ascii_graphic b
+
+-- ( ) { % * " \, which stand in no atom
+abbrev pub is_atom_special : ℕ → Bool
+is_atom_special b =
+    (b == open_paren) || (b == close_paren) || (b == open_brace) || (b == percent) || (b == star) || (b == quote) || (b == backslash)
 
 -- ASTRING-CHAR: an ATOM-CHAR or ]
 unfoldable pub is_astring_char : ℕ → Bool
 is_astring_char c = is_visible c && not (is_atom_special c)
 
+-- a byte of a tag: ASTRING-CHAR except +
+unfoldable pub is_tag_byte : ℕ → Bool
+is_tag_byte b = is_visible b && not (is_atom_special b) && not (b == plus)
+
 -- TEXT-CHAR except quoted-specials: 7 bits, and neither NUL, CR, LF nor one of " and \
 unfoldable pub is_quoted_plain : ℕ → Bool
-is_quoted_plain c = nat_le 1 c && nat_le c 127 && not (c == 13) && not (c == 10) && not (c == 34) && not (c == 92)
+is_quoted_plain c = nat_le 1 c && nat_le c delete && not (c == cr) && not (c == lf) && not (c == quote) && not (c == backslash)
 
 -- quoted-specials: " and \
 unfoldable pub is_quoted_special : ℕ → Bool
-is_quoted_special c = c == 34 || c == 92
+is_quoted_special c = c == quote || c == backslash
 
 -- TEXT-CHAR: what a quoted string may hold of 7 bits, with a backslash before it or without
 unfoldable pub is_text_char : ℕ → Bool
@@ -20,7 +34,7 @@ is_text_char c = is_quoted_plain c || is_quoted_special c
 
 -- CHAR8: any octet but NUL
 unfoldable pub is_char8 : ℕ → Bool
-is_char8 c = not (c == 0)
+is_char8 c = not (c == nul)
 
 -- UTF8-tail (RFC 3629, 4)
 unfoldable pub is_utf8_tail : ℕ → Bool

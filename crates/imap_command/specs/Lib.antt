@@ -8,3 +8,4 @@ pub mod Spells
 pub mod Status
 pub mod Strings
 pub mod Utf8
+pub mod Request

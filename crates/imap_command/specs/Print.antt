@@ -1,5 +1,6 @@
 -- How a command is printed under its tag. How its arguments are is said where their grammar is.
-use Rattle.std.specs.Prelude.{ℕ, ◌<◌, List, [], ◌∷◌, ◌++◌, length, codes}
+use Rattle.std.specs.Prelude.{ℕ, ◌<◌, List, ◌∷◌, ◌++◌, length, codes}
+use Rattle.mur_base.specs.Ascii.{space, crlf}
 use Rattle.mur_model.specs.declared.command.Tag.{Tag}
 use Rattle.mur_model.specs.declared.command.Tag.TheVariants.{Text, Star}
 use Rattle.mur_model.specs.declared.command.Command.{Command}
@@ -27,7 +28,7 @@ tag_text Star = codes "*"
 tag_text (Text text) = text
 
 unfoldable pub printed : Tag → Command → List ℕ
-printed tag command = tag_text tag ++ 32 ∷ (name_text command ++ (arguments_text command ++ (13 ∷ 10 ∷ [])))
+printed tag command = tag_text tag ++ space ∷ (name_text command ++ (arguments_text command ++ crlf))
 
 -- no string has a NUL, and a STATUS asks for something: what each command has that some frame spells
 abbrev pub IsPrintable : Command → Type 0

@@ -4,10 +4,10 @@ use Rattle.grammar.specs.Part.{Part, ◌then◌, ◌sp◌, map, when}
 use Rattle.grammar.specs.Words.{word, Words}
 use Rattle.grammar.specs.Runs.{run_upto}
 use Rattle.grammar.specs.Tables.{any_case, is_name}
-use Rattle.mur_model.specs.Spells.{is_tag_byte}
+use Rattle.imap_command.specs.Characters.{is_tag_byte}
 use Rattle.mur_model.specs.declared.command.Tag.{Tag}
 use Rattle.mur_model.specs.declared.command.Tag.TheVariants.{Text}
-use Rattle.imap_command.specs.Strings.{crlf}
+use Rattle.imap_command.specs.Strings.{crlf_part}
 use Rattle.imap_command.specs.Login.{login}
 use Rattle.imap_command.specs.Create.{create}
 use Rattle.imap_command.specs.Append.{append}
@@ -29,7 +29,7 @@ arguments name =
 
 unfoldable pub tagged_command : Part (Tag × Command)
 tagged_command =
-    word tags sp λ tag. word (any_case command_names) then λ name. arguments name then λ command. map (λ _. (Text tag, command)) crlf
+    word tags sp λ tag. word (any_case command_names) then λ name. arguments name then λ command. map (λ _. (Text tag, command)) crlf_part
 
 -- the frame is the command under the tag
 abbrev pub Spells : List ℕ → Tag × Command → Type 0

@@ -1,6 +1,7 @@
 -- status = "STATUS" SP mailbox SP "(" status-att *(SP status-att) ")" (RFC 9051, 6.3.11 and 9). This is what stands
 -- behind the name.
 use Rattle.std.specs.Prelude.{ℕ, List, [], ◌∷◌, ◌++◌, codes}
+use Rattle.mur_base.specs.Ascii.{space, open_paren, close_paren}
 use Rattle.grammar.specs.Part.{Part, ◌then◌, ◌sp◌, map, byte, listed}
 use Rattle.grammar.specs.Words.{word}
 use Rattle.grammar.specs.Tables.{any_case}
@@ -19,7 +20,7 @@ unfoldable pub status_item : List StatusItem → Part (List StatusItem)
 status_item so_far = map (λ _. so_far ++ Messages ∷ []) (word (any_case item_names))
 
 unfoldable pub status : Part Command
-status = byte 32 then λ _. astring sp λ mailbox. map (λ items. Status mailbox items) (listed status_item [])
+status = byte space then λ _. astring sp λ mailbox. map (λ items. Status mailbox items) (listed status_item [])
 
 -- How it is printed.
 
@@ -29,11 +30,11 @@ item_text Messages = codes "MESSAGES"
 -- a space before each
 unfoldable pub more_items_text : List StatusItem → List ℕ
 more_items_text [] = []
-more_items_text (item ∷ items) = 32 ∷ (item_text item ++ more_items_text items)
+more_items_text (item ∷ items) = space ∷ (item_text item ++ more_items_text items)
 
 unfoldable pub items_text : List StatusItem → List ℕ
 items_text [] = codes "()"
-items_text (item ∷ items) = 40 ∷ (item_text item ++ (more_items_text items ++ 41 ∷ []))
+items_text (item ∷ items) = open_paren ∷ (item_text item ++ (more_items_text items ++ close_paren ∷ []))
 
 unfoldable pub status_text : List ℕ → List StatusItem → List ℕ
-status_text mailbox items = 32 ∷ astring_text mailbox ++ 32 ∷ items_text items
+status_text mailbox items = space ∷ astring_text mailbox ++ space ∷ items_text items

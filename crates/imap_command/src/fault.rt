@@ -4,9 +4,12 @@ ghost use Rattle.imap_command.specs.declared.fault.ReadFault.TheVariants.{Memory
 
 use mur_base::Memory;
 use mur_model::Tag;
+use std::fmt;
+use thiserror::Error;
 
 /// The frame spells no command.
-#[derive(Drop)]
+#[derive(Drop, Error)]
+#[error("no command, from byte {at} on")]
 pub struct Bad {
     /// The first word, where it is a tag with a space behind it.
     pub tag: Option<Tag>,
@@ -14,12 +17,21 @@ pub struct Bad {
     pub at: usize,
 }
 
+// By hand, since a `Tag` has none.
+impl fmt::Debug for Bad {
+    fn fmt<W: fmt::Write>(&self, f: &mut fmt::Formatter<W>) -> fmt::Result {
+        write!(f, "Bad {{ at: {} }}", self.at)
+    }
+}
+
 /// Why no command was read.
-#[derive(Drop)]
+#[derive(Debug, Drop, Error)]
 pub enum ReadFault {
     /// The frame spells none.
+    #[error("{0}")]
     Bad(Bad),
     /// The allocator had no room.
+    #[error("out of memory")]
     Memory,
 }
 

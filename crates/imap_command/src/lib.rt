@@ -15,6 +15,7 @@ mod fault;
 mod login;
 mod printer;
 mod reader;
+mod request;
 mod round_trip;
 mod status;
 mod strings;
@@ -23,7 +24,5 @@ mod utf8;
 pub use fault::{Bad, ReadFault};
 pub use printer::print;
 pub use reader::read;
+pub use request::{read_request, too_big};
 pub use round_trip::{a_frame_spells_one_command, reread};
-
-#[cfg(test)]
-mod tests;

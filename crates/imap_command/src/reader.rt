@@ -22,13 +22,13 @@ use std::alloc::Global;
 struct TagByte;
 
 impl Class for TagByte {
-    ghost use Rattle.mur_model.specs.Spells.{is_tag_byte};
+    ghost use Rattle.imap_command.specs.Characters.{is_tag_byte};
 
     ghost test = { λ _. is_tag_byte };
 
-    #[tactic(auto, unfolding(mur_model::specs::Spells::is_tag_byte))]
+    #[tactic(auto, unfolding(crate::specs::Characters::is_tag_byte))]
     fn holds(&self, byte: u8) -> bool {
-        matches!(byte, 33..=126)
+        byte.is_ascii_graphic()
             && !matches!(byte, b'(' | b')' | b'{' | b'%' | b'*' | b'"' | b'\\' | b'+')
     }
 }
@@ -96,7 +96,7 @@ impl Grammar for Commands {
 }
 
 /// The first word of a frame, where it is a tag with a space behind it.
-fn first_tag(alloc: Global, frame: &[u8]) -> Result<Option<Tag>, Memory>
+pub fn first_tag(alloc: Global, frame: &[u8]) -> Result<Option<Tag>, Memory>
     ensures { IfOk result (λ tag. IsFirstTag frame.now tag) }
 {
     match word_of(

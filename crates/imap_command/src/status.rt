@@ -1,11 +1,12 @@
 // STATUS (RFC 9051, 6.3.11).
-ghost use Rattle.std.specs.Prelude.{◌≡◌, ◌==◌, ◌<◌, ◌++◌, length, OnOk};
+ghost use Rattle.std.specs.Prelude.{◌≡◌, [], ◌∷◌, ◌<◌, ◌++◌, length, OnOk};
 ghost use Rattle.grammar.specs.Gives.{Gives};
-ghost use Rattle.imap_command.specs.Status.{status, status_item, item_text, more_items_text, items_text, status_text};
+ghost use Rattle.grammar.specs.Tables.{begins_some};
+ghost use Rattle.imap_command.specs.Status.{item_names, status, status_item, item_text, more_items_text, items_text, status_text};
 ghost use Rattle.imap_command.specs.Strings.{IsString};
 
 use crate::strings::{astring_of, put_astring};
-use grammar::{AnyCase, ReadError, Turn, byte_of, listed_of, word_of};
+use grammar::{AnyCase, Kind, ReadError, Turn, byte_of, listed_of, word_of};
 use mur_base::{Bytes, Items, Memory};
 use mur_model::{Command, StatusItem, StatusItems};
 use std::alloc::Global;
@@ -20,12 +21,12 @@ struct ItemList;
 impl Turn for ItemList {
     type State = StatusItems;
 
-    ghost starts = { λ _ c. c == 77 };
+    ghost starts = { λ _ c. begins_some item_names (c ∷ []) };
 
     ghost part = { λ _. status_item };
 
     fn starts(&self, byte: u8) -> bool {
-        byte == b'M'
+        AnyCase { names: &ITEM_NAMES }.goes_on(b"", byte)
     }
 
     #[tactic(auto, unfolding(crate::specs::Status::status_item))]

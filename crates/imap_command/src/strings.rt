@@ -1,9 +1,10 @@
 // Strings (RFC 9051, 4.3 and 9).
 ghost use Rattle.std.specs.Prelude.{◌≡◌, ◌==◌, ◌++◌, not, true, OnOk};
 ghost use Rattle.std.specs.List.{list_all};
+ghost use Rattle.mur_base.specs.Ascii.{lf};
 ghost use Rattle.grammar.specs.Gives.{Finds, Gives};
 ghost use Rattle.imap_command.specs.Characters.{is_astring_char, is_quoted_plain, is_quoted_special, is_text_char, is_char8};
-ghost use Rattle.imap_command.specs.Strings.{crlf, quoted_char, is_no_quote, quoted, literal, string, astring, IsString, escaped, escaped_text, quoted_text, literal_text, is_atom, is_quotable, astring_text};
+ghost use Rattle.imap_command.specs.Strings.{crlf_part, quoted_char, is_no_quote, quoted, literal, string, astring, IsString, escaped, escaped_text, quoted_text, literal_text, is_astring_atom, is_quotable, astring_text};
 
 use crate::utf8::utf8_of;
 use grammar::{
@@ -23,7 +24,7 @@ impl Class for AstringChar {
 
     #[tactic(auto, unfolding(crate::specs::Characters::is_astring_char))]
     fn holds(&self, byte: u8) -> bool {
-        matches!(byte, 33..=126) && !matches!(byte, b'(' | b')' | b'{' | b'%' | b'*' | b'"' | b'\\')
+        byte.is_ascii_graphic() && !matches!(byte, b'(' | b')' | b'{' | b'%' | b'*' | b'"' | b'\\')
     }
 }
 
@@ -84,9 +85,9 @@ impl Class for Char8 {
 }
 
 /// Reads CRLF.
-#[tactic(auto, unfolding(crate::specs::Strings::crlf))]
+#[tactic(auto, unfolding(crate::specs::Strings::crlf_part))]
 pub fn crlf_of(bytes: &[u8]) -> Result<&[u8], Stop>
-    ensures { Finds (λ rest. (10, rest.now)) result (crlf.at bytes.now) }
+    ensures { Finds (λ rest. (lf, rest.now)) result (crlf_part.at bytes.now) }
 {
     let rest = byte_of(b'\r', bytes)?;
     let rest = byte_of(b'\n', rest)?;
@@ -189,9 +190,9 @@ fn are_all<C: Class>(class: &C, text: &[u8]) -> bool
 }
 
 /// Whether a text is an atom, with `]` allowed.
-#[tactic(auto, unfolding(crate::specs::Strings::is_atom))]
-fn is_atom(text: &[u8]) -> bool
-    ensures { result ≡ is_atom text.now }
+#[tactic(auto, unfolding(crate::specs::Strings::is_astring_atom))]
+fn is_astring_atom(text: &[u8]) -> bool
+    ensures { result ≡ is_astring_atom text.now }
 {
     are_all(&AstringChar, text) && !text.is_empty()
 }
@@ -260,7 +261,7 @@ pub fn put_astring(text: &[u8], out: &mut Bytes) -> Result<(), Memory>
     ensures text { OnOk result (out.new ≡ out.old ++ astring_text text.now) }
     ensures spells { OnOk result (astring.lang (astring_text text.now) text.now) }
 {
-    if is_atom(text) {
+    if is_astring_atom(text) {
         out.extend_from_slice(text)
     } else if is_quotable(text) {
         put_quoted(text, out)

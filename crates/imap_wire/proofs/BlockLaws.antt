@@ -7,7 +7,8 @@ use Rattle.imap_wire.specs.Kept.{joined_blocks, joined}
 pub joined_blocks-append : (front back : List Block) → joined_blocks (front ++ back) ≡ joined_blocks front ++ joined_blocks back
 joined_blocks-append [] back = refl
 joined_blocks-append (block ∷ front) back =
-    ap (λ (l : List ℕ). block.bytes.items ++ l) (joined_blocks-append front back) ∙ sym (append_assoc block.bytes.items (joined_blocks front) (joined_blocks back))
+    ap (λ (l : List ℕ). block.bytes.items ++ l) (joined_blocks-append front back)
+    ∙ sym (append_assoc block.bytes.items (joined_blocks front) (joined_blocks back))
 
 pub joined_blocks-push : (blocks : List Block) (block : Block) → joined_blocks (blocks ++ block ∷ []) ≡ joined_blocks blocks ++ block.bytes.items
 joined_blocks-push blocks block = joined_blocks-append blocks (block ∷ []) ∙ ap (λ (l : List ℕ). joined_blocks blocks ++ l) (append-nil block.bytes.items)
@@ -20,14 +21,26 @@ joined_blocks-more blocks i block within is = rw (take_more blocks i block withi
 pub joined_blocks-part : (blocks : List Block) (i : ℕ) → length (joined_blocks (take i blocks)) ≤ length (joined_blocks blocks)
 joined_blocks-part blocks i =
     let split = ap (λ (l : List Block). length (joined_blocks l)) (take-append-drop i blocks) in
-    omega (arith, split, ap length (joined_blocks-append (take i blocks) (drop i blocks)), length-append (joined_blocks (take i blocks)) (joined_blocks (drop i blocks)))
+    omega (
+      arith,
+      split,
+      ap length (joined_blocks-append (take i blocks) (drop i blocks)),
+      length-append (joined_blocks (take i blocks)) (joined_blocks (drop i blocks)),
+    )
 
 -- where the last block becomes one of the full ones, the bytes stay
-pub joined-next : (full grown : List Block) (last next moved : Block) → grown ≡ full ++ moved ∷ [] → moved ≡ last → next.bytes.items ≡ [] → joined grown next ≡ joined full last
+pub joined-next : (full grown : List Block) (last next moved : Block) → grown ≡ full ++ moved ∷ [] → moved ≡ last → next.bytes.items ≡ []
+    → joined grown next ≡ joined full last
 joined-next full grown last next moved grown_is moved_is empty = rw (empty, append-nil (joined_blocks grown), grown_is, moved_is) (joined_blocks-push full last)
 
 -- the next block to be put behind those before it has room where all have
-pub joined_blocks-fit : (blocks : List Block) (i : ℕ) (block : Block) (room : ℕ) → i < length blocks → block ≡ get_or blocks i block → length (joined_blocks blocks) ≤ room
+pub joined_blocks-fit : (blocks : List Block) (i : ℕ) (block : Block) (room : ℕ) → i < length blocks → block ≡ get_or blocks i block
+    → length (joined_blocks blocks) ≤ room
     → length (joined_blocks (take i blocks)) + length block.bytes.items ≤ room
 joined_blocks-fit blocks i block room within is fits =
-    omega (arith, ap length (joined_blocks-more blocks i block within is), length-append (joined_blocks (take i blocks)) block.bytes.items, joined_blocks-part blocks (i + 1))
+    omega (
+      arith,
+      ap length (joined_blocks-more blocks i block within is),
+      length-append (joined_blocks (take i blocks)) block.bytes.items,
+      joined_blocks-part blocks (i + 1),
+    )

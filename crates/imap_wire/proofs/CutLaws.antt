@@ -10,9 +10,10 @@ use Rattle.imap_wire.specs.declared.frame.FrameFault.TheVariants.{LineTooLong, P
 use Rattle.imap_wire.specs.declared.literal.Literal.{Literal}
 use Rattle.imap_wire.specs.declared.literal.Admission.{Admission}
 use Rattle.imap_wire.specs.declared.literal.Admission.TheVariants.{Asked, Unasked, Refused, RefusedUnasked}
-use Rattle.imap_wire.specs.Line.{ends_with_cr, without_last, split_line, least_length}
+use Rattle.mur_base.specs.Ascii.{ends_with_cr}
+use Rattle.imap_wire.specs.Line.{without_last, split_line, least_length}
 use Rattle.imap_wire.specs.Literal.{announced, admission_of}
-use Rattle.imap_wire.specs.Frames.{Command, no_command, Cut, with_frame, ends_at, cut_literal, cut_announced, cut_after, cut_line, cut_lines, cut}
+use Rattle.imap_wire.specs.Frames.{PartialCommand, empty_command, Cut, with_frame, ends_at, cut_literal, cut_announced, cut_after, cut_line, cut_lines, cut}
 use Rattle.imap_wire.specs.Steps.{State, Step, start, giving, step, announced_step, line_end, at_line_end, line_step, given, after, begun_of}
 use Rattle.imap_wire.proofs.StepLaws.{step-end, step-line, line_step-fits, line_step-too_long, after-append, given-append, given-spent, after-spent, after-literal, given-literal}
 use Rattle.imap_wire.proofs.LineLaws.{without_last-cr, split_line-push, split_line-end, least_length-append, least_length-split}
@@ -26,18 +27,18 @@ abbrev pub shown_after : Step → List ℕ → Cut
 shown_after first bytes = record { frames = option_to_list first.frame ++ given first.after bytes; begun = begun_of (after first.after bytes) }
 
 -- within a line of the command, of which this much has come
-abbrev pub in_line : Command → List ℕ → State
+abbrev pub in_line : PartialCommand → List ℕ → State
 in_line c line = record { bytes = c.bytes ++ line; line = line; line_room = c.line_room; literal_room = c.literal_room; literal_left = 0; spent = false }
 
 -- before a line of the command
-abbrev pub before_line : Command → State
+abbrev pub before_line : PartialCommand → State
 before_line c = record { bytes = c.bytes; line = []; line_room = c.line_room; literal_room = c.literal_room; literal_left = 0; spent = false }
 
 -- within a literal of the command
-abbrev pub in_literal : Command → ℕ → State
+abbrev pub in_literal : PartialCommand → ℕ → State
 in_literal c left = record (before_line c) { literal_left = left }
 
-in_line-nil : (c : Command) → in_line c [] ≡ before_line c
+in_line-nil : (c : PartialCommand) → in_line c [] ≡ before_line c
 in_line-nil c = rw append-nil refl
 
 shown-append : (s : State) (a b : List ℕ) → given s a ≡ [] → shown s (a ++ b) ≡ shown (after s a) b
@@ -55,8 +56,9 @@ shown_after-fault : (s : State) (fault : Frame) (bytes : List ℕ) → shown_aft
 shown_after-fault s fault bytes = rw (given-spent (record s { spent = true }) bytes refl, after-spent (record s { spent = true }) bytes refl) refl
 
 -- `go` cuts as the machine does what is shorter than n
-module _ (go : Command → List ℕ → Cut) (n : ℕ) (same : (c : Command) (bytes : List ℕ) → length bytes < n → shown (before_line c) bytes ≡ go c bytes) where
-  shown-literal : (c : Command) (size : ℕ) (bytes : List ℕ) → length bytes < n → shown (in_literal c size) bytes ≡ cut_literal go c size bytes
+module _ (go : PartialCommand → List ℕ → Cut) (n : ℕ)
+    (same : (c : PartialCommand) (bytes : List ℕ) → length bytes < n → shown (before_line c) bytes ≡ go c bytes) where
+  shown-literal : (c : PartialCommand) (size : ℕ) (bytes : List ℕ) → length bytes < n → shown (in_literal c size) bytes ≡ cut_literal go c size bytes
   unfolding cut_literal
   shown-literal c size bytes fits = elim (cases_lt (length bytes) size) [
     | inl short ↦
@@ -74,21 +76,24 @@ module _ (go : Command → List ℕ → Cut) (n : ℕ) (same : (c : Command) (by
         rw test (arrives ∙ same (record c { bytes = c.bytes ++ take size bytes }) (drop size bytes) shorter)
   ]
 
-  shown-announced : (admission : Admission) (c : Command) (literal : Literal) (bytes : List ℕ) → length bytes < n
+  shown-announced : (admission : Admission) (c : PartialCommand) (literal : Literal) (bytes : List ℕ) → length bytes < n
       → shown_after (announced_step admission (before_line c) literal) bytes ≡ cut_announced go admission c literal bytes
   unfolding announced_step cut_announced
-  shown-announced Asked c literal bytes fits = ap (with_frame (NeedLiteral literal.size)) (shown-literal (record c { literal_room = c.literal_room - literal.size }) literal.size bytes fits)
+  shown-announced Asked c literal bytes fits =
+      ap (with_frame (NeedLiteral literal.size)) (shown-literal (record c { literal_room = c.literal_room - literal.size }) literal.size bytes fits)
   shown-announced Unasked c literal bytes fits = shown-literal (record c { literal_room = c.literal_room - literal.size }) literal.size bytes fits
-  shown-announced Refused c literal bytes fits = ap (with_frame (TooBig c.bytes)) (same no_command bytes fits)
+  shown-announced Refused c literal bytes fits = ap (with_frame (TooBig c.bytes)) (same empty_command bytes fits)
   shown-announced RefusedUnasked c literal bytes fits = shown_after-fault (before_line c) (Fault PlusTooLong) bytes
 
-  shown-line_end : (c : Command) (literal : Option Literal) (bytes : List ℕ) → length bytes < n → shown_after (line_end (before_line c) literal) bytes ≡ cut_after go c literal bytes
+  shown-line_end : (c : PartialCommand) (literal : Option Literal) (bytes : List ℕ) → length bytes < n
+      → shown_after (line_end (before_line c) literal) bytes ≡ cut_after go c literal bytes
   unfolding line_end cut_after
-  shown-line_end c None bytes fits = ap (with_frame (Whole c.bytes)) (same no_command bytes fits)
+  shown-line_end c None bytes fits = ap (with_frame (Whole c.bytes)) (same empty_command bytes fits)
   shown-line_end c (Some literal) bytes fits = shown-announced (admission_of literal c.literal_room) c literal bytes fits
 
   -- the command's line ends with this byte LF
-  shown-end : (c : Command) (line : List ℕ) (bytes : List ℕ) → length bytes < n → split_line line ≡ None → least_length line ≤ c.line_room → ends_with_cr line ≡ true
+  shown-end : (c : PartialCommand) (line : List ℕ) (bytes : List ℕ) → length bytes < n → split_line line ≡ None → least_length line ≤ c.line_room
+      → ends_with_cr line ≡ true
       → shown (in_line c line) (10 ∷ bytes) ≡ cut_line go c (line ++ 10 ∷ bytes) (split_line (line ++ 10 ∷ bytes))
   unfolding cut_line
   shown-end c line bytes fits none room cr =
@@ -99,14 +104,16 @@ module _ (go : Command → List ℕ → Cut) (n : ℕ) (same : (c : Command) (by
       let split : split_line (line ++ 10 ∷ bytes) ≡ Some (text, bytes) = ap split_line all ∙ split_line-end text bytes (rw line_is at none) in
       let test : nat_lt c.line_room (length text) ≡ false = grind (arith, nat_tests) in
       let joined : c.bytes ++ line ++ 10 ∷ [] ≡ c.bytes ++ text ++ 13 ∷ 10 ∷ [] =
-      ap (λ (l : List ℕ). c.bytes ++ l ++ 10 ∷ []) line_is ∙ (ap (λ (l : List ℕ). l ++ 10 ∷ []) (sym (append_assoc c.bytes text (13 ∷ []))) ∙ append_assoc (c.bytes ++ text) (13 ∷ []) (10 ∷ [])) in
+      ap (λ (l : List ℕ). c.bytes ++ l ++ 10 ∷ []) line_is
+      ∙ (ap (λ (l : List ℕ). l ++ 10 ∷ []) (sym (append_assoc c.bytes text (13 ∷ []))) ∙ append_assoc (c.bytes ++ text) (13 ∷ []) (10 ∷ [])) in
       let next = record c { bytes = c.bytes ++ text ++ 13 ∷ 10 ∷ []; line_room = c.line_room - length text } in
       let arrives : at_line_end (in_line c line) text ≡ before_line next = rw joined refl in
-      let stepped : step (in_line c line) 10 ≡ line_end (before_line next) (announced text) = step-end (in_line c line) refl refl cr ∙ ap (λ (s : State). line_end s (announced text)) arrives in
+      let stepped : step (in_line c line) 10 ≡ line_end (before_line next) (announced text) =
+      step-end (in_line c line) refl refl cr ∙ ap (λ (s : State). line_end s (announced text)) arrives in
       rw (split, test, shown-step (in_line c line) 10 bytes, stepped) (shown-line_end next (announced text) bytes fits)
 
   -- a line that is too long already
-  cut-too_long : (c : Command) (line more : List ℕ) → split_line line ≡ None → c.line_room < least_length line
+  cut-too_long : (c : PartialCommand) (line more : List ℕ) → split_line line ≡ None → c.line_room < least_length line
       → (split : Option (List ℕ × List ℕ)) → split_line (line ++ more) ≡ split → cut_line go c (line ++ more) split ≡ ends_at (Fault LineTooLong)
   unfolding cut_line
   cut-too_long c line more none long None is =
@@ -119,7 +126,7 @@ module _ (go : Command → List ℕ → Cut) (n : ℕ) (same : (c : Command) (by
       rw test refl
 
   -- the rest of a line of which this much has come, and what follows it
-  shown-line : (bytes : List ℕ) (c : Command) (line : List ℕ) → length bytes ≤ n → split_line line ≡ None → least_length line ≤ c.line_room
+  shown-line : (bytes : List ℕ) (c : PartialCommand) (line : List ℕ) → length bytes ≤ n → split_line line ≡ None → least_length line ≤ c.line_room
       → shown (in_line c line) bytes ≡ cut_line go c (line ++ bytes) (split_line (line ++ bytes))
   unfolding cut_line
   shown-line [] c line fits none room =
@@ -137,7 +144,13 @@ module _ (go : Command → List ℕ → Cut) (n : ℕ) (same : (c : Command) (by
         let stepped : step (in_line c line) byte ≡ line_step (in_line c line) byte = step-line (in_line c line) byte refl refl goes_on in
         elim (cases_lt c.line_room (least_length longer)) [
           | inl long ↦
-              rw (all, cut-too_long c longer bytes clear long (split_line (longer ++ bytes)) refl, shown-step (in_line c line) byte bytes, stepped, line_step-too_long (in_line c line) byte long)
+              rw (
+                all,
+                cut-too_long c longer bytes clear long (split_line (longer ++ bytes)) refl,
+                shown-step (in_line c line) byte bytes,
+                stepped,
+                line_step-too_long (in_line c line) byte long,
+              )
               (shown_after-fault (in_line c line) (Fault LineTooLong) bytes)
           | inr short ↦
               rw (all, shown-step (in_line c line) byte bytes, stepped, line_step-fits (in_line c line) byte short, append_assoc c.bytes line (byte ∷ []))
@@ -146,7 +159,7 @@ module _ (go : Command → List ℕ → Cut) (n : ℕ) (same : (c : Command) (by
   ]
 
 -- so many lines
-pub shown-lines : (lines : ℕ) (c : Command) (bytes : List ℕ) → length bytes < lines → shown (before_line c) bytes ≡ cut_lines lines c bytes
+pub shown-lines : (lines : ℕ) (c : PartialCommand) (bytes : List ℕ) → length bytes < lines → shown (before_line c) bytes ≡ cut_lines lines c bytes
 unfolding cut_lines split_line ends_with_cr
 shown-lines zero c bytes fits = absurd (omega arith)
 shown-lines (suc lines) c bytes fits = rw (← in_line-nil c) (shown-line (cut_lines lines) lines (shown-lines lines) bytes c [] (omega arith) refl (omega arith))
@@ -154,4 +167,4 @@ shown-lines (suc lines) c bytes fits = rw (← in_line-nil c) (shown-line (cut_l
 -- the machine gives the frames of the bytes, and holds the command that has begun
 pub cut-shown : (bytes : List ℕ) → cut bytes ≡ shown start bytes
 unfolding cut
-cut-shown bytes = sym (shown-lines (suc (length bytes)) no_command bytes (omega arith))
+cut-shown bytes = sym (shown-lines (suc (length bytes)) empty_command bytes (omega arith))

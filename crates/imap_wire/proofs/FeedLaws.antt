@@ -55,7 +55,8 @@ frames-past s past bytes is = rw (frames-shown (past ++ bytes), frames-shown pas
 pub begun-past : (s : State) (past bytes : List ℕ) → after start past ≡ s → begun (past ++ bytes) ≡ begun_of (after s bytes)
 begun-past s past bytes is = rw (begun-shown (past ++ bytes), after-append start past bytes, is) refl
 
-pub Gives-takes : (s to : State) (past piece : List ℕ) (frame : Option Frame) (taken : ℕ) → after start past ≡ s → Takes s piece frame taken to → (frame ≡ None → taken ≡ length piece) → Gives past piece frame taken
+pub Gives-takes : (s to : State) (past piece : List ℕ) (frame : Option Frame) (taken : ℕ) → after start past ≡ s → Takes s piece frame taken to
+    → (frame ≡ None → taken ≡ length piece) → Gives past piece frame taken
 Gives-takes s to past piece None taken is takes whole =
     let all = whole refl in
     let none : given s piece ≡ [] = rw (take_all taken piece (omega arith)) at takes.gives in
@@ -66,7 +67,8 @@ Gives-takes s to past piece (Some frame) taken is takes whole = record {
   not_before = λ n before. rw (frames-past s past (take n piece) is, takes.first n before) (append-nil (frames past));
 }
 
-pub begun-takes : (s to : State) (past piece : List ℕ) (frame : Option Frame) (taken : ℕ) → after start past ≡ s → Takes s piece frame taken to → begun (past ++ take taken piece) ≡ begun_of to
+pub begun-takes : (s to : State) (past piece : List ℕ) (frame : Option Frame) (taken : ℕ) → after start past ≡ s → Takes s piece frame taken to
+    → begun (past ++ take taken piece) ≡ begun_of to
 begun-takes s to past piece frame taken is takes = begun-past s past (take taken piece) is ∙ ap begun_of (sym takes.arrives)
 
 pub IsReached-takes : (s to : State) (piece : List ℕ) (frame : Option Frame) (taken : ℕ) → IsReached s → Takes s piece frame taken to → IsReached to
@@ -82,7 +84,8 @@ unfolding after
 begun-start s is = rw is (sym (begun-shown []))
 
 -- a frame has a byte, and a piece too
-pub Takes-some : (s to : State) (piece : List ℕ) (frame : Option Frame) (taken : ℕ) → Takes s piece frame taken to → (frame ≡ None → taken ≡ length piece) → 0 < length piece → 0 < taken
+pub Takes-some : (s to : State) (piece : List ℕ) (frame : Option Frame) (taken : ℕ) → Takes s piece frame taken to → (frame ≡ None → taken ≡ length piece)
+    → 0 < length piece → 0 < taken
 unfolding given
 Takes-some s to piece None taken takes whole some = let all = whole refl in omega arith
 Takes-some s to piece (Some frame) zero takes whole some = let none = takes.gives in cc
@@ -97,21 +100,26 @@ ended : (past : List ℕ) → begun past ≡ None → (after start past).spent �
 ended past none = begun_of-none (after start past).spent (after start past).bytes (sym (begun-shown past) ∙ none)
 
 pub frames-ended : (past more : List ℕ) → begun past ≡ None → frames (past ++ more) ≡ frames past
-frames-ended past more none = rw (frames-past (after start past) past more refl, given-spent (after start past) more (ended past none)) (append-nil (frames past))
+frames-ended past more none = rw (frames-past (after start past) past more refl, given-spent (after start past) more (ended past none))
+    (append-nil (frames past))
 
 pub begun-ended : (past more : List ℕ) → begun past ≡ None → begun (past ++ more) ≡ None
 begun-ended past more none = rw (begun-past (after start past) past more refl, after-spent (after start past) more (ended past none), ended past none) refl
 
 -- the frames with the one that `feed` gives, if there is one
-pub frames-given : (past piece : List ℕ) (frame : Option Frame) (taken : ℕ) → Gives past piece frame taken → frames (past ++ take taken piece) ≡ frames past ++ option_to_list frame
+pub frames-given : (past piece : List ℕ) (frame : Option Frame) (taken : ℕ) → Gives past piece frame taken
+    → frames (past ++ take taken piece) ≡ frames past ++ option_to_list frame
 frames-given past piece None taken gives = rw (take_all taken piece (omega (arith, gives.whole))) (gives.no_more ∙ sym (append-nil (frames past)))
 frames-given past piece (Some frame) taken gives = gives.one_more
 
 -- one call behind another
-pub past-more : (past piece : List ℕ) (taken more : ℕ) → past ++ take (taken + more) piece ≡ past ++ take taken piece ++ take more (take (length piece - taken) (drop taken piece))
-past-more past piece taken more = rw (take_rest piece taken, take-add taken more piece) (sym (append_assoc past (take taken piece) (take more (drop taken piece))))
+pub past-more : (past piece : List ℕ) (taken more : ℕ) → past ++ take (taken + more) piece ≡ past ++ take taken piece ++ take more
+    (take (length piece - taken) (drop taken piece))
+past-more past piece taken more =
+    rw (take_rest piece taken, take-add taken more piece) (sym (append_assoc past (take taken piece) (take more (drop taken piece))))
 
-pub frames-more : (past piece : List ℕ) (taken more : ℕ) (frame : Option Frame) (old new : List Frame) → Gives (past ++ take taken piece) (take (length piece - taken) (drop taken piece)) frame more
+pub frames-more : (past piece : List ℕ) (taken more : ℕ) (frame : Option Frame) (old new : List Frame)
+    → Gives (past ++ take taken piece) (take (length piece - taken) (drop taken piece)) frame more
     → old ≡ frames (past ++ take taken piece) → new ≡ old ++ option_to_list frame → new ≡ frames (past ++ take (taken + more) piece)
 frames-more past piece taken more frame old new gives old_is new_is =
     rw (past-more past piece taken more, frames-given (past ++ take taken piece) (take (length piece - taken) (drop taken piece)) frame more gives)
@@ -129,10 +137,13 @@ past-rest : (past piece : List ℕ) (taken : ℕ) → past ++ piece ≡ past ++ 
 past-rest past piece taken = ap (λ (l : List ℕ). past ++ l) (sym (take-append-drop taken piece)) ∙ sym (append_assoc past (take taken piece) (drop taken piece))
 
 -- a spent framer leaves the rest of a piece
-pub frames-rest : (past piece : List ℕ) (taken : ℕ) (held : Option (List ℕ)) → is_none held ≡ true → begun (past ++ take taken piece) ≡ held → frames (past ++ piece) ≡ frames (past ++ take taken piece)
-frames-rest past piece taken held none is = rw (past-rest past piece taken) (frames-ended (past ++ take taken piece) (drop taken piece) (is ∙ none_from held none))
+pub frames-rest : (past piece : List ℕ) (taken : ℕ) (held : Option (List ℕ)) → is_none held ≡ true → begun (past ++ take taken piece) ≡ held
+    → frames (past ++ piece) ≡ frames (past ++ take taken piece)
+frames-rest past piece taken held none is =
+    rw (past-rest past piece taken) (frames-ended (past ++ take taken piece) (drop taken piece) (is ∙ none_from held none))
 
-pub begun-rest : (past piece : List ℕ) (taken : ℕ) (held : Option (List ℕ)) → is_none held ≡ true → begun (past ++ take taken piece) ≡ held → begun (past ++ piece) ≡ held
+pub begun-rest : (past piece : List ℕ) (taken : ℕ) (held : Option (List ℕ)) → is_none held ≡ true → begun (past ++ take taken piece) ≡ held
+    → begun (past ++ piece) ≡ held
 begun-rest past piece taken held none is =
     let gone = none_from held none in
     rw (past-rest past piece taken) (begun-ended (past ++ take taken piece) (drop taken piece) (is ∙ gone) ∙ sym gone)
@@ -146,7 +157,8 @@ concat-push : (pieces : List (List ℕ)) (piece : List ℕ) → concat (pieces +
 concat-push [] piece = append-nil piece
 concat-push (x ∷ pieces) piece = ap (λ (l : List ℕ). x ++ l) (concat-push pieces piece) ∙ sym (append_assoc x (concat pieces) piece)
 
-pub concat-more : (pieces : List (List ℕ)) (i : ℕ) (piece : List ℕ) → i < length pieces → piece ≡ get_or pieces i piece → concat (take (i + 1) pieces) ≡ concat (take i pieces) ++ piece
+pub concat-more : (pieces : List (List ℕ)) (i : ℕ) (piece : List ℕ) → i < length pieces → piece ≡ get_or pieces i piece
+    → concat (take (i + 1) pieces) ≡ concat (take i pieces) ++ piece
 concat-more pieces i piece within is = rw (take_more pieces i piece within, ← is) (concat-push (take i pieces) piece)
 
 -- the bytes of the command that has begun would lead to it alone

@@ -8,7 +8,8 @@ use Rattle.imap_wire.specs.declared.frame.Frame.{Frame}
 use Rattle.imap_wire.specs.declared.literal.Literal.{Literal}
 use Rattle.imap_wire.specs.declared.literal.Admission.{Admission}
 use Rattle.imap_wire.specs.declared.literal.Admission.TheVariants.{Asked, Unasked, Refused, RefusedUnasked}
-use Rattle.imap_wire.specs.Line.{ends_with_cr, without_last, least_length}
+use Rattle.mur_base.specs.Ascii.{ends_with_cr}
+use Rattle.imap_wire.specs.Line.{without_last, least_length}
 use Rattle.imap_wire.specs.Literal.{announced, admission_of}
 use Rattle.imap_wire.specs.Steps.{State, Step, step, given, after, begun_of, line_end, announced_step, at_line_end}
 use Rattle.imap_wire.specs.Begun.{Takes}
@@ -32,7 +33,7 @@ unfolding line_end
 line_end-leaves s None going = refl
 line_end-leaves s (Some literal) going = announced_step-leaves (admission_of literal s.literal_room) s literal going
 
-step-leaves : (s : State) (byte : ℕ) → s.spent ≡ false → StepLeaves (step s byte)
+pub step-leaves : (s : State) (byte : ℕ) → s.spent ≡ false → StepLeaves (step s byte)
 step-leaves s byte going = elim (cases_lt 0 s.literal_left) [
   | inl left ↦ rw (step-literal s byte going left) tt
   | inr none ↦
@@ -54,7 +55,8 @@ last-frame : (given_last : Option Frame) (frame : Frame) → option_to_list give
 last-frame None frame h = cc
 last-frame (Some last) frame h = cc
 
-pub Takes-leaves : (s to : State) (piece : List ℕ) (frame : Option Frame) (taken : ℕ) → s.spent ≡ false → Takes s piece frame taken to → IfSome frame (λ f. Leaves f (begun_of to))
+pub Takes-leaves : (s to : State) (piece : List ℕ) (frame : Option Frame) (taken : ℕ) → s.spent ≡ false → Takes s piece frame taken to
+    → IfSome frame (λ f. Leaves f (begun_of to))
 unfolding given after
 Takes-leaves s to piece None taken going takes = tt
 Takes-leaves s to piece (Some frame) zero going takes = let none = takes.gives in cc
@@ -63,7 +65,8 @@ Takes-leaves s to piece (Some frame) (suc before) going takes =
     let byte = get_or piece before 0 in
     let silent : given s (take before piece) ≡ [] = takes.first before (omega arith) in
     let next : suc before ≡ before + 1 = omega arith in
-    let split : take (suc before) piece ≡ take before piece ++ byte ∷ [] = ap (λ (n : ℕ). take n piece) next ∙ take_more piece before 0 (omega (arith, takes.within)) in
+    let split : take (suc before) piece ≡ take before piece ++ byte ∷ [] =
+    ap (λ (n : ℕ). take n piece) next ∙ take_more piece before 0 (omega (arith, takes.within)) in
     let last : given mid (byte ∷ []) ≡ frame ∷ [] = rw (split, given-append s (take before piece) (byte ∷ []), silent) at takes.gives in
     let frame_is : (step mid byte).frame ≡ Some frame = last-frame (step mid byte).frame frame last in
     let to_is : to ≡ (step mid byte).after = rw (split, after-append s (take before piece) (byte ∷ [])) at takes.arrives in

@@ -8,4 +8,6 @@ pub mod TakeLaws
 pub mod FeedLaws
 pub mod LeaveLaws
 pub mod BlockLaws
-pub mod WorkLaws
+pub mod TallyLaws
+pub mod MoreLaws
+pub mod FaultLaws

@@ -5,7 +5,7 @@ use Rattle.std.proofs.lemmas.Bool.{cases_lt, cases_Bool}
 use Rattle.std.proofs.lemmas.Bool.Decides.{nat_tests}
 use Rattle.mur_base.specs.declared.limits.TheConstants.{MESSAGE_LIMIT, PLUS_LITERAL_LIMIT}
 use Rattle.imap_wire.specs.declared.literal.Literal.{Literal}
-use Rattle.imap_wire.specs.Line.{ends_with_cr}
+use Rattle.mur_base.specs.Ascii.{ends_with_cr}
 use Rattle.imap_wire.specs.Literal.{announced, admission_of, capped}
 use Rattle.imap_wire.specs.Steps.{State, step, line_end, announced_step, at_line_end}
 use Rattle.imap_wire.proofs.StepLaws.{step-end}
@@ -13,7 +13,8 @@ use Rattle.imap_wire.proofs.LineLaws.{without_last-is}
 use Rattle.imap_wire.proofs.MoveLaws.{kept, no_line}
 
 -- a size past 64 bits is refused as the largest of 64 bits is, and a smaller one stays
-announced_step-capped : (s : State) (literal : Literal) → announced_step (admission_of (capped literal) s.literal_room) s (capped literal) ≡ announced_step (admission_of literal s.literal_room) s literal
+announced_step-capped : (s : State) (literal : Literal) → announced_step (admission_of (capped literal) s.literal_room) s (capped literal) ≡ announced_step
+    (admission_of literal s.literal_room) s literal
 unfolding admission_of announced_step
 announced_step-capped s literal = elim (cases_lt literal.size (2 ^ 64)) [
   | inl small ↦ let same : min literal.size (2 ^ 64 - 1) ≡ literal.size = omega arith in rw same refl
@@ -34,12 +35,14 @@ line_end-capped s None = refl
 line_end-capped s (Some literal) = announced_step-capped s literal
 
 pub line_end-step : (s between : State) (text : List ℕ) (literal : Option Literal) → s.spent ≡ false → s.literal_left ≡ 0 → ends_with_cr s.line ≡ true
-    → text ≡ take (length s.line - 1) s.line → literal ≡ option_map capped (announced text) → between ≡ at_line_end s text → line_end between literal ≡ step s 10
+    → text ≡ take (length s.line - 1) s.line → literal ≡ option_map capped (announced text) → between ≡ at_line_end s text
+    → line_end between literal ≡ step s 10
 line_end-step s between text literal going in_line cr text_is literal_is between_is =
     let same = text_is ∙ without_last-is s.line in
     rw (between_is, literal_is, line_end-capped (at_line_end s text) (announced text), same) (sym (step-end s going in_line cr))
 
-pub kept-line_end : (bytes all last grown text : List ℕ) (line_at at room less literal_room left : ℕ) (spent : Bool) → all ≡ bytes ++ 10 ∷ [] → at ≡ length grown → less ≡ room - length text
+pub kept-line_end : (bytes all last grown text : List ℕ) (line_at at room less literal_room left : ℕ) (spent : Bool) → all ≡ bytes ++ 10 ∷ []
+    → at ≡ length grown → less ≡ room - length text
     → kept all grown at less literal_room left spent ≡ at_line_end (kept bytes last line_at room literal_room left spent) text
 kept-line_end bytes all last grown text line_at at room less literal_room left spent all_is at_is less_is =
     let empty : cond (nat_lt 0 left) [] (drop at grown) ≡ [] = no_line (nat_lt 0 left) grown at (omega arith) in

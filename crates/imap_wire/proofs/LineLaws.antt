@@ -4,7 +4,8 @@ use Rattle.std.proofs.lemmas.List.{append-nil, length-append}
 use Rattle.std.proofs.lemmas.Bool.{cases_Bool}
 use Rattle.std.proofs.lemmas.Bool.Decides.{nat_tests}
 use Rattle.std.specs.Option.{option_map}
-use Rattle.imap_wire.specs.Line.{begins_with_lf, ends_with_cr, without_last, with_byte, split_line, least_length}
+use Rattle.mur_base.specs.Ascii.{begins_with_lf, ends_with_cr}
+use Rattle.imap_wire.specs.Line.{without_last, with_byte, split_line, least_length}
 
 pub ends_with_cr-push : (xs : List ℕ) (byte : ℕ) → ends_with_cr (xs ++ byte ∷ []) ≡ (byte == 13)
 unfolding ends_with_cr
@@ -94,7 +95,9 @@ least_length-append xs (x ∷ more) = omega (arith, least_length-le xs, least_le
 least_length-more : (x y : ℕ) (xs : List ℕ) → least_length (x ∷ y ∷ xs) ≡ suc (least_length (y ∷ xs))
 unfolding ends_with_cr without_last
 least_length-more x y xs =
-    elim (ends_with_cr (y ∷ xs)) as (λ v. cond v (suc (length (without_last (y ∷ xs)))) (suc (suc (length xs))) ≡ suc (cond v (length (without_last (y ∷ xs))) (suc (length xs)))) [ true ↦ refl | false ↦ refl ]
+    elim (ends_with_cr (y ∷ xs)) as
+    (λ v. cond v (suc (length (without_last (y ∷ xs)))) (suc (suc (length xs))) ≡ suc
+    (cond v (length (without_last (y ∷ xs))) (suc (length xs)))) [ true ↦ refl | false ↦ refl ]
 
 some-parts : (o : Option (List ℕ × List ℕ)) (x : ℕ) (text rest : List ℕ) → option_map (with_byte x) o ≡ Some (text, rest)
     → (shorter : List ℕ) × (o ≡ Some (shorter, rest)) × (text ≡ x ∷ shorter)
@@ -105,7 +108,8 @@ some-parts (Some split) x text rest h =
     (split.0, ap (λ (r : List ℕ). Some (split.0, r)) behind, sym (ap (λ (p : List ℕ × List ℕ). p.0) same))
 
 -- what has come of a line isn't longer than the line turns out to be
-pub least_length-split : (begun more text rest : List ℕ) → split_line begun ≡ None → split_line (begun ++ more) ≡ Some (text, rest) → least_length begun ≤ length text
+pub least_length-split : (begun more text rest : List ℕ) → split_line begun ≡ None → split_line (begun ++ more) ≡ Some (text, rest)
+    → least_length begun ≤ length text
 unfolding split_line begins_with_lf ends_with_cr without_last
 least_length-split [] more text rest none split = omega arith
 least_length-split (x ∷ []) more text rest none split =

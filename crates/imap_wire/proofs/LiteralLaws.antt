@@ -37,7 +37,8 @@ asked_tests true false unasked_large h = refl
 asked_tests false large true h = cc
 asked_tests false large false h = cc
 
-unasked_tests : (waits large unasked_large : Bool) → cond waits (cond large Refused Asked) (cond unasked_large RefusedUnasked Unasked) ≡ Unasked → unasked_large ≡ false
+unasked_tests : (waits large unasked_large : Bool) → cond waits (cond large Refused Asked) (cond unasked_large RefusedUnasked Unasked) ≡ Unasked
+    → unasked_large ≡ false
 unasked_tests true true unasked_large h = cc
 unasked_tests true false unasked_large h = cc
 unasked_tests false large true h = cc

@@ -4,7 +4,8 @@ use Rattle.std.proofs.lemmas.List.{append-nil, length-append, length-take-le, dr
 use Rattle.std.proofs.lemmas.Bool.{false_from_ne_true}
 use Rattle.std.proofs.lemmas.Bool.Decides.{nat_tests}
 use Rattle.memchr.specs.Find.{IsFirstByte, is_byte}
-use Rattle.imap_wire.specs.Line.{ends_with_cr, least_length}
+use Rattle.mur_base.specs.Ascii.{ends_with_cr}
+use Rattle.imap_wire.specs.Line.{least_length}
 use Rattle.imap_wire.specs.Steps.{State, step, given, after}
 use Rattle.imap_wire.specs.Begun.{Moves}
 use Rattle.imap_wire.proofs.StepLaws.{step-line, line_step-fits, after-literal, given-literal, literal_moved}
@@ -35,7 +36,8 @@ after-text s (x ∷ bytes) going in_line one room =
     (let rest = after-text (line_moved s (s.bytes ++ x ∷ []) (s.line ++ x ∷ [])) bytes going in_line one.1 (omega (arith, longer)) in
     rw (append_assoc s.bytes (x ∷ []) bytes, append_assoc s.line (x ∷ []) bytes) at rest)
 
-pub given-text : (s : State) (bytes : List ℕ) → s.spent ≡ false → s.literal_left ≡ 0 → IsOneLine bytes → length s.line + length bytes ≤ s.line_room → given s bytes ≡ []
+pub given-text : (s : State) (bytes : List ℕ) → s.spent ≡ false → s.literal_left ≡ 0 → IsOneLine bytes → length s.line + length bytes ≤ s.line_room
+    → given s bytes ≡ []
 unfolding given
 given-text s [] going in_line one room = refl
 given-text s (x ∷ bytes) going in_line one room =
@@ -50,7 +52,8 @@ IsOneLine-take (x ∷ bytes) (suc n) h =
     (false_from_ne_true (x == 10) (h 0 (omega arith)), IsOneLine-take bytes n (λ k below. h (suc k) (omega arith)))
 
 -- what stands before the first LF, if there is one
-pub IsOneLine-first : (bytes : List ℕ) (found : Option ℕ) (n : ℕ) → IsFirstByte (is_byte 10) bytes found → n ≤ unwrap_or found (length bytes) → IsOneLine (take n bytes)
+pub IsOneLine-first : (bytes : List ℕ) (found : Option ℕ) (n : ℕ) → IsFirstByte (is_byte 10) bytes found → n ≤ unwrap_or found (length bytes)
+    → IsOneLine (take n bytes)
 IsOneLine-first bytes None n first within = IsOneLine-take bytes n (λ k below. first k (omega arith) (omega arith))
 IsOneLine-first bytes (Some at) n first within = IsOneLine-take bytes n (λ k below. first.0.before k (omega arith) (omega arith))
 
@@ -93,17 +96,28 @@ Moves-text s to piece found (suc n) going in_line first before within room is =
 -- the state of a command with these bytes, whose last block has these
 abbrev pub kept : List ℕ → List ℕ → ℕ → ℕ → ℕ → ℕ → Bool → State
 kept bytes last line_at line_room literal_room literal_left spent =
-    record { bytes = bytes; line = cond (nat_lt 0 literal_left) [] (drop line_at last); line_room = line_room; literal_room = literal_room; literal_left = literal_left; spent = spent }
+    record {
+      bytes = bytes;
+      line = cond (nat_lt 0 literal_left) [] (drop line_at last);
+      line_room = line_room;
+      literal_room = literal_room;
+      literal_left =
+          literal_left;
+      spent = spent;
+    }
 
 -- while a literal comes the present line is empty, and so it is behind the literal
-pub kept-literal : (bytes same all before grown more : List ℕ) (line_at at line_room literal_room left less : ℕ) (spent : Bool) → 0 < left → same ≡ bytes → all ≡ same ++ more → at ≡ length grown
+pub kept-literal : (bytes same all before grown more : List ℕ) (line_at at line_room literal_room left less : ℕ) (spent : Bool) → 0 < left → same ≡ bytes
+    → all ≡ same ++ more → at ≡ length grown
     → kept all grown at line_room literal_room less spent ≡ literal_moved (kept bytes before line_at line_room literal_room left spent) (bytes ++ more) less
 kept-literal bytes same all before grown more line_at at line_room literal_room left less spent some same_is all_is at_is =
     let test : nat_lt 0 left ≡ true = grind (arith, nat_tests) in
     let empty : cond (nat_lt 0 less) [] (drop at grown) ≡ [] = no_line (nat_lt 0 less) grown at (omega arith) in
     rw (empty, test, all_is, same_is) refl
 
-pub kept-text : (bytes all last grown more : List ℕ) (line_at line_room literal_room left : ℕ) (spent : Bool) → left ≡ 0 → all ≡ bytes ++ more → grown ≡ last ++ more → line_at ≤ length last
-    → kept all grown line_at line_room literal_room left spent ≡ (let s = kept bytes last line_at line_room literal_room left spent in line_moved s (bytes ++ more) (s.line ++ more))
+pub kept-text : (bytes all last grown more : List ℕ) (line_at line_room literal_room left : ℕ) (spent : Bool) → left ≡ 0 → all ≡ bytes ++ more
+    → grown ≡ last ++ more → line_at ≤ length last
+    → kept all grown line_at line_room literal_room left spent ≡ (let s = kept bytes last line_at line_room literal_room left spent in
+    line_moved s (bytes ++ more) (s.line ++ more))
 kept-text bytes all last grown more line_at line_room literal_room left spent none all_is grown_is within =
     rw (none, all_is, grown_is, drop-append-le line_at last more within) refl

@@ -4,7 +4,8 @@ use Rattle.std.specs.Option.{option_to_list}
 use Rattle.std.proofs.lemmas.List.{append-nil}
 use Rattle.std.proofs.lemmas.Bool.Decides.{nat_tests}
 use Rattle.imap_wire.specs.declared.frame.FrameFault.TheVariants.{LineTooLong}
-use Rattle.imap_wire.specs.Line.{ends_with_cr, without_last, least_length}
+use Rattle.mur_base.specs.Ascii.{ends_with_cr}
+use Rattle.imap_wire.specs.Line.{without_last, least_length}
 use Rattle.imap_wire.specs.Literal.{announced}
 use Rattle.imap_wire.specs.Steps.{State, step, given, after, silent, failing, literal_step, line_step, line_end, at_line_end}
 
@@ -40,7 +41,9 @@ after-append s (x ∷ a) b = after-append (step s x).after a b
 pub given-append : (s : State) (a b : List ℕ) → given s (a ++ b) ≡ given s a ++ given (after s a) b
 unfolding given after
 given-append s [] b = refl
-given-append s (x ∷ a) b = rw (given-append (step s x).after a b) (sym (append_assoc (option_to_list (step s x).frame) (given (step s x).after a) (given (after (step s x).after a) b)))
+given-append s (x ∷ a) b =
+    rw (given-append (step s x).after a b)
+    (sym (append_assoc (option_to_list (step s x).frame) (given (step s x).after a) (given (after (step s x).after a) b)))
 
 pub given-spent : (s : State) (bytes : List ℕ) → s.spent ≡ true → given s bytes ≡ []
 unfolding given

@@ -9,7 +9,8 @@ use Rattle.imap_wire.specs.declared.frame.Frame.{Frame}
 use Rattle.imap_wire.specs.declared.literal.Literal.{Literal}
 use Rattle.imap_wire.specs.declared.literal.Admission.{Admission}
 use Rattle.imap_wire.specs.declared.literal.Admission.TheVariants.{Asked, Unasked, Refused, RefusedUnasked}
-use Rattle.imap_wire.specs.Line.{ends_with_cr, without_last, least_length}
+use Rattle.mur_base.specs.Ascii.{ends_with_cr}
+use Rattle.imap_wire.specs.Line.{without_last, least_length}
 use Rattle.imap_wire.specs.Literal.{announced, admission_of}
 use Rattle.imap_wire.specs.Steps.{State, Step, start, step, given, after, line_end, announced_step, at_line_end, line_step}
 use Rattle.imap_wire.specs.Begun.{Moves, Takes}
@@ -104,7 +105,8 @@ Takes-byte s mid to (byte ∷ piece) frame some same frame_is to_is = record {
 }
 
 -- one stretch behind another
-pub Takes-more : (s mid to : State) (piece : List ℕ) (frame : Option Frame) (taken more : ℕ) → Takes s piece None taken mid → Takes mid (drop taken piece) frame more to
+pub Takes-more : (s mid to : State) (piece : List ℕ) (frame : Option Frame) (taken more : ℕ) → Takes s piece None taken mid
+    → Takes mid (drop taken piece) frame more to
     → Takes s piece frame (taken + more) to
 Takes-more s mid to piece frame taken more before behind =
     let rest = length-drop taken piece in
@@ -114,7 +116,8 @@ Takes-more s mid to piece frame taken more before behind =
       gives = rw (take-add taken more piece, given-append s (take taken piece) (take more (drop taken piece)), before.gives, ← mid_is) behind.gives;
       first = λ n under. elim (cases_lt taken n) [
         | inl past ↦
-            let split : take n piece ≡ take taken piece ++ take (n - taken) (drop taken piece) = ap (λ (k : ℕ). take k piece) (omega arith) ∙ take-add taken (n - taken) piece in
+            let split : take n piece ≡ take taken piece ++ take (n - taken) (drop taken piece) =
+            ap (λ (k : ℕ). take k piece) (omega arith) ∙ take-add taken (n - taken) piece in
             rw (split, given-append s (take taken piece) (take (n - taken) (drop taken piece)), before.gives, ← mid_is) (behind.first (n - taken) (omega arith))
         | inr within ↦ given-take s piece taken n within before.gives
       ];
@@ -136,6 +139,7 @@ pub none_of : (frame : Option Frame) → is_some frame ≡ false → frame ≡ N
 none_of None none = refl
 none_of (Some frame) none = cc
 
-pub Takes-none : (s to : State) (piece : List ℕ) (frame : Option Frame) (taken : ℕ) → is_some frame ≡ false → Takes s piece frame taken to → Takes s piece None taken to
+pub Takes-none : (s to : State) (piece : List ℕ) (frame : Option Frame) (taken : ℕ) → is_some frame ≡ false → Takes s piece frame taken to
+    → Takes s piece None taken to
 Takes-none s to piece None taken none takes = takes
 Takes-none s to piece (Some frame) taken none takes = cc

@@ -7,11 +7,18 @@ use Rattle.imap_wire.specs.Kept.{joined}
 use Rattle.imap_wire.specs.Steps.{State, given, after}
 
 -- the present line of the command
-abbrev pub line_of : Begun → List ℕ
-line_of begun = if nat_lt 0 begun.literal_left then [] else drop begun.line_at begun.kept.last.bytes.items
+abbrev pub present_line : Begun → List ℕ
+present_line begun = if nat_lt 0 begun.literal_left then [] else drop begun.line_at begun.kept.last.bytes.items
 
 abbrev pub state_of : Begun → State
-state_of begun = record { bytes = joined begun.kept.full.items begun.kept.last; line = line_of begun; line_room = begun.line_room; literal_room = begun.literal_room; literal_left = begun.literal_left; spent = begun.spent }
+state_of begun = record {
+  bytes = joined begun.kept.full.items begun.kept.last;
+  line = present_line begun;
+  line_room = begun.line_room;
+  literal_room = begun.literal_room;
+  literal_left = begun.literal_left;
+  spent = begun.spent;
+}
 
 -- the last block has room for the present line to its end, its CRLF included
 abbrev pub IsRoomy : Begun → Type 0

@@ -2,13 +2,13 @@
 use Rattle.std.specs.Prelude.{◌≡◌, ℕ, ◌<◌, ◌≤◌, List, [], ◌∷◌, ◌++◌, length, take, Option, None, Some, IsSome, IsNone}
 use Rattle.imap_wire.specs.declared.frame.Frame.{Frame}
 use Rattle.imap_wire.specs.declared.frame.Frame.TheVariants.{Whole, NeedLiteral, TooBig, Fault}
-use Rattle.imap_wire.specs.declared.work.Work.{Work}
+use Rattle.imap_wire.specs.declared.tally.Tally.{Tally}
 use Rattle.imap_wire.specs.Frames.{frames}
 
 -- what a contract sees of a framer: the bytes of the command that has begun, none once it is spent, and what it did
 pub record Progress : Type 0 where
   pub begun : Option (List ℕ)
-  pub work : Work
+  pub tally : Tally
 
 -- the frame ends at the last of the bytes that are taken, and none ends before it
 pub record EndsFrame (past piece : List ℕ) (frame : Frame) (taken : ℕ) : Type 0 where

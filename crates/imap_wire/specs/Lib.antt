@@ -1,8 +1,9 @@
 pub mod Line
 pub mod Literal
 pub mod Frames
-pub mod Work
+pub mod Tally
 pub mod Kept
 pub mod Steps
 pub mod Begun
 pub mod Feeding
+pub mod More

@@ -1,17 +1,7 @@
--- A line of a command (RFC 9051, section 2.2): its text, and the CRLF that ends it.
-use Rattle.std.specs.Prelude.{ℕ, Bool, false, ◌&&◌, ◌==◌, List, [], ◌∷◌, length, drop, Option, None, Some, if◌then◌else◌}
+-- A line of a command (RFC 9051, 2.2): its text, and the CRLF that ends it.
+use Rattle.std.specs.Prelude.{ℕ, ◌&&◌, ◌==◌, List, [], ◌∷◌, length, drop, Option, None, Some, if◌then◌else◌}
 use Rattle.std.specs.Option.{option_map}
-
--- whether the bytes begin with LF
-unfoldable pub begins_with_lf : List ℕ → Bool
-begins_with_lf [] = false
-begins_with_lf (byte ∷ rest) = byte == 10
-
--- whether the bytes end in CR
-unfoldable pub ends_with_cr : List ℕ → Bool
-ends_with_cr [] = false
-ends_with_cr (byte ∷ []) = byte == 13
-ends_with_cr (byte ∷ next ∷ rest) = ends_with_cr (next ∷ rest)
+use Rattle.mur_base.specs.Ascii.{cr, begins_with_lf, ends_with_cr}
 
 -- all bytes but the last
 unfoldable pub without_last : List ℕ → List ℕ
@@ -27,7 +17,7 @@ with_byte byte split = (byte ∷ split.0, split.1)
 unfoldable pub split_line : List ℕ → Option (List ℕ × List ℕ)
 split_line [] = None
 split_line (byte ∷ rest) =
-    if byte == 13 && begins_with_lf rest then Some ([], drop 1 rest)
+    if byte == cr && begins_with_lf rest then Some ([], drop 1 rest)
     else option_map (with_byte byte) (split_line rest)
 
 -- how long a line's text is at least, of which this much has come and no CRLF: a CR at the end may begin it

@@ -1,5 +1,5 @@
--- The literal that a line announces (RFC 9051, section 4.3), and what becomes of it.
-use Rattle.std.specs.Prelude.{ℕ, ◌-◌, ◌^◌, IsTrue, Bool, true, false, ◌&&◌, ◌||◌, nat_eq, nat_lt, List, [], ◌∷◌, length, take, drop, min, Option, None, Some, if◌then◌else◌}
+-- The literal that a line announces (RFC 9051, 4.3), and what becomes of it.
+use Rattle.std.specs.Prelude.{ℕ, ◌-◌, ◌^◌, IsTrue, Bool, true, false, ◌&&◌, ◌||◌, nat_eq, nat_lt, List, codes, length, take, drop, min, Option, None, Some, if◌then◌else◌}
 use Rattle.std.specs.List.{ends_with, suffix_len}
 use Rattle.std.specs.Char.{is_ascii_digit}
 use Rattle.std.specs.Str.Parse.{digits_value}
@@ -20,14 +20,15 @@ last_digits bytes = suffix_len is_ascii_digit bytes
 unfoldable pub sized : Bool → List ℕ → Option Literal
 sized waits bytes =
     let digits = last_digits bytes in
-    if nat_lt 0 digits && ends_with nat_eq (take (length bytes - digits) bytes) (123 ∷ []) then Some (record { size = digits_value 10 (drop (length bytes - digits) bytes); waits = waits })
+    if nat_lt 0 digits && ends_with nat_eq (take (length bytes - digits) bytes)
+    (codes "{") then Some (record { size = digits_value 10 (drop (length bytes - digits) bytes); waits = waits })
     else None
 
 -- the literal that a line's text announces at its end, wherever the text stands: `{n+}` comes unasked, for `{n}` the client waits
 unfoldable pub announced : List ℕ → Option Literal
 announced text =
-    if ends_with nat_eq text (43 ∷ 125 ∷ []) then sized false (take (length text - 2) text)
-    else (if ends_with nat_eq text (125 ∷ []) then sized true (take (length text - 1) text) else None)
+    if ends_with nat_eq text (codes "+}") then sized false (take (length text - 2) text)
+    else (if ends_with nat_eq text (codes "}") then sized true (take (length text - 1) text) else None)
 
 -- what becomes of a literal, of a command whose literals may have so many further bytes
 unfoldable pub admission_of : Literal → ℕ → Admission

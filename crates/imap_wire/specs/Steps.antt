@@ -9,7 +9,8 @@ use Rattle.imap_wire.specs.declared.frame.FrameFault.TheVariants.{LineTooLong, P
 use Rattle.imap_wire.specs.declared.literal.Literal.{Literal}
 use Rattle.imap_wire.specs.declared.literal.Admission.{Admission}
 use Rattle.imap_wire.specs.declared.literal.Admission.TheVariants.{Asked, Unasked, Refused, RefusedUnasked}
-use Rattle.imap_wire.specs.Line.{ends_with_cr, without_last, least_length}
+use Rattle.mur_base.specs.Ascii.{lf, ends_with_cr}
+use Rattle.imap_wire.specs.Line.{without_last, least_length}
 use Rattle.imap_wire.specs.Literal.{announced, admission_of}
 
 -- what a framer knows of the command that has begun
@@ -62,7 +63,7 @@ line_end state (Some literal) = announced_step (admission_of literal state.liter
 
 -- the state at the end of the present line, of this text, where the last byte has come
 abbrev pub at_line_end : State → List ℕ → State
-at_line_end state text = record state { bytes = state.bytes ++ 10 ∷ []; line = []; line_room = state.line_room - length text }
+at_line_end state text = record state { bytes = state.bytes ++ lf ∷ []; line = []; line_room = state.line_room - length text }
 
 -- one byte of a literal
 abbrev pub literal_step : State → ℕ → Step
@@ -79,7 +80,7 @@ unfoldable pub step : State → ℕ → Step
 step state byte =
     if state.spent then silent state
     else (if nat_lt 0 state.literal_left then literal_step state byte
-    else (if byte == 10 && ends_with_cr state.line then line_end (at_line_end state (without_last state.line)) (announced (without_last state.line))
+    else (if byte == lf && ends_with_cr state.line then line_end (at_line_end state (without_last state.line)) (announced (without_last state.line))
     else line_step state byte))
 
 -- the frames that the bytes lead to, one after the other

@@ -34,16 +34,17 @@ pub struct Begun {
 }
 
 impl Begun {
-    ghost use Rattle.imap_wire.specs.Begun.{state_of, line_of, IsRoomy, IsBetween, Moves, Takes};
+    ghost use Rattle.imap_wire.specs.Begun.{state_of, present_line, IsRoomy, IsBetween, Moves, Takes};
     ghost use Rattle.imap_wire.specs.Kept.{next_room};
     ghost use Rattle.imap_wire.specs.Steps.{start, step, line_step, line_end, with_literal, failing};
-    ghost use Rattle.imap_wire.specs.Line.{ends_with_cr, least_length};
-    ghost use Rattle.imap_wire.specs.Work.{no_work, more, copies, fed, IsFedPart};
+    ghost use Rattle.mur_base.specs.Ascii.{lf, ends_with_cr};
+    ghost use Rattle.imap_wire.specs.Line.{least_length};
+    ghost use Rattle.imap_wire.specs.Tally.{no_tally, more, copies, fed, IsFedPart};
 
     /// The state between two commands, at the beginning of a connection.
     pub fn new(alloc: Global) -> Begun
         ensures state { state_of result ≡ start }
-        ensures work { result.kept.work ≡ no_work }
+        ensures tally { result.kept.tally ≡ no_tally }
     {
         Begun {
             kept: Kept::new(alloc),
@@ -70,8 +71,8 @@ impl Begun {
         ensures moves { IfOk result (λ taken. Moves (state_of self.old) piece.now taken (state_of self.new)) }
         ensures some { IfOk result (λ taken. 0 < length piece.now → 0 < taken) }
         ensures bulk { IfOk result (λ taken. taken ≡ min (min self.old.literal_left (next_room self.old.kept.last)) (length piece.now)) }
-        ensures work { IfOk result (λ taken. self.new.kept.work ≡ fed self.old.kept.work None taken) }
-        ensures memory { OnErr result (self.new.kept.work ≡ self.old.kept.work) }
+        ensures tally { IfOk result (λ taken. self.new.kept.tally ≡ fed self.old.kept.tally None taken) }
+        ensures memory { OnErr result (self.new.kept.tally ≡ self.old.kept.tally) }
         ensures cause { OnErr result (vec_capacity self.old.kept.last.bytes ≤ length self.old.kept.last.bytes.items) }
     {
         self.kept.make_room(alloc)?;
@@ -88,7 +89,7 @@ impl Begun {
         ensures state { OnOk result (state_of self.new ≡ state_of self.old) }
         ensures room { OnOk result (IsRoomy self.new) }
         ensures cause { OnErr result (¬ IsRoomy self.old) }
-        ensures work { self.new.kept.work ≡ self.old.kept.work }
+        ensures tally { self.new.kept.tally ≡ self.old.kept.tally }
     {
         if self.kept.last.room() - self.line_at < self.line_room + 2 {
             self.kept.next_block(alloc)?;
@@ -104,7 +105,7 @@ impl Begun {
         requires room { IsRoomy self.old }
         ensures moves { Moves (state_of self.old) piece.now result (state_of self.new) }
         ensures room { IsRoomy self.new }
-        ensures work { self.new.kept.work ≡ fed self.old.kept.work None result }
+        ensures tally { self.new.kept.tally ≡ fed self.old.kept.tally None result }
     {
         let room = self.line_room.saturating_sub(self.line().len());
         let taken = memchr(b'\n', piece).unwrap_or(piece.len()).min(room);
@@ -115,7 +116,7 @@ impl Begun {
     /// Whether the present line ends in CR.
     fn ends_with_cr(&self) -> bool
         requires { self.now.literal_left ≡ 0 }
-        ensures { result ≡ ends_with_cr (line_of self.now) }
+        ensures { result ≡ ends_with_cr (present_line self.now) }
     {
         matches!(self.line(), [.., b'\r'])
     }
@@ -124,7 +125,7 @@ impl Begun {
     /// doesn't count.
     fn has_room_for(&self, byte: u8) -> bool
         requires { self.now.literal_left ≡ 0 }
-        ensures { IsTrue result ↔ (least_length (line_of self.now ++ byte ∷ []) ≤ self.now.line_room) }
+        ensures { IsTrue result ↔ (least_length (present_line self.now ++ byte ∷ []) ≤ self.now.line_room) }
     {
         let length = self.line().len();
         if byte == b'\r' {
@@ -139,8 +140,8 @@ impl Begun {
         requires going { self.old.spent ≡ false }
         ensures takes { IfOk result (λ r. Takes (state_of self.old) piece.now r.0 r.1 (state_of self.new)) }
         ensures whole { IfOk result (λ r. r.0 ≡ None → r.1 ≡ length piece.now) }
-        ensures work { IfOk result (λ r. self.new.kept.work ≡ fed self.old.kept.work r.0 r.1) }
-        ensures memory { OnErr result (IsFedPart self.old.kept.work (length piece.now) self.new.kept.work) }
+        ensures tally { IfOk result (λ r. self.new.kept.tally ≡ fed self.old.kept.tally r.0 r.1) }
+        ensures memory { OnErr result (IsFedPart self.old.kept.tally (length piece.now) self.new.kept.tally) }
     {
         let mut taken = 0;
         while taken < piece.len() {
@@ -159,8 +160,8 @@ impl Begun {
         requires some { 0 < length piece.now }
         ensures takes { IfOk result (λ r. Takes (state_of self.old) piece.now r.0 r.1 (state_of self.new)) }
         ensures some { IfOk result (λ r. 0 < r.1) }
-        ensures work { IfOk result (λ r. self.new.kept.work ≡ fed self.old.kept.work r.0 r.1) }
-        ensures memory { OnErr result (IsFedPart self.old.kept.work (length piece.now) self.new.kept.work) }
+        ensures tally { IfOk result (λ r. self.new.kept.tally ≡ fed self.old.kept.tally r.0 r.1) }
+        ensures memory { OnErr result (IsFedPart self.old.kept.tally (length piece.now) self.new.kept.tally) }
     {
         if self.literal_left > 0 {
             return Ok((None, self.take_literal(alloc, piece)?));
@@ -180,24 +181,24 @@ impl Begun {
         requires room { IsRoomy self.old }
         ensures frame { IfOk result (λ frame. frame ≡ (step (state_of self.old) byte).frame) }
         ensures after { OnOk result (state_of self.new ≡ (step (state_of self.old) byte).after) }
-        ensures work { IfOk result (λ frame. self.new.kept.work ≡ fed self.old.kept.work frame 1) }
-        ensures memory { OnErr result (self.new.kept.work ≡ fed self.old.kept.work None 1) }
+        ensures tally { IfOk result (λ frame. self.new.kept.tally ≡ fed self.old.kept.tally frame 1) }
+        ensures memory { OnErr result (self.new.kept.tally ≡ fed self.old.kept.tally None 1) }
     {
         if byte == b'\n' && self.ends_with_cr() {
-            self.take_line_end(alloc)
+            self.take_lf(alloc)
         } else {
-            Ok(self.take_line_byte(byte))
+            Ok(self.take_text_byte(byte))
         }
     }
 
     /// Takes one byte that ends no line. The fault is the only frame.
-    fn take_line_byte(&mut self, byte: u8) -> Option<Frame>
+    fn take_text_byte(&mut self, byte: u8) -> Option<Frame>
         requires going { self.old.spent ≡ false }
         requires in_line { self.old.literal_left ≡ 0 }
         requires room { IsRoomy self.old }
         ensures frame { result ≡ (line_step (state_of self.old) byte).frame }
         ensures after { state_of self.new ≡ (line_step (state_of self.old) byte).after }
-        ensures work { self.new.kept.work ≡ fed self.old.kept.work result 1 }
+        ensures tally { self.new.kept.tally ≡ fed self.old.kept.tally result 1 }
     {
         if !self.has_room_for(byte) {
             self.kept.pass();
@@ -208,15 +209,15 @@ impl Begun {
     }
 
     /// Takes the LF behind the CR of the present line, and gives the frame that ends with it.
-    fn take_line_end(&mut self, alloc: Global) -> Result<Option<Frame>, Memory>
+    fn take_lf(&mut self, alloc: Global) -> Result<Option<Frame>, Memory>
         requires going { self.old.spent ≡ false }
         requires in_line { self.old.literal_left ≡ 0 }
-        requires cr { ends_with_cr (line_of self.old) ≡ true }
+        requires cr { ends_with_cr (present_line self.old) ≡ true }
         requires room { IsRoomy self.old }
-        ensures frame { IfOk result (λ frame. frame ≡ (step (state_of self.old) 10).frame) }
-        ensures after { OnOk result (state_of self.new ≡ (step (state_of self.old) 10).after) }
-        ensures work { IfOk result (λ frame. self.new.kept.work ≡ fed self.old.kept.work frame 1) }
-        ensures memory { OnErr result (self.new.kept.work ≡ fed self.old.kept.work None 1) }
+        ensures frame { IfOk result (λ frame. frame ≡ (step (state_of self.old) lf).frame) }
+        ensures after { OnOk result (state_of self.new ≡ (step (state_of self.old) lf).after) }
+        ensures tally { IfOk result (λ frame. self.new.kept.tally ≡ fed self.old.kept.tally frame 1) }
+        ensures memory { OnErr result (self.new.kept.tally ≡ fed self.old.kept.tally None 1) }
     {
         let line = self.line();
         let text = &line[..line.len() - 1];
@@ -236,8 +237,8 @@ impl Begun {
         requires between { IsBetween self.old }
         ensures frame { IfOk result (λ frame. frame ≡ (line_end (state_of self.old) literal).frame) }
         ensures after { OnOk result (state_of self.new ≡ (line_end (state_of self.old) literal).after) }
-        ensures work { IfOk result (λ frame. self.new.kept.work ≡ more self.old.kept.work 0 (copies frame 0)) }
-        ensures memory { OnErr result (self.new.kept.work ≡ self.old.kept.work) }
+        ensures tally { IfOk result (λ frame. self.new.kept.tally ≡ more self.old.kept.tally 0 (copies frame 0)) }
+        ensures memory { OnErr result (self.new.kept.tally ≡ self.old.kept.tally) }
         // The line's last byte was kept.
         ensures kept { IfOk result (λ frame. copies frame 1 ≡ 1 + copies frame 0) }
     {
@@ -263,7 +264,7 @@ impl Begun {
         requires room { size ≤ self.old.literal_room }
         requires between { IsBetween self.old }
         ensures state { state_of self.new ≡ with_literal (state_of self.old) size }
-        ensures work { self.new.kept.work ≡ self.old.kept.work }
+        ensures tally { self.new.kept.tally ≡ self.old.kept.tally }
     {
         self.literal_room -= size;
         self.literal_left = size;
@@ -273,7 +274,7 @@ impl Begun {
     fn fail(&mut self, fault: FrameFault) -> Frame
         ensures frame { result ≡ Frame.Fault fault }
         ensures after { state_of self.new ≡ (failing fault (state_of self.old)).after }
-        ensures work { self.new.kept.work ≡ self.old.kept.work }
+        ensures tally { self.new.kept.tally ≡ self.old.kept.tally }
     {
         self.spent = true;
         Frame::Fault(fault)
@@ -284,8 +285,8 @@ impl Begun {
         requires { self.old.spent ≡ false }
         ensures bytes { IfOk result (λ bytes. bytes ≡ (state_of self.old).bytes) }
         ensures after { OnOk result (state_of self.new ≡ start) }
-        ensures work { IfOk result (λ bytes. self.new.kept.work ≡ more self.old.kept.work 0 (length bytes)) }
-        ensures memory { OnErr result (self.new.kept.work ≡ self.old.kept.work) }
+        ensures tally { IfOk result (λ bytes. self.new.kept.tally ≡ more self.old.kept.tally 0 (length bytes)) }
+        ensures memory { OnErr result (self.new.kept.tally ≡ self.old.kept.tally) }
     {
         let bytes = self.kept.take_all(alloc)?;
         self.line_at = 0;

@@ -1,7 +1,7 @@
 // Bytes in a place that they never leave.
 ghost use Rattle.std.specs.Prelude.{◌≡◌, ◌+◌, ◌-◌, ◌≤◌, [], ◌++◌, length, IfOk, vec_capacity, IsTrue, ◌↔◌};
 
-use crate::work::Work;
+use crate::tally::Tally;
 use mur_base::limits::LINE_LIMIT;
 use mur_base::{Bytes, Memory};
 use std::alloc::Global;
@@ -18,7 +18,7 @@ pub struct Block {
 }
 
 impl Block {
-    ghost use Rattle.imap_wire.specs.Work.{more};
+    ghost use Rattle.imap_wire.specs.Tally.{more};
 
     /// A block with no room. It takes no memory.
     pub fn none(alloc: Global) -> Block
@@ -60,13 +60,13 @@ impl Block {
     }
 
     /// Puts bytes behind those that are there.
-    pub fn put(&mut self, bytes: &[u8], work: &mut Work)
+    pub fn put(&mut self, bytes: &[u8], tally: &mut Tally)
         requires room { length self.old.bytes.items + length bytes.now ≤ vec_capacity self.old.bytes }
         ensures bytes { self.new.bytes.items ≡ self.old.bytes.items ++ bytes.now }
         ensures room { vec_capacity self.old.bytes ≤ vec_capacity self.new.bytes }
-        ensures work { work.new ≡ more work.old 0 (length bytes.now) }
+        ensures tally { tally.new ≡ more tally.old 0 (length bytes.now) }
     {
-        work.add(0, bytes.len());
+        tally.add(0, bytes.len());
         self.bytes.extend_from_slice(bytes).unwrap();
     }
 

@@ -1,7 +1,8 @@
 // What a client's bytes are cut into.
 use mur_base::Bytes;
+use thiserror::Error;
 
-/// A frame of a connection, in the order in which the frames end (RFC 9051, sections 2.2.1 and 4.3).
+/// A frame of a connection, in the order in which the frames end (RFC 9051, 2.2.1 and 4.3).
 #[derive(Drop)]
 pub enum Frame {
     /// One command with its literals, from its first byte to its last CRLF.
@@ -16,10 +17,12 @@ pub enum Frame {
 }
 
 /// Why a connection has no further frame.
-#[derive(Clone, Copy, Debug, PartialEq, Eq)]
+#[derive(Clone, Copy, Debug, PartialEq, Eq, Error)]
 pub enum FrameFault {
     /// A command has more than `LINE_LIMIT` bytes outside its literals and the CRLFs of its lines.
+    #[error("a line is too long")]
     LineTooLong,
     /// A literal `{n+}`, which comes unasked, is longer than `PLUS_LITERAL_LIMIT` or than its command may have.
+    #[error("a literal that comes unasked is too long")]
     PlusTooLong,
 }

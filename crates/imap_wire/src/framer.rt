@@ -3,7 +3,7 @@ ghost use Rattle.std.specs.Prelude.{◌≡◌, ◌<◌, ◌≤◌, ◌*◌, ◌+
 
 use crate::begun::Begun;
 use crate::frame::Frame;
-use crate::work::Work;
+use crate::tally::Tally;
 use mur_base::{Bytes, Items, Memory};
 use std::alloc::Global;
 use std::marker::Model;
@@ -26,7 +26,7 @@ impl Model for Framer {
 
     ghost Value = { Progress };
 
-    ghost view = { λ framer. record { begun = begun_of (state_of framer.begun); work = framer.begun.kept.work } };
+    ghost view = { λ framer. record { begun = begun_of (state_of framer.begun); tally = framer.begun.kept.tally } };
 
     ghost invariant = { λ framer. IsReached (state_of framer.begun) };
 }
@@ -34,12 +34,12 @@ impl Model for Framer {
 impl Framer {
     ghost use Rattle.imap_wire.specs.Frames.{begun, frames as frames_of};
     ghost use Rattle.imap_wire.specs.Feeding.{Gives, Leaves};
-    ghost use Rattle.imap_wire.specs.Work.{no_work, fed as work_fed, IsFedPart};
+    ghost use Rattle.imap_wire.specs.Tally.{no_tally, fed as tally_fed, IsFedPart};
 
     /// The framer of a new connection. It takes no memory until bytes come.
     pub fn new(alloc: Global) -> Framer
         ensures begun { result.begun ≡ begun [] }
-        ensures work { result.work ≡ no_work }
+        ensures tally { result.tally ≡ no_tally }
     {
         Framer {
             alloc,
@@ -55,11 +55,11 @@ impl Framer {
     }
 
     /// How many bytes of the connection were taken, and how many were copied for it: none more than twice.
-    pub fn work(&self) -> Work
-        ensures work { result ≡ self.now.work }
+    pub fn tally(&self) -> Tally
+        ensures tally { result ≡ self.now.tally }
         ensures twice { result.copied ≤ 2 * result.taken }
     {
-        self.begun.kept.work()
+        self.begun.kept.tally()
     }
 
     /// Takes bytes of the piece up to the end of the next frame, or all where none ends in it, and says how many.
@@ -77,8 +77,8 @@ impl Framer {
         ensures spent { IsNone self.old.begun → (result ≡ Ok (None, 0)) × IsNone self.new.begun }
         ensures memory { OnErr result (IsNone self.new.begun) }
         // Each byte is copied as it comes, and once more into its frame.
-        ensures work { IfOk result (λ fed. self.new.work ≡ work_fed self.old.work fed.0 fed.1) }
-        ensures part { OnErr result (IsFedPart self.old.work (length piece.now) self.new.work) }
+        ensures tally { IfOk result (λ fed. self.new.tally ≡ tally_fed self.old.tally fed.0 fed.1) }
+        ensures part { OnErr result (IsFedPart self.old.tally (length piece.now) self.new.tally) }
     {
         if self.begun.spent {
             return Ok((None, 0));

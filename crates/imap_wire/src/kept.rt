@@ -1,10 +1,10 @@
 // The bytes of the command that has begun.
 ghost use Rattle.std.specs.Prelude.{◌≡◌, ◌+◌, ◌-◌, ◌*◌, ◌^◌, ◌<◌, ◌≤◌, [], ◌++◌, length, IfOk, OnOk, OnErr, vec_capacity};
 ghost use Rattle.imap_wire.specs.Kept.{joined, next_room};
-ghost use Rattle.imap_wire.specs.Work.{counted};
+ghost use Rattle.imap_wire.specs.Tally.{counted};
 
 use crate::block::{BLOCK_ROOM, Block};
-use crate::work::Work;
+use crate::tally::Tally;
 use mur_base::{Bytes, Memory};
 use std::alloc::Global;
 use std::mem;
@@ -15,35 +15,35 @@ pub struct Kept {
     /// The blocks behind which another one follows, in their order.
     pub full: Vec<Block>,
     pub last: Block,
-    pub work: Work,
-    ghost taken_within: { work.taken < 2 ^ 64 },
-    ghost copied_within: { work.copied < 2 ^ 64 },
+    pub tally: Tally,
+    ghost taken_within: { tally.taken < 2 ^ 64 },
+    ghost copied_within: { tally.copied < 2 ^ 64 },
     // Each byte was copied once as it came, so that it may be copied once more.
-    ghost twice: { counted (work.copied + length (joined full.items last)) ≤ 2 * work.taken },
+    ghost twice: { counted (tally.copied + length (joined full.items last)) ≤ 2 * tally.taken },
 }
 
 impl Kept {
-    ghost use Rattle.imap_wire.specs.Work.{no_work, more, IsCounted};
+    ghost use Rattle.imap_wire.specs.Tally.{no_tally, more, IsCounted};
 
     /// No bytes, of a new connection. They take no memory.
     pub fn new(alloc: Global) -> Kept
         ensures full { result.full.items ≡ [] }
         ensures last { result.last.bytes.items ≡ [] }
-        ensures work { result.work ≡ no_work }
+        ensures tally { result.tally ≡ no_tally }
     {
         Kept {
             full: Vec::new(alloc),
             last: Block::none(alloc),
-            work: Work::new(),
+            tally: Tally::new(),
         }
     }
 
     /// What was done so far.
-    pub fn work(&self) -> Work
-        ensures work { result ≡ self.now.work }
+    pub fn tally(&self) -> Tally
+        ensures tally { result ≡ self.now.tally }
         ensures twice { result.copied ≤ 2 * result.taken }
     {
-        self.work
+        self.tally
     }
 
     /// How many bytes the last block has room for.
@@ -59,7 +59,7 @@ impl Kept {
         ensures last { OnOk result (self.new.last.bytes.items ≡ []) }
         ensures room { OnOk result (vec_capacity self.new.last.bytes ≡ BLOCK_ROOM) }
         ensures err { OnErr result (self.new.last ≡ self.old.last) }
-        ensures work { self.new.work ≡ self.old.work }
+        ensures tally { self.new.tally ≡ self.old.tally }
     {
         self.full.reserve(1)?;
         let before = mem::replace(&mut self.last, Block::new(alloc, BLOCK_ROOM)?);
@@ -74,7 +74,7 @@ impl Kept {
         ensures room { OnOk result (vec_capacity self.new.last.bytes - length self.new.last.bytes.items ≡ next_room self.old.last) }
         ensures err { OnErr result (self.new.last ≡ self.old.last) }
         ensures cause { OnErr result (vec_capacity self.old.last.bytes ≤ length self.old.last.bytes.items) }
-        ensures work { self.new.work ≡ self.old.work }
+        ensures tally { self.new.tally ≡ self.old.tally }
     {
         if self.room_left() == 0 {
             self.next_block(alloc)?;
@@ -88,19 +88,19 @@ impl Kept {
         ensures bytes { joined self.new.full.items self.new.last ≡ joined self.old.full.items self.old.last ++ bytes.now }
         ensures last { self.new.last.bytes.items ≡ self.old.last.bytes.items ++ bytes.now }
         ensures room { vec_capacity self.old.last.bytes ≤ vec_capacity self.new.last.bytes }
-        ensures work { self.new.work ≡ more self.old.work (length bytes.now) (length bytes.now) }
+        ensures tally { self.new.tally ≡ more self.old.tally (length bytes.now) (length bytes.now) }
     {
-        self.work.add(bytes.len(), 0);
-        self.last.put(bytes, &mut self.work);
+        self.tally.add(bytes.len(), 0);
+        self.last.put(bytes, &mut self.tally);
     }
 
     /// Counts a byte that came and isn't kept.
     pub fn pass(&mut self)
         ensures bytes { joined self.new.full.items self.new.last ≡ joined self.old.full.items self.old.last }
         ensures last { self.new.last ≡ self.old.last }
-        ensures work { self.new.work ≡ more self.old.work 1 0 }
+        ensures tally { self.new.tally ≡ more self.old.tally 1 0 }
     {
-        self.work.add(1, 0);
+        self.tally.add(1, 0);
     }
 
     /// Takes all bytes away, joined.
@@ -108,29 +108,29 @@ impl Kept {
         ensures bytes { IfOk result (λ bytes. bytes ≡ joined self.old.full.items self.old.last) }
         ensures full { OnOk result (self.new.full.items ≡ []) }
         ensures last { OnOk result (self.new.last.bytes.items ≡ []) }
-        ensures work { IfOk result (λ bytes. self.new.work ≡ more self.old.work 0 (length bytes)) }
+        ensures tally { IfOk result (λ bytes. self.new.tally ≡ more self.old.tally 0 (length bytes)) }
         ensures err { OnErr result (self.new.last ≡ self.old.last) }
-        ensures undone { OnErr result (self.new.work ≡ self.old.work) }
+        ensures undone { OnErr result (self.new.tally ≡ self.old.tally) }
     {
-        let mut work = self.work;
-        let joined = self.join(alloc, &mut work)?;
+        let mut tally = self.tally;
+        let joined = self.join(alloc, &mut tally)?;
         self.full.clear();
         self.last.clear();
-        self.work = work;
+        self.tally = tally;
         Ok(joined.into_bytes())
     }
 
     /// All bytes in one block.
-    fn join(&self, alloc: Global, work: &mut Work) -> Result<Block, Memory>
-        requires counts { IsCounted work.old }
+    fn join(&self, alloc: Global, tally: &mut Tally) -> Result<Block, Memory>
+        requires counts { IsCounted tally.old }
         ensures bytes { IfOk result (λ block. block.bytes.items ≡ joined self.now.full.items self.now.last) }
-        ensures work { OnOk result (work.new ≡ more work.old 0 (length (joined self.now.full.items self.now.last))) }
+        ensures tally { OnOk result (tally.new ≡ more tally.old 0 (length (joined self.now.full.items self.now.last))) }
     {
         let mut all = Block::new(alloc, self.len()?)?;
         for block in &self.full {
-            all.put(block.as_slice(), work);
+            all.put(block.as_slice(), tally);
         }
-        all.put(self.last.as_slice(), work);
+        all.put(self.last.as_slice(), tally);
         Ok(all)
     }
 

@@ -7,11 +7,8 @@ mod frame;
 mod framer;
 mod kept;
 mod literal;
-mod work;
+mod tally;
 
 pub use frame::{Frame, FrameFault};
 pub use framer::{Framer, frames};
-pub use work::Work;
-
-#[cfg(test)]
-mod tests;
+pub use tally::Tally;

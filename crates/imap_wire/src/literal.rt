@@ -5,7 +5,7 @@ ghost use Rattle.std.specs.Str.Parse.{digits_value};
 
 use mur_base::limits::{MESSAGE_LIMIT, PLUS_LITERAL_LIMIT};
 
-/// A literal as a line announces it: `{n}` or `{n+}` (RFC 9051, section 4.3).
+/// A literal as a line announces it: `{n}` or `{n+}` (RFC 9051, 4.3).
 #[derive(Clone, Copy)]
 pub struct Literal {
     pub size: usize,

@@ -3,3 +3,5 @@ mod EmptyLevels
 mod ReadDigits
 pub mod MapLaws
 pub mod MapOrder
+mod UsersLaw
+pub mod InboxLaw

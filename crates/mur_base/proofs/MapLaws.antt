@@ -43,7 +43,8 @@ module _ {K : Type 0} (cmp : K → K → Ordering) (apart : TellsApart cmp) wher
 
 module _ {K X : Type 0} (cmp : K → K → Ordering) (apart : TellsApart cmp) where
   same_entry_by : (e : K × X) (es : List (K × X)) (k : K) (v : X) → value_at cmp (with_entry cmp es k v) k ≡ Some v
-      → (o : Ordering) → cmp k e.0 ≡ o → value_at cmp (match_ordering o ((k, v) ∷ e ∷ es) ((e.0, v) ∷ es) (e ∷ insert_entry cmp es k v)) k ≡ Some v
+      → (o : Ordering) → cmp k e.0 ≡ o
+      → value_at cmp (match_ordering o ((k, v) ∷ e ∷ es) ((e.0, v) ∷ es) (e ∷ insert_entry cmp es k v)) k ≡ Some v
   same_entry_by e es k v ih Less h = rw (apart.itself k) refl
   same_entry_by e es k v ih Equal h = rw h refl
   same_entry_by e es k v ih Greater h = rw h ih
@@ -54,7 +55,8 @@ module _ {K X : Type 0} (cmp : K → K → Ordering) (apart : TellsApart cmp) wh
   value_at-with_entry (e ∷ es) k v = same_entry_by e es k v (value_at-with_entry es k v) (cmp k e.0) refl
 
   other_entry_by : (e : K × X) (es : List (K × X)) (k q : K) (v : X) → is_eq (cmp q k) ≡ false → value_at cmp (with_entry cmp es k v) q ≡ value_at cmp es q
-      → (o : Ordering) → cmp k e.0 ≡ o → value_at cmp (match_ordering o ((k, v) ∷ e ∷ es) ((e.0, v) ∷ es) (e ∷ insert_entry cmp es k v)) q ≡ value_at cmp (e ∷ es) q
+      → (o : Ordering) → cmp k e.0 ≡ o
+      → value_at cmp (match_ordering o ((k, v) ∷ e ∷ es) ((e.0, v) ∷ es) (e ∷ insert_entry cmp es k v)) q ≡ value_at cmp (e ∷ es) q
   other_entry_by e es k q v ne ih Less h = rw ne refl
   other_entry_by e es k q v ne ih Equal h =
       let same = apart.exact k e.0 (ap is_eq h) in
@@ -93,7 +95,8 @@ module _ {K X : Type 0} (cmp : K → K → Ordering) (apart : TellsApart cmp) wh
 module _ {K : Type 0} (cmp : K → K → Ordering) (apart : TellsApart cmp) where
   key_by : (q k : K) (b : Bool) → is_eq (cmp q k) ≡ b → (q ≡ k) ⊎ (q ≢ k)
   key_by q k true h = inl (apart.exact q k h)
-  key_by q k false h = inr (λ same. let itself : is_eq (cmp q q) ≡ true = apart.itself q in let not_itself : is_eq (cmp q q) ≡ false = subst (λ x. is_eq (cmp q x) ≡ false) (sym same) h in cc)
+  key_by q k false h = inr (λ same. let itself : is_eq (cmp q q) ≡ true = apart.itself q in
+      let not_itself : is_eq (cmp q q) ≡ false = subst (λ x. is_eq (cmp q x) ≡ false) (sym same) h in cc)
 
   -- a key is another one or is not
   pub same_or_other : (q k : K) → (q ≡ k) ⊎ (q ≢ k)

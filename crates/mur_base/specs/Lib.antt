@@ -1,4 +1,7 @@
+pub mod Ascii
+pub mod Inbox
 pub mod Map
 pub mod MapLoan
 pub mod Names
 pub mod Number
+pub mod Users

@@ -2,14 +2,15 @@
 use Rattle.std.specs.Prelude.{◌≡◌, ℕ, Bool, true, false, ◌||◌, ◌&&◌, not, ◌==◌, nat_lt, nat_le, if◌then◌else◌, List, [], ◌∷◌, length, Option, None, Some, Result, Err, MatchResult}
 use Rattle.std.specs.List.{list_any, list_all}
 use Rattle.std.specs.Str.{is_utf8}
+use Rattle.std.specs.Char.{is_ascii_alphanumeric}
+use Rattle.mur_base.specs.Ascii.{space, quote, percent, star, dash, dot, backslash, underscore, delete}
 use Rattle.mur_base.specs.declared.name.NameFault.{NameFault}
 use Rattle.mur_base.specs.declared.name.NameFault.TheVariants.{Empty, TooLong, BadByte, BadLevel, Memory}
 use Rattle.mur_base.specs.declared.limits.TheConstants.{SHORT_NAME_LIMIT, NAME_LIMIT}
 
 -- a letter, a digit, '-' or '_'
 unfoldable pub is_short_name_byte : ℕ → Bool
-is_short_name_byte b =
-    (nat_le 65 b && nat_le b 90) || (nat_le 97 b && nat_le b 122) || (nat_le 48 b && nat_le b 57) || (b == 45) || (b == 95)
+is_short_name_byte b = is_ascii_alphanumeric b || (b == dash) || (b == underscore)
 
 unfoldable pub has_short_name_bytes : List ℕ → Bool
 has_short_name_bytes text = list_all is_short_name_byte text
@@ -24,7 +25,7 @@ short_name_fault text =
 
 -- a byte that no mailbox name has: a control, '"', '\', '%' or '*'
 unfoldable pub is_mail_name_byte : ℕ → Bool
-is_mail_name_byte b = nat_le 32 b && not (b == 127) && not (b == 34) && not (b == 92) && not (b == 37) && not (b == 42)
+is_mail_name_byte b = nat_le space b && not (b == delete) && not (b == quote) && not (b == backslash) && not (b == percent) && not (b == star)
 
 -- the bytes of a mailbox name: UTF-8, and no other byte
 unfoldable pub has_mail_name_bytes : List ℕ → Bool
@@ -38,7 +39,7 @@ with_first b (level ∷ levels) = (b ∷ level) ∷ levels
 -- the levels of a name: the texts between its separators
 unfoldable pub levels_of : List ℕ → List (List ℕ)
 levels_of [] = [] ∷ []
-levels_of (b ∷ text) = if b == 46 then [] ∷ levels_of text else with_first b (levels_of text)
+levels_of (b ∷ text) = if b == dot then [] ∷ levels_of text else with_first b (levels_of text)
 
 unfoldable pub is_empty_level : List ℕ → Bool
 is_empty_level [] = true

@@ -1,14 +1,15 @@
--- Numbers as decimal text (RFC 9051, 9: number64).
+-- Numbers as decimal text (RFC 9051, 9).
 use Rattle.std.specs.Prelude.{ℕ, ◌+◌, ◌-◌, ◌*◌, ◌^◌, Bool, false, ◌&&◌, nat_lt, nat_le, if◌then◌else◌, List, [], ◌∷◌, Option, None, Some}
 use Rattle.std.specs.List.{list_all}
+use Rattle.mur_base.specs.Ascii.{digit_zero, digit_nine}
 
 unfoldable pub is_digit : ℕ → Bool
-is_digit b = nat_le 48 b && nat_le b 57
+is_digit b = nat_le digit_zero b && nat_le b digit_nine
 
 -- the digits are written behind a number
 unfoldable pub digits_behind : ℕ → List ℕ → ℕ
 digits_behind n [] = n
-digits_behind n (b ∷ text) = digits_behind (10 * n + (b - 48)) text
+digits_behind n (b ∷ text) = digits_behind (10 * n + (b - digit_zero)) text
 
 -- one or more digits
 unfoldable pub is_numeral : List ℕ → Bool
@@ -22,4 +23,4 @@ number_of text =
 
 -- a digit behind a number, where that is a digit and the number stays within 64 bits
 unfoldable pub with_digit : ℕ → ℕ → Option ℕ
-with_digit n b = if is_digit b && nat_lt (10 * n + (b - 48)) (2 ^ 64) then Some (10 * n + (b - 48)) else None
+with_digit n b = if is_digit b && nat_lt (10 * n + (b - digit_zero)) (2 ^ 64) then Some (10 * n + (b - digit_zero)) else None

@@ -4,6 +4,7 @@
 
 mod copied;
 mod home;
+mod inbox;
 pub mod limits;
 mod list;
 mod map;
@@ -12,9 +13,11 @@ mod name;
 mod name_rules;
 mod number;
 mod point;
+mod user;
 
 pub use copied::Copied;
 pub use home::{Location, Phase};
+pub use inbox::{shown, taken, what_is_shown_is_taken};
 pub use list::{Bytes, Items};
 pub use map::Map;
 pub use memory::Memory;
@@ -24,6 +27,4 @@ pub use name_rules::{
 };
 pub use number::{put_number, read_number};
 pub use point::{AskId, Point, What};
-
-#[cfg(test)]
-mod tests;
+pub use user::{PASSWORD_LIMIT, User, Users, UsersFault};

@@ -21,7 +21,7 @@ pub const COMMAND_LITERALS_LIMIT: usize = 1_056_768;
 /// Bytes of a command outside its literals; the CRLF behind each of its lines isn't counted.
 pub const LINE_LIMIT: usize = 8_192;
 
-/// Bytes of a literal `{n+}`, which the client sends unasked (RFC 9051, section 4.3).
+/// Bytes of a literal `{n+}`, which the client sends unasked (RFC 9051, 4.3).
 pub const PLUS_LITERAL_LIMIT: usize = 4_096;
 
 /// Messages of one mailbox.

@@ -9,21 +9,26 @@ use crate::list::Bytes;
 use crate::memory::Memory;
 use std::alloc::Global;
 use std::cmp::Ordering;
-use std::fmt;
 use std::marker::{Model, PhantomData};
+use thiserror::Error;
 
 /// The first rule that a text breaks, in this order.
-#[derive(Clone, Copy, Debug, PartialEq, Eq)]
+#[derive(Clone, Copy, Debug, PartialEq, Eq, Error)]
 pub enum NameFault {
     /// The text is empty.
+    #[error("the name is empty")]
     Empty,
     /// The text has more bytes than such a name may have.
+    #[error("the name is too long")]
     TooLong,
     /// A byte stands in it that no such name has, or a mailbox name isn't UTF-8.
+    #[error("the name has a byte that no such name has")]
     BadByte,
     /// A level of a mailbox name is empty.
+    #[error("a level of the name is empty")]
     BadLevel,
     /// The allocator had no room for the name.
+    #[error("out of memory")]
     Memory,
 }
 

@@ -108,7 +108,7 @@ fn has_short_name_bytes(text: &[u8]) -> bool
 fn is_short_name_byte(byte: u8) -> bool
     ensures { result ≡ is_short_name_byte byte }
 {
-    matches!(byte, b'A'..=b'Z' | b'a'..=b'z' | b'0'..=b'9' | b'-' | b'_')
+    byte.is_ascii_alphanumeric() || matches!(byte, b'-' | b'_')
 }
 
 #[tactic(auto, unfolding(crate::specs::Names::is_mail_name_byte))]

@@ -2,10 +2,10 @@
 use Rattle.std.specs.Prelude.{◌≡◌, ℕ, ◌+◌, ◌-◌, ◌≤◌, min, List, [], ◌++◌, MatchOption, ⊤, Option, None, Some, Ok, take, drop, length, refl}
 use Rattle.std.proofs.Common.{◌∙◌, ap, sym, subst, arith, append_assoc, length-drop}
 use Rattle.std.proofs.Math.Seq.{take-append-add}
-use Rattle.std.proofs.lemmas.List.{append-nil, take-append-le, take-append-drop, length-take-le, take_min, take_all, drop-drop, drop_all}
-use Rattle.std.specs.Io.KnownBytes.{prepend_known, append_known, IsAtEnd}
+use Rattle.std.proofs.lemmas.List.{take-append-le, take-append-drop, length-take-le, take_min, take_all, drop-drop, drop_all}
+use Rattle.std.specs.Io.KnownBytes.{prepend_known, append_known}
 use Rattle.mur_edge.specs.Sink.{Took, TookFront, HoldsAll, HoldsFront}
-use Rattle.mur_edge.specs.Source.{ReadGives, IsReadWhole}
+use Rattle.mur_edge.specs.Source.{ReadGives}
 
 pub prepend_known-append : (xs ys : List ℕ) (known : Option (List ℕ)) → prepend_known (xs ++ ys) known ≡ prepend_known xs (prepend_known ys known)
 prepend_known-append xs ys None = refl
@@ -51,14 +51,6 @@ ReadGives-drop whole at n buffer count bytes =
       ap (λ list. Some list) (rw (bytes, ← rest) (sym parts)),
       λ none room. rw (← rest) (drop_all n (drop at whole) (omega arith)),
     )
-
--- a source that was read to its end has given all that it had when it was handed out
-pub IsReadWhole-from_end : (whole left : Option (List ℕ)) (bytes : List ℕ) → whole ≡ prepend_known bytes left → IsAtEnd left → IsReadWhole whole left bytes
-IsReadWhole-from_end whole None bytes given ended = record { all = subst (λ known. MatchOption known ⊤ (λ content. content ≡ bytes)) (sym given) tt; ended = tt }
-IsReadWhole-from_end whole (Some rest) bytes given ended = record {
-  all = subst (λ known. MatchOption known ⊤ (λ content. content ≡ bytes)) (sym given) (ap (λ list. bytes ++ list) ended ∙ append-nil bytes);
-  ended = ended;
-}
 
 -- what a sink has taken since it was handed out is all that it holds
 pub HoldsAll-from_fresh : (before now : Option (List ℕ)) (text : List ℕ) → MatchOption before ⊤ (λ bytes. bytes ≡ []) → Took before now text → HoldsAll now text

@@ -1,35 +1,42 @@
 -- Counts of faults, which never fall, and what ties them to an answer.
-use Rattle.std.specs.Prelude.{◌≡◌, ℕ, ◌+◌, ◌-◌, ◌^◌, ◌<◌, ◌≤◌, min, Result, OnErr, IsErrOf}
+use Rattle.std.specs.Prelude.{◌≡◌, ℕ, ◌+◌, ◌-◌, ◌^◌, ◌≤◌, min, Result, Ok, Err, MatchResult}
 use Rattle.mur_edge.specs.declared.fault.Faults.{Faults}
 use Rattle.mur_edge.specs.declared.fault.HostFault.{HostFault}
-use Rattle.mur_edge.specs.declared.fault.HostFault.TheVariants.{Failed}
+use Rattle.mur_edge.specs.declared.fault.HostFault.TheVariants.{Failed, Memory}
 
 -- a count that rises stands still at the greatest number of 64 bits
 abbrev pub one_more : ℕ → ℕ
 one_more count = min (count + 1) (2 ^ 64 - 1)
 
 -- the count has risen, or stands at the end of its type
-abbrev pub Rose : ℕ → ℕ → Type 0
-Rose before now = one_more before ≤ now
-
--- what an object's count does in a call of it: a failure is counted
-pub record HasCause {T E : Type 0} (before now : ℕ) (answer : Result T E) : Type 0 where
+pub record Rose (before now : ℕ) : Type 0 where
   pub later : before ≤ now
-  pub failed : OnErr answer (Rose before now)
+  pub risen : one_more before ≤ now
 
--- the same where want of memory is an answer too, which need not be counted
-pub record HasHostCause {T : Type 0} (before now : ℕ) (answer : Result T HostFault) : Type 0 where
-  pub later : before ≤ now
-  pub failed : IsErrOf answer Failed → Rose before now
+-- what an object's count does in a call of it: a failure is counted, and nothing else is
+abbrev pub HasCause : {T E : Type 0} → ℕ → ℕ → Result T E → Type 0
+HasCause before now answer = MatchResult answer (λ _. now ≡ before) (λ _. Rose before now)
 
--- no count has fallen
-pub record HaveNotFallen (before now : Faults) : Type 0 where
-  pub sources : before.sources ≤ now.sources
-  pub outputs : before.outputs ≤ now.outputs
-  pub errors : before.errors ≤ now.errors
+-- the same where want of memory is an answer too, which isn't counted
+abbrev pub HasHostCause : {T : Type 0} → ℕ → ℕ → Result T HostFault → Type 0
+HasHostCause before now (Ok _) = now ≡ before
+HasHostCause before now (Err Failed) = Rose before now
+HasHostCause before now (Err Memory) = now ≡ before
 
--- what a host's count does when an object comes back: it rises exactly where the object has counted a fault
-pub record Counts (before faults now : ℕ) : Type 0 where
-  pub later : before ≤ now
-  pub same : faults ≡ 0 → now ≡ before
-  pub rose : 0 < faults → Rose before now
+-- a fault of a source was counted, and no other
+pub record SourceFault (before now : Faults) : Type 0 where
+  pub sources : Rose before.sources now.sources
+  pub outputs : now.outputs ≡ before.outputs
+  pub errors : now.errors ≡ before.errors
+
+-- a fault of an output was counted, and no other
+pub record OutputFault (before now : Faults) : Type 0 where
+  pub sources : now.sources ≡ before.sources
+  pub outputs : Rose before.outputs now.outputs
+  pub errors : now.errors ≡ before.errors
+
+-- a fault of an error output was counted, and no other
+pub record ErrorFault (before now : Faults) : Type 0 where
+  pub sources : now.sources ≡ before.sources
+  pub outputs : now.outputs ≡ before.outputs
+  pub errors : Rose before.errors now.errors

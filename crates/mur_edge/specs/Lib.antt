@@ -1,7 +1,7 @@
 pub mod Counts
-pub mod Fault
 pub mod Host
 pub mod Memory
+pub mod MemoryHost
 pub mod Returned
 pub mod Sink
 pub mod Source

@@ -1,48 +1,26 @@
 // What a call of the edge answers when it fails.
-ghost use Rattle.std.specs.Prelude.{◌≡◌, Some, codes};
-ghost use Rattle.mur_edge.specs.Counts.{Counts};
-ghost use Rattle.mur_edge.specs.Fault.{host_fault_text};
+ghost use Rattle.std.specs.Prelude.{◌≡◌};
+ghost use Rattle.mur_edge.specs.Counts.{SourceFault, OutputFault, ErrorFault};
 ghost use Rattle.mur_edge.specs.declared.fault.HostFault.TheVariants.{Memory, Failed as failed};
 
 use mur_base::Memory;
-use std::error::Error;
-use std::fmt;
+use thiserror::Error;
 
 /// A read or a write failed. The count of faults of the object that was called has risen.
-#[derive(Clone, Copy, Debug, PartialEq, Eq)]
+#[derive(Clone, Copy, Debug, PartialEq, Eq, Error)]
+#[error("failed")]
 pub struct Failed;
 
-impl fmt::Display for Failed {
-    ghost output = { λ _. Some (codes "failed") };
-
-    fn fmt<W: fmt::Write>(&self, f: &mut fmt::Formatter<W>) -> fmt::Result {
-        write!(f, "failed")
-    }
-}
-
-impl Error for Failed {}
-
 /// Why nothing was handed out, or not all was read.
-#[derive(Clone, Copy, Debug, PartialEq, Eq)]
+#[derive(Clone, Copy, Debug, PartialEq, Eq, Error)]
 pub enum HostFault {
     /// The call failed, and the count of faults that it belongs to has risen.
+    #[error("failed")]
     Failed,
-    /// The allocator had no room.
+    /// The allocator had no room. Nothing was counted.
+    #[error("out of memory")]
     Memory,
 }
-
-impl fmt::Display for HostFault {
-    ghost output = { λ fault. Some (host_fault_text fault) };
-
-    fn fmt<W: fmt::Write>(&self, f: &mut fmt::Formatter<W>) -> fmt::Result {
-        match self {
-            HostFault::Failed => write!(f, "failed"),
-            HostFault::Memory => write!(f, "out of memory"),
-        }
-    }
-}
-
-impl Error for HostFault {}
 
 /// How many faults a host has counted, by the kind of object. No count ever falls, and each stands still at its type's end.
 #[derive(Clone, Copy, Debug, PartialEq, Eq)]
@@ -59,16 +37,26 @@ impl Faults {
         outputs: 0,
         errors: 0,
     };
-}
 
-/// A host's count when an object comes back that has counted this many faults: one more exactly where that isn't 0.
-pub fn count_back(count: u64, faults: u64) -> u64
-    ensures { Counts count faults result }
-{
-    if faults > 0 {
-        count.saturating_add(1)
-    } else {
-        count
+    /// Counts a fault of a source.
+    pub fn count_source(&mut self)
+        ensures { SourceFault self.old self.new }
+    {
+        self.sources = self.sources.saturating_add(1);
+    }
+
+    /// Counts a fault of an output.
+    pub fn count_output(&mut self)
+        ensures { OutputFault self.old self.new }
+    {
+        self.outputs = self.outputs.saturating_add(1);
+    }
+
+    /// Counts a fault of an error output.
+    pub fn count_error(&mut self)
+        ensures { ErrorFault self.old self.new }
+    {
+        self.errors = self.errors.saturating_add(1);
     }
 }
 

@@ -1,7 +1,7 @@
 //! The edge of the program: where bytes come from and go to, and who hands out such objects.
 //!
 //! A [`Source`] is read, a [`Sink`] is written, and a [`Host`] hands both out and takes them back. Each object and each
-//! host counts its faults, and no call fails but where a count rose. `read_to_end` and `write_all` are the two loops
+//! host counts its faults, and no call fails but where a count rose. `read_front` and `write_all` are the two loops
 //! over them; `MemSource`, `MemSink` and `MemHost` are the objects in memory, whose faults are given by number.
 #![tactic(auto)]
 
@@ -12,7 +12,7 @@ mod returned;
 mod sink;
 mod source;
 
-pub use fault::{Failed, Faults, HostFault, count_back};
+pub use fault::{Failed, Faults, HostFault};
 pub use host::{Asked, Host, Used};
 pub use memory::{
     Calls, Lent, MemHost, MemSink, MemSource, MemSources, MemUsed, SinkState, SourceState,
@@ -20,7 +20,7 @@ pub use memory::{
 };
 pub use returned::{Returned, Room};
 pub use sink::{Sink, write_all};
-pub use source::{Source, read_to_end};
+pub use source::{Source, read_front};
 
 #[cfg(test)]
 mod tests;

@@ -1,9 +1,8 @@
-// What is read: the trait, and the loop that reads to the end.
-ghost use Rattle.std.specs.Prelude.{◌≡◌, ℕ, List, Option, length, IfOk, OnOk};
+// What is read: the trait, and the loop that reads up to a limit.
+ghost use Rattle.std.specs.Prelude.{◌≡◌, ◌+◌, ◌<◌, length, IfOk};
 ghost use Rattle.std.specs.Io.{ReadsAtMost};
-ghost use Rattle.std.specs.Io.KnownBytes.{prepend_known, IsAtEnd};
-ghost use Rattle.mur_edge.specs.Counts.{HasCause, HasHostCause};
-ghost use Rattle.mur_edge.specs.Source.{ReadGives, after_read, GaveSome};
+ghost use Rattle.mur_edge.specs.Counts.{HasHostCause};
+ghost use Rattle.mur_edge.specs.Source.{SourceFacts, DidRead, GaveFront, GaveAtMost};
 
 use crate::fault::{Failed, HostFault};
 use mur_base::Bytes;
@@ -11,51 +10,45 @@ use std::alloc::Global;
 
 /// Bytes that come in. A source may tell its bytes or not, and whether it does never changes.
 pub trait Source {
-    // all the bytes that it had when it was handed out
-    ghost whole: { Self → Option (List ℕ) };
-
-    // the bytes that are not read yet
-    ghost left: { Self → Option (List ℕ) };
-
-    // how many reads failed; the count never falls, and stands still at the end of its type
-    ghost faults: { Self → ℕ };
-
-    // how many reads gave something, and less than the buffer holds
-    ghost shorts: { Self → ℕ };
+    // what it tells; the count of faults never falls, and each count stands still at the end of its type
+    ghost facts: { Self → SourceFacts };
 
     /// Reads at most as many bytes as `buf` holds into its front and says how many. No byte, where there is room, is
     /// the end of the bytes.
     ///
-    /// `Failed` comes only where the count of faults rose, and nothing is read then.
+    /// `Failed` comes exactly where the count of faults rose, and nothing is read then.
     fn read(&mut self, buf: &mut [u8]) -> Result<usize, Failed>
         ensures bound { ReadsAtMost result buf.new }
-        ensures bytes { ReadGives (left self.old) (left self.new) result buf.new }
-        ensures same { whole self.new ≡ whole self.old }
-        ensures short { shorts self.new ≡ after_read (shorts self.old) result (length buf.new) }
-        ensures cause { HasCause (faults self.old) (faults self.new) result };
+        ensures did { DidRead (facts self.old) (facts self.new) result buf.new };
 }
 
 // The bytes that one read may bring.
 const PIECE: usize = 65_536;
 
-/// Reads a source to its end into one list, piece by piece.
+/// Reads a source to its end or, where it is longer than `limit`, one byte further than that: so a source that never
+/// ends is left after `limit + 1` bytes. The answer is longer than `limit` exactly where the source is.
 ///
-/// It takes at least one byte a turn into the list, so it ends with `Memory` at the latest where the list is full.
-/// `Failed` comes only where the source's count of faults rose. After either the source has given the bytes read so far.
-pub fn read_to_end<S: Source>(alloc: Global, source: &mut S) -> Result<Bytes, HostFault>
-    ensures bytes { IfOk result (λ bytes. S.left source.old ≡ prepend_known bytes (S.left source.new)) }
-    ensures end { OnOk result (IsAtEnd (S.left source.new)) }
-    ensures some { GaveSome (S.left source.old) (S.left source.new) }
-    ensures same { S.whole source.new ≡ S.whole source.old }
-    ensures cause { HasHostCause (S.faults source.old) (S.faults source.new) result }
+/// `Failed` comes exactly where the source's count of faults rose. After either fault the source has given the bytes read so far.
+pub fn read_front<S: Source>(
+    alloc: Global,
+    source: &mut S,
+    limit: usize,
+) -> Result<Bytes, HostFault>
+    requires { limit < usize.MAX }
+    ensures front { IfOk result (λ bytes. GaveFront (limit + 1) (S.facts source.old).left (S.facts source.new).left bytes) }
+    ensures at_most { GaveAtMost (limit + 1) (S.facts source.old).left (S.facts source.new).left }
+    ensures same { (S.facts source.new).whole ≡ (S.facts source.old).whole }
+    ensures cause { HasHostCause (S.facts source.old).faults (S.facts source.new).faults result }
 {
     let mut bytes = Bytes::new(alloc);
     let mut piece = [0u8; PIECE];
-    loop {
-        let n = source.read(&mut piece)?;
+    while bytes.len() <= limit {
+        let room = (limit - bytes.len() + 1).min(PIECE);
+        let n = source.read(&mut piece[..room])?;
         if n == 0 {
             return Ok(bytes);
         }
         bytes.extend_from_slice(&piece[..n])?;
     }
+    Ok(bytes)
 }

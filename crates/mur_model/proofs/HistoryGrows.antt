@@ -1,78 +1,103 @@
--- A history with one more point at its end.
-use Rattle.std.proofs.Common.{◌≡◌, ◌≢◌, ℕ, suc, zero, ◌+◌, Bool, true, false, ◌&&◌, cond, nat_eq, nat_lt, nat_le, List, [], ◌∷◌, ◌++◌, length, Some, refl, ◌∙◌, ap, arith, add-one}
-use Rattle.std.specs.Prelude.{slice_get, All, AllPairs, count_by}
+-- A history with one more point at its end, and the same history for longer lists of what was asked and answered.
+use Rattle.std.proofs.Common.{◌≡◌, ◌≢◌, ℕ, suc, zero, ◌+◌, Bool, true, false, ◌&&◌, cond, nat_eq, nat_lt, nat_le, List, [], ◌∷◌, ◌++◌, length, Some, refl, sym, ◌∙◌, ap, subst, arith}
+use Rattle.std.specs.Prelude.{All, AllPairs, count_by}
+use Rattle.std.proofs.lemmas.Bool.{cases_eq}
 use Rattle.std.proofs.lemmas.Bool.Decides.{nat_tests}
+use Rattle.std.proofs.lemmas.List.{append-nil}
 use Rattle.std.proofs.lemmas.List.Elements.{All-push}
 use Rattle.std.proofs.lemmas.List.Kept.{AllPairs-cons}
 use Rattle.std.proofs.lemmas.List.Sums.{sum_by-append}
+use Rattle.std.proofs.Math.Logic.{⊎_elim}
 use Rattle.mur_base.specs.declared.point.Point.{Point}
 use Rattle.mur_base.specs.declared.point.What.TheVariants.{Reply as replied}
-use Rattle.mur_model.specs.History.{Course, Answers, numbered, point_of, Follows, answers, is_about}
+use Rattle.mur_model.specs.declared.request.Answer.{Answer}
+use Rattle.mur_model.specs.declared.request.Request.{Request}
+use Rattle.mur_model.specs.History.{Course, Talk, GoesOn, TalkGoesOn, Takes, numbered, point_of, carried_out, after, Follows, answers, is_about}
 use Rattle.mur_model.specs.History.Follows.{no_points, a_reply, a_loss}
+use Rattle.mur_model.proofs.Numbered.{with_item, with_item-same, with_item-other, numbered_more}
 
--- one text more at a connection
-unfoldable pub with_item : (ℕ → List (List ℕ)) → ℕ → List ℕ → ℕ → List (List ℕ)
-with_item texts conn item other = cond (nat_eq other conn) (texts other ++ item ∷ []) (texts other)
+pub same_lists : {T : Type 0} (lists : ℕ → List T) → GoesOn lists lists
+same_lists lists = record { more = λ conn. []; parts = λ conn. sym (append-nil (lists conn)) }
 
-pub with_item-same : (texts : ℕ → List (List ℕ)) (conn : ℕ) (item : List ℕ) → with_item texts conn item conn ≡ texts conn ++ item ∷ []
+pub same_talk : (talk : Talk) → TalkGoesOn talk talk
+same_talk talk = record { requests = same_lists talk.requests; answers = same_lists talk.answers; serials = same_lists talk.serials }
+
+lists_follow : {T : Type 0} (one two three : ℕ → List T) → GoesOn one two → GoesOn two three → GoesOn one three
+lists_follow one two three first second = record {
+  more = λ conn. first.more conn ++ second.more conn;
+  parts = λ conn. second.parts conn ∙ ap (λ l. l ++ second.more conn) (first.parts conn) ∙ append_thrice (one conn) (first.more conn) (second.more conn);
+}
+  where
+    append_thrice : {T : Type 0} (a b c : List T) → (a ++ b) ++ c ≡ a ++ (b ++ c)
+    append_thrice [] b c = refl
+    append_thrice (x ∷ a) b c = ap (λ l. x ∷ l) (append_thrice a b c)
+
+pub talks_follow : (one two three : Talk) → TalkGoesOn one two → TalkGoesOn two three → TalkGoesOn one three
+talks_follow one two three first second = record {
+  requests = lists_follow one.requests two.requests three.requests first.requests second.requests;
+  answers = lists_follow one.answers two.answers three.answers first.answers second.answers;
+  serials = lists_follow one.serials two.serials three.serials first.serials second.serials;
+}
+
+-- one item more at one connection
+pub item_more : {T : Type 0} (lists : ℕ → List T) (conn : ℕ) (item : T) → GoesOn lists (with_item lists conn item)
 unfolding with_item
-with_item-same texts conn item = let same : nat_eq conn conn ≡ true = grind (arith, nat_tests) in rw same refl
+item_more lists conn item = record {
+  more = λ other. cond (nat_eq other conn) (item ∷ []) [];
+  parts = λ other. by other (nat_eq other conn);
+}
+  where
+    by : (other : ℕ) (same : Bool) → cond same (lists other ++ item ∷ []) (lists other) ≡ lists other ++ cond same (item ∷ []) []
+    by other true = refl
+    by other false = sym (append-nil (lists other))
 
-pub with_item-other : (texts : ℕ → List (List ℕ)) (conn : ℕ) (item : List ℕ) (other : ℕ) → other ≢ conn → with_item texts conn item other ≡ texts other
-unfolding with_item
-with_item-other texts conn item other ne = let apart : nat_eq other conn ≡ false = grind (arith, nat_tests) in rw apart refl
+-- one request and its answer more at one connection
+abbrev pub with_turn : Talk → ℕ → Request → Answer → ℕ → Talk
+with_turn talk conn request answer serial = record {
+  requests = with_item talk.requests conn request;
+  answers = with_item talk.answers conn answer;
+  serials = with_item talk.serials conn serial;
+}
 
-get_push : (texts : List (List ℕ)) (item : List ℕ) (k : ℕ) (text : List ℕ) → slice_get texts k ≡ Some text → slice_get (texts ++ item ∷ []) k ≡ Some text
-get_push [] item k text h = cc
-get_push (first ∷ texts) item zero text h = h
-get_push (first ∷ texts) item (suc k) text h = get_push texts item k text h
+pub turn_more : (talk : Talk) (conn : ℕ) (request : Request) (answer : Answer) (serial : ℕ) → TalkGoesOn talk (with_turn talk conn request answer serial)
+turn_more talk conn request answer serial = record {
+  requests = item_more talk.requests conn request;
+  answers = item_more talk.answers conn answer;
+  serials = item_more talk.serials conn serial;
+}
 
-get_last : (texts : List (List ℕ)) (item : List ℕ) → slice_get (texts ++ item ∷ []) (length texts) ≡ Some item
-get_last [] item = refl
-get_last (first ∷ texts) item = get_last texts item
+numbered_on : {T : Type 0} (lists longer : ℕ → List T) → GoesOn lists longer → (conn number : ℕ) (item : T) → numbered (lists conn) number ≡ Some item → numbered (longer conn) number ≡ Some item
+numbered_on lists longer on conn number item h = ap (λ l. numbered l number) (on.parts conn) ∙ numbered_more (lists conn) (on.more conn) number item h
 
-numbered_push : (texts : List (List ℕ)) (item : List ℕ) (number : ℕ) (text : List ℕ) → numbered texts number ≡ Some text → numbered (texts ++ item ∷ []) number ≡ Some text
-unfolding numbered
-numbered_push texts item zero text h = cc
-numbered_push texts item (suc number) text h = get_push texts item number text h
+takes_on : (talk longer : Talk) → TalkGoesOn talk longer → (course : Course) (conn number : ℕ) (request : Request) (serial : ℕ) → Takes talk course conn number request serial → Takes longer course conn number request serial
+takes_on talk longer on course conn number request serial takes = record {
+  asked = numbered_on talk.requests longer.requests on.requests conn number request takes.asked;
+  given = numbered_on talk.serials longer.serials on.serials conn number serial takes.given;
+  free = takes.free;
+}
 
--- the text that was put at the end has the next number
-pub numbered_last : (texts : List (List ℕ)) (item : List ℕ) → numbered (texts ++ item ∷ []) (length texts + 1) ≡ Some item
-unfolding numbered
-numbered_last texts item = rw (add-one (length texts)) (get_last texts item)
-
-numbered_by : (texts : ℕ → List (List ℕ)) (conn : ℕ) (item : List ℕ) (other number : ℕ) (text : List ℕ) (b : Bool) → nat_eq other conn ≡ b
-    → numbered (texts other) number ≡ Some text → numbered (with_item texts conn item other) number ≡ Some text
-unfolding with_item
-numbered_by texts conn item other number text true e h = rw e (numbered_push (texts other) item number text h)
-numbered_by texts conn item other number text false e h = rw e h
-
--- what was numbered stays so
-pub numbered_stays : (texts : ℕ → List (List ℕ)) (conn : ℕ) (item : List ℕ) (other number : ℕ) (text : List ℕ)
-    → numbered (texts other) number ≡ Some text → numbered (with_item texts conn item other) number ≡ Some text
-numbered_stays texts conn item other number text h = numbered_by texts conn item other number text (nat_eq other conn) refl h
-
--- a history goes on to hold when a connection gets one frame and one reply more
-pub follows_more : (frames replies : ℕ → List (List ℕ)) (conn : ℕ) (frame reply : List ℕ) (first last : Course) (points : List Point)
-    → Follows frames replies first points last → Follows (with_item frames conn frame) (with_item replies conn reply) first points last
-follows_more frames replies conn frame reply first last points (no_points course) = no_points course
-follows_more frames replies conn frame reply first last points (a_reply course middle end step other number it text rest f r answer later) =
-    a_reply course middle end step other number it text rest (numbered_stays frames conn frame other number it f) (numbered_stays replies conn reply other number text r) answer
-    (follows_more frames replies conn frame reply middle end rest later)
-follows_more frames replies conn frame reply first last points (a_loss course middle end step other number it text rest f answer later) =
-    a_loss course middle end step other number it text rest (numbered_stays frames conn frame other number it f) answer
-    (follows_more frames replies conn frame reply _ end rest later)
+-- a history goes on to hold when more is asked and answered
+pub follows_on : (talk longer : Talk) → TalkGoesOn talk longer → (first last : Course) (points : List Point) → Follows talk first points last → Follows longer first points last
+follows_on talk longer on first last points (no_points course) = no_points course
+follows_on talk longer on first last points (a_reply course end step conn number request serial rest takes answer later) =
+    a_reply course end step conn number request serial rest (takes_on talk longer on course conn number request serial takes)
+    (numbered_on talk.answers longer.answers on.answers conn number (carried_out course conn request serial).answer answer)
+    (follows_on talk longer on _ end rest later)
+follows_on talk longer on first last points (a_loss course end step conn number request serial rest takes later) =
+    a_loss course end step conn number request serial rest (takes_on talk longer on course conn number request serial takes)
+    (follows_on talk longer on _ end rest later)
 
 -- a reply is put at the end of a history
-pub follows_push : (frames replies : ℕ → List (List ℕ)) (first last after : Course) (points : List Point) (step conn number : ℕ) (frame text : List ℕ)
-    → Follows frames replies first points last → numbered (frames conn) number ≡ Some frame → numbered (replies conn) number ≡ Some text
-    → Answers last conn frame text after → Follows frames replies first (points ++ point_of step conn number replied ∷ []) after
-follows_push frames replies first last after points step conn number frame text (no_points course) f r answer =
-    a_reply course after after step conn number frame text [] f r answer (no_points after)
-follows_push frames replies first last after points step conn number frame text (a_reply course middle end s c n it t rest fs rs before later) f r answer =
-    a_reply course middle after s c n it t _ fs rs before (follows_push frames replies middle end after rest step conn number frame text later f r answer)
-follows_push frames replies first last after points step conn number frame text (a_loss course middle end s c n it t rest fs before later) f r answer =
-    a_loss course middle after s c n it t _ fs before (follows_push frames replies _ end after rest step conn number frame text later f r answer)
+pub follows_push : (talk : Talk) (first last : Course) (points : List Point) (step conn number : ℕ) (request : Request) (serial : ℕ)
+    → Follows talk first points last → Takes talk last conn number request serial
+    → numbered (talk.answers conn) number ≡ Some (carried_out last conn request serial).answer
+    → Follows talk first (points ++ point_of step conn number replied ∷ []) (after last conn (carried_out last conn request serial))
+follows_push talk first last points step conn number request serial (no_points course) takes answer =
+    a_reply course _ step conn number request serial [] takes answer (no_points _)
+follows_push talk first last points step conn number request serial (a_reply course end s c n it ser rest its_takes its_answer later) takes answer =
+    a_reply course _ s c n it ser _ its_takes its_answer (follows_push talk _ end rest step conn number request serial later takes answer)
+follows_push talk first last points step conn number request serial (a_loss course end s c n it ser rest its_takes later) takes answer =
+    a_loss course _ s c n it ser _ its_takes (follows_push talk _ end rest step conn number request serial later takes answer)
 
 head_pairs : (R : Point → Point → Type 0) (x : Point) (xs : List Point) → AllPairs R (x ∷ xs) → All (R x) xs
 head_pairs R x xs pairs = λ k d h. pairs 0 (suc k) d (omega arith) (omega arith)
@@ -97,13 +122,39 @@ pairs_push R (x ∷ xs) y pairs all =
 unfoldable pub one_up_to : ℕ → ℕ → ℕ
 one_up_to count number = cond (nat_lt 0 number && nat_le number count) 1 0
 
-pub one_up_to-next : (count number : ℕ) → one_up_to (count + 1) number ≡ one_up_to count number + cond (nat_eq (count + 1) number) 1 0
+one_up_to-next : (count number : ℕ) → one_up_to (count + 1) number ≡ one_up_to count number + cond (nat_eq (count + 1) number) 1 0
 unfolding one_up_to
 one_up_to-next count number = grind (arith, nat_tests)
 
 -- the points that answer a command, with one more at the end
-pub count_push : (conn number : ℕ) (points : List Point) (step other next : ℕ)
+count_push : (conn number : ℕ) (points : List Point) (step other next : ℕ)
     → count_by (is_about answers conn number) (points ++ point_of step other next replied ∷ []) ≡ count_by (is_about answers conn number) points + cond (nat_eq other conn && nat_eq next number) 1 0
 unfolding answers
 count_push conn number points step other next =
     sum_by-append (λ (p : Point). cond (is_about answers conn number p) 1 0) points (point_of step other next replied ∷ []) ∙ ap (λ n. count_by (is_about answers conn number) points + n) (omega arith)
+
+-- each connection's answers have one point each
+abbrev pub AnswersOnce : (ℕ → ℕ) → List Point → Type 0
+AnswersOnce counts points = (conn number : ℕ) → count_by (is_about answers conn number) points ≡ one_up_to (counts conn) number
+
+-- after one answer more at a connection
+pub answers_once_push : (counts next : ℕ → ℕ) (points : List Point) (step conn : ℕ) → next conn ≡ counts conn + 1 → ((other : ℕ) → other ≢ conn → next other ≡ counts other)
+    → AnswersOnce counts points → AnswersOnce next (points ++ point_of step conn (counts conn + 1) replied ∷ [])
+answers_once_push counts next points step conn more others once other number =
+    ⊎_elim
+    (λ (same : other ≡ conn).
+    let tested : nat_eq conn other ≡ true = grind (arith, nat_tests) in
+    let here : next other ≡ counts conn + 1 = ap next same ∙ more in
+    let before : one_up_to (counts other) number ≡ one_up_to (counts conn) number = ap (λ c. one_up_to (counts c) number) same in
+    count_push other number points step conn (counts conn + 1)
+    ∙ ap (λ k. k + cond (nat_eq conn other && nat_eq (counts conn + 1) number) 1 0) (once other number ∙ before)
+    ∙ ap (λ t. one_up_to (counts conn) number + cond (t && nat_eq (counts conn + 1) number) 1 0) tested
+    ∙ sym (one_up_to-next (counts conn) number)
+    ∙ sym (ap (λ k. one_up_to k number) here))
+    (λ (ne : other ≢ conn).
+    let tested : nat_eq conn other ≡ false = grind (arith, nat_tests) in
+    count_push other number points step conn (counts conn + 1)
+    ∙ ap (λ t. count_by (is_about answers other number) points + cond (t && nat_eq (counts conn + 1) number) 1 0) tested
+    ∙ (let zero_more : count_by (is_about answers other number) points + 0 ≡ count_by (is_about answers other number) points = omega arith in zero_more)
+    ∙ once other number ∙ sym (ap (λ k. one_up_to k number) (others other ne)))
+    (cases_eq other conn)

@@ -1,3 +1,2 @@
-pub mod SplitOnce
-pub mod LineEnds
+pub mod Numbered
 pub mod HistoryGrows

@@ -1,9 +1,8 @@
 -- What one command does to the store and its session, and its reply (RFC 9051, 6). Refusals are tested in the order
 -- state, missing mailbox, mailbox that is there; a refused command leaves store and session as they were.
 use Rattle.std.specs.Prelude.{ℕ, ⊤}
-use Rattle.mur_base.specs.Names.{mail_name_fault}
 use Rattle.mur_model.specs.declared.command.Command.{Command}
-use Rattle.mur_model.specs.declared.command.Command.TheVariants.{Login, Create, Append, Status}
+use Rattle.mur_model.specs.declared.command.Command.TheVariants.{Create}
 use Rattle.mur_model.specs.declared.reply.Reply.{Reply}
 use Rattle.mur_model.specs.declared.reply.Verdict.{Verdict}
 use Rattle.mur_model.specs.declared.reply.Verdict.TheVariants.{Bad as bad_reply}
@@ -11,15 +10,13 @@ use Rattle.mur_model.specs.declared.reply.BadText.TheVariants.{State}
 use Rattle.mur_model.specs.declared.session.Sess.{Sess}
 use Rattle.mur_model.specs.declared.session.Sess.TheVariants.{Off, In, Ended}
 use Rattle.mur_model.specs.declared.store.Store.{Store}
-use Rattle.mur_model.specs.Create.{create, MayCreate}
+use Rattle.mur_model.specs.Create.{create, named_by, MayCreate}
 use Rattle.mur_model.specs.Served.{Served, unknown}
 
 -- a command of an authenticated session
 unfoldable pub serve : Store → Command → ℕ → Served
-serve store (Login user password) serial = unknown store
-serve store (Create text) serial = create store text serial (mail_name_fault text)
-serve store (Append mailbox message) serial = unknown store
-serve store (Status mailbox items) serial = unknown store
+serve store (Create text) serial = create store serial (named_by text)
+serve store _ serial = unknown store
 
 -- store, session and reply after a command
 pub record Acted : Type 0 where
@@ -40,7 +37,5 @@ act_of store Ended command serial = record { store = store; session = Ended; rep
 
 -- the serial is free where the command makes a mailbox
 unfoldable pub MayGive : Store → Command → ℕ → Type 0
-MayGive store (Login user password) serial = ⊤
-MayGive store (Create text) serial = MayCreate store text serial
-MayGive store (Append mailbox message) serial = ⊤
-MayGive store (Status mailbox items) serial = ⊤
+MayGive store (Create text) serial = MayCreate store serial (named_by text)
+MayGive store _ serial = ⊤

@@ -1,84 +1,93 @@
--- When a history is legal: one store that takes the commands of its points one at a time gave their replies.
-use Rattle.std.specs.Prelude.{◌≡◌, ℕ, suc, zero, ◌<◌, ◌≤◌, Bool, true, false, ◌&&◌, ◌==◌, if◌then◌else◌, List, [], ◌∷◌, length, count_by, Option, None, Some, All, AllPairs, slice_get}
+-- When a history is legal: one store that takes the requests of its points one at a time gave their answers. It speaks of
+-- what each connection's client asked and was answered, as lists, and of no byte and no node.
+use Rattle.std.specs.Prelude.{◌≡◌, ℕ, suc, zero, ◌<◌, ◌≤◌, Bool, true, false, ◌&&◌, ◌==◌, if◌then◌else◌, List, [], ◌∷◌, ◌++◌, length, count_by, Option, None, Some, All, AllPairs, slice_get}
 use Rattle.mur_base.specs.declared.point.Point.{Point}
 use Rattle.mur_base.specs.declared.point.What.{What}
 use Rattle.mur_base.specs.declared.point.What.TheVariants.{Reply as replied, Read as read, Lost as lost, Reserved as reserved, Unreached as unreached}
-use Rattle.mur_model.specs.declared.command.Command.{Command}
-use Rattle.mur_model.specs.declared.command.Tag.TheVariants.{Text}
-use Rattle.mur_model.specs.declared.reply.Verdict.TheVariants.{Bad as bad_reply}
-use Rattle.mur_model.specs.declared.reply.BadText.TheVariants.{Syntax}
+use Rattle.mur_model.specs.declared.request.Answer.{Answer}
+use Rattle.mur_model.specs.declared.request.Request.{Request}
 use Rattle.mur_model.specs.declared.session.Sess.{Sess}
 use Rattle.mur_model.specs.declared.session.Sess.TheVariants.{Ended}
 use Rattle.mur_model.specs.declared.store.Store.{Store}
-use Rattle.mur_model.specs.Act.{Acted, act_of, reply_of, MayGive}
-use Rattle.mur_model.specs.ReplyText.{reply_text}
-use Rattle.mur_model.specs.Spells.{Spells, refusal_tag}
+use Rattle.mur_model.specs.Answer.{Answered, answer_of, MayTake}
 
 -- the one store and the sessions of all connections, between two points
 pub record Course : Type 0 where
   pub store : Store
   pub sessions : ℕ → Sess
 
+-- of each connection what its client asked and was answered, and the UIDVALIDITY that each request had for the mailbox that
+-- it might make
+pub record Talk : Type 0 where
+  pub requests : ℕ → List Request
+  pub answers : ℕ → List Answer
+  pub serials : ℕ → List ℕ
+
+-- the lists of the one are those of the other and more
+pub record GoesOn {T : Type 0} (lists longer : ℕ → List T) : Type 0 where
+  pub more : ℕ → List T
+  pub parts : (conn : ℕ) → longer conn ≡ lists conn ++ more conn
+
+-- all of a talk stands in front of a longer one
+pub record TalkGoesOn (talk longer : Talk) : Type 0 where
+  pub requests : GoesOn talk.requests longer.requests
+  pub answers : GoesOn talk.answers longer.answers
+  pub serials : GoesOn talk.serials longer.serials
+
 -- the sessions with another one at a connection
 unfoldable pub with_session : (ℕ → Sess) → ℕ → Sess → ℕ → Sess
 with_session sessions conn session other = if other == conn then session else sessions other
 
--- what a command of a connection leaves
-abbrev pub after : Course → ℕ → Acted → Course
-after course conn acted = record { store = acted.store; sessions = with_session course.sessions conn acted.session }
+-- what a request of a connection leaves
+abbrev pub after : Course → ℕ → Answered → Course
+after course conn answered = record { store = answered.store; sessions = with_session course.sessions conn answered.session }
 
--- a frame of a connection is answered by this text: as the command that it spells, whose mailbox gets a free UIDVALIDITY,
--- or as a frame that spells nothing (RFC 9051, 7.1.3)
-pub data Answers (course : Course) (conn : ℕ) (frame : List ℕ) : List ℕ → Course → Type 0 where
-  command : (tag : List ℕ) (it : Command) (serial : ℕ) → Spells frame tag it → MayGive course.store it serial
-      → Answers course conn frame
-      (reply_text (Text tag) (act_of course.store (course.sessions conn) it serial).reply)
-      (after course conn (act_of course.store (course.sessions conn) it serial))
-  no_command : ((tag : List ℕ) (it : Command) → Spells frame tag it → ⊥)
-      → Answers course conn frame (reply_text (refusal_tag frame) (reply_of (bad_reply Syntax))) course
+-- a request of a connection, carried out with this UIDVALIDITY
+abbrev pub carried_out : Course → ℕ → Request → ℕ → Answered
+carried_out course conn request serial = answer_of course.store (course.sessions conn) request serial
 
--- a command of a connection by its number, from 1
-unfoldable pub numbered : List (List ℕ) → ℕ → Option (List ℕ)
-numbered texts zero = None
-numbered texts (suc number) = slice_get texts number
+-- the one of this number, from 1
+unfoldable pub numbered : {T : Type 0} → List T → ℕ → Option T
+numbered items zero = None
+numbered items (suc number) = slice_get items number
+
+-- a request by its number, which may be carried out with the UIDVALIDITY that it had
+pub record Takes (talk : Talk) (course : Course) (conn number : ℕ) (request : Request) (serial : ℕ) : Type 0 where
+  pub asked : numbered (talk.requests conn) number ≡ Some request
+  pub given : numbered (talk.serials conn) number ≡ Some serial
+  pub free : MayTake course.store request serial
 
 abbrev pub point_of : ℕ → ℕ → ℕ → What → Point
 point_of step conn number what = record { step = step; ask = record { conn = conn; command = number }; what = what }
 
 -- the points, one after another, lead the store and the sessions from one state to another. A `reply` point carries out its
--- command, and the command's reply is this step's. A `lost` point carries it out, gives no reply and ends the session.
-pub data Follows (frames replies : ℕ → List (List ℕ)) : Course → List Point → Course → Type 0 where
-  no_points : (course : Course) → Follows frames replies course [] course
-  a_reply : (course middle last : Course) (step conn number : ℕ) (frame text : List ℕ) (points : List Point)
-      → numbered (frames conn) number ≡ Some frame → numbered (replies conn) number ≡ Some text
-      → Answers course conn frame text middle → Follows frames replies middle points last
-      → Follows frames replies course (point_of step conn number replied ∷ points) last
-  a_loss : (course middle last : Course) (step conn number : ℕ) (frame text : List ℕ) (points : List Point)
-      → numbered (frames conn) number ≡ Some frame → Answers course conn frame text middle
-      → Follows frames replies (record middle { sessions = with_session middle.sessions conn Ended }) points last
-      → Follows frames replies course (point_of step conn number lost ∷ points) last
+-- request, and the request's answer is this step's. A `lost` point carries it out, gives no answer and ends the session.
+pub data Follows (talk : Talk) : Course → List Point → Course → Type 0 where
+  no_points : (course : Course) → Follows talk course [] course
+  a_reply : (course last : Course) (step conn number : ℕ) (request : Request) (serial : ℕ) (points : List Point)
+      → Takes talk course conn number request serial
+      → numbered (talk.answers conn) number ≡ Some (carried_out course conn request serial).answer
+      → Follows talk (after course conn (carried_out course conn request serial)) points last
+      → Follows talk course (point_of step conn number replied ∷ points) last
+  a_loss : (course last : Course) (step conn number : ℕ) (request : Request) (serial : ℕ) (points : List Point)
+      → Takes talk course conn number request serial
+      → Follows talk (record { store = (carried_out course conn request serial).store; sessions = with_session course.sessions conn Ended }) points last
+      → Follows talk course (point_of step conn number lost ∷ points) last
 
 -- `reply` and both kinds of `refused` answer their command
 unfoldable pub answers : What → Bool
 answers replied = true
-answers read = false
-answers lost = false
 answers reserved = true
 answers (unreached node) = true
+answers _ = false
 
 unfoldable pub loses : What → Bool
-loses replied = false
-loses read = false
 loses lost = true
-loses reserved = false
-loses (unreached node) = false
+loses _ = false
 
 unfoldable pub reads : What → Bool
-reads replied = false
 reads read = true
-reads lost = false
-reads reserved = false
-reads (unreached node) = false
+reads _ = false
 
 -- whether a point is of this command, and such a one
 abbrev pub is_about : (What → Bool) → ℕ → ℕ → Point → Bool
@@ -92,13 +101,12 @@ IsInOrder earlier later = earlier.ask.conn ≡ later.ask.conn → earlier.ask.co
 abbrev pub EndsAtLoss : Point → Point → Type 0
 EndsAtLoss earlier later = loses earlier.what ≡ true → earlier.ask.conn ≡ later.ask.conn → ⊥
 
--- a history is legal for the frames and the replies of each connection
-pub record IsLegal (first : Course) (frames replies : ℕ → List (List ℕ)) (points : List Point) : Type 0 where
-  pub last : Course
-  -- each reply is that of its point's step, and each new UIDVALIDITY is free
-  pub follows : Follows frames replies first points last
+-- a history that leads from one state to another is legal for what each connection's client asked and was answered
+pub record IsLegal (first : Course) (talk : Talk) (points : List Point) (last : Course) : Type 0 where
+  -- each answer is that of its point's step, and each new UIDVALIDITY is free
+  pub follows : Follows talk first points last
   -- an answered command has exactly one point that answers it
-  pub answered_once : (conn number : ℕ) → 0 < number → number ≤ length (replies conn) → count_by (is_about answers conn number) points ≡ 1
+  pub answered_once : (conn number : ℕ) → 0 < number → number ≤ length (talk.answers conn) → count_by (is_about answers conn number) points ≡ 1
   -- a lost command has at most one point, and its connection has none behind it
   pub lost_once : (conn number : ℕ) → count_by (is_about loses conn number) points ≤ 1
   pub lost_last : AllPairs EndsAtLoss points

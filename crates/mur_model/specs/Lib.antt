@@ -1,9 +1,7 @@
 pub mod Store
 pub mod Served
+pub mod Inbox
 pub mod Create
 pub mod Act
-pub mod ReplyText
-pub mod Spells
-pub mod Frames
+pub mod Answer
 pub mod History
-pub mod Transcript

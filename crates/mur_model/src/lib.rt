@@ -4,16 +4,17 @@
 
 mod command;
 mod create;
+mod inbox;
 mod model;
 mod reply;
+mod request;
 mod session;
 mod store;
 
 pub use command::{Command, StatusItem, StatusItems, Tag};
+pub use create::{Named, created_name};
 pub use model::act;
-pub use reply::{BadText, Code, NoText, Reply, Verdict};
+pub use reply::{BadText, Bye, Code, NoText, Reply, Verdict};
+pub use request::{Answer, Answers, Request, Requests};
 pub use session::Sess;
 pub use store::{MailBox, Pair, Store};
-
-#[cfg(test)]
-mod tests;

@@ -43,8 +43,6 @@ fn serve(
 {
     match command {
         Command::Create(text) => create(alloc, store, text, serial),
-        Command::Login(_, _) | Command::Append(_, _) | Command::Status(_, _) => {
-            Ok(Verdict::Bad(BadText::Syntax))
-        }
+        _ => Ok(Verdict::Bad(BadText::Syntax)),
     }
 }

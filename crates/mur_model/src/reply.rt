@@ -14,6 +14,8 @@ pub enum NoText {
     AlreadyExists,
     /// There is no such mailbox, or the text is no name.
     NonExistent,
+    /// It can't be done, whoever asks.
+    Cannot,
     /// A limit would be passed.
     Limit,
 }
@@ -25,6 +27,15 @@ pub enum BadText {
     Syntax,
     /// The command isn't allowed in the session's state.
     State,
+}
+
+/// Why a connection ends, with the text of its BYE (RFC 9051, 7.1.5).
+#[derive(Clone, Copy, Debug, PartialEq, Eq)]
+pub enum Bye {
+    /// A command has too many bytes outside its literals.
+    LineTooLong,
+    /// A literal that comes unasked is too long.
+    LiteralTooLong,
 }
 
 /// The tagged line of a reply.

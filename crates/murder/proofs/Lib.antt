@@ -1,1 +1,2 @@
+mod FitsLaws
 mod WritingLaws

@@ -6,18 +6,18 @@ use Rattle.mur_base.specs.declared.point.Point.{Point}
 use Rattle.mur_base.specs.declared.point.What.{What}
 use Rattle.mur_base.specs.declared.point.What.TheVariants.{Reply, Read, Lost, Reserved, Unreached}
 use Rattle.mur_model.specs.declared.store.MailBox.{MailBox}
-use Rattle.cluster_core.specs.declared.world.Connection.{Connection}
+use Rattle.cluster_core.specs.declared.world.Client.{Client}
 use Rattle.cluster_core.specs.declared.world.World.{World}
-use Rattle.cluster_core.specs.Pieces.{pieces_of}
-use Rattle.cluster_core.specs.Text.{text_of, name_text_of}
+use Rattle.schedule_text.specs.Cuts.{cuts_of}
+use Rattle.schedule_text.specs.Text.{text_of, name_text_of}
 
 -- `to C TEXT`: a piece of what the client of a connection was given
 unfoldable pub to_line : ℕ → List ℕ → List ℕ
 to_line conn piece = codes "to " ++ decimal conn ++ codes " " ++ text_of piece ++ codes "\n"
 
 -- what a client was given, cut after each LF
-unfoldable pub client_lines : ℕ × Connection → List ℕ
-client_lines client = flat_map (to_line client.0) (pieces_of (client.1).given)
+unfoldable pub client_lines : ℕ × Client → List ℕ
+client_lines client = flat_map (to_line client.0) (cuts_of (client.1).given)
 
 unfoldable pub unreached_text : List ℕ → List ℕ
 unreached_text node = codes "refused unreached " ++ node
@@ -48,5 +48,5 @@ end_line steps points = codes "end " ++ decimal steps ++ codes " " ++ decimal po
 -- clients in rising order of connections, points in order, mailboxes in byte order of names
 unfoldable pub output_of : World → List ℕ
 output_of world =
-    flat_map client_lines world.connections
+    flat_map client_lines world.clients
     ++ (flat_map point_line world.points ++ (flat_map (box_line world.node) world.home.boxes ++ end_line world.steps (length world.points)))

@@ -1,137 +1,49 @@
-// The host of a process: its files, its standard output and its standard error. It tells no bytes.
-ghost use Rattle.std.specs.Prelude.{◌≡◌, ◌∷◌, ◌++◌, ◌-◌, ◌+◌, ◌≤◌, [], length, None, map, IfOk};
-ghost use Rattle.mur_edge.specs.Counts.{Counts};
-ghost use Rattle.mur_edge.specs.Host.{source_faults_of, output_faults_of, error_faults_of};
-ghost use Rattle.murder.specs.Host.{entry_came, object_came};
+// The host of a process: its files, its standard output and its standard error.
+ghost use Rattle.std.specs.Prelude.{◌≡◌, ◌+◌, [], IfOk};
+ghost use Rattle.mur_edge.specs.Host.{TakesBack};
+ghost use Rattle.murder.specs.Host.{object_came};
 
+use crate::stream::{ReadStream, StreamUsed, WriteStream};
+use either::Either;
 use mur_base::{Bytes, Items, Memory};
-use mur_edge::{
-    Asked, Failed, Faults, Host, HostFault, Returned, Room, Sink, Source, Used, count_back,
-};
+use mur_edge::{Asked, Faults, Host, HostFault, Returned, Used};
 use std::alloc::Global;
-use std::io::{self, ErrorKind, Print, Read, Stderr, Stdout};
+use std::io::{ErrorKind, Print, Printer, writer};
 use std::rt::Files;
 use std::{fs, str};
 
-/// What a source counted when it came back.
-#[derive(Clone, Copy)]
-pub struct ReadCounts {
-    pub faults: u64,
-    pub shorts: u64,
-}
-
-/// What a sink counted when it came back.
-#[derive(Clone, Copy)]
-pub struct WriteCounts {
-    pub faults: u64,
-}
-
-type SystemUsed = Used<ReadCounts, WriteCounts>;
-
-/// A file that is read.
-#[derive(Drop)]
-pub struct FileSource<F> {
-    pub counts: ReadCounts,
-    file: F,
-    room: Room<SystemUsed>,
-}
-
-impl<F: Read + Drop> Source for FileSource<F> {
-    ghost whole = { λ _. None };
-
-    ghost left = { λ _. None };
-
-    ghost faults = { λ source. source.counts.faults };
-
-    ghost shorts = { λ source. source.counts.shorts };
-
-    fn read(&mut self, buf: &mut [u8]) -> Result<usize, Failed> {
-        match self.file.read(buf) {
-            Ok(n) => {
-                if 0 < n && n < buf.len() {
-                    self.counts.shorts = self.counts.shorts.saturating_add(1);
-                }
-                Ok(n)
-            }
-            Err(_) => {
-                self.counts.faults = self.counts.faults.saturating_add(1);
-                Err(Failed)
-            }
-        }
-    }
-}
-
-// A standard stream.
-#[derive(Clone, Copy)]
-enum Stream {
-    Output(Stdout),
-    Errors(Stderr),
-}
-
-impl Stream {
-    fn write(&self, piece: &[u8]) -> io::Result<usize>
-        ensures { IfOk result (λ n. n ≤ length piece.now) }
-    {
-        match self {
-            Stream::Output(output) => output.write_some(piece),
-            Stream::Errors(errors) => errors.write_some(piece),
-        }
-    }
-}
-
-/// A standard stream that is written.
-#[derive(Drop)]
-pub struct StreamSink {
-    pub counts: WriteCounts,
-    stream: Stream,
-    room: Room<SystemUsed>,
-}
-
-impl Sink for StreamSink {
-    ghost taken = { λ _. None };
-
-    ghost faults = { λ sink. sink.counts.faults };
-
-    fn write(&mut self, piece: &[u8]) -> Result<usize, Failed> {
-        match self.stream.write(piece) {
-            Ok(n) if 0 < n || piece.is_empty() => Ok(n),
-            _ => {
-                self.counts.faults = self.counts.faults.saturating_add(1);
-                Err(Failed)
-            }
-        }
-    }
-}
+/// A standard stream that is written: the output or the error output.
+pub type StandardStream<'a, O, E> = WriteStream<Either<Printer<'a, O>, Printer<'a, E>>>;
 
 /// The files and the standard streams of a process.
 #[derive(Drop)]
-pub struct SystemHost<'a, R: Files> {
-    files: &'a R,
+pub struct SystemHost<'a, R, O, E> {
     alloc: Global,
-    output: Stdout,
-    error_output: Stderr,
+    files: &'a R,
+    output: &'a O,
+    error_output: &'a E,
     pub faults: Faults,
     pub held: u64,
     pub asked: Items<Asked>,
-    pub returned: Returned<SystemUsed>,
+    pub returned: Returned<StreamUsed>,
 }
 
-impl<'a, R: Files> SystemHost<'a, R> {
+impl<'a, R: Files, O: Print, E: Print> SystemHost<'a, R, O, E> {
     /// The host of a process. Nothing was asked of it, nothing is out, and no fault was counted.
     pub fn new(
         alloc: Global,
         files: &'a R,
-        output: Stdout,
-        error_output: Stderr,
-    ) -> SystemHost<'a, R>
+        output: &'a O,
+        error_output: &'a E,
+    ) -> SystemHost<'a, R, O, E>
         ensures asked { result.asked ≡ [] }
         ensures returned { result.returned ≡ [] }
         ensures held { result.held ≡ 0 }
         ensures faults { result.faults ≡ record { sources = 0; outputs = 0; errors = 0 } }
     {
         SystemHost {
-            files,
             alloc,
+            files,
             output,
             error_output,
             faults: Faults::NONE,
@@ -153,17 +65,6 @@ impl<'a, R: Files> SystemHost<'a, R> {
         }
     }
 
-    // A standard stream to be written.
-    fn sink(&self, stream: Stream) -> Result<StreamSink, Memory>
-        ensures { IfOk result (λ sink. sink.counts.faults ≡ 0) }
-    {
-        Ok(StreamSink {
-            counts: WriteCounts { faults: 0 },
-            stream,
-            room: Room::new(self.alloc)?,
-        })
-    }
-
     // One more object that is out. So many that they can't be counted find no memory.
     fn one_more_held(&self) -> Result<u64, Memory>
         ensures { IfOk result (λ held. held ≡ self.now.held + 1) }
@@ -172,82 +73,78 @@ impl<'a, R: Files> SystemHost<'a, R> {
     }
 }
 
-impl<R: Files> Host for SystemHost<'_, R> {
-    type In = FileSource<R::File>;
+impl<'a, R: Files, O: Print, E: Print> Host for SystemHost<'a, R, O, E> {
+    type In = ReadStream<R::File>;
 
-    type Out = StreamSink;
+    type Out = StandardStream<'a, O, E>;
 
-    ghost faults = { λ host. host.faults };
+    ghost use Rattle.murder.specs.SystemHost.{system_facts};
 
-    ghost asked = { λ host. host.asked };
+    ghost facts = { system_facts };
 
-    ghost returned = { λ host. map entry_came host.returned };
-
-    ghost held = { λ host. host.held };
-
-    fn source(&mut self, name: &[u8]) -> Result<FileSource<R::File>, HostFault> {
+    fn source(&mut self, name: &[u8]) -> Result<ReadStream<R::File>, HostFault> {
         let held = self.one_more_held()?;
-        let room = Room::new(self.alloc)?;
-        let file = self.open(name)?;
+        let source = match self.open(name)? {
+            Some(file) => Some(ReadStream::new(self.alloc, file)?),
+            None => None,
+        };
         self.asked
             .push(Asked::Source(Bytes::from_slice(self.alloc, name)?))?;
-        match file {
-            Some(file) => {
+        match source {
+            Some(source) => {
                 self.held = held;
-                Ok(FileSource {
-                    counts: ReadCounts {
-                        faults: 0,
-                        shorts: 0,
-                    },
-                    file,
-                    room,
-                })
+                Ok(source)
             }
             None => {
-                self.faults.sources = self.faults.sources.saturating_add(1);
+                self.faults.count_source();
                 Err(HostFault::Failed)
             }
         }
     }
 
-    fn out(&mut self) -> Result<StreamSink, HostFault> {
+    fn out(&mut self) -> Result<StandardStream<'a, O, E>, HostFault> {
         let held = self.one_more_held()?;
-        let sink = self.sink(Stream::Output(self.output))?;
+        let sink = WriteStream::new(self.alloc, Either::Left(writer(self.output)))?;
         self.asked.push(Asked::Out)?;
         self.held = held;
         Ok(sink)
     }
 
-    fn errors(&mut self) -> Result<StreamSink, HostFault> {
+    fn errors(&mut self) -> Result<StandardStream<'a, O, E>, HostFault> {
         let held = self.one_more_held()?;
-        let sink = self.sink(Stream::Errors(self.error_output))?;
+        let sink = WriteStream::new(self.alloc, Either::Right(writer(self.error_output)))?;
         self.asked.push(Asked::Errors)?;
         self.held = held;
         Ok(sink)
     }
 
-    fn back(&mut self, used: Used<FileSource<R::File>, StreamSink>)
-        ensures returned { map entry_came self.new.returned ≡ map entry_came self.old.returned ++ object_came used ∷ [] }
-        ensures sources { Counts self.old.faults.sources (source_faults_of (object_came used)) self.new.faults.sources }
-        ensures outputs { Counts self.old.faults.outputs (output_faults_of (object_came used)) self.new.faults.outputs }
-        ensures errors { Counts self.old.faults.errors (error_faults_of (object_came used)) self.new.faults.errors }
-        ensures asked { self.new.asked ≡ self.old.asked }
-        ensures held { self.new.held ≡ self.old.held - 1 }
+    fn back(&mut self, used: Used<ReadStream<R::File>, StandardStream<'a, O, E>>)
+        ensures { TakesBack (object_came used.entry) (system_facts self.old) (system_facts self.new) }
     {
         self.held = self.held.saturating_sub(1);
         match used {
             Used::Source(name, source) => {
-                let FileSource { counts, file, room } = source;
-                drop(file);
-                self.faults.sources = count_back(self.faults.sources, counts.faults);
+                let ReadStream {
+                    counts,
+                    reader,
+                    room,
+                } = source;
+                drop(reader);
+                if counts.faults > 0 {
+                    self.faults.count_source();
+                }
                 self.returned.add(Used::Source(name, counts), room);
             }
             Used::Out(sink) => {
-                self.faults.outputs = count_back(self.faults.outputs, sink.counts.faults);
+                if sink.counts.faults > 0 {
+                    self.faults.count_output();
+                }
                 self.returned.add(Used::Out(sink.counts), sink.room);
             }
             Used::Errors(sink) => {
-                self.faults.errors = count_back(self.faults.errors, sink.counts.faults);
+                if sink.counts.faults > 0 {
+                    self.faults.count_error();
+                }
                 self.returned.add(Used::Errors(sink.counts), sink.room);
             }
         }

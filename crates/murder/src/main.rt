@@ -8,6 +8,7 @@ mod host;
 mod output;
 mod replay;
 mod status;
+mod stream;
 mod words;
 
 use crate::call::{murder, tell};
@@ -28,7 +29,8 @@ fn given_words(rt: &HostRuntime) -> Result<Vec<String>, Memory> {
 }
 
 fn main(rt: HostRuntime) -> ExitCode {
-    let mut host = SystemHost::new(rt.alloc(), &rt, rt.stdout(), rt.stderr());
+    let (output, error_output) = (rt.stdout(), rt.stderr());
+    let mut host = SystemHost::new(rt.alloc(), &rt, &output, &error_output);
     let status = match given_words(&rt) {
         Ok(words) => murder(rt.alloc(), &mut host, &words),
         Err(Memory) => {

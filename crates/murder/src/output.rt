@@ -1,29 +1,30 @@
 // The output of a run, written part by part.
-ghost use Rattle.std.specs.Prelude.{◌≡◌, ◌++◌, OnOk};
+ghost use Rattle.std.specs.Prelude.{OnOk};
 ghost use Rattle.std.specs.List.{flat_map};
 ghost use Rattle.mur_edge.specs.Counts.{HasHostCause};
 ghost use Rattle.mur_edge.specs.Sink.{Took, TookFront};
 ghost use Rattle.murder.specs.Output.{client_lines, point_line, box_line, output_of};
-ghost use Rattle.murder.specs.Writing.{TakesIn, TookPart};
+ghost use Rattle.murder.specs.Writing.{DidPut};
 
 mod lines;
 #[cfg(test)]
 mod tests;
 
-use cluster_core::{Connection, Pieces, Points, World};
+use cluster_core::{Client, Points, World};
 use lines::{BoxRow, End, Given, Line};
 use mur_base::limits::PIECE_LIMIT;
 use mur_base::{Bytes, MailName, Map, NodeName};
 use mur_edge::{HostFault, Sink, write_all};
 use mur_model::MailBox;
+use schedule_text::LineCuts;
 use std::alloc::Global;
 
 /// Writes the output of a run, a part of about `PIECE_LIMIT` bytes at a time. Where it fails a front of the output is
 /// taken.
 pub fn write_output<S: Sink>(alloc: Global, world: &World, sink: &mut S) -> Result<(), HostFault>
-    ensures all { OnOk result (Took (S.taken sink.old) (S.taken sink.new) (output_of world.now)) }
-    ensures front { TookFront (S.taken sink.old) (S.taken sink.new) (output_of world.now) }
-    ensures cause { HasHostCause (S.faults sink.old) (S.faults sink.new) result }
+    ensures all { OnOk result (Took (S.facts sink.old).taken (S.facts sink.new).taken (output_of world.now)) }
+    ensures front { TookFront (S.facts sink.old).taken (S.facts sink.new).taken (output_of world.now) }
+    ensures cause { HasHostCause (S.facts sink.old).faults (S.facts sink.new).faults result }
 {
     let mut part = Bytes::new(alloc);
     write_lines(world, &mut part, sink)?;
@@ -33,11 +34,10 @@ pub fn write_output<S: Sink>(alloc: Global, world: &World, sink: &mut S) -> Resu
 
 /// All lines but what is kept back in `part`.
 fn write_lines<S: Sink>(world: &World, part: &mut Bytes, sink: &mut S) -> Result<(), HostFault>
-    ensures ok { OnOk result (TakesIn (S.taken sink.old) (S.taken sink.new) part.old part.new (output_of world.now)) }
-    ensures front { TookPart (S.taken sink.old) (S.taken sink.new) (part.old ++ (output_of world.now)) }
-    ensures cause { HasHostCause (S.faults sink.old) (S.faults sink.new) result }
+    ensures did { DidPut (S.facts sink.old).taken (S.facts sink.new).taken part.old part.new (output_of world.now) result }
+    ensures cause { HasHostCause (S.facts sink.old).faults (S.facts sink.new).faults result }
 {
-    write_clients(&world.connections, part, sink)?;
+    write_clients(&world.clients, part, sink)?;
     write_points(&world.points, part, sink)?;
     write_boxes(&world.node, &world.home.boxes, part, sink)?;
     let end = End {
@@ -49,24 +49,22 @@ fn write_lines<S: Sink>(world: &World, part: &mut Bytes, sink: &mut S) -> Result
 }
 
 fn write_clients<S: Sink>(
-    connections: &Map<u64, Connection>,
+    clients: &Map<u64, Client>,
     part: &mut Bytes,
     sink: &mut S,
 ) -> Result<(), HostFault>
-    ensures ok { OnOk result (TakesIn (S.taken sink.old) (S.taken sink.new) part.old part.new (flat_map client_lines connections.now)) }
-    ensures front { TookPart (S.taken sink.old) (S.taken sink.new) (part.old ++ (flat_map client_lines connections.now)) }
-    ensures cause { HasHostCause (S.faults sink.old) (S.faults sink.new) result }
+    ensures did { DidPut (S.facts sink.old).taken (S.facts sink.new).taken part.old part.new (flat_map client_lines clients.now) result }
+    ensures cause { HasHostCause (S.facts sink.old).faults (S.facts sink.new).faults result }
 {
-    for (conn, connection) in connections.iter() {
-        write_client(*conn, connection, part, sink)?;
+    for (conn, client) in clients.iter() {
+        write_client(*conn, client, part, sink)?;
     }
     Ok(())
 }
 
 fn write_points<S: Sink>(points: &Points, part: &mut Bytes, sink: &mut S) -> Result<(), HostFault>
-    ensures ok { OnOk result (TakesIn (S.taken sink.old) (S.taken sink.new) part.old part.new (flat_map point_line points.now)) }
-    ensures front { TookPart (S.taken sink.old) (S.taken sink.new) (part.old ++ (flat_map point_line points.now)) }
-    ensures cause { HasHostCause (S.faults sink.old) (S.faults sink.new) result }
+    ensures did { DidPut (S.facts sink.old).taken (S.facts sink.new).taken part.old part.new (flat_map point_line points.now) result }
+    ensures cause { HasHostCause (S.facts sink.old).faults (S.facts sink.new).faults result }
 {
     for point in points.as_slice() {
         write_line(point, part, sink)?;
@@ -80,9 +78,8 @@ fn write_boxes<S: Sink>(
     part: &mut Bytes,
     sink: &mut S,
 ) -> Result<(), HostFault>
-    ensures ok { OnOk result (TakesIn (S.taken sink.old) (S.taken sink.new) part.old part.new (flat_map (box_line node.now) boxes.now)) }
-    ensures front { TookPart (S.taken sink.old) (S.taken sink.new) (part.old ++ (flat_map (box_line node.now) boxes.now)) }
-    ensures cause { HasHostCause (S.faults sink.old) (S.faults sink.new) result }
+    ensures did { DidPut (S.facts sink.old).taken (S.facts sink.new).taken part.old part.new (flat_map (box_line node.now) boxes.now) result }
+    ensures cause { HasHostCause (S.facts sink.old).faults (S.facts sink.new).faults result }
 {
     for (name, mailbox) in boxes.iter() {
         write_line(
@@ -101,9 +98,8 @@ fn write_boxes<S: Sink>(
 /// A line is put behind the part, and a part that is large enough is written.
 #[tactic(auto, using(crate::proofs::WritingLaws::by_line))]
 fn write_line<L: Line, S: Sink>(line: &L, part: &mut Bytes, sink: &mut S) -> Result<(), HostFault>
-    ensures ok { OnOk result (TakesIn (S.taken sink.old) (S.taken sink.new) part.old part.new (L.text line.now)) }
-    ensures front { TookPart (S.taken sink.old) (S.taken sink.new) (part.old ++ (L.text line.now)) }
-    ensures cause { HasHostCause (S.faults sink.old) (S.faults sink.new) result }
+    ensures did { DidPut (S.facts sink.old).taken (S.facts sink.new).taken part.old part.new (L.text line.now) result }
+    ensures cause { HasHostCause (S.facts sink.old).faults (S.facts sink.new).faults result }
 {
     line.put(part)?;
     if part.len() < PIECE_LIMIT {
@@ -116,15 +112,14 @@ fn write_line<L: Line, S: Sink>(line: &L, part: &mut Bytes, sink: &mut S) -> Res
 
 fn write_client<S: Sink>(
     conn: u64,
-    connection: &Connection,
+    client: &Client,
     part: &mut Bytes,
     sink: &mut S,
 ) -> Result<(), HostFault>
-    ensures ok { OnOk result (TakesIn (S.taken sink.old) (S.taken sink.new) part.old part.new (client_lines (conn, connection.now))) }
-    ensures front { TookPart (S.taken sink.old) (S.taken sink.new) (part.old ++ (client_lines (conn, connection.now))) }
-    ensures cause { HasHostCause (S.faults sink.old) (S.faults sink.new) result }
+    ensures did { DidPut (S.facts sink.old).taken (S.facts sink.new).taken part.old part.new (client_lines (conn, client.now)) result }
+    ensures cause { HasHostCause (S.facts sink.old).faults (S.facts sink.new).faults result }
 {
-    for piece in Pieces::new(connection.given.as_slice()) {
+    for piece in LineCuts::new(client.given.as_slice()) {
         write_line(&Given { conn, piece }, part, sink)?;
     }
     Ok(())

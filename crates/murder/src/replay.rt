@@ -1,30 +1,27 @@
 // `replay CONFIG SCHEDULE`: reads both files, runs the cluster and writes the text of the run.
-ghost use Rattle.std.specs.Prelude.{◌≡◌, ◌<◌, ◌^◌, Err, IfOk, IsSome};
+ghost use Rattle.std.specs.Prelude.{◌≡◌, ◌<◌, ◌^◌, IfOk};
 ghost use Rattle.cluster_core.specs.Headline.{IsOneServer};
-ghost use Rattle.cluster_core.specs.Nodes.{frontend_of};
-ghost use Rattle.cluster_core.specs.World.{weight_of_all};
-ghost use Rattle.mur_edge.specs.Counts.{HaveNotFallen, Rose};
+ghost use Rattle.schedule_text.specs.ScheduleFits.{HasCountRoom};
 ghost use Rattle.murder.specs.Replay.{DidReadConfig, DidReadSchedule, EndsWriting, DidReplay, run_text};
-ghost use Rattle.murder.specs.declared.status.Status.TheVariants.{Schedule, Read, Write};
-ghost use Rattle.cluster_core.specs.ScheduleRules.{rule_number};
+ghost use Rattle.murder.specs.Status.{CountsStatus, CountsFile};
+ghost use Rattle.murder.specs.declared.status.Status.TheVariants.{Schedule};
+ghost use Rattle.schedule_text.specs.ScheduleRules.{rule_number};
 
 use crate::file::read_file;
 use crate::output::write_output;
 use crate::status::Status;
 use crate::words::Names;
-use cluster_core::{
-    Config, ConfigFault, Events, ReadFault, SchedFault, read_config, read_schedule, run,
-};
+use cluster_core::run;
+use mur_base::limits::SCHEDULE_LIMIT;
+use mur_config::{CONFIG_LIMIT, Config, ConfigFault, read_config};
 use mur_edge::{Host, HostFault, Used};
+use schedule_text::{Events, SchedFault, ScheduleError, read_schedule};
 use std::alloc::Global;
 
 /// Runs a schedule on the cluster of a configuration, and writes what clients were given and the history.
 pub fn replay<H: Host>(alloc: Global, host: &mut H, names: &Names<'_>) -> Status
-    ensures did { DidReplay (record { config = names.now.config.now; schedule = names.now.schedule.now }) (record { asked = H.asked host.old; returned = H.returned host.old }) (record { asked = H.asked host.new; returned = H.returned host.new }) result }
-    ensures read { result ≡ Read → Rose (H.faults host.old).sources (H.faults host.new).sources }
-    ensures write { result ≡ Write → Rose (H.faults host.old).outputs (H.faults host.new).outputs }
-    ensures counts { HaveNotFallen (H.faults host.old) (H.faults host.new) }
-    ensures held { H.held host.new ≡ H.held host.old }
+    ensures did { DidReplay (record { config = names.now.config.now; schedule = names.now.schedule.now }) (H.facts host.old) (H.facts host.new) result }
+    ensures counts { CountsStatus result (H.facts host.old).faults (H.facts host.new).faults }
 {
     let config = match configuration(alloc, host, names.config) {
         Ok(config) => config,
@@ -39,13 +36,10 @@ pub fn replay<H: Host>(alloc: Global, host: &mut H, names: &Names<'_>) -> Status
 
 // The configuration of a file, or how the call ends.
 fn configuration<H: Host>(alloc: Global, host: &mut H, name: &[u8]) -> Result<Config, Status>
-    ensures did { DidReadConfig name.now (record { asked = H.asked host.old; returned = H.returned host.old }) (record { asked = H.asked host.new; returned = H.returned host.new }) result }
-    ensures frontend { IfOk result (λ config. IsSome (frontend_of config.nodes)) }
-    ensures read { result ≡ Err Read → Rose (H.faults host.old).sources (H.faults host.new).sources }
-    ensures counts { HaveNotFallen (H.faults host.old) (H.faults host.new) }
-    ensures held { H.held host.new ≡ H.held host.old }
+    ensures did { DidReadConfig name.now (H.facts host.old) (H.facts host.new) result }
+    ensures counts { CountsFile result (H.facts host.old).faults (H.facts host.new).faults }
 {
-    let text = match read_file(alloc, host, name) {
+    let text = match read_file(alloc, host, name, CONFIG_LIMIT) {
         Ok(text) => text,
         Err(HostFault::Failed) => return Err(Status::Read),
         Err(HostFault::Memory) => return Err(Status::Memory),
@@ -64,21 +58,19 @@ fn schedule<H: Host>(
     name: &[u8],
     config: &Config,
 ) -> Result<Events, Status>
-    ensures did { DidReadSchedule config.now name.now (record { asked = H.asked host.old; returned = H.returned host.old }) (record { asked = H.asked host.new; returned = H.returned host.new }) result }
-    ensures room { IfOk result (λ events. weight_of_all events < 2 ^ 32) }
-    ensures read { result ≡ Err Read → Rose (H.faults host.old).sources (H.faults host.new).sources }
-    ensures counts { HaveNotFallen (H.faults host.old) (H.faults host.new) }
-    ensures held { H.held host.new ≡ H.held host.old }
+    ensures did { DidReadSchedule config.now name.now (H.facts host.old) (H.facts host.new) result }
+    ensures room { IfOk result (λ events. HasCountRoom events) }
+    ensures counts { CountsFile result (H.facts host.old).faults (H.facts host.new).faults }
 {
-    let text = match read_file(alloc, host, name) {
+    let text = match read_file(alloc, host, name, SCHEDULE_LIMIT) {
         Ok(text) => text,
         Err(HostFault::Failed) => return Err(Status::Read),
         Err(HostFault::Memory) => return Err(Status::Memory),
     };
     match read_schedule(alloc, text.as_slice(), config) {
         Ok(events) => Ok(events),
-        Err(ReadFault::Refused(fault)) => Err(refused(fault)),
-        Err(ReadFault::Memory) => Err(Status::Memory),
+        Err(ScheduleError::Refused(fault)) => Err(refused(fault)),
+        Err(ScheduleError::Memory) => Err(Status::Memory),
     }
 }
 
@@ -94,13 +86,10 @@ fn refused(fault: SchedFault) -> Status
 
 // Runs the events and writes the text of the run.
 fn write_run<H: Host>(alloc: Global, host: &mut H, config: Config, events: Events) -> Status
-    requires frontend { IsSome (frontend_of config.nodes) }
-    requires room { weight_of_all events < 2 ^ 32 }
+    requires room { HasCountRoom events }
     ensures one_server { IsOneServer config events }
-    ensures did { EndsWriting (run_text config events) (record { asked = H.asked host.old; returned = H.returned host.old }) (record { asked = H.asked host.new; returned = H.returned host.new }) result }
-    ensures write { result ≡ Write → Rose (H.faults host.old).outputs (H.faults host.new).outputs }
-    ensures counts { HaveNotFallen (H.faults host.old) (H.faults host.new) }
-    ensures held { H.held host.new ≡ H.held host.old }
+    ensures did { EndsWriting (run_text config events) (H.facts host.old) (H.facts host.new) result }
+    ensures counts { CountsStatus result (H.facts host.old).faults (H.facts host.new).faults }
 {
     let Ok(cluster) = run(alloc, &config, events) else {
         return Status::Memory;

@@ -1,8 +1,8 @@
 // How a call of the program ended.
-ghost use Rattle.std.specs.Prelude.{◌≡◌, Some};
-ghost use Rattle.murder.specs.Status.{text_of, code_of};
+ghost use Rattle.std.specs.Prelude.{◌≡◌, Some, IfSome, string_bytes};
+ghost use Rattle.murder.specs.Status.{line_of, code_of};
 
-use std::fmt;
+use std::alloc::Global;
 
 /// How a call ended.
 #[derive(Clone, Copy, Debug, PartialEq, Eq)]
@@ -38,24 +38,23 @@ impl Status {
             Status::Memory => 6,
         }
     }
-}
 
-/// What stands on the error output behind `murder: `, where the call wasn't done.
-impl fmt::Display for Status {
-    ghost output = { λ status. Some (text_of status) };
-
-    fn fmt<W: fmt::Write>(&self, f: &mut fmt::Formatter<W>) -> fmt::Result {
+    /// The line on the error output, if there is one and memory for it.
+    pub fn line(&self, alloc: Global) -> Option<String>
+        ensures { IfSome result (λ line. line_of self.now ≡ Some (string_bytes line)) }
+    {
         match self {
-            Status::Done => write!(f, "done"),
-            Status::Words => write!(f, "words refused"),
-            Status::Config { rule } => write!(f, "configuration refused: rule {rule}"),
-            Status::Schedule { line, rule } => write!(
-                f,
-                "schedule refused: line {line} rule {rule}"
-            ),
-            Status::Read => write!(f, "read fault"),
-            Status::Write => write!(f, "write fault"),
-            Status::Memory => write!(f, "out of memory"),
+            Status::Done => None,
+            Status::Words => format!(in alloc; "murder: words refused\n").ok(),
+            Status::Config { rule } => {
+                format!(in alloc; "murder: configuration refused: rule {rule}\n").ok()
+            }
+            Status::Schedule { line, rule } => {
+                format!(in alloc; "murder: schedule refused: line {line} rule {rule}\n").ok()
+            }
+            Status::Read => format!(in alloc; "murder: read fault\n").ok(),
+            Status::Write => format!(in alloc; "murder: write fault\n").ok(),
+            Status::Memory => format!(in alloc; "murder: out of memory\n").ok(),
         }
     }
 }

@@ -1,13 +1,18 @@
-// The row of the stored run over a host in memory, each of its calls failing in turn, and each refusal once.
+// The row of the stored run over a host in memory, each of its calls failing in turn, and each refusal once; and what a
+// stream of the process does at a writer that takes little.
 mod byte_host;
 
 use crate::call::murder;
 use crate::status::Status;
+use crate::stream::WriteStream;
 use crate::tests::byte_host::ByteHost;
-use cluster_core::KNOWN_CONFIG;
 use mur_base::{Bytes, Items, Memory};
-use mur_edge::{Calls, Host, MemHost, MemSources, mem_host, mem_sink, mem_source};
+use mur_config::ONE_BACKEND_CONFIG;
+use mur_edge::{
+    Calls, Failed, Host, MemHost, MemSources, mem_host, mem_sink, mem_source, write_all,
+};
 use std::alloc::{AllocError, Global};
+use std::io::{self, Write};
 use std::process::Abort;
 use std::test::Fail;
 
@@ -30,6 +35,7 @@ end 2 4
 // What a call is given, and the numbers of the calls of each object that fail.
 #[derive(Clone, Copy)]
 struct Given<'a> {
+    words: &'a str,
     config: &'a [u8],
     config_fails: &'a [u64],
     schedule: &'a [u8],
@@ -40,12 +46,20 @@ struct Given<'a> {
 
 // The row, of whose calls none fails.
 const ROW: Given<'static> = Given {
-    config: KNOWN_CONFIG,
+    words: "replay config schedule",
+    config: ONE_BACKEND_CONFIG,
     config_fails: &[],
     schedule: SCHEDULE,
     schedule_fails: &[],
     out_fails: &[],
     host_fails: &[],
+};
+
+// A file that is longer than any configuration that is taken, and whose second read fails: it isn't read so far.
+const LONG: Given<'static> = Given {
+    config: &[b' '; 4096],
+    config_fails: &[1],
+    ..ROW
 };
 
 fn calls(alloc: Global, numbers: &[u64]) -> Result<Calls, Memory> {
@@ -88,21 +102,16 @@ fn host(alloc: Global, given: &Given<'_>) -> Result<MemHost, Memory> {
     mem_host(alloc, sources, out, errors, calls(alloc, given.host_fails)?)
 }
 
-fn words(alloc: Global, line: &str) -> Result<Vec<String>, AllocError> {
+// It has no clause, so that the tests' proofs stay small.
+fn play<H: Host>(alloc: Global, host: &mut H, line: &str) -> Result<Status, AllocError> {
     let mut words = Vec::new(alloc);
     for word in line.split_whitespace() {
         words.push(String::from_str(alloc, word)?)?;
     }
-    Ok(words)
-}
-
-// It has no clause, so that the tests' proofs stay small.
-fn play<H: Host>(alloc: Global, host: &mut H, line: &str) -> Result<Status, AllocError> {
-    let words = words(alloc, line)?;
     Ok(murder(alloc, host, &words))
 }
 
-// How a replay ends, what it wrote, and its error line.
+// How a call ends, what it wrote, and its error line.
 fn assert_ends(
     rt: &impl Abort,
     alloc: Global,
@@ -112,7 +121,7 @@ fn assert_ends(
     errors: &[u8],
 ) -> Result<(), Fail> {
     let mut host = host(alloc, given)?;
-    let ended = play(alloc, &mut host, "replay config schedule")?;
+    let ended = play(alloc, &mut host, given.words)?;
     assert_eq!(rt; ended, status);
     assert_eq!(rt; host.output(), output);
     assert_eq!(rt; host.error_output(), errors);
@@ -121,74 +130,131 @@ fn assert_ends(
 }
 
 #[test]
-fn the_row_is_replayed(rt: HostRuntime) -> Result<(), Fail> {
+fn each_call_ends_by_its_row(rt: HostRuntime) -> Result<(), Fail> {
     assert_ends(&rt, rt.alloc(), &ROW, Status::Done, OUTPUT, b"")?;
-    let empty = Given {
-        schedule: b"",
-        ..ROW
-    };
-    assert_ends(&rt, rt.alloc(), &empty, Status::Done, b"end 0 0\n", b"")
-}
-
-#[test]
-fn each_read_that_fails_is_a_read_fault(rt: HostRuntime) -> Result<(), Fail> {
-    for fails in [[0u64], [1]] {
-        let config = Given {
-            config_fails: &fails,
-            ..ROW
-        };
-        assert_ends(
-            &rt,
-            rt.alloc(),
-            &config,
+    let read: &[u8] = b"murder: read fault\n";
+    let write: &[u8] = b"murder: write fault\n";
+    let words: &[u8] = b"murder: words refused\n";
+    let config: &[u8] = b"murder: configuration refused: rule 0\n";
+    let line: &[u8] = b"murder: schedule refused: line 2 rule 1\n";
+    let bad = Status::Config { rule: 0 };
+    let unknown = Status::Schedule { line: 2, rule: 1 };
+    for (given, status, errors) in [
+        (
+            Given {
+                config_fails: &[0],
+                ..ROW
+            },
             Status::Read,
-            b"",
-            b"murder: read fault\n",
-        )?;
-        let schedule = Given {
-            schedule_fails: &fails,
-            ..ROW
-        };
-        assert_ends(
-            &rt,
-            rt.alloc(),
-            &schedule,
+            read,
+        ),
+        (
+            Given {
+                config_fails: &[1],
+                ..ROW
+            },
             Status::Read,
+            read,
+        ),
+        (
+            Given {
+                schedule_fails: &[0],
+                ..ROW
+            },
+            Status::Read,
+            read,
+        ),
+        (
+            Given {
+                schedule_fails: &[1],
+                ..ROW
+            },
+            Status::Read,
+            read,
+        ),
+        (
+            Given {
+                out_fails: &[0],
+                ..ROW
+            },
+            Status::Write,
+            write,
+        ),
+        (
+            Given {
+                host_fails: &[0],
+                ..ROW
+            },
+            Status::Read,
+            read,
+        ),
+        (
+            Given {
+                host_fails: &[1],
+                ..ROW
+            },
+            Status::Read,
+            read,
+        ),
+        (
+            Given {
+                host_fails: &[2],
+                ..ROW
+            },
+            Status::Write,
+            write,
+        ),
+        (
+            Given {
+                host_fails: &[2, 3],
+                ..ROW
+            },
+            Status::Write,
             b"",
-            b"murder: read fault\n",
-        )?;
-    }
-    Ok(())
-}
-
-#[test]
-fn a_write_that_fails_is_a_write_fault(rt: HostRuntime) -> Result<(), Fail> {
-    let given = Given {
-        out_fails: &[0],
-        ..ROW
-    };
-    assert_ends(
-        &rt,
-        rt.alloc(),
-        &given,
-        Status::Write,
-        b"",
-        b"murder: write fault\n",
-    )
-}
-
-#[test]
-fn each_call_of_the_host_may_be_refused(rt: HostRuntime) -> Result<(), Fail> {
-    for (fails, status, errors) in [
-        ([0u64, 9], Status::Read, b"murder: read fault\n".as_slice()),
-        ([1, 9], Status::Read, b"murder: read fault\n".as_slice()),
-        ([2, 9], Status::Write, b"murder: write fault\n".as_slice()),
-        ([2, 3], Status::Write, b"".as_slice()),
+        ),
+        (
+            Given {
+                words: "replay config -v",
+                ..ROW
+            },
+            Status::Words,
+            words,
+        ),
+        (
+            Given {
+                words: "replay config",
+                ..ROW
+            },
+            Status::Words,
+            words,
+        ),
+        (
+            Given {
+                words: "serve config schedule",
+                ..ROW
+            },
+            Status::Words,
+            words,
+        ),
+        (Given { words: "", ..ROW }, Status::Words, words),
+        (
+            Given {
+                config: &ONE_BACKEND_CONFIG[1..],
+                ..ROW
+            },
+            bad,
+            config,
+        ),
+        (LONG, bad, config),
+        (
+            Given {
+                schedule: b"open f1 1\nopne f1 2\n",
+                ..ROW
+            },
+            unknown,
+            line,
+        ),
     ] {
-        let given = Given {
-            host_fails: &fails,
-            ..ROW
-        };
         assert_ends(&rt, rt.alloc(), &given, status, b"", errors)?;
     }
     Ok(())
@@ -205,7 +271,7 @@ fn assert_ends_by_bytes(
     let mut bytes = ByteHost {
         host: host(alloc, given)?,
     };
-    let ended = play(alloc, &mut bytes, "replay config schedule")?;
+    let ended = play(alloc, &mut bytes, given.words)?;
     assert_eq!(rt; ended, status);
     assert_eq!(rt; bytes.host.output(), output);
     assert_eq!(rt; bytes.host.held, 0);
@@ -213,9 +279,9 @@ fn assert_ends_by_bytes(
 }
 
 #[test]
-fn each_byte_may_fail_to_be_read(rt: HostRuntime) -> Result<(), Fail> {
-    // The last read finds the end.
-    for call in 0..=KNOWN_CONFIG.len() as u64 {
+fn each_byte_may_fail(rt: HostRuntime) -> Result<(), Fail> {
+    // The last read of a file finds its end; that of a configuration as long as one may be isn't longer.
+    for call in 0..=ONE_BACKEND_CONFIG.len() as u64 {
         let given = Given {
             config_fails: &[call],
             ..ROW
@@ -229,11 +295,6 @@ fn each_byte_may_fail_to_be_read(rt: HostRuntime) -> Result<(), Fail> {
         };
         assert_ends_by_bytes(&rt, rt.alloc(), &given, Status::Read, b"")?;
     }
-    Ok(())
-}
-
-#[test]
-fn each_byte_may_fail_to_be_written(rt: HostRuntime) -> Result<(), Fail> {
     for call in 0..OUTPUT.len() {
         let given = Given {
             out_fails: &[call as u64],
@@ -244,95 +305,56 @@ fn each_byte_may_fail_to_be_written(rt: HostRuntime) -> Result<(), Fail> {
     assert_ends_by_bytes(&rt, rt.alloc(), &ROW, Status::Done, OUTPUT)
 }
 
+// A writer that takes so many bytes a write, and eight at most.
+#[derive(Drop)]
+struct Narrow {
+    taken: [u8; 8],
+    count: usize,
+    width: usize,
+}
+
+impl Write for Narrow {
+    fn write(&mut self, buf: &[u8]) -> io::Result<usize> {
+        let n = buf.len().min(self.width);
+        for byte in &buf[..n] {
+            if self.count >= self.taken.len() {
+                return Err(io::Error::from(io::ErrorKind::StorageFull));
+            }
+            self.taken[self.count] = *byte;
+            self.count += 1;
+        }
+        Ok(n)
+    }
+
+    fn flush(&mut self) -> io::Result<()> {
+        Ok(())
+    }
+}
+
 #[test]
-fn other_words_are_refused(rt: HostRuntime) -> Result<(), Fail> {
-    for line in [
-        "replay config -v",
-        "replay config",
-        "replay config schedule more",
-        "serve config schedule",
-        "",
+fn a_stream_tells_what_its_writer_took(rt: HostRuntime) -> Result<(), Fail> {
+    // How many bytes the writer takes a write, what comes of it, and what is there then.
+    for (width, text, want, taken) in [
+        (
+            1usize,
+            b"end 0 0\n".as_slice(),
+            Ok(()),
+            b"end 0 0\n".as_slice(),
+        ),
+        (1, b"end 10 7\n", Err(Failed), b"end 10 7"),
+        (0, b"end 0 0\n", Err(Failed), b""),
+        (0, b"", Ok(()), b""),
     ] {
-        let mut host = host(rt.alloc(), &ROW)?;
-        assert_eq!(rt; play(rt.alloc(), &mut host, line)?, Status::Words);
-        assert_eq!(rt; host.error_output(), b"murder: words refused\n".as_slice());
-        assert_eq!(rt; host.asked.len(), 1);
+        let narrow = Narrow {
+            taken: [0; 8],
+            count: 0,
+            width,
+        };
+        let mut stream = WriteStream::new(rt.alloc(), narrow)?;
+        assert_eq!(rt; write_all(&mut stream, text), want);
+        assert!(&rt; stream.writer.count <= 8);
+        assert_eq!(rt; &stream.writer.taken[..stream.writer.count], taken);
+        assert_eq!(rt; stream.counts.faults, u64::from(want.is_err()));
     }
     Ok(())
-}
-
-#[test]
-fn a_configuration_one_byte_off_is_refused(rt: HostRuntime) -> Result<(), Fail> {
-    let line = b"murder: configuration refused: rule 0\n";
-    let short = Given {
-        config: &KNOWN_CONFIG[1..],
-        ..ROW
-    };
-    assert_ends(
-        &rt,
-        rt.alloc(),
-        &short,
-        Status::Config { rule: 0 },
-        b"",
-        line,
-    )?;
-    let mut text = Bytes::from_slice(rt.alloc(), KNOWN_CONFIG)?;
-    text.push(b'\n')?;
-    let long = Given {
-        config: text.as_slice(),
-        ..ROW
-    };
-    assert_ends(
-        &rt,
-        rt.alloc(),
-        &long,
-        Status::Config { rule: 0 },
-        b"",
-        line,
-    )
-}
-
-#[test]
-fn a_bad_line_is_refused_by_its_number(rt: HostRuntime) -> Result<(), Fail> {
-    for (schedule, line, rule, errors) in [
-        (
-            b"open f1 1\nopne f1 2\n".as_slice(),
-            2,
-            1,
-            b"murder: schedule refused: line 2 rule 1\n".as_slice(),
-        ),
-        (
-            b"open f1 1\ndata 1 a\\".as_slice(),
-            2,
-            7,
-            b"murder: schedule refused: line 2 rule 7\n".as_slice(),
-        ),
-    ] {
-        let given = Given { schedule, ..ROW };
-        assert_ends(
-            &rt,
-            rt.alloc(),
-            &given,
-            Status::Schedule { line, rule },
-            b"",
-            errors,
-        )?;
-    }
-    Ok(())
-}
-
-#[test]
-fn each_status_has_its_number(rt: HostRuntime) {
-    let rows = [
-        (Status::Done, 0),
-        (Status::Words, 1),
-        (Status::Config { rule: 0 }, 2),
-        (Status::Schedule { line: 3, rule: 1 }, 3),
-        (Status::Read, 4),
-        (Status::Write, 5),
-        (Status::Memory, 6),
-    ];
-    for (status, number) in rows {
-        assert_eq!(rt; status.code(), number);
-    }
 }

@@ -12,7 +12,8 @@ pub struct Names<'a> {
 /// The names in `replay CONFIG SCHEDULE`; nothing where the words have another form.
 #[tactic(auto, unfolding(crate::specs::Words::names_in))]
 pub fn names_in(words: &Vec<String>) -> Option<Names<'_>>
-    ensures { MatchOption result (names_in (map string_bytes words.now.items) ≡ None) (λ names. names_in (map string_bytes words.now.items) ≡ Some (record { config = names.config.now; schedule = names.schedule.now })) }
+    ensures { MatchOption result (names_in (map string_bytes words.now.items) ≡ None)
+        (λ names. names_in (map string_bytes words.now.items) ≡ Some (record { config = names.config.now; schedule = names.schedule.now })) }
 {
     match words.as_slice() {
         [form, config, schedule] if form.as_str() == "replay" => {

@@ -3,29 +3,29 @@ ghost use Rattle.std.specs.Prelude.{◌≡◌, IfOk};
 ghost use Rattle.std.specs.Ordering.{nat_cmp};
 ghost use Rattle.std.specs.Cmp.Lexicographic.{slice_cmp};
 ghost use Rattle.mur_base.specs.Map.{value_at};
-ghost use Rattle.mur_base.specs.Names.{mail_name_fault};
+ghost use Rattle.mur_model.specs.Create.{named_by};
 ghost use Rattle.cluster_core.specs.HomeCreate.{create, create_at, make};
 
 use crate::world::Home;
-use mur_base::{Bytes, MailName, Memory, NameFault, mail_name};
-use mur_model::{Code, MailBox, NoText, Verdict};
+use mur_base::{Bytes, MailName, Memory};
+use mur_model::{Code, MailBox, Named, NoText, Verdict, created_name};
 use std::alloc::Global;
 
 /// Makes the mailbox that a CREATE names, and gives the tagged line of its reply. For want of memory the home is spent.
 #[tactic(auto, unfolding(crate::specs::HomeCreate::create))]
 pub fn create(alloc: Global, home: &mut Home, text: &Bytes) -> Result<Verdict, Memory>
-    ensures { IfOk result (λ verdict. record { home = home.new; verdict = verdict } ≡ create home.old text.now (mail_name_fault text.now)) }
+    ensures { IfOk result (λ verdict. record { home = home.new; verdict = verdict } ≡ create home.old (named_by text.now)) }
 {
-    match mail_name(alloc, text.as_slice()) {
-        Ok(name) => create_at(alloc, home, name),
-        Err(NameFault::Memory) => Err(Memory),
-        Err(_) => Ok(Verdict::No(NoText::NonExistent)),
+    match created_name(alloc, text.as_slice())? {
+        Named::Name(name) => create_at(alloc, home, name),
+        Named::Refused(why) => Ok(Verdict::No(why)),
     }
 }
 
 #[tactic(auto, unfolding(crate::specs::HomeCreate::create_at, crate::specs::HomeCreate::make))]
 fn create_at(alloc: Global, home: &mut Home, name: MailName) -> Result<Verdict, Memory>
-    ensures { IfOk result (λ verdict. record { home = home.new; verdict = verdict } ≡ create_at home.old name (value_at (slice_cmp nat_cmp) home.old.boxes name)) }
+    ensures { IfOk result (λ verdict. record { home = home.new; verdict = verdict }
+        ≡ create_at home.old name (value_at (slice_cmp nat_cmp) home.old.boxes name)) }
 {
     if home.boxes.contains_key(&name) {
         return Ok(Verdict::No(NoText::AlreadyExists));

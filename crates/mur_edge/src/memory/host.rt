@@ -1,18 +1,18 @@
 // A host in memory. It keeps the objects that it was made with and hands out fresh copies of them.
-ghost use Rattle.std.specs.Prelude.{◌≡◌, ◌<◌, ◌+◌, ◌-◌, ◌∷◌, ◌++◌, ◌||◌, [], true, false, None, Some, Err, drop, map, replicate, length, IfOk, OnOk, IfSome, IsSomeAnd, slice_set};
-ghost use Rattle.mur_edge.specs.Counts.{HasHostCause, HaveNotFallen, Counts, one_more};
-ghost use Rattle.mur_edge.specs.Source.{IsFreshSource};
+ghost use Rattle.std.specs.Prelude.{◌≡◌, ◌<◌, ◌+◌, ◌∷◌, ◌++◌, ◌||◌, [], true, false, None, Some, Err, map, replicate, length, IfOk, OnOk, IfSome, IsSomeAnd, slice_set};
+ghost use Rattle.mur_edge.specs.Counts.{SourceFault, one_more};
+ghost use Rattle.mur_edge.specs.Source.{IsFreshSource, HasContent};
 ghost use Rattle.mur_edge.specs.Sink.{IsFreshSink};
 ghost use Rattle.mur_edge.specs.Returned.{entries_of};
-ghost use Rattle.mur_edge.specs.Host.{after_call, after_hand_out, last_output, last_errors, source_faults_of, output_faults_of, error_faults_of};
-ghost use Rattle.mur_edge.specs.Memory.{fails_at, place_named, free_place, memory_came, object_came, IsFreshCopy, freed, sources_out_after, output_out_after, errors_out_after};
+ghost use Rattle.mur_edge.specs.Host.{DidAsk, TakesBack, last_output, last_errors};
+ghost use Rattle.mur_edge.specs.Memory.{fails_at, place_named, free_place, content_named, source_facts, sink_facts, memory_came, object_came, IsFreshCopy, freed, sources_out_after, output_out_after, errors_out_after};
 ghost use Rattle.mur_edge.specs.declared.fault.HostFault.TheVariants.{Failed as failed};
 ghost use Rattle.mur_edge.specs.declared.host.Asked.TheVariants.{Source as source_asked, Out as out_asked, Errors as errors_asked};
 ghost use Rattle.mur_edge.specs.declared.host.Used.TheVariants.{Source as source_used};
 
 use super::sink::{MemSink, SinkState, mem_sink};
 use super::source::{Calls, MemSource, SourceState, is_failing, mem_source};
-use crate::fault::{Faults, HostFault, count_back};
+use crate::fault::{Faults, HostFault};
 use crate::host::{Asked, Host, Used};
 use crate::returned::{Chain, Returned};
 use mur_base::{Bytes, Items, Memory};
@@ -60,7 +60,8 @@ pub fn mem_host(
     ensures output { IfOk result (λ host. host.out ≡ record { failing = out.state.failing; is_out = false }) }
     ensures errors { IfOk result (λ host. host.errors ≡ record { failing = errors.state.failing; is_out = false }) }
     ensures failing { IfOk result (λ host. (host.failing ≡ failing) × (host.calls ≡ 0)) }
-    ensures fresh { IfOk result (λ host. (host.faults ≡ record { sources = 0; outputs = 0; errors = 0 }) × (host.held ≡ 0) × (host.asked ≡ []) × (host.returned ≡ [])) }
+    ensures fresh { IfOk result (λ host. (host.faults ≡ record { sources = 0; outputs = 0; errors = 0 })
+        × (host.held ≡ 0) × (host.asked ≡ []) × (host.returned ≡ [])) }
 {
     let sources_out = vec![in alloc; false; sources.len()]?;
     Ok(MemHost {
@@ -160,27 +161,22 @@ impl Host for MemHost {
 
     type Out = MemSink;
 
-    ghost faults = { λ host. host.faults };
+    ghost use Rattle.mur_edge.specs.MemoryHost.{host_facts};
 
-    ghost asked = { λ host. host.asked };
-
-    ghost returned = { λ host. map memory_came host.returned };
-
-    ghost held = { λ host. host.held };
+    ghost facts = { host_facts };
 
     fn source(&mut self, name: &[u8]) -> Result<MemSource, HostFault>
-        ensures fresh { IfOk result (λ source. IsFreshSource (Some source.state.whole) (Some (drop source.state.at source.state.whole)) source.state.faults source.state.shorts) }
-        ensures cause { HasHostCause self.old.faults.sources self.new.faults.sources result }
-        ensures counts { HaveNotFallen self.old.faults self.new.faults }
-        ensures asked { self.new.asked ≡ after_call self.old.asked (source_asked name.now) result }
-        ensures returned { map memory_came self.new.returned ≡ map memory_came self.old.returned }
-        ensures held { self.new.held ≡ after_hand_out self.old.held result }
+        ensures fresh { IfOk result (λ source. IsFreshSource (source_facts source.state)) }
+        ensures content { IfOk result (λ source. HasContent (content_named self.old.sources name.now) (source_facts source.state)) }
+        ensures did { DidAsk (source_asked name.now) (host_facts self.old) (host_facts self.new) result }
 
         // The object is the one of that name, and is out from now on.
-        ensures given { IfOk result (λ source. IsSomeAnd (free_place (fails_at self.old.failing self.old.calls) self.old.sources_out.items (place_named self.old.sources name.now)) (λ place. IsFreshCopy self.old.sources place source.state × (self.new.sources_out.items ≡ slice_set self.old.sources_out.items place true))) }
+        ensures given { IfOk result (λ source.
+            IsSomeAnd (free_place (fails_at self.old.failing self.old.calls) self.old.sources_out.items (place_named self.old.sources name.now))
+            (λ place. IsFreshCopy self.old.sources place source.state × (self.new.sources_out.items ≡ slice_set self.old.sources_out.items place true))) }
         // It fails only where the call is to fail, or no object of that name is there.
-        ensures refused { result ≡ Err failed → free_place (fails_at self.old.failing self.old.calls) self.old.sources_out.items (place_named self.old.sources name.now) ≡ None }
-        ensures kept { self.new.sources ≡ self.old.sources }
+        ensures refused { result ≡ Err failed
+            → free_place (fails_at self.old.failing self.old.calls) self.old.sources_out.items (place_named self.old.sources name.now) ≡ None }
     {
         let fails = self.count_call();
         let place = free(
@@ -202,19 +198,15 @@ impl Host for MemHost {
                 Ok(source)
             }
             None => {
-                self.faults.sources = self.faults.sources.saturating_add(1);
+                self.faults.count_source();
                 Err(HostFault::Failed)
             }
         }
     }
 
     fn out(&mut self) -> Result<MemSink, HostFault>
-        ensures fresh { IfOk result (λ sink. IsFreshSink (Some sink.state.taken) sink.state.faults) }
-        ensures cause { HasHostCause self.old.faults.outputs self.new.faults.outputs result }
-        ensures counts { HaveNotFallen self.old.faults self.new.faults }
-        ensures asked { self.new.asked ≡ after_call self.old.asked out_asked result }
-        ensures returned { map memory_came self.new.returned ≡ map memory_came self.old.returned }
-        ensures held { self.new.held ≡ after_hand_out self.old.held result }
+        ensures fresh { IfOk result (λ sink. IsFreshSink (sink_facts sink.state)) }
+        ensures did { DidAsk out_asked (host_facts self.old) (host_facts self.new) result }
 
         ensures given { IfOk result (λ sink. (sink.state.failing ≡ self.old.out.failing) × (self.new.out.is_out ≡ true)) }
         ensures refused { result ≡ Err failed → (fails_at self.old.failing self.old.calls || self.old.out.is_out) ≡ true }
@@ -235,19 +227,15 @@ impl Host for MemHost {
                 Ok(sink)
             }
             None => {
-                self.faults.outputs = self.faults.outputs.saturating_add(1);
+                self.faults.count_output();
                 Err(HostFault::Failed)
             }
         }
     }
 
     fn errors(&mut self) -> Result<MemSink, HostFault>
-        ensures fresh { IfOk result (λ sink. IsFreshSink (Some sink.state.taken) sink.state.faults) }
-        ensures cause { HasHostCause self.old.faults.errors self.new.faults.errors result }
-        ensures counts { HaveNotFallen self.old.faults self.new.faults }
-        ensures asked { self.new.asked ≡ after_call self.old.asked errors_asked result }
-        ensures returned { map memory_came self.new.returned ≡ map memory_came self.old.returned }
-        ensures held { self.new.held ≡ after_hand_out self.old.held result }
+        ensures fresh { IfOk result (λ sink. IsFreshSink (sink_facts sink.state)) }
+        ensures did { DidAsk errors_asked (host_facts self.old) (host_facts self.new) result }
 
         ensures given { IfOk result (λ sink. (sink.state.failing ≡ self.old.errors.failing) × (self.new.errors.is_out ≡ true)) }
         ensures refused { result ≡ Err failed → (fails_at self.old.failing self.old.calls || self.old.errors.is_out) ≡ true }
@@ -268,25 +256,19 @@ impl Host for MemHost {
                 Ok(sink)
             }
             None => {
-                self.faults.errors = self.faults.errors.saturating_add(1);
+                self.faults.count_error();
                 Err(HostFault::Failed)
             }
         }
     }
 
     fn back(&mut self, used: Used<MemSource, MemSink>)
-        ensures returned { map memory_came self.new.returned ≡ map memory_came self.old.returned ++ object_came used ∷ [] }
-        ensures sources { Counts self.old.faults.sources (source_faults_of (object_came used)) self.new.faults.sources }
-        ensures outputs { Counts self.old.faults.outputs (output_faults_of (object_came used)) self.new.faults.outputs }
-        ensures errors { Counts self.old.faults.errors (error_faults_of (object_came used)) self.new.faults.errors }
-        ensures asked { self.new.asked ≡ self.old.asked }
-        ensures held { self.new.held ≡ self.old.held - 1 }
+        ensures did { TakesBack (object_came used) (host_facts self.old) (host_facts self.new) }
 
         // The object may be handed out again.
         ensures sources_out { self.new.sources_out.items ≡ sources_out_after used self.old.sources self.old.sources_out.items }
         ensures output_out { self.new.out.is_out ≡ output_out_after used self.old.out.is_out }
         ensures errors_out { self.new.errors.is_out ≡ errors_out_after used self.old.errors.is_out }
-        ensures kept { self.new.sources ≡ self.old.sources }
     {
         self.held = self.held.saturating_sub(1);
         match used {
@@ -294,13 +276,17 @@ impl Host for MemHost {
             Used::Out(sink) => {
                 let (state, room) = sink.into_parts();
                 self.out.is_out = false;
-                self.faults.outputs = count_back(self.faults.outputs, state.faults);
+                if state.faults > 0 {
+                    self.faults.count_output();
+                }
                 self.returned.add(Used::Out(state), room);
             }
             Used::Errors(sink) => {
                 let (state, room) = sink.into_parts();
                 self.errors.is_out = false;
-                self.faults.errors = count_back(self.faults.errors, state.faults);
+                if state.faults > 0 {
+                    self.faults.count_error();
+                }
                 self.returned.add(Used::Errors(state), room);
             }
         }
@@ -347,10 +333,11 @@ impl MemHost {
 
     fn take_source(&mut self, name: Bytes, source: MemSource)
         ensures out { self.new.sources_out.items ≡ freed (place_named self.old.sources name) self.old.sources_out.items }
-        ensures counts { Counts self.old.faults.sources source.state.faults self.new.faults.sources }
+        ensures faultless { source.state.faults ≡ 0 → self.new.faults ≡ self.old.faults }
+        ensures faulty { 0 < source.state.faults → SourceFault self.old.faults self.new.faults }
         ensures same { self.new ≡ record self.old {
           sources_out = self.new.sources_out;
-          faults = record self.old.faults { sources = self.new.faults.sources };
+          faults = self.new.faults;
           returned = self.old.returned ++ source_used name source.state ∷ [];
         } }
     {
@@ -358,7 +345,9 @@ impl MemHost {
         if let Some(place) = place_of(self.sources.as_slice(), name.as_slice()) {
             mark(self.sources_out.as_mut_slice(), place, false);
         }
-        self.faults.sources = count_back(self.faults.sources, state.faults);
+        if state.faults > 0 {
+            self.faults.count_source();
+        }
         self.returned.add(Used::Source(name, state), room);
     }
 }

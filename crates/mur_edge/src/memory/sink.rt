@@ -1,9 +1,9 @@
 // A sink in memory, whose failing writes are given by number.
-ghost use Rattle.std.specs.Prelude.{◌≡◌, ◌<◌, [], Some, length, IfOk, OnOk, IsErr, true};
+ghost use Rattle.std.specs.Prelude.{◌≡◌, ◌<◌, [], length, IfOk, IsErr, true};
 ghost use Rattle.std.specs.Io.{WritesAtMost};
-ghost use Rattle.mur_edge.specs.Counts.{HasCause, one_more};
-ghost use Rattle.mur_edge.specs.Sink.{WriteTakes};
-ghost use Rattle.mur_edge.specs.Memory.{fails_at};
+ghost use Rattle.mur_edge.specs.Counts.{one_more};
+ghost use Rattle.mur_edge.specs.Sink.{DidWrite};
+ghost use Rattle.mur_edge.specs.Memory.{fails_at, sink_facts};
 
 use super::host::MemUsed;
 use super::source::{Calls, is_failing};
@@ -65,21 +65,17 @@ impl MemSink {
 }
 
 impl Sink for MemSink {
-    ghost taken = { λ sink. Some sink.state.taken };
-
-    ghost faults = { λ sink. sink.state.faults };
+    ghost facts = { λ sink. sink_facts sink.state };
 
     fn write(&mut self, piece: &[u8]) -> Result<usize, Failed>
         ensures bound { WritesAtMost result piece.now }
         ensures some { IfOk result (λ n. 0 < length piece.now → 0 < n) }
-        ensures bytes { WriteTakes (Some self.old.state.taken) (Some self.new.state.taken) result piece.now }
-        ensures cause { HasCause self.old.state.faults self.new.state.faults result }
+        ensures did { DidWrite (sink_facts self.old.state) (sink_facts self.new.state) result piece.now }
 
         // The numbered calls fail, and the others take the whole piece if there is memory for it.
         ensures fails { fails_at self.old.state.failing self.old.state.calls ≡ true → IsErr result }
         ensures counted { self.new.state.calls ≡ one_more self.old.state.calls }
         ensures numbers { self.new.state.failing ≡ self.old.state.failing }
-        ensures faultless { OnOk result (self.new.state.faults ≡ self.old.state.faults) }
         ensures count { IfOk result (λ n. n ≡ length piece.now) }
     {
         let fails = is_failing(&self.state.failing, self.state.calls);

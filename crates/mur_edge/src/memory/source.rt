@@ -1,9 +1,9 @@
 // A source in memory, whose failing reads are given by number.
-ghost use Rattle.std.specs.Prelude.{◌≡◌, ◌+◌, ◌<◌, ◌^◌, Some, length, take, drop, min, IfOk, is_err, OnOk};
+ghost use Rattle.std.specs.Prelude.{◌≡◌, ◌+◌, ◌<◌, ◌^◌, length, take, drop, min, IfOk, is_err};
 ghost use Rattle.std.specs.Io.{ReadsAtMost};
-ghost use Rattle.mur_edge.specs.Counts.{HasCause, one_more};
-ghost use Rattle.mur_edge.specs.Source.{ReadGives, after_read};
-ghost use Rattle.mur_edge.specs.Memory.{fails_at};
+ghost use Rattle.mur_edge.specs.Counts.{one_more};
+ghost use Rattle.mur_edge.specs.Source.{DidRead};
+ghost use Rattle.mur_edge.specs.Memory.{fails_at, source_facts};
 
 use super::host::MemUsed;
 use crate::fault::Failed;
@@ -91,26 +91,16 @@ fn fill(buf: &mut [u8], bytes: &[u8]) -> usize
 }
 
 impl Source for MemSource {
-    ghost whole = { λ source. Some source.state.whole };
-
-    ghost left = { λ source. Some (drop source.state.at source.state.whole) };
-
-    ghost faults = { λ source. source.state.faults };
-
-    ghost shorts = { λ source. source.state.shorts };
+    ghost facts = { λ source. source_facts source.state };
 
     fn read(&mut self, buf: &mut [u8]) -> Result<usize, Failed>
         ensures bound { ReadsAtMost result buf.new }
-        ensures bytes { ReadGives (Some (drop self.old.state.at self.old.state.whole)) (Some (drop self.new.state.at self.new.state.whole)) result buf.new }
-        ensures same { self.new.state.whole ≡ self.old.state.whole }
-        ensures short { self.new.state.shorts ≡ after_read self.old.state.shorts result (length buf.new) }
-        ensures cause { HasCause self.old.state.faults self.new.state.faults result }
+        ensures did { DidRead (source_facts self.old.state) (source_facts self.new.state) result buf.new }
 
         // Exactly the numbered calls fail, and the others give as much as fits.
         ensures fails { is_err result ≡ fails_at self.old.state.failing self.old.state.calls }
         ensures counted { self.new.state.calls ≡ one_more self.old.state.calls }
         ensures numbers { self.new.state.failing ≡ self.old.state.failing }
-        ensures faultless { OnOk result (self.new.state.faults ≡ self.old.state.faults) }
         ensures count { IfOk result (λ n. n ≡ min (length buf.new) (length (drop self.old.state.at self.old.state.whole))) }
     {
         let fails = is_failing(&self.state.failing, self.state.calls);

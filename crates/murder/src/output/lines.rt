@@ -2,9 +2,9 @@
 ghost use Rattle.std.specs.Prelude.{◌≡◌, ℕ, List, ◌++◌, OnOk};
 ghost use Rattle.murder.specs.Output.{what_text, unreached_text};
 
-use cluster_core::{put_name, put_text};
 use mur_base::{Bytes, MailName, Memory, NodeName, Point, What, put_number};
 use mur_model::MailBox;
+use schedule_text::{put_name_text, put_text};
 
 /// What is printed as one line.
 pub trait Line {
@@ -103,7 +103,7 @@ impl Line for BoxRow<'_> {
     #[tactic(auto, unfolding(crate::specs::Output::box_line))]
     fn put(&self, out: &mut Bytes) -> Result<(), Memory> {
         out.extend_from_slice(b"box ")?;
-        put_name(self.name.as_bytes(), out)?;
+        put_name_text(self.name.as_bytes(), out)?;
         out.push(b' ')?;
         out.extend_from_slice(self.node.as_bytes())?;
         out.extend_from_slice(b" open ")?;

@@ -1,6 +1,6 @@
 // Every kind of line, as its format's page prints it.
 use crate::output::write_output;
-use cluster_core::{Connection, Home, World};
+use cluster_core::{Client, Connection, Home, Reader, World};
 use mur_base::{AskId, Bytes, Items, Map, Memory, Point, What, mail_name, node_name};
 use mur_edge::mem_sink;
 use mur_model::{MailBox, Sess};
@@ -15,11 +15,14 @@ fn point(step: u64, command: u64, what: What) -> Point {
     }
 }
 
-fn connection(alloc: Global, given: &[u8]) -> Result<Connection, Memory> {
-    Ok(Connection {
-        session: Sess::Ended,
-        rest: Bytes::new(alloc),
-        commands: 0,
+fn client(alloc: Global, given: &[u8]) -> Result<Client, Memory> {
+    Ok(Client {
+        reader: Reader::new(alloc),
+        connection: Connection {
+            session: Sess::Ended,
+            asked: None,
+            commands: 0,
+        },
         given: Bytes::from_slice(alloc, given)?,
     })
 }
@@ -27,10 +30,10 @@ fn connection(alloc: Global, given: &[u8]) -> Result<Connection, Memory> {
 #[test]
 fn prints_each_kind_of_line(rt: HostRuntime) -> Result<(), Fail> {
     let alloc = rt.alloc();
-    let mut connections = Map::new(alloc);
-    connections.insert(10, connection(alloc, b"last\r\n\\ and a rest")?)?;
-    connections.insert(2, connection(alloc, b"* OK\r\n\r\n")?)?;
-    connections.insert(3, connection(alloc, b"")?)?;
+    let mut clients = Map::new(alloc);
+    clients.insert(10, client(alloc, b"last\r\n\\ and a rest")?)?;
+    clients.insert(2, client(alloc, b"* OK\r\n\r\n")?)?;
+    clients.insert(3, client(alloc, b"")?)?;
     let mut boxes = Map::new(alloc);
     boxes.insert(
         mail_name(alloc, b"user.bob")?,
@@ -48,7 +51,7 @@ fn prints_each_kind_of_line(rt: HostRuntime) -> Result<(), Fail> {
     points.push(point(5, 4, What::Unreached(node_name(alloc, b"b1")?)))?;
     let world = World {
         node: node_name(alloc, b"f1")?,
-        connections,
+        clients,
         home: Home {
             boxes,
             last_serial: 2,

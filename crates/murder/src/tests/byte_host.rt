@@ -1,8 +1,7 @@
 // A host in memory whose sources give one byte a read and whose sinks take one byte a write.
-ghost use Rattle.std.specs.Prelude.{◌≡◌, ◌-◌, ◌∷◌, ◌++◌, [], Some, drop, map};
-ghost use Rattle.mur_edge.specs.Counts.{Counts};
-ghost use Rattle.mur_edge.specs.Host.{came_of, source_faults_of, output_faults_of, error_faults_of};
-ghost use Rattle.mur_edge.specs.Memory.{memory_came};
+ghost use Rattle.mur_edge.specs.Host.{TakesBack, came_of};
+ghost use Rattle.mur_edge.specs.Memory.{source_facts, sink_facts};
+ghost use Rattle.mur_edge.specs.MemoryHost.{host_facts};
 
 use mur_edge::{Failed, Host, HostFault, MemHost, MemSink, MemSource, Sink, Source, Used};
 
@@ -13,13 +12,7 @@ pub struct ByteSource {
 }
 
 impl Source for ByteSource {
-    ghost whole = { λ bytes. Some bytes.source.state.whole };
-
-    ghost left = { λ bytes. Some (drop bytes.source.state.at bytes.source.state.whole) };
-
-    ghost faults = { λ bytes. bytes.source.state.faults };
-
-    ghost shorts = { λ bytes. bytes.source.state.shorts };
+    ghost facts = { λ bytes. source_facts bytes.source.state };
 
     fn read(&mut self, buf: &mut [u8]) -> Result<usize, Failed> {
         let room = buf.len();
@@ -38,9 +31,7 @@ pub struct ByteSink {
 }
 
 impl Sink for ByteSink {
-    ghost taken = { λ bytes. Some bytes.sink.state.taken };
-
-    ghost faults = { λ bytes. bytes.sink.state.faults };
+    ghost facts = { λ bytes. sink_facts bytes.sink.state };
 
     fn write(&mut self, piece: &[u8]) -> Result<usize, Failed> {
         self.sink.write(&piece[..piece.len().min(1)])
@@ -58,13 +49,7 @@ impl Host for ByteHost {
 
     type Out = ByteSink;
 
-    ghost faults = { λ bytes. bytes.host.faults };
-
-    ghost asked = { λ bytes. bytes.host.asked };
-
-    ghost returned = { λ bytes. map memory_came bytes.host.returned };
-
-    ghost held = { λ bytes. bytes.host.held };
+    ghost facts = { λ bytes. host_facts bytes.host };
 
     fn source(&mut self, name: &[u8]) -> Result<ByteSource, HostFault> {
         let source = self.host.source(name)?;
@@ -82,12 +67,8 @@ impl Host for ByteHost {
     }
 
     fn back(&mut self, used: Used<ByteSource, ByteSink>)
-        ensures returned { map memory_came self.new.host.returned ≡ map memory_came self.old.host.returned ++ came_of (λ bytes. bytes.source.state.faults) (λ bytes. bytes.source.state.shorts) (λ bytes. Some bytes.source.state.whole) (λ bytes. Some (drop bytes.source.state.at bytes.source.state.whole)) (λ bytes. bytes.sink.state.faults) (λ bytes. Some bytes.sink.state.taken) used ∷ [] }
-        ensures sources { Counts self.old.host.faults.sources (source_faults_of (came_of (λ bytes. bytes.source.state.faults) (λ bytes. bytes.source.state.shorts) (λ bytes. Some bytes.source.state.whole) (λ bytes. Some (drop bytes.source.state.at bytes.source.state.whole)) (λ bytes. bytes.sink.state.faults) (λ bytes. Some bytes.sink.state.taken) used)) self.new.host.faults.sources }
-        ensures outputs { Counts self.old.host.faults.outputs (output_faults_of (came_of (λ bytes. bytes.source.state.faults) (λ bytes. bytes.source.state.shorts) (λ bytes. Some bytes.source.state.whole) (λ bytes. Some (drop bytes.source.state.at bytes.source.state.whole)) (λ bytes. bytes.sink.state.faults) (λ bytes. Some bytes.sink.state.taken) used)) self.new.host.faults.outputs }
-        ensures errors { Counts self.old.host.faults.errors (error_faults_of (came_of (λ bytes. bytes.source.state.faults) (λ bytes. bytes.source.state.shorts) (λ bytes. Some bytes.source.state.whole) (λ bytes. Some (drop bytes.source.state.at bytes.source.state.whole)) (λ bytes. bytes.sink.state.faults) (λ bytes. Some bytes.sink.state.taken) used)) self.new.host.faults.errors }
-        ensures asked { self.new.host.asked ≡ self.old.host.asked }
-        ensures held { self.new.host.held ≡ self.old.host.held - 1 }
+        ensures { TakesBack (came_of (λ bytes. source_facts bytes.source.state) (λ bytes. sink_facts bytes.sink.state) used)
+            (host_facts self.old.host) (host_facts self.new.host) }
     {
         match used {
             Used::Source(name, bytes) => self.host.back(Used::Source(name, bytes.source)),

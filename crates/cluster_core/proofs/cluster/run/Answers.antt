@@ -14,7 +14,7 @@ pub loop-event-init : goal.loop-event-init
 loop-event-init c = (tt, tt, search rules, way_begins _ _ _ _ c.in_ok-cluster.ensures (search rules))
 
 pub take-requires : goal.take-requires
-take-requires c = way_has_room c.args.config.now c.args.events _ _ _ _ (omega (arith, c.requires.room)) c.in-Some.ensures.steps.0 c.loop-event.invariant.3
+take-requires c = way_has_room c.args.config.now c.args.events _ _ _ _ c.requires.steps c.requires.bytes c.in-Some.ensures.steps.0 c.loop-event.invariant.3
 
 pub loop-event-preserved : goal.loop-event-preserved
 loop-event-preserved c = (
@@ -28,10 +28,10 @@ pub returns-clause-ran : goal.returns-clause-ran
 returns-clause-ran c = way_ends _ _ _ _ (empty_by_length _ (sym c.loop-event.invariant.2 ∙ c.in-None.ensures.steps.0)) c.loop-event.invariant.3
 
 pub returns-clause-one_server : goal.returns-clause-one_server
-returns-clause-one_server c = one_server c.args.config.now c.args.events c.requires.room
+returns-clause-one_server c = one_server c.args.config.now c.args.events c.requires.bytes
 
 pub returns-in_err-cluster-clause-one_server : goal.returns-in_err-cluster-clause-one_server
-returns-in_err-cluster-clause-one_server c = one_server c.args.config.now c.args.events c.requires.room
+returns-in_err-cluster-clause-one_server c = one_server c.args.config.now c.args.events c.requires.bytes
 
 pub returns-in_err-take-clause-one_server : goal.returns-in_err-take-clause-one_server
-returns-in_err-take-clause-one_server c = one_server c.args.config.now c.args.events c.requires.room
+returns-in_err-take-clause-one_server c = one_server c.args.config.now c.args.events c.requires.bytes

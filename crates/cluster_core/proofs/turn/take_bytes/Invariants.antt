@@ -1,10 +1,16 @@
-use Rattle.std.proofs.Common.{◌≡◌, ◌+◌, ◌≤◌, drop}
-use Rattle.cluster_core.specs.Turn.{take_bytes}
+use Rattle.std.proofs.Common.{◌≡◌, ◌+◌, ◌-◌, ◌≤◌, length, drop}
+use Rattle.imap_wire.specs.More.{frames_of_more, begun_by_more}
+use Rattle.cluster_core.specs.Turn.{take_frames}
 use Rattle.cluster_core.proofs.turn.take_bytes.Given as goal
 
-abbrev pub invariant-loop-byte : goal.invariant-loop-byte
-invariant-loop-byte l = record {
-  turn : take_bytes l.place (record { connection = l.connection; home = l.home; points = l.points }) (drop l.byte-index l.bytes)
-      ≡ take_bytes l.place (record { connection = l.initial.connection; home = l.initial.home; points = l.initial.points }) l.bytes;
-  commands : l.connection.commands ≤ l.initial.connection.commands + l.byte-index;
+abbrev pub invariant-loop-taken : goal.invariant-loop-taken
+invariant-loop-taken l = record {
+  within : l.taken ≤ length l.bytes;
+  turn : take_frames l.step l.conn (record { connection = l.client.connection; given = l.client.given; home = l.home; points = l.points }) (frames_of_more l.client.reader (drop l.taken l.bytes))
+      ≡ take_frames l.step l.conn (record { connection = l.initial.client.connection; given = l.initial.client.given; home = l.initial.home; points = l.initial.points }) (frames_of_more l.initial.client.reader l.bytes);
+  begun : begun_by_more l.client.reader (drop l.taken l.bytes) ≡ begun_by_more l.initial.client.reader l.bytes;
+  commands : l.client.connection.commands ≤ l.initial.client.connection.commands + l.taken;
 }
+
+abbrev pub decreases-loop-taken : goal.decreases-loop-taken
+decreases-loop-taken l = length l.bytes - l.taken

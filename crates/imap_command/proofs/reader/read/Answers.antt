@@ -15,4 +15,5 @@ returns-in-Ok-clause-only c = λ tagged h. inl (ap Ok ((c.whole_of.ensures.only 
 pub returns-in_ok-first_tag-in-Err-Stopped-clause-bad : goal.returns-in_ok-first_tag-in-Err-Stopped-clause-bad
 returns-in_ok-first_tag-in-Err-Stopped-clause-bad c = λ bad e.
     bad_from c.args.frame.now c.in_ok-first_tag-in-Err-Stopped.field-0 _ bad
-    (longest_from_stop c.args.frame.now c.in-Err-Stopped.stop.left (c.whole_of.ensures.stops c.in-Err-Stopped.stop (cc))) c.in_ok-first_tag-in-Err-Stopped.ensures e
+    (longest_from_stop c.args.frame.now c.in-Err-Stopped.stop.left
+    (c.whole_of.ensures.stops c.in-Err-Stopped.stop (cc))) c.in_ok-first_tag-in-Err-Stopped.ensures e

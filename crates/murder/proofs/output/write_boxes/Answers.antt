@@ -1,20 +1,15 @@
-use Rattle.std.proofs.Common.{rules, ap}
-use Rattle.std.specs.List.{flat_map}
-use Rattle.murder.specs.Output.{box_line}
-use Rattle.murder.proofs.WritingLaws.{line_on, line_breaks, line_ends, front_of_taken}
+use Rattle.std.proofs.Common.{rules}
+use Rattle.murder.proofs.WritingLaws.{goes_on, breaks, fails, ends}
 use Rattle.murder.proofs.output.write_boxes.Goals as goal
 
 pub loop-name-preserved : goal.loop-name-preserved
 loop-name-preserved g c = record {
-  way = line_on _ _ _ _ _ _ _ _ _ _ (ap (flat_map (box_line c.args.node.now)) c.in-Some.ensures.steps) c.loop-name.invariant.way c.in_ok-write_line.ensures.ok;
-  later = search rules;
+  way = goes_on _ _ _ _ _ _ _ _ _ _ _ c.in-Some.ensures.steps c.loop-name.invariant.way c.in_ok-write_line.ensures.did;
+  faultless = search rules;
 }
 
-pub returns-in_err-write_line-clause-front : goal.returns-in_err-write_line-clause-front
-returns-in_err-write_line-clause-front g c = line_breaks _ _ _ _ _ _ _ _ _ (ap (flat_map (box_line c.args.node.now)) c.in-Some.ensures.steps) c.loop-name.invariant.way c.in_err-write_line.ensures.front
+pub returns-in_err-write_line-clause-did : goal.returns-in_err-write_line-clause-did
+returns-in_err-write_line-clause-did g c = fails _ _ _ _ _ _ c.from_residual.ensures.0 (breaks _ _ _ _ _ _ _ _ _ _ c.in-Some.ensures.steps c.loop-name.invariant.way c.in_err-write_line.ensures.did)
 
-pub returns-clause-ok : goal.returns-clause-ok
-returns-clause-ok g c = line_ends _ _ _ _ _ _ (ap (flat_map (box_line c.args.node.now)) c.in-None.ensures.steps.0) c.loop-name.invariant.way
-
-pub returns-clause-front : goal.returns-clause-front
-returns-clause-front g c = front_of_taken _ _ _ _ _ (line_ends _ _ _ _ _ _ (ap (flat_map (box_line c.args.node.now)) c.in-None.ensures.steps.0) c.loop-name.invariant.way)
+pub returns-clause-did : goal.returns-clause-did
+returns-clause-did g c = ends _ _ _ _ _ _ _ c.in-None.ensures.steps.0 c.loop-name.invariant.way

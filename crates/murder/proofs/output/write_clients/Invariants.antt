@@ -1,4 +1,4 @@
-use Rattle.std.proofs.Common.{◌≤◌}
+use Rattle.std.proofs.Common.{◌≡◌}
 use Rattle.std.specs.List.{flat_map}
 use Rattle.murder.specs.Output.{client_lines}
 use Rattle.murder.proofs.WritingLaws.{OnWay}
@@ -6,6 +6,6 @@ use Rattle.murder.proofs.output.write_clients.Given as goal
 
 abbrev pub invariant-loop-conn : goal.invariant-loop-conn
 invariant-loop-conn g l = record {
-  way : OnWay (g.S.Sink.taken l.initial.sink) (g.S.Sink.taken l.sink) l.initial.part l.part (flat_map client_lines l.conn-iterator) (flat_map client_lines l.connections);
-  later : g.S.Sink.faults l.initial.sink ≤ g.S.Sink.faults l.sink;
+  way : OnWay client_lines (g.S.Sink.facts l.initial.sink).taken (g.S.Sink.facts l.sink).taken l.initial.part l.part l.conn-iterator (flat_map client_lines l.clients);
+  faultless : (g.S.Sink.facts l.sink).faults ≡ (g.S.Sink.facts l.initial.sink).faults;
 }

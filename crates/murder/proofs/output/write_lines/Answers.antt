@@ -1,54 +1,69 @@
-use Rattle.std.proofs.Common.{◌≡◌, [], ◌++◌, length, refl, sym, ap, ◌∙◌}
+use Rattle.std.proofs.Common.{◌≡◌, ℕ, List, [], ◌∷◌, ◌++◌, length, refl, sym, ap, subst, Option, Result, IsErr}
 use Rattle.std.proofs.lemmas.List.{append-nil}
-use Rattle.murder.specs.Output.{output_of, end_line}
-use Rattle.murder.proofs.WritingLaws.{begins, line_on, line_breaks, line_ends, front_of_taken}
+use Rattle.std.specs.List.{flat_map}
+use Rattle.cluster_core.specs.declared.world.World.{World}
+use Rattle.murder.specs.Output.{client_lines, point_line, box_line, end_line, output_of}
+use Rattle.murder.specs.Writing.{TakesIn, TookPart, DidPut}
+use Rattle.murder.proofs.WritingLaws.{OnWay, begins, goes_on, breaks, fails, ends}
 use Rattle.murder.proofs.output.write_lines.Goals as goal
 
-pub returns-in_err-write_clients-clause-front : goal.returns-in_err-write_clients-clause-front
-unfolding output_of
-returns-in_err-write_clients-clause-front g c =
-    let all = begins (g.S.Sink.taken c.args.sink.now) c.args.part.now (output_of c.args.world.now) in
-    line_breaks _ _ _ _ _ _ _ _ _ refl all c.in_err-write_clients.ensures.front
+-- the parts of the output, one behind the other
+abbrev parts_of : World → List (List ℕ)
+parts_of world =
+    flat_map client_lines world.clients
+    ∷ flat_map point_line world.points
+    ∷ flat_map (box_line world.node) world.home.boxes
+    ∷ end_line world.steps (length world.points)
+    ∷ []
 
-pub returns-in_err-write_points-clause-front : goal.returns-in_err-write_points-clause-front
-unfolding output_of
-returns-in_err-write_points-clause-front g c =
-    let clients = line_on _ _ _ _ _ _ _ _ _ _ refl (begins _ _ _) c.in_ok-write_clients.ensures.ok in
-    line_breaks _ _ _ _ _ _ _ _ _ refl clients c.in_err-write_points.ensures.front
+abbrev itself : List ℕ → List ℕ
+itself part = part
 
-pub returns-in_err-write_boxes-clause-front : goal.returns-in_err-write_boxes-clause-front
+together : (world : World) → flat_map itself (parts_of world) ≡ output_of world
 unfolding output_of
-returns-in_err-write_boxes-clause-front g c =
-    let clients = line_on _ _ _ _ _ _ _ _ _ _ refl (begins _ _ _) c.in_ok-write_clients.ensures.ok in
-    let points = line_on _ _ _ _ _ _ _ _ _ _ refl clients c.in_ok-write_points.ensures.ok in
-    line_breaks _ _ _ _ _ _ _ _ _ refl points c.in_err-write_boxes.ensures.front
+together world =
+    ap
+    (λ (last : List ℕ). flat_map client_lines world.clients ++ (flat_map point_line world.points ++ (flat_map (box_line world.node) world.home.boxes ++ last)))
+    (append-nil (end_line world.steps (length world.points)))
 
-pub returns-in_err-write_line-clause-front : goal.returns-in_err-write_line-clause-front
-unfolding output_of
-returns-in_err-write_line-clause-front g c =
-    let clients = line_on _ _ _ _ _ _ _ _ _ _ refl (begins _ _ _) c.in_ok-write_clients.ensures.ok in
-    let points = line_on _ _ _ _ _ _ _ _ _ _ refl clients c.in_ok-write_points.ensures.ok in
-    let boxes = line_on _ _ _ _ _ _ _ _ _ _ refl points c.in_ok-write_boxes.ensures.ok in
-    let last : end_line c.args.world.now.steps (length c.args.world.now.points) ≡ end_line c.args.world.now.steps c.len.result ++ [] =
-    ap (end_line c.args.world.now.steps) (sym c.len.ensures) ∙ sym (append-nil (end_line c.args.world.now.steps c.len.result)) in
-    line_breaks _ _ _ _ _ _ _ _ _ last boxes c.in_err-write_line.ensures.front
+failed : {E : Type 0} (t now : Option (List ℕ)) (part kept : List ℕ) (world : World) (answer : Result (Unit {0}) E) → IsErr answer → TookPart t now (part ++ flat_map itself (parts_of world)) → DidPut t now part kept (output_of world) answer
+failed t now part kept world answer is took = fails t now part kept (output_of world) answer is (subst (λ (text : List ℕ). TookPart t now (part ++ text)) (together world) took)
 
-pub returns-clause-ok : goal.returns-clause-ok
-unfolding output_of
-returns-clause-ok g c =
-    let clients = line_on _ _ _ _ _ _ _ _ _ _ refl (begins _ _ _) c.in_ok-write_clients.ensures.ok in
-    let points = line_on _ _ _ _ _ _ _ _ _ _ refl clients c.in_ok-write_points.ensures.ok in
-    let boxes = line_on _ _ _ _ _ _ _ _ _ _ refl points c.in_ok-write_boxes.ensures.ok in
-    let last : end_line c.args.world.now.steps (length c.args.world.now.points) ≡ end_line c.args.world.now.steps c.len.result ++ [] =
-    ap (end_line c.args.world.now.steps) (sym c.len.ensures) ∙ sym (append-nil (end_line c.args.world.now.steps c.len.result)) in
-    line_ends _ _ _ _ _ _ refl (line_on _ _ _ _ _ _ _ _ _ _ last boxes c.in_ok-write_line.ensures.ok)
+done : (t now : Option (List ℕ)) (part kept : List ℕ) (world : World) → TakesIn t now part kept (flat_map itself (parts_of world)) → TakesIn t now part kept (output_of world)
+done t now part kept world taken = subst (λ (text : List ℕ). TakesIn t now part kept text) (together world) taken
 
-pub returns-clause-front : goal.returns-clause-front
-unfolding output_of
-returns-clause-front g c =
-    let clients = line_on _ _ _ _ _ _ _ _ _ _ refl (begins _ _ _) c.in_ok-write_clients.ensures.ok in
-    let points = line_on _ _ _ _ _ _ _ _ _ _ refl clients c.in_ok-write_points.ensures.ok in
-    let boxes = line_on _ _ _ _ _ _ _ _ _ _ refl points c.in_ok-write_boxes.ensures.ok in
-    let last : end_line c.args.world.now.steps (length c.args.world.now.points) ≡ end_line c.args.world.now.steps c.len.result ++ [] =
-    ap (end_line c.args.world.now.steps) (sym c.len.ensures) ∙ sym (append-nil (end_line c.args.world.now.steps c.len.result)) in
-    front_of_taken _ _ _ _ _ (line_ends _ _ _ _ _ _ refl (line_on _ _ _ _ _ _ _ _ _ _ last boxes c.in_ok-write_line.ensures.ok))
+end_is : (count points steps : ℕ) → count ≡ points → end_line steps points ∷ [] ≡ end_line steps count ∷ []
+end_is count points steps is = ap (λ (n : ℕ). end_line steps n ∷ []) (sym is)
+
+start : (t : Option (List ℕ)) (part : List ℕ) (world : World) → OnWay itself t t part part (parts_of world) (flat_map itself (parts_of world))
+start t part world = begins itself t part (parts_of world)
+
+pub returns-in_err-write_clients-clause-did : goal.returns-in_err-write_clients-clause-did
+returns-in_err-write_clients-clause-did g c =
+    failed _ _ _ _ _ _ c.from_residual.ensures.0 (breaks itself _ _ _ _ _ _ _ _ _ refl (start _ _ c.args.world.now) c.in_err-write_clients.ensures.did)
+
+pub returns-in_err-write_points-clause-did : goal.returns-in_err-write_points-clause-did
+returns-in_err-write_points-clause-did g c =
+    let clients = goes_on itself _ _ _ _ _ _ _ _ _ _ refl (start _ _ c.args.world.now) c.in_ok-write_clients.ensures.did in
+    failed _ _ _ _ _ _ c.from_residual-in_err-write_points.ensures.0 (breaks itself _ _ _ _ _ _ _ _ _ refl clients c.in_err-write_points.ensures.did)
+
+pub returns-in_err-write_boxes-clause-did : goal.returns-in_err-write_boxes-clause-did
+returns-in_err-write_boxes-clause-did g c =
+    let clients = goes_on itself _ _ _ _ _ _ _ _ _ _ refl (start _ _ c.args.world.now) c.in_ok-write_clients.ensures.did in
+    let points = goes_on itself _ _ _ _ _ _ _ _ _ _ refl clients c.in_ok-write_points.ensures.did in
+    failed _ _ _ _ _ _ c.from_residual-in_err-write_boxes.ensures.0 (breaks itself _ _ _ _ _ _ _ _ _ refl points c.in_err-write_boxes.ensures.did)
+
+pub returns-in_err-write_line-clause-did : goal.returns-in_err-write_line-clause-did
+returns-in_err-write_line-clause-did g c =
+    let clients = goes_on itself _ _ _ _ _ _ _ _ _ _ refl (start _ _ c.args.world.now) c.in_ok-write_clients.ensures.did in
+    let points = goes_on itself _ _ _ _ _ _ _ _ _ _ refl clients c.in_ok-write_points.ensures.did in
+    let boxes = goes_on itself _ _ _ _ _ _ _ _ _ _ refl points c.in_ok-write_boxes.ensures.did in
+    failed _ _ _ _ _ _ c.from_residual-in_err-write_line.ensures.0 (breaks itself _ _ _ _ _ _ _ _ _ (end_is c.len.result (length c.args.world.now.points) c.args.world.now.steps c.len.ensures) boxes c.in_err-write_line.ensures.did)
+
+pub returns-clause-did : goal.returns-clause-did
+returns-clause-did g c =
+    let clients = goes_on itself _ _ _ _ _ _ _ _ _ _ refl (start _ _ c.args.world.now) c.in_ok-write_clients.ensures.did in
+    let points = goes_on itself _ _ _ _ _ _ _ _ _ _ refl clients c.in_ok-write_points.ensures.did in
+    let boxes = goes_on itself _ _ _ _ _ _ _ _ _ _ refl points c.in_ok-write_boxes.ensures.did in
+    let last = goes_on itself _ _ _ _ _ _ _ _ _ _ (end_is c.len.result (length c.args.world.now.points) c.args.world.now.steps c.len.ensures) boxes c.in_ok-write_line.ensures.did in
+    done _ _ _ _ _ (ends itself _ _ _ _ _ _ refl last)

@@ -1,10 +1,16 @@
 use Rattle.std.proofs.Common.{◌≡◌, ◌-◌, length, false, None}
 use Rattle.imap_wire.specs.Begun.{state_of, Takes}
-use Rattle.imap_wire.specs.Work.{fed}
+use Rattle.imap_wire.specs.Tally.{fed}
 use Rattle.imap_wire.proofs.begun.Begun.take.Given as goal
 
 abbrev pub invariant-loop-taken : goal.invariant-loop-taken
-invariant-loop-taken l = record { takes : Takes (state_of l.initial.self) l.piece None l.taken (state_of l.self); going : l.self.spent ≡ false; work : l.self.kept.work ≡ fed l.initial.self.kept.work None l.taken }
+invariant-loop-taken l =
+    record {
+      takes : Takes (state_of l.initial.self) l.piece None l.taken
+          (state_of l.self);
+      going : l.self.spent ≡ false;
+      tally : l.self.kept.tally ≡ fed l.initial.self.kept.tally None l.taken;
+    }
 
 abbrev pub decreases-loop-taken : goal.decreases-loop-taken
 decreases-loop-taken l = length l.piece - l.taken

@@ -6,4 +6,5 @@ use Rattle.imap_wire.proofs.begun.Begun.take_literal.Goals as goal
 pub returns-clause-moves : goal.returns-clause-moves
 returns-clause-moves c =
     Moves-literal _ _ _ _ c.requires.going (omega arith) (omega arith)
-    (kept-literal _ _ _ c.args.self.now.kept.last.bytes.items _ (take c.min-taken.result c.args.piece.now) c.args.self.now.line_at _ _ _ _ _ _ c.requires.left c.in_ok-make_room.ensures.bytes c.keep.ensures.bytes c.len-self.ensures)
+    (kept-literal _ _ _ c.args.self.now.kept.last.bytes.items _ (take c.min-taken.result c.args.piece.now) c.args.self.now.line_at
+    _ _ _ _ _ _ c.requires.left c.in_ok-make_room.ensures.bytes c.keep.ensures.bytes c.len-self.ensures)

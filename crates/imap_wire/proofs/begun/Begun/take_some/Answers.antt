@@ -28,4 +28,5 @@ returns-clause-takes c =
     let same : state_of c.take_text-taken.new.self ≡ state_of c.args.self.now =
     Moves-zero (state_of c.make_line_room.new.self) (state_of c.take_text-taken.new.self) c.args.piece.now _ c.take_text-taken.ensures.moves (omega arith)
     ∙ c.in_ok-make_line_room.ensures.state in
-    Takes-byte (state_of c.args.self.now) (state_of c.take_text-taken.new.self) _ c.args.piece.now _ c.requires.some same c.in_ok-take_byte.ensures.frame c.in_ok-take_byte.ensures.after
+    Takes-byte (state_of c.args.self.now)
+    (state_of c.take_text-taken.new.self) _ c.args.piece.now _ c.requires.some same c.in_ok-take_byte.ensures.frame c.in_ok-take_byte.ensures.after

@@ -27,7 +27,8 @@ pub returns-in-Ok-clause-within : goal.returns-in-Ok-clause-within
 returns-in-Ok-clause-within c = c.in-Ok.ensures.takes.within
 
 pub returns-in-Ok-clause-leaves : goal.returns-in-Ok-clause-leaves
-returns-in-Ok-clause-leaves c = Takes-leaves (state_of c.self.inside.begun) (state_of c.take.new.self) c.args.piece.now c.in-Ok.fed.0 _ c.if-self.false c.in-Ok.ensures.takes
+returns-in-Ok-clause-leaves c =
+    Takes-leaves (state_of c.self.inside.begun) (state_of c.take.new.self) c.args.piece.now c.in-Ok.fed.0 _ c.if-self.false c.in-Ok.ensures.takes
 
 pub returns-in-Ok-clause-own : goal.returns-in-Ok-clause-own
 returns-in-Ok-clause-own c = begun-own (state_of c.self.inside.begun) c.args.self.now.begun c.self.invariant (ap (λ (p : Progress). p.begun) c.self.view_is)

@@ -10,10 +10,12 @@ loop-taken-preserved-in-Continue-branch-2 c =
     record {
       within = omega (arith, c.in_ok-frame.ensures.within);
       after = λ past held.
-          rw (past-more past c.args.piece.now c.loop-taken.taken c.in_ok-frame.more) (c.in_ok-frame.ensures.after (here past) (c.loop-taken.invariant.after past held));
+          rw (past-more past c.args.piece.now c.loop-taken.taken c.in_ok-frame.more)
+          (c.in_ok-frame.ensures.after (here past) (c.loop-taken.invariant.after past held));
       frames = λ past held old.
           frames-more past c.args.piece.now c.loop-taken.taken c.in_ok-frame.more c.in_ok-frame.frame c.loop-taken.frames _
-          (c.in_ok-frame.ensures.frame (some_from _ (sym c.if-not-spent.ensures)) (here past) (c.loop-taken.invariant.after past held)) (c.loop-taken.invariant.frames past held old)
+          (c.in_ok-frame.ensures.frame (some_from _ (sym c.if-not-spent.ensures)) (here past) (c.loop-taken.invariant.after past held))
+          (c.loop-taken.invariant.frames past held old)
           (rw c.in-Some.is c.in_ok-push.ensures.ok);
     }
 
@@ -23,10 +25,12 @@ loop-taken-preserved c =
     record {
       within = omega (arith, c.in_ok-frame.ensures.within);
       after = λ past held.
-          rw (past-more past c.args.piece.now c.loop-taken.taken c.in_ok-frame.more) (c.in_ok-frame.ensures.after (here past) (c.loop-taken.invariant.after past held));
+          rw (past-more past c.args.piece.now c.loop-taken.taken c.in_ok-frame.more)
+          (c.in_ok-frame.ensures.after (here past) (c.loop-taken.invariant.after past held));
       frames = λ past held old.
           frames-more past c.args.piece.now c.loop-taken.taken c.in_ok-frame.more c.in_ok-frame.frame c.loop-taken.frames _
-          (c.in_ok-frame.ensures.frame (some_from _ (sym c.if-not-spent.ensures)) (here past) (c.loop-taken.invariant.after past held)) (c.loop-taken.invariant.frames past held old)
+          (c.in_ok-frame.ensures.frame (some_from _ (sym c.if-not-spent.ensures)) (here past) (c.loop-taken.invariant.after past held))
+          (c.loop-taken.invariant.frames past held old)
           (rw c.in_default.is (sym (append-nil c.loop-taken.frames)));
     }
 

@@ -1,15 +1,16 @@
 -- Block by block.
 use Rattle.std.proofs.Common.{◌≡◌, ℕ, ◌+◌, ◌∙◌, refl, sym, length, take, ap, arith, length-append, vec_capacity}
 use Rattle.imap_wire.specs.Kept.{joined_blocks}
-use Rattle.imap_wire.specs.declared.work.Work.{Work}
-use Rattle.imap_wire.specs.Work.{more}
+use Rattle.imap_wire.specs.declared.tally.Tally.{Tally}
+use Rattle.imap_wire.specs.Tally.{more}
 use Rattle.imap_wire.proofs.BlockLaws.{joined_blocks-more, joined_blocks-fit}
-use Rattle.imap_wire.proofs.WorkLaws.{more-more}
+use Rattle.imap_wire.proofs.TallyLaws.{more-more}
 use Rattle.imap_wire.proofs.kept.Kept.join.Goals as goal
 
 pub put-requires : goal.put-requires
 put-requires c =
-    let fits = joined_blocks-fit c.deref-block-items.result.now c.loop-block.block-index c.block-item.result (vec_capacity c.loop-block.all.bytes) (omega arith) c.block-item.is (omega (arith, c.loop-block.invariant.room)) in
+    let fits = joined_blocks-fit c.deref-block-items.result.now c.loop-block.block-index c.block-item.result (vec_capacity c.loop-block.all.bytes)
+    (omega arith) c.block-item.is (omega (arith, c.loop-block.invariant.room)) in
     omega (arith, fits, ap length c.loop-block.invariant.all, ap length c.as_slice.ensures)
 
 pub loop-block-preserved : goal.loop-block-preserved
@@ -20,9 +21,10 @@ loop-block-preserved c =
     record {
       all = rw (joined_more, c.put.ensures.bytes, c.loop-block.invariant.all, c.as_slice.ensures) refl;
       room = omega (arith, c.loop-block.invariant.room, c.put.ensures.room);
-      work =
+      tally =
           let size : length (joined_blocks (take at blocks)) + length c.as_slice.result.now ≡ length (joined_blocks (take (at + 1) blocks)) =
           rw (joined_more, c.as_slice.ensures) (sym (length-append (joined_blocks (take at blocks)) c.block-item.result.bytes.items)) in
-          c.put.ensures.work ∙ (ap (λ (w : Work). more w 0 (length c.as_slice.result.now)) c.loop-block.invariant.work
-          ∙ (more-more c.args.work.now 0 (length (joined_blocks (take at blocks))) 0 (length c.as_slice.result.now) ∙ ap (λ (n : ℕ). more c.args.work.now 0 n) size));
+          c.put.ensures.tally ∙ (ap (λ (w : Tally). more w 0 (length c.as_slice.result.now)) c.loop-block.invariant.tally
+          ∙ (more-more c.args.tally.now 0 (length (joined_blocks (take at blocks))) 0 (length c.as_slice.result.now)
+          ∙ ap (λ (n : ℕ). more c.args.tally.now 0 n) size));
     }

@@ -15,4 +15,5 @@ loop-block-preserved c =
 pub returns : goal.returns
 returns c =
     let size = length-append (joined_blocks c.args.self.now.full.items) c.args.self.now.last.bytes.items in
-    rw (size, ← c.deref-block-items.ensures.value, ← take_all c.loop-block.block-index c.deref-block-items.result.now (omega arith)) (omega (arith, c.loop-block.invariant))
+    rw (size, ← c.deref-block-items.ensures.value, ← take_all c.loop-block.block-index c.deref-block-items.result.now (omega arith))
+    (omega (arith, c.loop-block.invariant))

@@ -1,6 +1,0 @@
-use Rattle.std.proofs.Common.{◌≡◌, ◌++◌, drop}
-use Rattle.cluster_core.specs.Text.{name_text_of}
-use Rattle.cluster_core.proofs.text.put_name.Given as goal
-
-abbrev pub invariant-loop-byte : goal.invariant-loop-byte
-invariant-loop-byte l = l.out ++ name_text_of (drop l.byte-index l.name) ≡ l.initial.out ++ name_text_of l.name

@@ -1,0 +1,37 @@
+// What a frame asks for.
+ghost use Rattle.std.specs.Prelude.{◌≡◌, IfOk};
+ghost use Rattle.imap_command.specs.Request.{request_of, too_big_request, tag_or_star, first_tag};
+
+use crate::fault::ReadFault;
+use crate::reader::{first_tag, read};
+use mur_base::Memory;
+use mur_model::{Request, Tag};
+use std::alloc::Global;
+
+/// What a whole frame asks for: the command that it spells, or a refusal under its first word.
+pub fn read_request(alloc: Global, frame: &[u8]) -> Result<Request, Memory>
+    ensures { IfOk result (λ request. request ≡ request_of frame.now) }
+{
+    match read(alloc, frame) {
+        Ok((tag, command)) => Ok(Request::Command(tag, command)),
+        Err(ReadFault::Bad(bad)) => Ok(Request::Unknown(or_star(bad.tag))),
+        Err(ReadFault::Memory) => Err(Memory),
+    }
+}
+
+/// What is refused of a frame that is too big.
+#[tactic(auto, unfolding(crate::specs::Request::too_big_request))]
+pub fn too_big(alloc: Global, frame: &[u8]) -> Result<Request, Memory>
+    ensures { IfOk result (λ request. request ≡ too_big_request frame.now) }
+{
+    Ok(Request::TooBig(or_star(first_tag(alloc, frame)?)))
+}
+
+fn or_star(tag: Option<Tag>) -> Tag
+    ensures { result ≡ tag_or_star tag }
+{
+    match tag {
+        Some(tag) => tag,
+        None => Tag::Star,
+    }
+}

@@ -1,0 +1,6 @@
+pub mod Greeting
+pub mod Continuation
+pub mod ByeLine
+pub mod TaggedLine
+pub mod ReplyText
+pub mod Transcript

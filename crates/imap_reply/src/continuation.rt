@@ -1,0 +1,13 @@
+// Continuation requests (RFC 9051, 7.6).
+ghost use Rattle.std.specs.Prelude.{◌≡◌, ◌++◌, OnOk};
+ghost use Rattle.imap_reply.specs.Continuation.{ready};
+
+use mur_base::{Bytes, Memory};
+
+/// Writes the line that a client waits for before it sends a literal.
+#[tactic(auto, unfolding(crate::specs::Continuation::ready))]
+pub fn put_ready(out: &mut Bytes) -> Result<(), Memory>
+    ensures { OnOk result (out.new ≡ out.old ++ ready) }
+{
+    out.extend_from_slice(b"+ ready\r\n")
+}

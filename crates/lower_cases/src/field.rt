@@ -1,0 +1,87 @@
+// The fields of a case, and the bytes that a field writes.
+use anyhow::{Result, anyhow};
+use memchr::memchr;
+use mur_base::{Bytes, Memory, read_number};
+use std::alloc::Global;
+
+/// The texts between the separators of a line.
+pub fn fields_of(alloc: Global, line: &str) -> Result<Vec<&str>, Memory> {
+    let mut fields = Vec::new(alloc);
+    let mut rest = line;
+    for _ in 0..line.len() {
+        let Some((field, more)) = rest.split_once(" | ") else {
+            break;
+        };
+        fields.push(field)?;
+        rest = more;
+    }
+    fields.push(rest)?;
+    Ok(fields)
+}
+
+/// The bytes of a field: `\r`, `\n`, `\\`, `\xHH`, and `\*N:B` for N times the byte B; each other byte is itself.
+pub fn bytes_of(alloc: Global, field: &str) -> Result<Bytes> {
+    let mut bytes = Bytes::new(alloc);
+    let mut rest = field.as_bytes();
+    for _ in 0..field.len() {
+        rest = match rest {
+            [] => break,
+            [b'\\', escaped @ ..] => put_escaped(escaped, &mut bytes)?,
+            [byte, more @ ..] => {
+                bytes.push(*byte)?;
+                more
+            }
+        };
+    }
+    Ok(bytes)
+}
+
+/// Puts what stands behind a backslash, and gives what follows.
+fn put_escaped<'a>(text: &'a [u8], bytes: &mut Bytes) -> Result<&'a [u8]> {
+    match text {
+        [b'r', rest @ ..] => put(b'\r', rest, bytes),
+        [b'n', rest @ ..] => put(b'\n', rest, bytes),
+        [b'\\', rest @ ..] => put(b'\\', rest, bytes),
+        [b'x', high, low, rest @ ..] => put(nibble(*high)? << 4 | nibble(*low)?, rest, bytes),
+        [b'*', rest @ ..] => put_many(rest, bytes),
+        _ => Err(anyhow!("no such escape")),
+    }
+}
+
+fn put<'a>(byte: u8, rest: &'a [u8], bytes: &mut Bytes) -> Result<&'a [u8]> {
+    bytes.push(byte)?;
+    Ok(rest)
+}
+
+/// Puts a byte as often as the number before it says.
+fn put_many<'a>(text: &'a [u8], bytes: &mut Bytes) -> Result<&'a [u8]> {
+    let Some(at) = memchr(b':', text) else {
+        return Err(anyhow!("no number of bytes"));
+    };
+    let (digits, rest) = text.split_at(at);
+    match (read_number(digits), rest) {
+        (Some(count), [b':', byte, rest @ ..]) => {
+            for _ in 0..count {
+                bytes.push(*byte)?;
+            }
+            Ok(rest)
+        }
+        _ => Err(anyhow!("no number of bytes")),
+    }
+}
+
+fn nibble(digit: u8) -> Result<u8> {
+    match digit {
+        b'0'..=b'9' => Ok(digit - b'0'),
+        b'A'..=b'F' => Ok(digit - b'A' + 10),
+        _ => Err(anyhow!("no hexadecimal digit")),
+    }
+}
+
+/// The number that a field writes.
+pub fn number_of(field: &str) -> Result<u64> {
+    match read_number(field.as_bytes()) {
+        Some(number) => Ok(number),
+        None => Err(anyhow!("no number")),
+    }
+}

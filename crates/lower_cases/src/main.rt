@@ -1,0 +1,62 @@
+//! Reads worked cases from text files, and compares what the lowest crates make of each with what the case wants:
+//! `lower_cases WIRE COMMAND BASE` takes the frames of connections, the commands of frames, and names, numbers, lists and
+//! maps. It prints how many cases of each file passed, or ends with status 1 at the first one that differs.
+//!
+//! A case is a line of fields with ` | ` between them. A file's first lines, which begin with `#`, say what the fields are.
+#![tactic(auto)]
+
+mod base;
+mod command;
+mod field;
+mod wire;
+
+use anyhow::{Result, anyhow};
+use std::alloc::Global;
+use std::{env, fs};
+
+/// What the cases of a file are of.
+#[derive(Clone, Copy)]
+enum Subject {
+    Wire,
+    Command,
+    Base,
+}
+
+impl Subject {
+    /// Whether a case comes out as it wants.
+    fn holds(self, alloc: Global, fields: &[&str]) -> Result<bool> {
+        match self {
+            Subject::Wire => wire::holds(alloc, fields),
+            Subject::Command => command::holds(alloc, fields),
+            Subject::Base => base::holds(alloc, fields),
+        }
+    }
+
+    /// How many cases a text has, each of which holds.
+    fn passed(self, alloc: Global, text: &str) -> Result<u64> {
+        let mut passed: u64 = 0;
+        for line in text.lines() {
+            if line.is_empty() || line.starts_with('#') {
+                continue;
+            }
+            if !self.holds(alloc, field::fields_of(alloc, line)?.as_slice())? {
+                return Err(anyhow!("differs: {line}"));
+            }
+            passed = passed.wrapping_add(1);
+        }
+        Ok(passed)
+    }
+}
+
+fn main(rt: HostRuntime) -> Result<()> {
+    let mut files = env::args(&rt)?.skip(1);
+    for subject in [Subject::Wire, Subject::Command, Subject::Base] {
+        let Some(file) = files.next() else {
+            return Err(anyhow!("lower_cases WIRE COMMAND BASE"));
+        };
+        let text = fs::read_to_string(&rt, file.as_str())?;
+        let passed = subject.passed(rt.alloc(), text.as_str())?;
+        println!(rt; "{file}: {passed} cases passed")?;
+    }
+    Ok(())
+}

@@ -1,0 +1,6 @@
+mod BoxLaws
+mod KeywordLaws
+pub mod OtherLaws
+mod SlotChanges
+mod SlotLaws
+mod WordLaws

@@ -1,0 +1,53 @@
+-- Keywords of messages (RFC 9051, 9: flag-keyword), and sets of them.
+use Rattle.std.specs.Prelude.{ℕ, Bool, ◌&&◌, not, ◌==◌, nat_lt, nat_le, if◌then◌else◌, List, length, Option, None, Some}
+use Rattle.std.specs.List.{list_all, list_any, fold}
+use Rattle.std.specs.List.Sorted.{IsStrictlySortedBy}
+use Rattle.std.specs.Ordering.{nat_cmp}
+use Rattle.std.specs.Cmp.Lexicographic.{slice_cmp}
+use Rattle.std.specs.BTreeMap.{is_at}
+use Rattle.std.specs.BTreeSet.{insert_key}
+use Rattle.std.specs.Set.{remove_key}
+use Rattle.mur_base.specs.declared.name.NameFault.{NameFault}
+use Rattle.mur_base.specs.declared.name.NameFault.TheVariants.{Empty, TooLong, BadByte}
+use Rattle.mur_base.specs.declared.limits.TheConstants.{KEYWORD_LIMIT}
+
+-- ATOM-CHAR: no control, no space, none of '(', ')', '{', '%', '*', '"', '\' and ']'
+unfoldable pub is_atom_byte : ℕ → Bool
+is_atom_byte b =
+    (nat_le 33 b && nat_le b 126) && not (b == 40) && not (b == 41) && not (b == 123) && not (b == 37) && not (b == 42) && not (b == 34) && not (b == 92)
+    && not (b == 93)
+
+unfoldable pub is_atom : List ℕ → Bool
+is_atom text = list_all is_atom_byte text
+
+-- the first rule of keywords that a text breaks
+unfoldable pub keyword_fault : List ℕ → Option NameFault
+keyword_fault text =
+    if length text == 0 then Some Empty
+    else if nat_lt KEYWORD_LIMIT (length text) then Some TooLong
+    else if not (is_atom text) then Some BadByte
+    else None
+
+-- the keyword is among the keywords, byte by byte
+abbrev pub keyword_in : List (List ℕ) → List ℕ → Bool
+keyword_in keywords keyword = list_any (is_at (slice_cmp nat_cmp keyword)) keywords
+
+-- the keywords and this one at its place in byte order, each once
+abbrev pub with_keyword : List (List ℕ) → List ℕ → List (List ℕ)
+with_keyword keywords keyword = insert_key (slice_cmp nat_cmp) keywords keyword
+
+-- the keywords without this one
+abbrev pub without_keyword : List (List ℕ) → List ℕ → List (List ℕ)
+without_keyword keywords keyword = remove_key (is_at (slice_cmp nat_cmp keyword)) keywords
+
+-- all keywords of two sets
+abbrev pub with_keywords : List (List ℕ) → List (List ℕ) → List (List ℕ)
+with_keywords keywords others = fold with_keyword keywords others
+
+-- the keywords of the first set that aren't in the second
+abbrev pub without_keywords : List (List ℕ) → List (List ℕ) → List (List ℕ)
+without_keywords keywords others = fold without_keyword keywords others
+
+-- strictly rising byte order
+abbrev pub IsInOrder : List (List ℕ) → Type 0
+IsInOrder keywords = IsStrictlySortedBy (slice_cmp nat_cmp) keywords

@@ -1,0 +1,9 @@
+pub mod Boxes
+pub mod Date
+pub mod FlagNames
+pub mod FlagSets
+pub mod Keywords
+pub mod Sets
+pub mod Slots
+pub mod SystemFlags
+pub mod Word

@@ -1,0 +1,41 @@
+// Search keys.
+use crate::day::Day;
+use crate::keyword::Keyword;
+use crate::set::SetParts;
+use mur_base::Items;
+
+/// A search key (RFC 9051, 6.4.4).
+#[derive(Drop)]
+pub enum Key {
+    All,
+    Answered,
+    Deleted,
+    Draft,
+    Flagged,
+    Seen,
+    Unanswered,
+    Undeleted,
+    Undraft,
+    Unflagged,
+    Unseen,
+    Keyword(Keyword),
+    Unkeyword(Keyword),
+    /// The message has more bytes.
+    Larger(u64),
+    /// The message has fewer bytes.
+    Smaller(u64),
+    Before(Day),
+    On(Day),
+    Since(Day),
+    /// The UID is in the set.
+    Uid(SetParts),
+    /// The sequence number is in the set.
+    Numbers(SetParts),
+    Not(Box<Key>),
+    Or(Box<Key>, Box<Key>),
+    /// Both keys: `(a b c)` is `a` and both of `b` and `c`.
+    Both(Box<Key>, Box<Key>),
+}
+
+/// The keys of a command, of which all are meant.
+pub type Keys = Items<Key>;

@@ -1,0 +1,5 @@
+pub mod Append
+pub mod Expunge
+pub mod Faults
+pub mod Named
+pub mod Store

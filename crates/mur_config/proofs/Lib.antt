@@ -1,0 +1,2 @@
+mod NodesLaw
+mod KnownConfigs

@@ -1,0 +1,112 @@
+-- Nodes that break no rule have names of their own, the kinds that a cluster needs, and a frontend.
+use Rattle.std.proofs.Common.{◌≡◌, ◌≢◌, ℕ, ◌<◌, ◌≤◌, Bool, true, false, ◌||◌, ◌&&◌, ◌==◌, not, nat_eq, nat_lt, nat_le, cond, is_none, IsSome, List, [], ◌∷◌, length, Option, None, Some, refl, sym, arith}
+use Rattle.std.specs.List.{All, AllPairs, list_any, list_all, filter}
+use Rattle.std.specs.Str.{bytes_eq}
+use Rattle.std.proofs.lemmas.Bool.{eqb-true}
+use Rattle.std.proofs.lemmas.Bool.Decides.{nat_tests}
+use Rattle.std.proofs.lemmas.List.Elements.{All-nil, All-cons}
+use Rattle.std.proofs.lemmas.List.Kept.{AllPairs-cons}
+use Rattle.std.proofs.lemmas.List.Sums.{AllPass-from_list_all}
+use Rattle.std.proofs.lemmas.Slice.Eq.{bytes_eq-Decides}
+use Rattle.mur_base.specs.Names.{short_name_fault}
+use Rattle.mur_base.specs.declared.limits.TheConstants.{FRONTEND_LIMIT, BACKEND_LIMIT}
+use Rattle.mur_base.specs.declared.name.NameFault.{NameFault}
+use Rattle.mur_config.specs.declared.node.Kind.{Kind}
+use Rattle.mur_config.specs.declared.node.Kind.TheVariants.{Master, Frontend, Backend}
+use Rattle.mur_config.specs.declared.node.Node.{Node}
+use Rattle.mur_config.specs.declared.nodes.NodesFault.TheVariants.{NameTwice, NodeCount, BadPartition}
+use Rattle.mur_config.specs.Nodes.{is_node_named, node_names_differ, is_of_kind, is_node_of_kind, count_of_kind, is_some_within, has_node_counts, fits_kind, has_partition, nodes_fault, FitsKind, AreNodes, frontend_of}
+
+both_true : (a b : Bool) → (a && b) ≡ true → (a ≡ true) × (b ≡ true)
+both_true true b h = (refl, h)
+both_true false b h = cc
+
+not_true : (a : Bool) → not a ≡ true → a ≡ false
+not_true true h = cc
+not_true false h = refl
+
+neither : (a b : Bool) → (a || b) ≡ false → (a ≡ false) × (b ≡ false)
+neither true b h = cc
+neither false b h = (refl, h)
+
+other_name : (one other : List ℕ) → bytes_eq other one ≡ false → one ≢ other
+other_name one other differ = λ same. let yes = (bytes_eq-Decides other one).1 (sym same) in cc
+
+none_named : (name : List ℕ) (nodes : List Node) → list_any (is_node_named name) nodes ≡ false → All (λ (node : Node). name ≢ node.name) nodes
+unfolding is_node_named
+none_named name [] h = All-nil (λ (node : Node). name ≢ node.name)
+none_named name (node ∷ nodes) h =
+    let parts = neither (is_node_named name node) (list_any (is_node_named name) nodes) h in
+    All-cons (λ (node : Node). name ≢ node.name) node nodes (other_name name node.name parts.0) (none_named name nodes parts.1)
+
+names_apart : (nodes : List Node) → node_names_differ nodes ≡ true → AllPairs (λ (one other : Node). one.name ≢ other.name) nodes
+unfolding node_names_differ
+names_apart [] h = λ i j d less within. absurd (omega arith)
+names_apart (node ∷ nodes) h =
+    let parts = both_true (not (list_any (is_node_named node.name) nodes)) (node_names_differ nodes) h in
+    AllPairs-cons (λ (one other : Node). one.name ≢ other.name) node nodes
+    (none_named node.name nodes (not_true (list_any (is_node_named node.name) nodes) parts.0)) (names_apart nodes parts.1)
+
+no_fault : (fault : Option NameFault) → is_none fault ≡ true → fault ≡ None
+no_fault None h = refl
+no_fault (Some fault) h = cc
+
+nothing : (text : List ℕ) → nat_eq (length text) 0 ≡ true → text ≡ []
+nothing [] h = refl
+nothing (b ∷ text) h = let e = eqb-true (length (b ∷ text)) 0 h in absurd (omega arith)
+
+kept_partition : (kind : Kind) (partition : List ℕ) → fits_kind kind partition ≡ true → FitsKind kind partition
+unfolding fits_kind
+kept_partition Master partition h = nothing partition h
+kept_partition Frontend partition h = nothing partition h
+kept_partition Backend partition h = no_fault (short_name_fault partition) h
+
+kept_partitions : (nodes : List Node) → list_all has_partition nodes ≡ true → All (λ (node : Node). FitsKind node.kind node.partition) nodes
+unfolding has_partition
+kept_partitions nodes h = λ k d within. kept_partition _ _ (AllPass-from_list_all has_partition nodes h k d within)
+
+within : (limit count : ℕ) → is_some_within limit count ≡ true → (1 ≤ count) × (count ≤ limit)
+unfolding is_some_within
+within limit count h =
+    let parts = both_true (nat_lt 0 count) (nat_le count limit) h in
+    (grind (arith, nat_tests, parts.0), grind (arith, nat_tests, parts.1))
+
+kept_by : (nodes : List Node) → node_names_differ nodes ≡ true → has_node_counts nodes ≡ true → list_all has_partition nodes ≡ true → AreNodes nodes
+unfolding has_node_counts
+kept_by nodes names counts partitions =
+    let front = is_some_within FRONTEND_LIMIT (count_of_kind Frontend nodes) in
+    let back = is_some_within BACKEND_LIMIT (count_of_kind Backend nodes) in
+    let whole = both_true (nat_eq (count_of_kind Master nodes) 1 && front) back counts in
+    let parts = both_true (nat_eq (count_of_kind Master nodes) 1) front whole.0 in
+    record {
+      names = names_apart nodes names;
+      master = eqb-true (count_of_kind Master nodes) 1 parts.0;
+      frontends = within FRONTEND_LIMIT (count_of_kind Frontend nodes) parts.1;
+      backends = within BACKEND_LIMIT (count_of_kind Backend nodes) whole.1;
+      partitions = kept_partitions nodes partitions;
+    }
+
+nodes_by : (nodes : List Node) → (names counts partitions : Bool) → node_names_differ nodes ≡ names → has_node_counts nodes ≡ counts
+    → list_all has_partition nodes ≡ partitions
+    → nodes_fault nodes ≡ None → AreNodes nodes
+unfolding nodes_fault
+nodes_by nodes true true true n c p h = kept_by nodes n c p
+nodes_by nodes true true false n c p h = let none : Some BadPartition ≡ None = rw (n, c, p) at h in cc
+nodes_by nodes true false partitions n c p h = let none : Some NodeCount ≡ None = rw (n, c) at h in cc
+nodes_by nodes false counts partitions n c p h = let none : Some NameTwice ≡ None = rw (n) at h in cc
+
+pub nodes_kept : (nodes : List Node) → nodes_fault nodes ≡ None → AreNodes nodes
+nodes_kept nodes h = nodes_by nodes _ _ _ refl refl refl h
+
+frontend_by : (node : Node) (kind : Kind) (nodes : List Node) → (1 ≤ count_of_kind Frontend nodes → IsSome (frontend_of nodes)) → node.kind ≡ kind
+    → 1 ≤ count_of_kind Frontend (node ∷ nodes) → IsSome (frontend_of (node ∷ nodes))
+unfolding frontend_of count_of_kind is_node_of_kind is_of_kind
+frontend_by node Master nodes ih k h = rw k (ih (rw k at h))
+frontend_by node Frontend nodes ih k h = rw k refl
+frontend_by node Backend nodes ih k h = rw k (ih (rw k at h))
+
+-- where there is a frontend, one is the first
+pub first_frontend : (nodes : List Node) → 1 ≤ count_of_kind Frontend nodes → IsSome (frontend_of nodes)
+unfolding count_of_kind
+first_frontend [] h = absurd (omega arith)
+first_frontend (node ∷ nodes) h = frontend_by node node.kind nodes (first_frontend nodes) refl h

@@ -1,0 +1,12 @@
+//! The configuration of a cluster: its nodes and its users, and the reader of its text.
+#![tactic(auto)]
+
+mod config;
+mod node;
+mod nodes;
+
+pub use config::{
+    CONFIG_LIMIT, Config, ConfigFault, ONE_BACKEND_CONFIG, TWO_BACKENDS_CONFIG, read_config,
+};
+pub use node::{Kind, Node};
+pub use nodes::{Nodes, NodesFault};

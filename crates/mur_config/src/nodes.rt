@@ -1,0 +1,157 @@
+// The nodes of a cluster.
+ghost use Rattle.std.specs.Prelude.{◌≡◌, IsSome};
+ghost use Rattle.std.specs.Option.{option_copied};
+ghost use Rattle.std.specs.List.{list_any, list_all};
+ghost use Rattle.mur_config.specs.Nodes.{nodes_fault, node_names_differ, is_node_named, is_of_kind, is_node_of_kind, count_of_kind, is_some_within, has_node_counts, fits_kind, has_partition, frontend_of, AreTakenAsNodes, AreNodes};
+
+use crate::node::{Kind, Node};
+use mur_base::limits::{BACKEND_LIMIT, FRONTEND_LIMIT};
+use mur_base::{Items, NameRule, NodeName, NodeRule};
+use std::marker::Model;
+use thiserror::Error;
+
+/// The first rule that a list of nodes breaks, in this order.
+#[derive(Clone, Copy, Debug, PartialEq, Eq, Error)]
+pub enum NodesFault {
+    #[error("two nodes have one name")]
+    NameTwice,
+    #[error("there isn't one master, or there are no or too many frontends or backends")]
+    NodeCount,
+    #[error("a backend's partition has no name, or another node has one")]
+    BadPartition,
+}
+
+/// The nodes of a cluster, in the configuration's order: one master, 1 to `FRONTEND_LIMIT` frontends and 1 to
+/// `BACKEND_LIMIT` backends, each under a name of its own.
+#[derive(Drop)]
+pub struct Nodes {
+    nodes: Items<Node>,
+}
+
+impl Model for Nodes {
+    ghost use Rattle.std.specs.Prelude.{◌≡◌, List, None};
+    ghost use Rattle.mur_config.specs.declared.node.Node.{Node};
+    ghost use Rattle.mur_config.specs.Nodes.{nodes_fault};
+
+    ghost Value = { List Node };
+
+    ghost view = { λ list. list.nodes };
+
+    ghost invariant = { λ list. nodes_fault list.nodes ≡ None };
+}
+
+impl Nodes {
+    /// The nodes of a list, which isn't copied. Each name is compared with each later one.
+    #[tactic(auto, unfolding(crate::specs::Nodes::nodes_fault))]
+    pub fn new(nodes: Items<Node>) -> Result<Nodes, NodesFault>
+        ensures { AreTakenAsNodes nodes result }
+    {
+        if !node_names_differ(nodes.as_slice()) {
+            Err(NodesFault::NameTwice)
+        } else if !has_node_counts(nodes.as_slice()) {
+            Err(NodesFault::NodeCount)
+        } else if !have_partitions(nodes.as_slice()) {
+            Err(NodesFault::BadPartition)
+        } else {
+            Ok(Nodes { nodes })
+        }
+    }
+
+    pub fn as_slice(&self) -> &[Node]
+        ensures nodes { result.now ≡ self.now }
+        ensures kept { AreNodes self.now }
+    {
+        self.nodes.as_slice()
+    }
+
+    /// The name of the first frontend.
+    #[tactic(auto, unfolding(crate::specs::Nodes::frontend_of))]
+    pub fn frontend(&self) -> Option<&NodeName>
+        ensures first { option_copied result ≡ frontend_of self.now }
+        ensures there { IsSome (frontend_of self.now) }
+    {
+        for node in self.as_slice() {
+            if node.kind == Kind::Frontend {
+                return Some(&node.name);
+            }
+        }
+        None
+    }
+}
+
+#[tactic(auto, unfolding(crate::specs::Nodes::node_names_differ))]
+fn node_names_differ(nodes: &[Node]) -> bool
+    ensures { result ≡ node_names_differ nodes.now }
+{
+    let mut left = nodes;
+    while let [node, later @ ..] = left {
+        if has_name(later, node.name.as_bytes()) {
+            return false;
+        }
+        left = later;
+    }
+    true
+}
+
+fn has_name(nodes: &[Node], name: &[u8]) -> bool
+    ensures { result ≡ list_any (is_node_named name.now) nodes.now }
+{
+    nodes.iter().any(|node| is_node_named(node, name))
+}
+
+#[tactic(auto, unfolding(crate::specs::Nodes::is_node_named))]
+fn is_node_named(node: &Node, name: &[u8]) -> bool
+    ensures { result ≡ is_node_named name.now node.now }
+{
+    node.name.as_bytes() == name
+}
+
+#[tactic(auto, unfolding(crate::specs::Nodes::has_node_counts))]
+fn has_node_counts(nodes: &[Node]) -> bool
+    ensures { result ≡ has_node_counts nodes.now }
+{
+    count_of_kind(nodes, Kind::Master) == 1
+        && is_some_within(FRONTEND_LIMIT, count_of_kind(nodes, Kind::Frontend))
+        && is_some_within(BACKEND_LIMIT, count_of_kind(nodes, Kind::Backend))
+}
+
+#[tactic(auto, unfolding(crate::specs::Nodes::is_some_within))]
+fn is_some_within(limit: usize, count: usize) -> bool
+    ensures { result ≡ is_some_within limit count }
+{
+    0 < count && count <= limit
+}
+
+#[tactic(auto, unfolding(crate::specs::Nodes::count_of_kind))]
+fn count_of_kind(nodes: &[Node], kind: Kind) -> usize
+    ensures { result ≡ count_of_kind kind nodes.now }
+{
+    nodes
+        .iter()
+        .filter(|node| is_node_of_kind(node, kind))
+        .count()
+}
+
+#[tactic(auto, unfolding(crate::specs::Nodes::is_node_of_kind, crate::specs::Nodes::is_of_kind))]
+fn is_node_of_kind(node: &Node, kind: Kind) -> bool
+    ensures { result ≡ is_node_of_kind kind node.now }
+{
+    node.kind == kind
+}
+
+fn have_partitions(nodes: &[Node]) -> bool
+    ensures { result ≡ list_all has_partition nodes.now }
+{
+    nodes.iter().all(|node| has_partition(node))
+}
+
+#[tactic(auto, unfolding(crate::specs::Nodes::has_partition, crate::specs::Nodes::fits_kind))]
+fn has_partition(node: &Node) -> bool
+    ensures { result ≡ has_partition node.now }
+{
+    let partition = node.partition.as_slice();
+    match node.kind {
+        Kind::Backend => NodeRule::fault_of(partition).is_none(),
+        Kind::Master | Kind::Frontend => partition.is_empty(),
+    }
+}

@@ -1,0 +1,6 @@
+mod TextLaws
+mod CutLaws
+mod CutWords
+mod OpenedLaws
+mod ScheduleLaws
+mod Shortens

@@ -1,0 +1,10 @@
+pub mod Text
+pub mod Cuts
+pub mod ScheduleRules
+pub mod ScheduleWords
+pub mod ScheduleOpened
+pub mod ScheduleOpen
+pub mod ScheduleData
+pub mod Brings
+pub mod Schedule
+pub mod ScheduleFits

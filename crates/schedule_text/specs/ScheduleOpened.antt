@@ -1,0 +1,26 @@
+-- Which connections the events so far have opened.
+use Rattle.std.specs.Prelude.{◌≡◌, ℕ, Bool, false, ◌==◌, List, is_some}
+use Rattle.std.specs.List.{list_any}
+use Rattle.std.specs.Ordering.{nat_cmp}
+use Rattle.mur_base.specs.Map.{value_at, with_entry}
+use Rattle.schedule_text.specs.declared.event.Event.{Event}
+use Rattle.schedule_text.specs.declared.event.Event.TheVariants.{Open}
+use Rattle.schedule_text.specs.declared.schedule.read_so_far.ReadSoFar.{ReadSoFar}
+
+-- an event opens_connection this connection
+unfoldable pub opens_connection : ℕ → Event → Bool
+opens_connection conn (Open node opened) = conn == opened
+opens_connection conn _ = false
+
+-- one of the events opens_connection this connection
+unfoldable pub is_opened : List Event → ℕ → Bool
+is_opened events conn = list_any (opens_connection conn) events
+
+-- the map of opened connections after one more event
+unfoldable pub opened_after : List (ℕ × Unit {0}) → Event → List (ℕ × Unit {0})
+opened_after opened (Open node conn) = with_entry nat_cmp opened conn tt
+opened_after opened event = opened
+
+-- the map has the connections that the events opened
+abbrev pub KnowsOpened : ReadSoFar → Type 0
+KnowsOpened so_far = (conn : ℕ) → is_some (value_at nat_cmp so_far.opened conn) ≡ is_opened so_far.events conn

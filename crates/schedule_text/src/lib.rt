@@ -1,0 +1,13 @@
+//! The schedules of a cluster: events, the reader of their text (a file for each word), bytes as printable text, and texts cut
+//! into lines. Nothing here knows what an event does.
+#![tactic(auto)]
+
+mod cuts;
+mod event;
+mod schedule;
+mod text;
+
+pub use cuts::LineCuts;
+pub use event::{Event, Events};
+pub use schedule::{Rule, SchedFault, ScheduleError, read_schedule};
+pub use text::{put_name_text, put_text, read_text};

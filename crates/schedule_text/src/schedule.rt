@@ -1,0 +1,104 @@
+// A schedule, read into its events: a recorded run, one event a line.
+ghost use Rattle.std.specs.Prelude.{◌≡◌, ◌<◌, ◌^◌, ◌+◌, length, IfOk, OnOk};
+ghost use Rattle.schedule_text.specs.ScheduleRules.{IsReadAs, IsReadAsSchedule};
+ghost use Rattle.schedule_text.specs.ScheduleOpened.{KnowsOpened};
+ghost use Rattle.schedule_text.specs.ScheduleFits.{FitSchedule, HasCountRoom};
+ghost use Rattle.schedule_text.specs.Schedule.{event_of, is_passed_over, line_read, schedule_of, IsTakenAs};
+
+mod data_line;
+mod fault;
+mod open_line;
+mod read_so_far;
+mod words;
+
+use crate::cuts::{LineCuts, line_in};
+use crate::event::{Event, Events};
+use data_line::{DATA, read_data};
+pub use fault::{LineError, Rule, SchedFault, ScheduleError};
+use mur_base::limits::SCHEDULE_LIMIT;
+use mur_config::Config;
+use open_line::{OPEN, read_open};
+use read_so_far::ReadSoFar;
+use std::alloc::Global;
+use words::first_word;
+
+/// The events of a schedule. The first line that breaks a rule refuses it, by the first rule that it breaks; before
+/// all lines stands that a schedule has at most `SCHEDULE_LIMIT` bytes.
+#[tactic(auto, unfolding(crate::specs::Schedule::schedule_of, crate::specs::Schedule::events_from))]
+pub fn read_schedule(alloc: Global, bytes: &[u8], config: &Config) -> Result<Events, ScheduleError>
+    ensures read { IsReadAsSchedule (schedule_of config.now bytes.now) result }
+    ensures fit { IfOk result (FitSchedule config.now (length bytes.now)) }
+    ensures room { IfOk result (λ events. HasCountRoom events) }
+{
+    if bytes.len() > SCHEDULE_LIMIT {
+        return Err(ScheduleError::Refused(SchedFault {
+            line: 0,
+            why: Rule::TooLong,
+        }));
+    }
+    let mut so_far = ReadSoFar::new(alloc);
+    let mut number = 0;
+    for piece in LineCuts::new(bytes) {
+        number += 1;
+        take_schedule_line(alloc, &mut so_far, config, number, line_in(piece))?;
+    }
+    let ReadSoFar { events, .. } = so_far;
+    Ok(events)
+}
+
+/// Puts the event of a line, if it has one, behind the events before.
+#[tactic(auto, unfolding(crate::specs::Schedule::line_read))]
+fn take_schedule_line(
+    alloc: Global,
+    so_far: &mut ReadSoFar,
+    config: &Config,
+    number: u64,
+    line: &[u8],
+) -> Result<(), ScheduleError>
+    requires { KnowsOpened so_far.old }
+    ensures read { IsTakenAs (line_read config.now number so_far.old.events line.now) so_far.new.events result }
+    ensures opened { OnOk result (KnowsOpened so_far.new) }
+{
+    if is_passed_over(line) {
+        return Ok(());
+    }
+    match read_event(alloc, line, config, so_far) {
+        Ok(event) => so_far.add(event)?,
+        Err(LineError::Broken(why)) => {
+            return Err(ScheduleError::Refused(SchedFault { line: number, why }));
+        }
+        Err(LineError::Memory) => return Err(ScheduleError::Memory),
+    }
+    Ok(())
+}
+
+#[tactic(auto, unfolding(crate::specs::Schedule::is_passed_over))]
+fn is_passed_over(line: &[u8]) -> bool
+    ensures { result ≡ is_passed_over line.now }
+{
+    match line {
+        [] => true,
+        [first, ..] => *first == b'#',
+    }
+}
+
+/// The event of a line, by its first word.
+#[tactic(auto, unfolding(crate::specs::Schedule::event_of))]
+fn read_event(
+    alloc: Global,
+    line: &[u8],
+    config: &Config,
+    so_far: &ReadSoFar,
+) -> Result<Event, LineError>
+    requires { KnowsOpened so_far.now }
+    ensures { IsReadAs (event_of config.now so_far.now.events line.now) result }
+{
+    let words = first_word(line);
+    if words.word == OPEN {
+        read_open(alloc, words.rest, config, so_far)
+    } else if words.word == DATA {
+        read_data(alloc, words.rest, so_far)
+    } else {
+        Err(LineError::Broken(Rule::UnknownWord))
+    }
+}
