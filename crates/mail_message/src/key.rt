@@ -1,6 +1,6 @@
 // Search keys.
 use crate::day::Day;
-use crate::keyword::Keyword;
+use crate::flag_name::FlagName;
 use crate::set::SetParts;
 use mur_base::Items;
 
@@ -18,8 +18,8 @@ pub enum Key {
     Undraft,
     Unflagged,
     Unseen,
-    Keyword(Keyword),
-    Unkeyword(Keyword),
+    Keyword(FlagName),
+    Unkeyword(FlagName),
     /// The message has more bytes.
     Larger(u64),
     /// The message has fewer bytes.
@@ -33,8 +33,8 @@ pub enum Key {
     Numbers(SetParts),
     Not(Box<Key>),
     Or(Box<Key>, Box<Key>),
-    /// Both keys: `(a b c)` is `a` and both of `b` and `c`.
-    Both(Box<Key>, Box<Key>),
+    /// Keys in parentheses, of which all are meant.
+    Group(Items<Key>),
 }
 
 /// The keys of a command, of which all are meant.

@@ -2,6 +2,7 @@
 //! numbers as text, the points of a history, locations, phases and the limits.
 #![tactic(auto)]
 
+mod boxed;
 mod copied;
 mod home;
 mod inbox;
@@ -15,6 +16,7 @@ mod number;
 mod point;
 mod user;
 
+pub use boxed::Boxed;
 pub use copied::Copied;
 pub use home::{Location, Phase};
 pub use inbox::{shown, taken, what_is_shown_is_taken};
