@@ -14,7 +14,7 @@ pub fn members(alloc: Global, set: &str, last: &str) -> Result<Bytes> {
     }
     let mut text = Bytes::new(alloc);
     for number in 1..13 {
-        if parts.as_slice().iter().any(|part| part.has(number, last)) {
+        if parts.as_slice().iter().any(|part| part.at(last).holds(number)) {
             put_separated(&mut text, number)?;
         }
     }

@@ -1,8 +1,10 @@
 pub mod Boxes
 pub mod Date
+pub mod Days
 pub mod FlagNames
 pub mod FlagSets
 pub mod Keywords
+pub mod Partials
 pub mod Sets
 pub mod Slots
 pub mod SystemFlags

@@ -2,7 +2,7 @@
 use crate::day::Day;
 use crate::flag_name::FlagName;
 use crate::set::SetParts;
-use mur_base::Items;
+use mur_base::{Boxed, Items};
 
 /// A search key (RFC 9051, 6.4.4).
 #[derive(Drop)]
@@ -31,10 +31,10 @@ pub enum Key {
     Uid(SetParts),
     /// The sequence number is in the set.
     Numbers(SetParts),
-    Not(Box<Key>),
-    Or(Box<Key>, Box<Key>),
+    Not(Boxed<Key>),
+    Or(Boxed<Key>, Boxed<Key>),
     /// Keys in parentheses, of which all are meant.
-    Group(Items<Key>),
+    Group(Keys),
 }
 
 /// The keys of a command, of which all are meant.
