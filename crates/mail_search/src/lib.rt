@@ -1,0 +1,6 @@
+//! What a search key matches, and which messages a SEARCH finds.
+#![tactic(auto)]
+
+mod matching;
+
+pub use matching::{all_match, key_matches, set_holds};
