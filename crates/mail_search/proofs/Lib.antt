@@ -1,1 +1,2 @@
 mod GroupLaw
+mod SpanLaws

@@ -2,5 +2,6 @@
 #![tactic(auto)]
 
 mod matching;
+mod spans;
 
 pub use matching::{all_match, key_matches, set_holds};
