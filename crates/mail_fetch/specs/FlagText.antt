@@ -1,5 +1,5 @@
 -- The flags of a message as a FETCH gives them (RFC 9051, 7.5.2 and 9: flag-list).
-use Rattle.std.specs.Prelude.{ℕ, Bool, true, false, ◌||◌, if◌then◌else◌, List, [], ◌∷◌, ◌++◌, codes}
+use Rattle.std.specs.Prelude.{ℕ, Bool, true, false, if◌then◌else◌, List, [], ◌∷◌, ◌++◌, codes}
 use Rattle.mur_base.specs.Ascii.{space}
 use Rattle.mail_message.specs.declared.system_flags.SystemFlags.{SystemFlags}
 use Rattle.mail_message.specs.FlagNames.{backslash}

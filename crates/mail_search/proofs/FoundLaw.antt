@@ -14,7 +14,7 @@ length-marks test (message ∷ messages) (number ∷ numbers) same = ap suc (len
 found_by : (message : Message) (number : ℕ) (mark : Bool) (marked_rest : List (Message × Bool)) (found_rest : Numbered)
     → map (λ row. row.0.uid) marked_rest ≡ map (λ row. row.0.uid) found_rest
     → map (λ row. row.0.uid) (cond mark ((message, mark) ∷ marked_rest) marked_rest)
-      ≡ map (λ row. row.0.uid) (cond mark ((message, number) ∷ found_rest) found_rest)
+    ≡ map (λ row. row.0.uid) (cond mark ((message, number) ∷ found_rest) found_rest)
 found_by message number true marked_rest found_rest same = ap (λ uids. message.uid ∷ uids) same
 found_by message number false marked_rest found_rest same = same
 

@@ -1,5 +1,5 @@
 -- Keys in parentheses match what all of them match.
-use Rattle.std.proofs.Common.{◌≡◌, ◌∙◌, ℕ, Bool, List, [], ◌∷◌, ◌&&◌, map, refl, sym, ap}
+use Rattle.std.proofs.Common.{◌≡◌, ◌∙◌, ℕ, List, [], ◌∷◌, ◌&&◌, map, refl, sym, ap}
 use Rattle.std.specs.List.{list_all}
 use Rattle.mail_message.specs.declared.key.Key.{Key}
 use Rattle.mail_message.specs.declared.key.Key.TheVariants.{Group, rolls-Group}

@@ -1,5 +1,5 @@
 -- The marks that a key gives many messages, from those of the keys in it.
-use Rattle.std.proofs.Common.{◌≡◌, ◌∙◌, ℕ, Bool, true, not, ◌&&◌, ◌||◌, List, [], ◌∷◌, length, map, take, get_or, ◌<◌, ◌+◌, refl, sym, ap, arith}
+use Rattle.std.proofs.Common.{◌≡◌, ◌∙◌, ℕ, true, not, ◌&&◌, ◌||◌, List, [], ◌∷◌, length, map, take, get_or, ◌<◌, ◌+◌, refl, sym, ap, arith}
 use Rattle.std.specs.List.{zip}
 use Rattle.std.proofs.lemmas.List.Folds.{list_all_more}
 use Rattle.mail_message.specs.declared.set.SetPart.{SetPart}
@@ -99,4 +99,4 @@ pub next-marks : (keys : List Key) (at : ℕ) (key : Key) (rows : Numbered) → 
 next-marks keys at key rows within is =
     both_marked (all_match (take at keys)) (key_matches key) rows
     ∙ sym (same-marks _ _ (λ message number. list_all_more (λ key. key_matches key message number) keys at key within
-      ∙ ap (λ next. all_match (take at keys) message number && key_matches next message number) (sym is)) rows)
+    ∙ ap (λ next. all_match (take at keys) message number && key_matches next message number) (sym is)) rows)

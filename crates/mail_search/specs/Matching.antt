@@ -1,5 +1,5 @@
 -- What a search key matches (RFC 9051, 6.4.4).
-use Rattle.std.specs.Prelude.{ℕ, Bool, true, not, ◌&&◌, ◌||◌, nat_lt, List, length}
+use Rattle.std.specs.Prelude.{ℕ, Bool, true, not, ◌||◌, nat_lt, List, length}
 use Rattle.std.specs.List.{list_all}
 use Rattle.mail_message.specs.declared.key.Key.{Key}
 use Rattle.mail_message.specs.declared.key.Key.TheOpen.{Key-F}

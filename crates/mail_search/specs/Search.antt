@@ -1,5 +1,5 @@
 -- Which messages a SEARCH finds (RFC 9051, 6.4.4).
-use Rattle.std.specs.Prelude.{ℕ, Bool, ◌&&◌, ◌||◌, List, [], ◌∷◌, map}
+use Rattle.std.specs.Prelude.{ℕ, Bool, ◌&&◌, ◌||◌, List, map}
 use Rattle.std.specs.List.{filter, zip}
 use Rattle.mail_message.specs.declared.key.Key.{Key}
 use Rattle.mail_message.specs.declared.message.Message.{Message}

@@ -90,21 +90,23 @@ fn none(alloc: Global, marks: &[bool]) -> Result<Vec<bool>, Memory>
 fn both(alloc: Global, one: &[bool], other: &[bool]) -> Result<Vec<bool>, Memory>
     ensures { IfOk result (λ made. made.items ≡ both one.now other.now) }
 {
-    Ok(one
-        .iter()
-        .zip(other.iter())
-        .map(|(one, other)| *one && *other)
-        .collect(alloc)?)
+    Ok(
+        one.iter()
+            .zip(other.iter())
+            .map(|(one, other)| *one && *other)
+            .collect(alloc)?,
+    )
 }
 
 fn either(alloc: Global, one: &[bool], other: &[bool]) -> Result<Vec<bool>, Memory>
     ensures { IfOk result (λ made. made.items ≡ either one.now other.now) }
 {
-    Ok(one
-        .iter()
-        .zip(other.iter())
-        .map(|(one, other)| *one || *other)
-        .collect(alloc)?)
+    Ok(
+        one.iter()
+            .zip(other.iter())
+            .map(|(one, other)| *one || *other)
+            .collect(alloc)?,
+    )
 }
 
 fn uids_of(alloc: Global, messages: &[Message]) -> Result<Vec<u32>, Memory>

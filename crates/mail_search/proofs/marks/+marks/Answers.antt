@@ -1,4 +1,3 @@
-use Rattle.std.proofs.Common.{rules, arith}
 use Rattle.std.proofs.lemmas.List.{take_all}
 use Rattle.mail_search.proofs.MarkLaws.{uid-marks, number-marks, not-marks, or-marks, group-marks, no-marks, next-marks}
 use Rattle.mail_search.proofs.marks.+marks.Goals as goal
@@ -20,8 +19,16 @@ marks_of-returns-in_ok-none-in-Not t c =
 
 pub marks_of-returns-in_ok-either-in-Or : goal.marks_of-returns-in_ok-either-in-Or
 marks_of-returns-in_ok-either-in-Or t c =
-    rw (c.in_ok-either-in-Or.ensures, c.deref-in-Or.ensures.value, c.deref-in-Or-2.ensures.value, c.in_ok-one-in-Or.ensures, c.in_ok-other-in-Or.ensures,
-        c.get-in-Or.ensures, c.get-in-Or-2.ensures, c.in-Or.is)
+    rw (
+      c.in_ok-either-in-Or.ensures,
+      c.deref-in-Or.ensures.value,
+      c.deref-in-Or-2.ensures.value,
+      c.in_ok-one-in-Or.ensures,
+      c.in_ok-other-in-Or.ensures,
+      c.get-in-Or.ensures,
+      c.get-in-Or-2.ensures,
+      c.in-Or.is,
+    )
     (or-marks c.in-Or.one c.in-Or.other _)
 
 pub marks_of-returns-in_ok-marks_of_all-in-Group : goal.marks_of-returns-in_ok-marks_of_all-in-Group

@@ -1,4 +1,3 @@
-use Rattle.std.proofs.Common.{rules}
 use Rattle.mail_search.proofs.GroupLaw.{group-matches}
 use Rattle.mail_search.proofs.matching.+keys.Goals as goal
 

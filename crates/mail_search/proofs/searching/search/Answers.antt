@@ -1,4 +1,3 @@
-use Rattle.std.proofs.Common.{◌∙◌, ap, length}
 use Rattle.mail_search.specs.Matching.{all_match}
 use Rattle.mail_search.proofs.FoundLaw.{length-marks, marked-found}
 use Rattle.mail_search.proofs.searching.search.Goals as goal

@@ -1,8 +1,7 @@
-use Rattle.std.proofs.Common.{◌∙◌, sym, subst, rules}
-use Rattle.std.specs.List.Sorted.{IsPermutation}
+use Rattle.std.proofs.Common.{rules}
 use Rattle.std.proofs.lemmas.List.Sorted.{IsNonDecreasingBy-from_sort_by_key}
 use Rattle.mail_search.specs.declared.spans.Span.{Span}
-use Rattle.mail_search.specs.Spans.{IsInOrder, IsRising}
+use Rattle.mail_search.specs.Spans.{IsRising}
 use Rattle.mail_search.proofs.SpanLaws.{in_order}
 use Rattle.mail_search.proofs.spans.in_order.Goals as goal
 
