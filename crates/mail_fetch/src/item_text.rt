@@ -1,5 +1,5 @@
 // The text of a fetch item.
-ghost use Rattle.std.specs.Prelude.{◌≡◌, [], ◌∷◌, ◌++◌, codes, decimal, IfOk, OnOk};
+ghost use Rattle.std.specs.Prelude.{◌≡◌, [], ◌∷◌, ◌++◌, codes, decimal, length, IfOk, OnOk};
 ghost use Rattle.mur_base.specs.Ascii.{quote};
 ghost use Rattle.mail_fetch.specs.Parts.{part_text};
 
@@ -28,11 +28,17 @@ fn put_part(text: &mut Bytes, item: &Item, message: &Message) -> Result<(), Memo
         Item::Flags => put_flags(text, &message.flags),
         Item::Uid => put_counted(text, b"UID ", u64::from(message.uid)),
         Item::InternalDate => put_date(text, message.date.as_bytes()),
-        Item::Size => put_counted(text, b"RFC822.SIZE ", message.body.len() as u64),
+        Item::Size => put_size(text, message.body.as_slice()),
         Item::Body(partial) | Item::BodyPeek(partial) => {
             put_body(text, *partial, message.body.as_slice())
         }
     }
+}
+
+fn put_size(text: &mut Bytes, body: &[u8]) -> Result<(), Memory>
+    ensures { OnOk result (text.new ≡ text.old ++ (codes "RFC822.SIZE " ++ decimal (length body.now))) }
+{
+    put_counted(text, b"RFC822.SIZE ", body.len() as u64)
 }
 
 fn put_counted(text: &mut Bytes, name: &[u8], number: u64) -> Result<(), Memory>
