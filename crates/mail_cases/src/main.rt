@@ -1,6 +1,6 @@
-//! Reads worked cases of flags, dates, sets and mailboxes from a text file, and compares what `mail_message` and `mail_store` make of
-//! each with what the case wants: `mail_cases TABLE`. It prints how many cases passed, or ends with status 1 at the first one
-//! that differs.
+//! Reads worked cases of flags, dates, sets, mailboxes, search keys and fetch items from text files, and compares what
+//! `mail_message`, `mail_store`, `mail_search` and `mail_fetch` make of each with what the case wants: `mail_cases TABLE ..`. It
+//! prints how many cases of each table passed, or ends with status 1 at the first one that differs.
 //!
 //! A case is a line of fields with ` | ` between them, of which the first is its kind. Lines that begin with `#` say what the
 //! fields of each kind are.
@@ -8,7 +8,9 @@
 
 mod field;
 mod flags;
+mod keys;
 mod operation;
+mod parts;
 mod sets;
 
 use anyhow::{Result, anyhow};
@@ -24,9 +26,11 @@ fn holds(alloc: Global, fields: &[&str]) -> Result<bool> {
         ["flags", before, mode, named, want] => {
             flags::are_after(alloc, before, mode, named, want)
         }
-        ["set", set, last, want] => {
-            Ok(sets::members(alloc, set, last)?.as_slice() == want.as_bytes())
-        }
+        ["set", set, want] => Ok(sets::members(alloc, set)?.as_slice() == want.as_bytes()),
+        ["key", key, message @ .., want] => keys::match_message(alloc, key, message, want),
+        ["search", keys, messages, want] => keys::find(alloc, keys, messages, want),
+        ["part", item, message @ .., want] => parts::give(alloc, item, message, want),
+        ["long", item, bytes, head, rest] => parts::give_long(alloc, item, bytes, head, rest),
         ["box", operations @ ..] => operation::hold(alloc, operations),
         _ => Ok(false),
     }
@@ -56,11 +60,10 @@ fn passed(alloc: Global, text: &str) -> Result<u64> {
 }
 
 fn main(rt: HostRuntime) -> Result<()> {
-    let Some(file) = env::args(&rt)?.nth(1) else {
-        return Err(anyhow!("mail_cases TABLE"));
-    };
-    let text = fs::read_to_string(&rt, file.as_str())?;
-    let passed = passed(rt.alloc(), text.as_str())?;
-    println!(rt; "{file}: {passed} cases passed")?;
+    for file in env::args(&rt)?.skip(1) {
+        let text = fs::read_to_string(&rt, file.as_str())?;
+        let passed = passed(rt.alloc(), text.as_str())?;
+        println!(rt; "{file}: {passed} cases passed")?;
+    }
     Ok(())
 }
