@@ -25,7 +25,7 @@ pub fn marks_of(
     match key {
         Key::Uid(set) => Ok(marks_of_set(alloc, set.as_slice(), &uids_of(alloc, messages)?)?),
         Key::Numbers(set) => Ok(marks_of_set(alloc, set.as_slice(), numbers)?),
-        Key::Not(key) => Ok(none(alloc, &marks_of(alloc, key.get(), messages, numbers)?)?),
+        Key::Not(key) => Ok(negated(alloc, &marks_of(alloc, key.get(), messages, numbers)?)?),
         Key::Or(one, other) => {
             let one = marks_of(alloc, one.get(), messages, numbers)?;
             let other = marks_of(alloc, other.get(), messages, numbers)?;
@@ -47,7 +47,7 @@ pub fn marks_of_all(
     requires { length numbers.now ≡ length messages.now }
     ensures { IfOk result (λ made. made.items ≡ marks (all_match keys.now) (zip messages.now numbers.now)) }
 {
-    let mut made = all(alloc, messages)?;
+    let mut made = all_marked(alloc, messages)?;
     for key in keys {
         let others = marks_of(alloc, key, messages, numbers)?;
         made = both(alloc, &made, &others)?;
@@ -71,7 +71,7 @@ fn marks_by(
     Ok(made)
 }
 
-fn all(alloc: Global, messages: &[Message]) -> Result<Vec<bool>, Memory>
+fn all_marked(alloc: Global, messages: &[Message]) -> Result<Vec<bool>, Memory>
     ensures { IfOk result (λ made. made.items ≡ map (λ _. true) messages.now) }
 {
     let mut made = Vec::with_capacity(alloc, messages.len())?;
@@ -81,7 +81,7 @@ fn all(alloc: Global, messages: &[Message]) -> Result<Vec<bool>, Memory>
     Ok(made)
 }
 
-fn none(alloc: Global, marks: &[bool]) -> Result<Vec<bool>, Memory>
+fn negated(alloc: Global, marks: &[bool]) -> Result<Vec<bool>, Memory>
     ensures { IfOk result (λ made. made.items ≡ map not marks.now) }
 {
     Ok(marks.iter().map(|mark| !*mark).collect(alloc)?)

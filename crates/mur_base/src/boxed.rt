@@ -34,12 +34,4 @@ impl<T> Boxed<T> {
     {
         &self.held
     }
-
-    /// Moves the value back from the heap.
-    pub fn into_inner(self) -> T
-        ensures { result ≡ self }
-    {
-        let Boxed { held } = self;
-        Box::into_inner(held)
-    }
 }

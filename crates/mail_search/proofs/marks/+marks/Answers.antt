@@ -12,9 +12,9 @@ marks_of-returns-in_ok-marks_of_set-in-Numbers t c =
     rw (c.in_ok-marks_of_set-in-Numbers.ensures, c.as_slice-in-Numbers.ensures, c.in-Numbers.is)
     (number-marks c.in-Numbers.set c.args.messages.now c.args.numbers.now c.requires)
 
-pub marks_of-returns-in_ok-none-in-Not : goal.marks_of-returns-in_ok-none-in-Not
-marks_of-returns-in_ok-none-in-Not t c =
-    rw (c.in_ok-none-in-Not.ensures, c.deref-in-Not.ensures.value, c.in_ok-marks_of-in-Not.ensures, c.get.ensures, c.in-Not.is)
+pub marks_of-returns-in_ok-negated-in-Not : goal.marks_of-returns-in_ok-negated-in-Not
+marks_of-returns-in_ok-negated-in-Not t c =
+    rw (c.in_ok-negated-in-Not.ensures, c.deref-in-Not.ensures.value, c.in_ok-marks_of-in-Not.ensures, c.get.ensures, c.in-Not.is)
     (not-marks c.in-Not.key _)
 
 pub marks_of-returns-in_ok-either-in-Or : goal.marks_of-returns-in_ok-either-in-Or
