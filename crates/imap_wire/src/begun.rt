@@ -1,4 +1,4 @@
-ghost use Rattle.std.specs.Prelude.{◌≡◌, ◌+◌, ◌<◌, ◌≤◌, length, IfOk, OnOk, OnErr, true, false, [], ◌∷◌, ◌++◌, IsTrue, ◌↔◌, None, min, vec_capacity};
+ghost use Rattle.std.specs.Prelude.{◌≡◌, ◌+◌, ◌<◌, ◌≤◌, length, IfOk, OnOk, OnErr, true, false, [], ◌∷◌, ◌++◌, IsTrue, ◌↔◌, None, min};
 ghost use Rattle.mur_base.specs.declared.limits.TheConstants.{LINE_LIMIT};
 
 // The command that has begun, and how it grows.
@@ -29,7 +29,7 @@ pub struct Begun {
     // Only a CR that may begin the line's CRLF stands past the limit.
     ghost line_short: { length kept.last.bytes.items ≤ line_at + line_room + 1 },
     // A line that has begun has room to its end where it stands.
-    ghost line_fits: { line_at < length kept.last.bytes.items → line_at + line_room + 2 ≤ vec_capacity kept.last.bytes },
+    ghost line_fits: { line_at < length kept.last.bytes.items → line_at + line_room + 2 ≤ kept.last.room },
     ghost room_within: { line_room ≤ LINE_LIMIT },
 }
 
@@ -73,7 +73,7 @@ impl Begun {
         ensures bulk { IfOk result (λ taken. taken ≡ min (min self.old.literal_left (next_room self.old.kept.last)) (length piece.now)) }
         ensures tally { IfOk result (λ taken. self.new.kept.tally ≡ fed self.old.kept.tally None taken) }
         ensures memory { OnErr result (self.new.kept.tally ≡ self.old.kept.tally) }
-        ensures cause { OnErr result (vec_capacity self.old.kept.last.bytes ≤ length self.old.kept.last.bytes.items) }
+        ensures cause { OnErr result (self.old.kept.last.room ≤ length self.old.kept.last.bytes.items) }
     {
         self.kept.make_room(alloc)?;
         let room = self.literal_left.min(self.kept.room_left());

@@ -1,5 +1,5 @@
 // Bytes in a place that they never leave.
-ghost use Rattle.std.specs.Prelude.{◌≡◌, ◌+◌, ◌-◌, ◌≤◌, [], ◌++◌, length, IfOk, vec_capacity, IsTrue, ◌↔◌};
+ghost use Rattle.std.specs.Prelude.{◌≡◌, ◌+◌, ◌≤◌, [], ◌++◌, length, IfOk, vec_capacity};
 
 use crate::tally::Tally;
 use mur_base::limits::LINE_LIMIT;
@@ -15,6 +15,10 @@ pub const BLOCK_ROOM: usize = 2 * (LINE_LIMIT + 2);
 #[derive(Drop)]
 pub struct Block {
     bytes: Vec<u8>,
+    /// How many bytes it was made for.
+    room: usize,
+    ghost within: { length bytes.items ≤ room },
+    ghost fits: { room ≤ vec_capacity bytes },
 }
 
 impl Block {
@@ -22,29 +26,32 @@ impl Block {
 
     /// A block with no room. It takes no memory.
     pub fn none(alloc: Global) -> Block
-        ensures { result.bytes.items ≡ [] }
+        ensures bytes { result.bytes.items ≡ [] }
+        ensures room { result.room ≡ 0 }
     {
         Block {
             bytes: Vec::new(alloc),
+            room: 0,
         }
     }
 
     /// An empty block with room for so many bytes.
     pub fn new(alloc: Global, room: usize) -> Result<Block, Memory>
         ensures bytes { IfOk result (λ block. block.bytes.items ≡ []) }
-        ensures room { IfOk result (λ block. vec_capacity block.bytes ≡ room) }
+        ensures room { IfOk result (λ block. block.room ≡ room) }
     {
         Ok(Block {
             bytes: Vec::with_capacity(alloc, room)?,
+            room,
         })
     }
 
     /// How many bytes there are and may come.
     pub fn room(&self) -> usize
-        ensures room { result ≡ vec_capacity self.now.bytes }
+        ensures room { result ≡ self.now.room }
         ensures within { length self.now.bytes.items ≤ result }
     {
-        self.bytes.capacity()
+        self.room
     }
 
     pub fn len(&self) -> usize
@@ -61,9 +68,9 @@ impl Block {
 
     /// Puts bytes behind those that are there.
     pub fn put(&mut self, bytes: &[u8], tally: &mut Tally)
-        requires room { length self.old.bytes.items + length bytes.now ≤ vec_capacity self.old.bytes }
+        requires room { length self.old.bytes.items + length bytes.now ≤ self.old.room }
         ensures bytes { self.new.bytes.items ≡ self.old.bytes.items ++ bytes.now }
-        ensures room { vec_capacity self.old.bytes ≤ vec_capacity self.new.bytes }
+        ensures room { self.new.room ≡ self.old.room }
         ensures tally { tally.new ≡ more tally.old 0 (length bytes.now) }
     {
         tally.add(0, bytes.len());
@@ -73,7 +80,7 @@ impl Block {
     /// Takes all bytes away and keeps the room.
     pub fn clear(&mut self)
         ensures bytes { self.new.bytes.items ≡ [] }
-        ensures room { vec_capacity self.new.bytes ≡ vec_capacity self.old.bytes }
+        ensures room { self.new.room ≡ self.old.room }
     {
         self.bytes.clear();
     }
@@ -82,7 +89,7 @@ impl Block {
     pub fn into_bytes(self) -> Bytes
         ensures { result ≡ self.bytes.items }
     {
-        let Block { bytes } = self;
+        let Block { bytes, room: _ } = self;
         Bytes::from_vec(bytes)
     }
 }

@@ -1,5 +1,5 @@
 -- Block by block.
-use Rattle.std.proofs.Common.{◌≡◌, ℕ, ◌+◌, ◌∙◌, refl, sym, length, take, ap, arith, length-append, vec_capacity}
+use Rattle.std.proofs.Common.{◌≡◌, ℕ, ◌+◌, ◌∙◌, refl, sym, length, take, ap, arith, length-append}
 use Rattle.imap_wire.specs.Kept.{joined_blocks}
 use Rattle.imap_wire.specs.declared.tally.Tally.{Tally}
 use Rattle.imap_wire.specs.Tally.{more}
@@ -9,7 +9,7 @@ use Rattle.imap_wire.proofs.kept.Kept.join.Goals as goal
 
 pub put-requires : goal.put-requires
 put-requires c =
-    let fits = joined_blocks-fit c.deref-block-items.result.now c.loop-block.block-index c.block-item.result (vec_capacity c.loop-block.all.bytes)
+    let fits = joined_blocks-fit c.deref-block-items.result.now c.loop-block.block-index c.block-item.result c.loop-block.all.room
     (omega arith) c.block-item.is (omega (arith, c.loop-block.invariant.room)) in
     omega (arith, fits, ap length c.loop-block.invariant.all, ap length c.as_slice.ensures)
 

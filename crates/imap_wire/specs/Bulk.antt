@@ -1,0 +1,36 @@
+-- How often a framer moves bytes: each run of them that it keeps, each byte that it counts and doesn't keep, and each search for an LF is one move.
+use Rattle.std.specs.Prelude.{◌≡◌, ℕ, ◌+◌, ◌*◌, ◌/◌, ◌≤◌, ◌&&◌, ◌==◌, nat_lt, nat_eq, List, [], ◌∷◌, length, Option, None, Some, if◌then◌else◌}
+use Rattle.mur_base.specs.Ascii.{lf}
+use Rattle.imap_wire.specs.declared.block.TheConstants.{BLOCK_ROOM}
+use Rattle.imap_wire.specs.declared.begun.Begun.{Begun}
+use Rattle.imap_wire.specs.Kept.{filled}
+use Rattle.imap_wire.specs.Steps.{State, start, step, after}
+use Rattle.imap_wire.specs.Begun.{state_of}
+
+-- how many LFs stand outside literals: they end lines, or stand in one
+unfoldable pub line_feeds : State → List ℕ → ℕ
+line_feeds state [] = 0
+line_feeds state (byte ∷ bytes) =
+    let rest = line_feeds (step state byte).after bytes in
+    if byte == lf && nat_eq state.literal_left 0 then 1 + rest else rest
+
+-- how many moves these bytes take at most: seven for each line with its literal, one for each block that is filled, and a few besides
+abbrev pub most_moves : State → List ℕ → ℕ
+most_moves state bytes = 7 * line_feeds state bytes + length bytes / BLOCK_ROOM + 8
+
+-- the count of moves behind a call that takes these bytes, where the command that has begun has those; none has where the framer is spent
+abbrev pub IsInBulk : Option (List ℕ) → List ℕ → ℕ → ℕ → Type 0
+IsInBulk None bytes before behind = behind ≡ before
+IsInBulk (Some begun) bytes before behind = behind ≤ before + most_moves (after start begun) bytes
+
+-- how many moves may come before the next LF: those of a byte past the line's limit, and of the end of a literal before the line
+abbrev pub credit : State → ℕ
+credit state = if nat_lt 0 state.literal_left then 4 else (if nat_lt state.line_room (length state.line) then 0 else 3)
+
+-- the moves that were made or may come, each counted as the bytes of a block, and the bytes that fill the present one
+abbrev pub account : Begun → ℕ
+account begun = BLOCK_ROOM * (begun.kept.moves + credit (state_of begun)) + filled begun.kept.last
+
+-- so many moves were made with these bytes that the bytes and their LFs pay for them
+abbrev pub IsPaid : Begun → List ℕ → Begun → Type 0
+IsPaid from bytes to = account to ≤ account from + length bytes + BLOCK_ROOM * (7 * line_feeds (state_of from) bytes)
