@@ -56,3 +56,9 @@ fed-part tally mid to taken rest size mid_is part within = record {
   within = omega (arith, part.within);
   counts = part.counts ∙ (ap (λ (w : Tally). fed w None part.taken) mid_is ∙ more-more tally taken taken part.taken part.taken);
 }
+
+-- what was taken before the call failed
+pub fed-failed : (tally mid to : Tally) (taken more size : ℕ) → mid ≡ fed tally None taken → to ≡ fed mid None more → taken + more ≤ size
+    → IsFedPart tally size to
+fed-failed tally mid to taken more size mid_is to_is within = fed-part tally mid to taken more size mid_is
+    (record { taken = more; within = omega arith; counts = to_is }) within
