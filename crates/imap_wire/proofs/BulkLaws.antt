@@ -14,7 +14,7 @@ use Rattle.imap_wire.specs.Line.{least_length}
 use Rattle.imap_wire.specs.Kept.{filled}
 use Rattle.imap_wire.specs.Steps.{State, start, step, after, begun_of, IsReached}
 use Rattle.imap_wire.specs.Begun.{Moves, Takes, state_of}
-use Rattle.imap_wire.specs.Bulk.{line_feeds, most_moves, IsInBulk, credit, account, IsPaid}
+use Rattle.imap_wire.specs.Bulk.{line_feeds, most_moves, frame_moves, IsUpTo, IsInBulk, credit, account, IsPaid}
 use Rattle.imap_wire.proofs.StepLaws.{step-line, line_step-fits, line_step-too_long, after-append}
 use Rattle.imap_wire.proofs.LineLaws.{least_length-ge}
 
@@ -98,18 +98,19 @@ paid-more from mid to piece taken more within mid_is before behind =
     let size = length-append (take taken piece) (take more (drop taken piece)) in
     rw (take-add taken more piece) (let split = rw (← mid_is) at feeds in omega arith)
 
--- the last stretch costs three moves at most
-pub bulk-end : (from mid : Begun) (moves : ℕ) (bytes more : List ℕ) → IsPaid from bytes mid → moves ≤ mid.kept.moves + 3
-    → moves ≤ from.kept.moves + most_moves (state_of from) (bytes ++ more)
-bulk-end from mid moves bytes more paid few =
+-- the last stretch costs three moves at most, and those of its frame
+pub bulk-end : (from mid : Begun) (behind : ℕ) (bytes more : List ℕ) (frame : Option Frame) → IsPaid from bytes mid → from.kept.moves ≤ mid.kept.moves
+    → IsUpTo mid.kept.moves (3 + frame_moves frame) behind
+    → IsUpTo from.kept.moves (most_moves (state_of from) (bytes ++ more) + frame_moves frame) behind
+bulk-end from mid behind bytes more frame paid rises few =
     let feeds = line_feeds-more (state_of from) bytes more in
     let size = length-append bytes more in
-    omega (arith, credit-most (state_of from), filled-less from.kept.last)
+    (omega arith, omega (arith, credit-most (state_of from), filled-less from.kept.last))
 
 -- the same of a framer, whose state the bytes of its command lead to
-pub bulk-own : (s : State) (held : Option (List ℕ)) (bytes : List ℕ) (before behind : ℕ) → s.spent ≡ false → IsReached s → begun_of s ≡ held
-    → behind ≤ before + most_moves s bytes → IsInBulk held bytes before behind
-bulk-own s held bytes before behind going reached is most =
+pub bulk-own : (s : State) (held : Option (List ℕ)) (bytes : List ℕ) (frame : Option Frame) (before behind : ℕ) → s.spent ≡ false → IsReached s
+    → begun_of s ≡ held → IsUpTo before (most_moves s bytes + frame_moves frame) behind → IsInBulk held bytes frame before behind
+bulk-own s held bytes frame before behind going reached is most =
     let some : begun_of s ≡ Some s.bytes = rw going refl in
     let same : after start s.bytes ≡ s = reached going in
     rw (sym is ∙ some, same) most

@@ -36,7 +36,7 @@ pub struct Begun {
 impl Begun {
     ghost use Rattle.imap_wire.specs.Begun.{state_of, present_line, IsRoomy, IsBetween, Moves, Takes};
     ghost use Rattle.imap_wire.specs.Kept.{next_room, filled};
-    ghost use Rattle.imap_wire.specs.Bulk.{credit, account, IsPaid, most_moves};
+    ghost use Rattle.imap_wire.specs.Bulk.{credit, account, IsPaid, IsUpTo, most_moves, frame_moves, join_moves};
     ghost use Rattle.imap_wire.specs.Steps.{start, step, line_step, line_end, with_literal, failing};
     ghost use Rattle.mur_base.specs.Ascii.{lf, ends_with_cr};
     ghost use Rattle.imap_wire.specs.Line.{least_length};
@@ -160,8 +160,9 @@ impl Begun {
         ensures whole { IfOk result (λ r. r.0 ≡ None → r.1 ≡ length piece.now) }
         ensures tally { IfOk result (λ r. self.new.kept.tally ≡ fed self.old.kept.tally r.0 r.1) }
         ensures memory { OnErr result (IsFedPart self.old.kept.tally (length piece.now) self.new.kept.tally) }
-        ensures bulk { IfOk result (λ r. self.new.kept.moves ≤ self.old.kept.moves + most_moves (state_of self.old) (take r.1 piece.now)) }
-        ensures part { OnErr result (self.new.kept.moves ≤ self.old.kept.moves + most_moves (state_of self.old) piece.now) }
+        ensures bulk { IfOk result (λ r. let most = most_moves (state_of self.old) (take r.1 piece.now) + frame_moves r.0 in
+            IsUpTo self.old.kept.moves most self.new.kept.moves) }
+        ensures part { OnErr result (IsUpTo self.old.kept.moves (most_moves (state_of self.old) piece.now) self.new.kept.moves) }
     {
         let mut taken = 0;
         while taken < piece.len() {
@@ -182,7 +183,8 @@ impl Begun {
         ensures some { IfOk result (λ r. 0 < r.1) }
         ensures tally { IfOk result (λ r. self.new.kept.tally ≡ fed self.old.kept.tally r.0 r.1) }
         ensures memory { OnErr result (IsFedPart self.old.kept.tally (length piece.now) self.new.kept.tally) }
-        ensures few { self.new.kept.moves ≤ self.old.kept.moves + 3 }
+        ensures few { IfOk result (λ r. IsUpTo self.old.kept.moves (3 + frame_moves r.0) self.new.kept.moves) }
+        ensures part { OnErr result (IsUpTo self.old.kept.moves 3 self.new.kept.moves) }
         ensures paid { IfOk result (λ r. r.0 ≡ None → r.1 < length piece.now → IsPaid self.old (take r.1 piece.now) self.new) }
     {
         if self.literal_left > 0 {
@@ -205,7 +207,8 @@ impl Begun {
         ensures after { OnOk result (state_of self.new ≡ (step (state_of self.old) byte).after) }
         ensures tally { IfOk result (λ frame. self.new.kept.tally ≡ fed self.old.kept.tally frame 1) }
         ensures memory { OnErr result (self.new.kept.tally ≡ fed self.old.kept.tally None 1) }
-        ensures one { self.new.kept.moves ≡ counted (self.old.kept.moves + 1) }
+        ensures moves { IfOk result (λ frame. IsUpTo self.old.kept.moves (1 + frame_moves frame) self.new.kept.moves) }
+        ensures one { OnErr result (self.new.kept.moves ≡ counted (self.old.kept.moves + 1)) }
         ensures filled { IfOk result (λ frame. frame ≡ None → filled self.new.kept.last ≤ filled self.old.kept.last + 1) }
     {
         if byte == b'\n' && self.ends_with_cr() {
@@ -224,6 +227,7 @@ impl Begun {
         ensures after { state_of self.new ≡ (line_step (state_of self.old) byte).after }
         ensures tally { self.new.kept.tally ≡ fed self.old.kept.tally result 1 }
         ensures one { self.new.kept.moves ≡ counted (self.old.kept.moves + 1) }
+        ensures no_more { frame_moves result ≡ 0 }
         ensures filled { result ≡ None → filled self.new.kept.last ≤ filled self.old.kept.last + 1 }
     {
         if !self.has_room_for(byte) {
@@ -244,7 +248,8 @@ impl Begun {
         ensures after { OnOk result (state_of self.new ≡ (step (state_of self.old) lf).after) }
         ensures tally { IfOk result (λ frame. self.new.kept.tally ≡ fed self.old.kept.tally frame 1) }
         ensures memory { OnErr result (self.new.kept.tally ≡ fed self.old.kept.tally None 1) }
-        ensures one { self.new.kept.moves ≡ counted (self.old.kept.moves + 1) }
+        ensures moves { IfOk result (λ frame. IsUpTo self.old.kept.moves (1 + frame_moves frame) self.new.kept.moves) }
+        ensures one { OnErr result (self.new.kept.moves ≡ counted (self.old.kept.moves + 1)) }
         ensures filled { IfOk result (λ frame. frame ≡ None → filled self.new.kept.last ≤ filled self.old.kept.last + 1) }
     {
         let line = self.line();
@@ -267,7 +272,8 @@ impl Begun {
         ensures after { OnOk result (state_of self.new ≡ (line_end (state_of self.old) literal).after) }
         ensures tally { IfOk result (λ frame. self.new.kept.tally ≡ more self.old.kept.tally 0 (copies frame 0)) }
         ensures memory { OnErr result (self.new.kept.tally ≡ self.old.kept.tally) }
-        ensures moves { self.new.kept.moves ≡ self.old.kept.moves }
+        ensures moves { IfOk result (λ frame. IsUpTo self.old.kept.moves (frame_moves frame) self.new.kept.moves) }
+        ensures none { OnErr result (self.new.kept.moves ≡ self.old.kept.moves) }
         ensures last { IfOk result (λ frame. frame ≡ None → self.new.kept.last ≡ self.old.kept.last) }
         // The line's last byte was kept.
         ensures kept { IfOk result (λ frame. copies frame 1 ≡ 1 + copies frame 0) }
@@ -317,7 +323,8 @@ impl Begun {
         ensures after { OnOk result (state_of self.new ≡ start) }
         ensures tally { IfOk result (λ bytes. self.new.kept.tally ≡ more self.old.kept.tally 0 (length bytes)) }
         ensures memory { OnErr result (self.new.kept.tally ≡ self.old.kept.tally) }
-        ensures moves { self.new.kept.moves ≡ self.old.kept.moves }
+        ensures moves { IfOk result (λ bytes. IsUpTo self.old.kept.moves (join_moves bytes) self.new.kept.moves) }
+        ensures none { OnErr result (self.new.kept.moves ≡ self.old.kept.moves) }
     {
         let bytes = self.kept.take_all(alloc)?;
         self.line_at = 0;

@@ -11,7 +11,7 @@ use std::alloc::Global;
 pub const BLOCK_ROOM: usize = 2 * (LINE_LIMIT + 2);
 
 /// A place for bytes that never grows, so they stay where they are put. `put` is the one function of this crate that
-/// copies bytes.
+/// copies bytes, and counts them and its calls.
 #[derive(Drop)]
 pub struct Block {
     bytes: Vec<u8>,
@@ -22,7 +22,7 @@ pub struct Block {
 }
 
 impl Block {
-    ghost use Rattle.imap_wire.specs.Tally.{more};
+    ghost use Rattle.imap_wire.specs.Tally.{counted, more};
 
     /// A block with no room. It takes no memory.
     pub fn none(alloc: Global) -> Block
@@ -67,12 +67,14 @@ impl Block {
     }
 
     /// Puts bytes behind those that are there.
-    pub fn put(&mut self, bytes: &[u8], tally: &mut Tally)
+    pub fn put(&mut self, bytes: &[u8], tally: &mut Tally, moves: &mut u64)
         requires room { length self.old.bytes.items + length bytes.now ≤ self.old.room }
         ensures bytes { self.new.bytes.items ≡ self.old.bytes.items ++ bytes.now }
         ensures room { self.new.room ≡ self.old.room }
         ensures tally { tally.new ≡ more tally.old 0 (length bytes.now) }
+        ensures moves { moves.new ≡ counted (moves.old + 1) }
     {
+        *moves = moves.saturating_add(1);
         tally.add(0, bytes.len());
         self.bytes.extend_from_slice(bytes).unwrap();
     }

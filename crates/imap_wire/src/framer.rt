@@ -1,6 +1,6 @@
 // A connection's bytes, taken piece by piece.
 ghost use Rattle.std.specs.Prelude.{◌≡◌, ◌<◌, ◌≤◌, ◌*◌, ◌++◌, [], List, ℕ, length, take};
-ghost use Rattle.std.specs.Prelude.{IfOk, OnErr, OnOk, IsSome, IsNone, is_none, IfSome};
+ghost use Rattle.std.specs.Prelude.{IfOk, OnErr, OnOk, IsSome, IsNone, is_none, IfSome, None};
 
 use crate::begun::Begun;
 use crate::frame::Frame;
@@ -65,8 +65,8 @@ impl Framer {
         self.begun.kept.tally()
     }
 
-    /// How many moves were made: each run of bytes that was kept is one, and each search for an LF. The count stands
-    /// still at the largest number of 64 bits.
+    /// How many moves were made: each copy of bytes is one, however many they are, and each search for an LF. The
+    /// count stands still at the largest number of 64 bits.
     pub fn moves(&self) -> u64
         ensures { result ≡ self.now.moves }
     {
@@ -91,8 +91,8 @@ impl Framer {
         ensures tally { IfOk result (λ fed. self.new.tally ≡ tally_fed self.old.tally fed.0 fed.1) }
         ensures part { OnErr result (IsFedPart self.old.tally (length piece.now) self.new.tally) }
         // Few moves: by the lines, their literals and the blocks that these bytes fill.
-        ensures bulk { IfOk result (λ fed. IsInBulk self.old.begun (take fed.1 piece.now) self.old.moves self.new.moves) }
-        ensures bulk_part { OnErr result (IsInBulk self.old.begun piece.now self.old.moves self.new.moves) }
+        ensures bulk { IfOk result (λ fed. IsInBulk self.old.begun (take fed.1 piece.now) fed.0 self.old.moves self.new.moves) }
+        ensures bulk_part { OnErr result (IsInBulk self.old.begun piece.now None self.old.moves self.new.moves) }
     {
         if self.begun.spent {
             return Ok((None, 0));

@@ -15,7 +15,7 @@ loop-taken-init c = record {
   going = c.requires.going;
   tally = more-none c.args.self.now.kept.tally c.args.self.now.kept.taken_within c.args.self.now.kept.copied_within;
   paid = λ _. paid-nothing c.args.self.now;
-  bulk = omega arith;
+  bulk = (omega arith, omega arith);
 }
 
 pub returns-then-is_some-clause-takes : goal.returns-then-is_some-clause-takes
@@ -29,15 +29,17 @@ returns-then-is_some-clause-tally c =
 pub returns-then-is_some-clause-bulk : goal.returns-then-is_some-clause-bulk
 returns-then-is_some-clause-bulk c =
     rw (take-add c.loop-taken.taken c.in_ok-frame.more c.args.piece.now)
-    (bulk-end c.args.self.now c.loop-taken.self _ (take c.loop-taken.taken c.args.piece.now) _
-    (c.loop-taken.invariant.paid c.loop-taken-test.true) c.take_some.ensures.few)
+    (bulk-end c.args.self.now c.loop-taken.self _ (take c.loop-taken.taken c.args.piece.now) _ _
+    (c.loop-taken.invariant.paid c.loop-taken-test.true) c.loop-taken.invariant.bulk.0 c.in_ok-frame.ensures.few)
 
 pub returns-in_err-frame-clause-part : goal.returns-in_err-frame-clause-part
 returns-in_err-frame-clause-part c =
     let is_err = err_from_is_err_and c.from_residual.result c.from_residual.ensures.1 in
-    let most = bulk-end c.args.self.now c.loop-taken.self _ (take c.loop-taken.taken c.args.piece.now) (drop c.loop-taken.taken c.args.piece.now)
-    (c.loop-taken.invariant.paid c.loop-taken-test.true) c.take_some.ensures.few in
-    rw is_err.1 (rw take-append-drop at most)
+    let most = bulk-end c.args.self.now c.loop-taken.self c.take_some.new.self.kept.moves
+    (take c.loop-taken.taken c.args.piece.now) (drop c.loop-taken.taken c.args.piece.now) None
+    (c.loop-taken.invariant.paid c.loop-taken-test.true) c.loop-taken.invariant.bulk.0 c.in_err-frame.ensures.part in
+    let whole = rw take-append-drop at most in
+    rw is_err.1 (omega arith, omega arith)
 
 pub returns-in_err-frame-clause-memory : goal.returns-in_err-frame-clause-memory
 returns-in_err-frame-clause-memory c =
@@ -63,7 +65,10 @@ loop-taken-preserved c =
           c.loop-taken.invariant.takes.within c.loop-taken.invariant.takes.arrives (c.loop-taken.invariant.paid c.loop-taken-test.true)
           (rw take_rest at (c.in_ok-frame.ensures.paid (none_of c.in_ok-frame.frame (sym c.if-is_some.ensures))
           (omega (arith, length-drop c.loop-taken.taken c.args.piece.now))));
-      bulk = rw (take-add c.loop-taken.taken c.in_ok-frame.more c.args.piece.now)
-          (bulk-end c.args.self.now c.loop-taken.self _ (take c.loop-taken.taken c.args.piece.now) _
-          (c.loop-taken.invariant.paid c.loop-taken-test.true) c.take_some.ensures.few);
+      bulk =
+          let most = bulk-end c.args.self.now c.loop-taken.self c.take_some.new.self.kept.moves (take c.loop-taken.taken c.args.piece.now)
+          (take c.in_ok-frame.more (drop c.loop-taken.taken c.args.piece.now)) None
+          (c.loop-taken.invariant.paid c.loop-taken-test.true) c.loop-taken.invariant.bulk.0
+          (rw (none_of c.in_ok-frame.frame (sym c.if-is_some.ensures)) at c.in_ok-frame.ensures.few) in
+          rw (take-add c.loop-taken.taken c.in_ok-frame.more c.args.piece.now) (omega arith, omega arith);
     }

@@ -21,6 +21,7 @@ loop-block-preserved c =
     record {
       all = rw (joined_more, c.put.ensures.bytes, c.loop-block.invariant.all, c.as_slice.ensures) refl;
       room = omega (arith, c.loop-block.invariant.room, c.put.ensures.room);
+      moves = omega (arith, c.put.ensures.moves, c.loop-block.invariant.moves);
       tally =
           let size : length (joined_blocks (take at blocks)) + length c.as_slice.result.now ≡ length (joined_blocks (take (at + 1) blocks)) =
           rw (joined_more, c.as_slice.ensures) (sym (length-append (joined_blocks (take at blocks)) c.block-item.result.bytes.items)) in
