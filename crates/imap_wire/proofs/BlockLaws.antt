@@ -14,7 +14,8 @@ joined_blocks-append (block ∷ front) back =
     ∙ sym (append_assoc block.bytes.items (joined_blocks front) (joined_blocks back))
 
 pub joined_blocks-push : (blocks : List Block) (block : Block) → joined_blocks (blocks ++ block ∷ []) ≡ joined_blocks blocks ++ block.bytes.items
-joined_blocks-push blocks block = joined_blocks-append blocks (block ∷ []) ∙ ap (λ (l : List ℕ). joined_blocks blocks ++ l) (append-nil block.bytes.items)
+joined_blocks-push blocks block =
+    joined_blocks-append blocks (block ∷ []) ∙ ap (λ (l : List ℕ). joined_blocks blocks ++ l) (append-nil block.bytes.items)
 
 pub joined_blocks-more : (blocks : List Block) (i : ℕ) (block : Block) → i < length blocks → block ≡ get_or blocks i block
     → joined_blocks (take (i + 1) blocks) ≡ joined_blocks (take i blocks) ++ block.bytes.items

@@ -1,5 +1,6 @@
 -- What moves cost, and what pays for them.
-use Rattle.std.proofs.Common.{◌≡◌, ℕ, ◌+◌, ◌-◌, ◌*◌, ◌/◌, ◌<◌, ◌≤◌, true, false, ◌&&◌, ◌==◌, nat_eq, nat_lt, List, [], ◌∷◌, ◌++◌, length}
+use Rattle.std.proofs.Common.{◌≡◌, ℕ, ◌+◌, ◌-◌, ◌*◌, ◌/◌, ◌<◌, ◌≤◌, true, false, ◌&&◌, ◌==◌, nat_eq, nat_lt, List, []}
+use Rattle.std.proofs.Common.{◌∷◌, ◌++◌, length}
 use Rattle.std.proofs.Common.{take, drop, get_or, Option, None, Some, ◌⊎◌, inl, inr, refl, sym, ap, ◌∙◌, arith}
 use Rattle.std.proofs.lemmas.List.{length-append, length-take-le, take-append-drop, take_more}
 use Rattle.std.proofs.lemmas.Bool.{cases_lt, cases_Bool}
@@ -61,7 +62,8 @@ credit-past s byte going in_line other past silent =
     ]
 
 -- bytes of a line, and the byte behind them
-pub line-paid : (s mid to : State) (piece : List ℕ) (frame : Option Frame) (taken : ℕ) → Moves s piece taken mid → mid.spent ≡ false → mid.literal_left ≡ 0
+pub line-paid : (s mid to : State) (piece : List ℕ) (frame : Option Frame) (taken : ℕ) → Moves s piece taken mid → mid.spent ≡ false
+    → mid.literal_left ≡ 0
     → credit mid ≡ credit s → taken < length piece → (get_or piece taken 0 ≡ 10) ⊎ (mid.line_room ≤ length mid.line)
     → frame ≡ (step mid (get_or piece taken 0)).frame → to ≡ (step mid (get_or piece taken 0)).after → frame ≡ None
     → 3 + credit to ≤ credit s + 7 * line_feeds s (take (taken + 1) piece)
@@ -82,7 +84,8 @@ line-paid s mid to piece frame taken moves going in_line same within stops frame
           omega (arith, costs.1)
     ]
 
-pub account-paid : (from to : Begun) (bytes : List ℕ) → to.kept.moves ≤ from.kept.moves + 3 → filled to.kept.last ≤ filled from.kept.last + length bytes
+pub account-paid : (from to : Begun) (bytes : List ℕ) → to.kept.moves ≤ from.kept.moves + 3
+    → filled to.kept.last ≤ filled from.kept.last + length bytes
     → 3 + credit (state_of to) ≤ credit (state_of from) + 7 * line_feeds (state_of from) bytes → IsPaid from bytes to
 account-paid from to bytes moves bytes_fill pays = omega arith
 
@@ -91,7 +94,8 @@ pub paid-nothing : (begun : Begun) → IsPaid begun [] begun
 paid-nothing begun = omega arith
 
 -- one stretch behind another
-pub paid-more : (from mid to : Begun) (piece : List ℕ) (taken more : ℕ) → taken ≤ length piece → state_of mid ≡ after (state_of from) (take taken piece)
+pub paid-more : (from mid to : Begun) (piece : List ℕ) (taken more : ℕ) → taken ≤ length piece
+    → state_of mid ≡ after (state_of from) (take taken piece)
     → IsPaid from (take taken piece) mid → IsPaid mid (take more (drop taken piece)) to → IsPaid from (take (taken + more) piece) to
 paid-more from mid to piece taken more within mid_is before behind =
     let feeds = line_feeds-more (state_of from) (take taken piece) (take more (drop taken piece)) in

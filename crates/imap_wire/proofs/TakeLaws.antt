@@ -1,5 +1,6 @@
 -- Bytes of a piece that are taken up to the end of a frame.
-use Rattle.std.proofs.Common.{◌≡◌, ℕ, ◌+◌, ◌-◌, ◌<◌, ◌≤◌, true, false, ◌&&◌, ◌==◌, List, [], ◌∷◌, ◌++◌, length, take, drop, get_or, Option, None, Some, ◌⊎◌, inl, inr, refl, sym, ap, ◌∙◌, arith}
+use Rattle.std.proofs.Common.{◌≡◌, ℕ, ◌+◌, ◌-◌, ◌<◌, ◌≤◌, true, false, ◌&&◌, ◌==◌, List, [], ◌∷◌, ◌++◌, length}
+use Rattle.std.proofs.Common.{take, drop, get_or, Option, None, Some, ◌⊎◌, inl, inr, refl, sym, ap, ◌∙◌, arith}
 use Rattle.std.specs.Option.{option_to_list, IsSome, is_some}
 use Rattle.std.proofs.lemmas.List.{append-nil, length-drop, get_or-drop}
 use Rattle.std.proofs.Math.Seq.{take-add}
@@ -18,7 +19,8 @@ use Rattle.imap_wire.proofs.StepLaws.{step-literal, step-end, step-line, line_st
 
 -- what a step does to the bytes of the command: they grow, or a new command begins, or the framer is spent
 abbrev pub Effect : Step → List ℕ → Type 0
-Effect next bytes = ((next.after.spent ≡ false) × (next.after.bytes ≡ bytes)) ⊎ ((next.after ≡ start) ⊎ ((next.after.spent ≡ true) × IsSome next.frame))
+Effect next bytes =
+    ((next.after.spent ≡ false) × (next.after.bytes ≡ bytes)) ⊎ ((next.after ≡ start) ⊎ ((next.after.spent ≡ true) × IsSome next.frame))
 
 announced_step-effect : (admission : Admission) (s : State) (literal : Literal) → s.spent ≡ false → Effect (announced_step admission s literal) s.bytes
 unfolding announced_step
@@ -118,7 +120,8 @@ Takes-more s mid to piece frame taken more before behind =
         | inl past ↦
             let split : take n piece ≡ take taken piece ++ take (n - taken) (drop taken piece) =
             ap (λ (k : ℕ). take k piece) (omega arith) ∙ take-add taken (n - taken) piece in
-            rw (split, given-append s (take taken piece) (take (n - taken) (drop taken piece)), before.gives, ← mid_is) (behind.first (n - taken) (omega arith))
+            rw (split, given-append s (take taken piece) (take (n - taken) (drop taken piece)), before.gives, ← mid_is)
+            (behind.first (n - taken) (omega arith))
         | inr within ↦ given-take s piece taken n within before.gives
       ];
       arrives = rw (take-add taken more piece, after-append s (take taken piece) (take more (drop taken piece)), ← mid_is) behind.arrives;

@@ -50,7 +50,8 @@ more-none tally taken copied =
     rw (taken_is, copied_is) refl
 
 -- part of a stretch behind another one
-pub fed-part : (tally mid to : Tally) (taken rest size : ℕ) → mid ≡ fed tally None taken → IsFedPart mid rest to → taken + rest ≤ size → IsFedPart tally size to
+pub fed-part : (tally mid to : Tally) (taken rest size : ℕ) → mid ≡ fed tally None taken → IsFedPart mid rest to → taken + rest ≤ size
+    → IsFedPart tally size to
 fed-part tally mid to taken rest size mid_is part within = record {
   taken = taken + part.taken;
   within = omega (arith, part.within);

@@ -1,5 +1,6 @@
 -- How often a framer moves bytes: each call that copies some of them, each byte that it counts and doesn't keep, and each search for an LF is one move.
-use Rattle.std.specs.Prelude.{◌≡◌, ℕ, ◌+◌, ◌*◌, ◌/◌, ◌≤◌, ◌&&◌, ◌==◌, nat_lt, nat_eq, List, [], ◌∷◌, length, Option, None, Some, if◌then◌else◌}
+use Rattle.std.specs.Prelude.{◌≡◌, ℕ, ◌+◌, ◌*◌, ◌/◌, ◌≤◌, ◌&&◌, ◌==◌, nat_lt, nat_eq, List, [], ◌∷◌, length, Option}
+use Rattle.std.specs.Prelude.{None, Some, if◌then◌else◌}
 use Rattle.mur_base.specs.declared.limits.TheConstants.{LINE_LIMIT}
 use Rattle.mur_base.specs.Ascii.{lf}
 use Rattle.imap_wire.specs.declared.frame.Frame.{Frame}

@@ -264,7 +264,7 @@ impl Begun {
     }
 
     /// Goes on behind a line that announces this literal or none, and gives the frame that ends with the line.
-    #[tactic(auto, using(crate::proofs::LiteralLaws::asked_fits, crate::proofs::LiteralLaws::unasked_fits), unfolding(crate::specs::Steps::line_end, crate::specs::Steps::announced_step))]
+    #[tactic(auto, using(crate::proofs::LiteralLaws::by_size), unfolding(crate::specs::Steps::line_end, crate::specs::Steps::announced_step))]
     fn end_line(&mut self, alloc: Global, literal: Option<Literal>) -> Result<Option<Frame>, Memory>
         requires going { self.old.spent ≡ false }
         requires between { IsBetween self.old }

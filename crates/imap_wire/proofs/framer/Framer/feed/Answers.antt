@@ -39,12 +39,14 @@ returns-in-Err-clause-own c = begun-own (state_of c.self.inside.begun) c.args.se
 
 pub returns-in-Ok-clause-bulk : goal.returns-in-Ok-clause-bulk
 returns-in-Ok-clause-bulk c =
-    bulk-own (state_of c.self.inside.begun) c.args.self.now.begun _ _ _ _ c.if-self.false c.self.invariant (ap (λ (p : Progress). p.begun) c.self.view_is)
-    (omega (arith, ap (λ (p : Progress). p.moves) c.self.view_is, c.in-Ok.ensures.bulk),
-    omega (arith, ap (λ (p : Progress). p.moves) c.self.view_is, c.in-Ok.ensures.bulk))
+    let before = ap (λ (p : Progress). p.moves) c.self.view_is in
+    let most = c.in-Ok.ensures.bulk in
+    bulk-own (state_of c.self.inside.begun) c.args.self.now.begun _ _ _ _ c.if-self.false c.self.invariant
+    (ap (λ (p : Progress). p.begun) c.self.view_is) (omega arith, omega arith)
 
 pub returns-in-Err-clause-bulk_part : goal.returns-in-Err-clause-bulk_part
 returns-in-Err-clause-bulk_part c =
-    bulk-own (state_of c.self.inside.begun) c.args.self.now.begun _ _ _ _ c.if-self.false c.self.invariant (ap (λ (p : Progress). p.begun) c.self.view_is)
-    (omega (arith, ap (λ (p : Progress). p.moves) c.self.view_is, c.in-Err.ensures.part),
-    omega (arith, ap (λ (p : Progress). p.moves) c.self.view_is, c.in-Err.ensures.part))
+    let before = ap (λ (p : Progress). p.moves) c.self.view_is in
+    let most = c.in-Err.ensures.part in
+    bulk-own (state_of c.self.inside.begun) c.args.self.now.begun _ _ _ _ c.if-self.false c.self.invariant
+    (ap (λ (p : Progress). p.begun) c.self.view_is) (omega arith, omega arith)
