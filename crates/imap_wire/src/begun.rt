@@ -46,7 +46,7 @@ impl Begun {
     pub fn new(alloc: Global) -> Begun
         ensures state { state_of result ≡ start }
         ensures tally { result.kept.tally ≡ no_tally }
-        ensures moves { result.kept.moves ≡ 0 }
+        ensures count { result.kept.moves ≡ 0 }
     {
         Begun {
             kept: Kept::new(alloc),
@@ -74,7 +74,7 @@ impl Begun {
         ensures some { IfOk result (λ taken. 0 < length piece.now → 0 < taken) }
         ensures one { OnOk result (self.new.kept.moves ≡ counted (self.old.kept.moves + 1)) }
         ensures none { OnErr result (self.new.kept.moves ≡ self.old.kept.moves) }
-        // Else the literal ends, or the block is full.
+        // Bytes that end neither the piece nor the literal fill a block, which pays for the move.
         ensures paid { IfOk result (λ taken. taken < length piece.now → account self.new ≤ account self.old + taken) }
         ensures bulk { IfOk result (λ taken. taken ≡ min (min self.old.literal_left (next_room self.old.kept.last)) (length piece.now)) }
         ensures tally { IfOk result (λ taken. self.new.kept.tally ≡ fed self.old.kept.tally None taken) }
@@ -96,7 +96,7 @@ impl Begun {
         ensures room { OnOk result (IsRoomy self.new) }
         ensures cause { OnErr result (¬ IsRoomy self.old) }
         ensures tally { self.new.kept.tally ≡ self.old.kept.tally }
-        ensures moves { self.new.kept.moves ≡ self.old.kept.moves }
+        ensures count { self.new.kept.moves ≡ self.old.kept.moves }
         ensures filled { OnOk result (filled self.new.kept.last ≤ filled self.old.kept.last) }
     {
         if self.kept.last.room() - self.line_at < self.line_room + 2 {
@@ -207,7 +207,7 @@ impl Begun {
         ensures after { OnOk result (state_of self.new ≡ (step (state_of self.old) byte).after) }
         ensures tally { IfOk result (λ frame. self.new.kept.tally ≡ fed self.old.kept.tally frame 1) }
         ensures memory { OnErr result (self.new.kept.tally ≡ fed self.old.kept.tally None 1) }
-        ensures moves { IfOk result (λ frame. IsUpTo self.old.kept.moves (1 + frame_moves frame) self.new.kept.moves) }
+        ensures count { IfOk result (λ frame. IsUpTo self.old.kept.moves (1 + frame_moves frame) self.new.kept.moves) }
         ensures one { OnErr result (self.new.kept.moves ≡ counted (self.old.kept.moves + 1)) }
         ensures filled { IfOk result (λ frame. frame ≡ None → filled self.new.kept.last ≤ filled self.old.kept.last + 1) }
     {
@@ -248,7 +248,7 @@ impl Begun {
         ensures after { OnOk result (state_of self.new ≡ (step (state_of self.old) lf).after) }
         ensures tally { IfOk result (λ frame. self.new.kept.tally ≡ fed self.old.kept.tally frame 1) }
         ensures memory { OnErr result (self.new.kept.tally ≡ fed self.old.kept.tally None 1) }
-        ensures moves { IfOk result (λ frame. IsUpTo self.old.kept.moves (1 + frame_moves frame) self.new.kept.moves) }
+        ensures count { IfOk result (λ frame. IsUpTo self.old.kept.moves (1 + frame_moves frame) self.new.kept.moves) }
         ensures one { OnErr result (self.new.kept.moves ≡ counted (self.old.kept.moves + 1)) }
         ensures filled { IfOk result (λ frame. frame ≡ None → filled self.new.kept.last ≤ filled self.old.kept.last + 1) }
     {
@@ -272,7 +272,7 @@ impl Begun {
         ensures after { OnOk result (state_of self.new ≡ (line_end (state_of self.old) literal).after) }
         ensures tally { IfOk result (λ frame. self.new.kept.tally ≡ more self.old.kept.tally 0 (copies frame 0)) }
         ensures memory { OnErr result (self.new.kept.tally ≡ self.old.kept.tally) }
-        ensures moves { IfOk result (λ frame. IsUpTo self.old.kept.moves (frame_moves frame) self.new.kept.moves) }
+        ensures count { IfOk result (λ frame. IsUpTo self.old.kept.moves (frame_moves frame) self.new.kept.moves) }
         ensures none { OnErr result (self.new.kept.moves ≡ self.old.kept.moves) }
         ensures last { IfOk result (λ frame. frame ≡ None → self.new.kept.last ≡ self.old.kept.last) }
         // The line's last byte was kept.
@@ -323,7 +323,7 @@ impl Begun {
         ensures after { OnOk result (state_of self.new ≡ start) }
         ensures tally { IfOk result (λ bytes. self.new.kept.tally ≡ more self.old.kept.tally 0 (length bytes)) }
         ensures memory { OnErr result (self.new.kept.tally ≡ self.old.kept.tally) }
-        ensures moves { IfOk result (λ bytes. IsUpTo self.old.kept.moves (join_moves bytes) self.new.kept.moves) }
+        ensures count { IfOk result (λ bytes. IsUpTo self.old.kept.moves (join_moves bytes) self.new.kept.moves) }
         ensures none { OnErr result (self.new.kept.moves ≡ self.old.kept.moves) }
     {
         let bytes = self.kept.take_all(alloc)?;

@@ -12,8 +12,8 @@ use std::marker::Model;
 /// Cuts the bytes of one connection into frames, in whatever pieces they come.
 ///
 /// Contracts see the bytes of the command that has begun, or `None` once the framer is spent: after a fault, and
-/// after want of memory; and how many bytes were taken and copied. `past` are all bytes of the connection before the
-/// call.
+/// after want of memory; and how many bytes were taken and copied, in how many moves. `past` are all bytes of the
+/// connection before the call.
 #[derive(Drop)]
 pub struct Framer {
     alloc: Global,

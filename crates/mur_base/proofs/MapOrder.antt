@@ -27,13 +27,16 @@ module _ {K : Type 0} (cmp : K → K → Ordering) (order : IsTotalOrder cmp) wh
 module _ {K X : Type 0} (cmp : K → K → Ordering) (order : IsTotalOrder cmp) where
   in_order_by : (e : K × X) (es : List (K × X)) (k : K) (v : X) → IsStrictlySortedBy cmp (keys_of (e ∷ es))
       → IsStrictlySortedBy cmp (keys_of (insert_entry cmp es k v))
-      → (o : Ordering) → cmp k e.0 ≡ o → IsStrictlySortedBy cmp (keys_of (match_ordering o ((k, v) ∷ e ∷ es) ((e.0, v) ∷ es) (e ∷ insert_entry cmp es k v)))
+      → (o : Ordering) → cmp k e.0 ≡ o
+      → IsStrictlySortedBy cmp (keys_of (match_ordering o ((k, v) ∷ e ∷ es) ((e.0, v) ∷ es) (e ∷ insert_entry cmp es k v)))
   unfolding IsStrictlySortedBy
-  in_order_by e es k v sorted later Less h = (by_recursion (λ q. cmp k q ≡ Less) (keys_of (e ∷ es)) (below_all cmp order k e.0 (keys_of es) h sorted), sorted)
+  in_order_by e es k v sorted later Less h =
+      (by_recursion (λ q. cmp k q ≡ Less) (keys_of (e ∷ es)) (below_all cmp order k e.0 (keys_of es) h sorted), sorted)
   in_order_by e es k v sorted later Equal h = sorted
   in_order_by e es k v sorted later Greater h = (
     by_recursion (λ q. cmp e.0 q ≡ Less) (keys_of (insert_entry cmp es k v))
-        (All-keys-insert_entry cmp k v (λ q. cmp e.0 q ≡ Less) es (All-after_first cmp e.0 (keys_of es) sorted) (order.antisymm e.0 k ∙ ap ordering_reverse h)),
+        (All-keys-insert_entry cmp k v (λ q. cmp e.0 q ≡ Less) es (All-after_first cmp e.0 (keys_of es) sorted)
+        (order.antisymm e.0 k ∙ ap ordering_reverse h)),
     later,
   )
 

@@ -31,7 +31,7 @@ pub returns-clause-paid : goal.returns-clause-paid
 returns-clause-paid c = λ none within.
     let size = length-take-le (c.take_text-taken.result + 1) c.args.piece.now (omega arith) in
     account-paid c.args.self.now c.take_byte.new.self (take (c.take_text-taken.result + 1) c.args.piece.now)
-    (omega (arith, rw none at c.in_ok-take_byte.ensures.moves))
+    (omega (arith, rw none at c.in_ok-take_byte.ensures.count))
     (omega (arith, size, c.in_ok-make_line_room.ensures.filled, c.in_ok-take_byte.ensures.filled none))
     (line-paid (state_of c.args.self.now) (state_of c.take_text-taken.new.self) (state_of c.take_byte.new.self) c.args.piece.now _ c.take_text-taken.result
     (rw c.in_ok-make_line_room.ensures.state at c.take_text-taken.ensures.moves) c.take_text-taken.ensures.going c.take_text-taken.ensures.in_line
