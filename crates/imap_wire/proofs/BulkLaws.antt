@@ -1,8 +1,7 @@
 -- What moves cost, and what pays for them.
-use Rattle.std.proofs.Common.{◌≡◌, ℕ, ◌+◌, ◌-◌, ◌*◌, ◌/◌, ◌<◌, ◌≤◌, true, false, ◌&&◌, ◌==◌, nat_eq, nat_lt, List, []}
-use Rattle.std.proofs.Common.{◌∷◌, ◌++◌, length}
+use Rattle.std.proofs.Common.{◌≡◌, ℕ, ◌+◌, ◌*◌, ◌<◌, ◌≤◌, false, ◌&&◌, ◌==◌, nat_eq, List, [], ◌∷◌, ◌++◌, length}
 use Rattle.std.proofs.Common.{take, drop, get_or, Option, None, Some, ◌⊎◌, inl, inr, refl, sym, ap, ◌∙◌, arith}
-use Rattle.std.proofs.lemmas.List.{length-append, length-take-le, take-append-drop, take_more}
+use Rattle.std.proofs.lemmas.List.{length-append, take_more}
 use Rattle.std.proofs.lemmas.Bool.{cases_lt, cases_Bool}
 use Rattle.std.proofs.lemmas.Bool.Decides.{nat_tests}
 use Rattle.std.proofs.Math.Seq.{take-add}
@@ -14,19 +13,10 @@ use Rattle.mur_base.specs.Ascii.{ends_with_cr}
 use Rattle.imap_wire.specs.Line.{least_length}
 use Rattle.imap_wire.specs.Kept.{filled}
 use Rattle.imap_wire.specs.Steps.{State, start, step, after, begun_of, IsReached}
-use Rattle.imap_wire.specs.Begun.{Moves, Takes, state_of}
-use Rattle.imap_wire.specs.Bulk.{line_feeds, most_moves, frame_moves, IsUpTo, IsInBulk, credit, account, IsPaid}
-use Rattle.imap_wire.proofs.StepLaws.{step-line, line_step-fits, line_step-too_long, after-append}
+use Rattle.imap_wire.specs.Begun.{Moves, state_of}
+use Rattle.imap_wire.specs.Bulk.{line_feeds, most_moves, frame_moves, IsUpTo, IsInBulk, credit, IsPaid}
+use Rattle.imap_wire.proofs.StepLaws.{step-line, line_step-fits, line_step-too_long}
 use Rattle.imap_wire.proofs.LineLaws.{least_length-ge}
-
--- more bytes in a block
-pub filled-put : (before behind : Block) (more : ℕ) → behind.room ≡ before.room
-    → length behind.bytes.items ≡ length before.bytes.items + more → length behind.bytes.items ≤ behind.room → filled behind ≤ filled before + more
-filled-put before behind more room longer within = grind (arith, nat_tests)
-
--- a new block
-pub filled-new : (block : Block) → block.room ≡ BLOCK_ROOM → length block.bytes.items ≡ 0 → filled block ≡ 0
-filled-new block room none = grind (arith, nat_tests)
 
 -- each block takes a byte or is followed by one that does
 filled-less : (block : Block) → filled block < BLOCK_ROOM

@@ -1,11 +1,11 @@
 -- A stretch of a literal, or a stretch of a line and the byte behind it.
-use Rattle.std.proofs.Common.{◌≡◌, ◌+◌, length, take, ap, ◌∙◌, arith}
+use Rattle.std.proofs.Common.{◌+◌, take, ap, ◌∙◌, arith}
 use Rattle.std.proofs.lemmas.List.{length-take-le}
 use Rattle.std.proofs.lemmas.Result.{err_from_is_err_and}
 use Rattle.imap_wire.specs.Begun.{state_of}
 use Rattle.imap_wire.specs.Bulk.{credit}
 use Rattle.imap_wire.proofs.TakeLaws.{Takes-silent, Takes-text}
-use Rattle.imap_wire.proofs.TallyLaws.{fed-more, fed-failed}
+use Rattle.imap_wire.proofs.TallyLaws.{fed-failed}
 use Rattle.imap_wire.proofs.BulkLaws.{line-paid, account-paid}
 use Rattle.imap_wire.proofs.begun.Begun.take_some.Goals as goal
 
