@@ -1,5 +1,6 @@
 pub mod Append
 pub mod Create
+pub mod HomeLaws
 pub mod HomeStep
 pub mod Look
 pub mod Plan

@@ -6,6 +6,7 @@ mod backend;
 mod create;
 mod held;
 mod input;
+mod laws;
 mod look;
 mod plan;
 mod refusal;
@@ -15,4 +16,8 @@ mod step;
 pub use backend::Backend;
 pub use held::Held;
 pub use input::BackInput;
+pub use laws::{
+    an_append_elsewhere_changes_nothing, no_uid_is_given_twice, other_names_stay,
+    uidnext_never_falls, uidvalidity_is_not_given_again,
+};
 pub use plan::BackPlan;
