@@ -11,7 +11,7 @@ use Rattle.mail_store.proofs.AppendLaws.{next-appended, serial-appended}
 use Rattle.link_msg.specs.declared.ask.FrontAsk.{FrontAsk}
 use Rattle.backend_core.specs.declared.backend.Backend.{Backend}
 use Rattle.backend_core.specs.declared.held.Held.{Held}
-use Rattle.backend_core.specs.HomeStep.{held_at, with_content}
+use Rattle.backend_core.specs.HomeStep.{held_at}
 use Rattle.backend_core.specs.HomeLaws.{GoesOn}
 use Rattle.backend_core.specs.Step.{home_step}
 use Rattle.backend_core.proofs.Leaves.{Leaves, stays, makes, grows, leaves}

@@ -13,7 +13,6 @@ use Rattle.mail_store.specs.Append.{append_fault, appended, uids_from}
 use Rattle.mail_store.proofs.AppendLaws.{next-appended, uids-within}
 use Rattle.link_msg.specs.declared.answer.AnswerBody.TheVariants.{Done}
 use Rattle.link_msg.specs.declared.ask.FrontAsk.{FrontAsk}
-use Rattle.link_msg.specs.declared.op.Op.{Op}
 use Rattle.link_msg.specs.declared.op.Op.TheVariants.{Append}
 use Rattle.link_msg.specs.declared.outcome.Outcome.TheVariants.{Uids}
 use Rattle.backend_core.specs.declared.backend.Backend.{Backend}

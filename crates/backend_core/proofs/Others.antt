@@ -8,7 +8,6 @@ use Rattle.mur_base.proofs.MapOrder.{with_entry-in_order, with_value-in_order}
 use Rattle.mail_store.specs.Append.{appended}
 use Rattle.link_msg.specs.declared.ask.FrontAsk.{FrontAsk}
 use Rattle.backend_core.specs.declared.backend.Backend.{Backend}
-use Rattle.backend_core.specs.declared.held.Held.{Held}
 use Rattle.backend_core.specs.HomeStep.{held_at}
 use Rattle.backend_core.specs.HomeLaws.{HasNamesInOrder}
 use Rattle.backend_core.specs.Create.{new_held}

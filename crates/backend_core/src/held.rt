@@ -6,6 +6,6 @@ use mur_base::Phase;
 #[derive(Drop)]
 pub struct Held {
     pub phase: Phase,
-    /// The mailbox; empty where only a pointer is left.
+    /// The mailbox.
     pub content: MailBox,
 }
