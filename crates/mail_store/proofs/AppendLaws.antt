@@ -26,6 +26,7 @@ acl-appended box uid (message ∷ messages) = acl-appended (content_after box (P
 pub uids-within : (first : ℕ) (messages : List Message) → All (λ uid. (first ≤ uid) × (uid < first + length messages)) (uids_from first messages)
 uids-within first [] = All-nil (λ uid. (first ≤ uid) × (uid < first + 0))
 uids-within first (message ∷ messages) =
-    All-cons (λ uid. (first ≤ uid) × (uid < first + length (message ∷ messages))) first (uids_from (first + 1) messages) (omega arith, grind (arith, common_steps))
+    All-cons (λ uid. (first ≤ uid) × (uid < first + length (message ∷ messages))) first (uids_from (first + 1) messages)
+    (omega arith, grind (arith, common_steps))
     (All-weaker (λ uid. (first + 1 ≤ uid) × (uid < (first + 1) + length messages)) (λ uid. (first ≤ uid) × (uid < first + length (message ∷ messages)))
     (λ uid h. (omega (arith, h.0), grind (arith, common_steps, h.1))) (uids_from (first + 1) messages) (uids-within (first + 1) messages))
