@@ -1,6 +1,6 @@
 -- A change leaves every message as it was whose UID it doesn't name.
-use Rattle.std.proofs.Common.{◌≡◌, ◌≢◌, ℕ, Bool, true, false, cond, not, ◌==◌, ◌||◌, List, [], ◌∷◌, map, Option, Some, None, refl, sym, ◌∙◌, ap, subst, arith}
-use Rattle.std.specs.List.{filter, find, list_any}
+use Rattle.std.proofs.Common.{◌≡◌, ℕ, Bool, true, false, cond, not, ◌==◌, ◌||◌, List, [], ◌∷◌, map, Some, refl, ◌∙◌, ap, arith}
+use Rattle.std.specs.List.{list_any}
 use Rattle.std.specs.declared.cmp.Ordering.{Ordering}
 use Rattle.std.specs.declared.cmp.Ordering.TheVariants.{Less, Equal, Greater}
 use Rattle.std.specs.Ordering.{is_eq, nat_cmp, match_ordering}
@@ -9,7 +9,7 @@ use Rattle.mail_message.specs.declared.message.Message.{Message}
 use Rattle.mail_message.specs.declared.change.Change.{Change}
 use Rattle.mail_message.specs.declared.change.Change.TheVariants.{Put, SetFlags, Gone, NextUid}
 use Rattle.mail_message.specs.FlagSets.{Flags}
-use Rattle.mail_message.specs.Boxes.{Content, has_uid, message_at, with_message, without_uid}
+use Rattle.mail_message.specs.Boxes.{Content, message_at, with_message, without_uid}
 use Rattle.mail_message.specs.Boxes.{with_flags, relabelled, messages_after, content_after, content_after_all, is_touched}
 use Rattle.mail_message.proofs.SlotLaws.{same_key}
 

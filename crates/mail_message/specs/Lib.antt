@@ -1,5 +1,6 @@
 pub mod Boxes
 pub mod Date
+pub mod FirstAcl
 pub mod FlagNames
 pub mod FlagSets
 pub mod Keywords
