@@ -1,11 +1,13 @@
 -- The one or the other by the first byte, and single bytes.
-use Rattle.std.proofs.Common.{◌≡◌, ℕ, suc, List, [], ◌∷◌, ◌++◌, length, Result, Ok, Err, Bool, true, false, cond, ◌⊎◌, inl, inr, ⊎_elim, refl, sym, ap, ◌∙◌}
+use Rattle.std.proofs.Common.{◌≡◌, ℕ, suc, List, [], ◌∷◌, ◌++◌, length, Result, Ok, Err, Bool, true, false, cond, ◌⊎◌, inl, inr}
+use Rattle.std.proofs.Common.{⊎_elim, refl, sym, ap, ◌∙◌}
 use Rattle.grammar.specs.Part.{Part, ◌>>=◌, Joins, choose, starts, one_of, one_at, taken}
 use Rattle.grammar.specs.Exact.{Stops, Taken, IsViable, Follows, Good, StartsWith, StartsWithout}
 use Rattle.grammar.proofs.Reading.{ok_parts, viable, takes_some, good_from}
 
 -- texts that begin alike up to one byte begin with the same byte
-pub same_start : (test : ℕ → Bool) (front : List ℕ) (c : ℕ) (tail more : List ℕ) → starts test (front ++ (c ∷ tail)) ≡ starts test (front ++ (c ∷ more))
+pub same_start : (test : ℕ → Bool) (front : List ℕ) (c : ℕ) (tail more : List ℕ)
+    → starts test (front ++ (c ∷ tail)) ≡ starts test (front ++ (c ∷ more))
 same_start test [] c tail more = refl
 same_start test (d ∷ front) c tail more = refl
 
@@ -77,8 +79,8 @@ module _ {V A : Type 0} {after : ℕ → Bool} (test : ℕ → Bool) (p q : Part
           value = s.value;
           begins = choice_only _ _ (right_one _ _ s.begins);
           ends = λ c tail more w same taken. s.ends c tail more w same
-              (sym (at_start _ false (same_start test s.front c more tail ∙ sym (ap (λ t. starts test (s.front ++ t)) same) ∙ sym (ap (starts test) s.parts)
-              ∙ first)) ∙ taken);
+              (sym (at_start _ false (same_start test s.front c more tail ∙ sym (ap (λ t. starts test (s.front ++ t)) same)
+              ∙ sym (ap (starts test) s.parts) ∙ first)) ∙ taken);
         }
 
   -- one of two by the first byte
@@ -90,7 +92,8 @@ module _ (test : ℕ → Bool) where
   one_reads : (c : ℕ) (rest : List ℕ) (b : Bool) → test c ≡ b → one_at test (c ∷ rest) ≡ taken b c rest
   one_reads c rest b e = ap (λ b. taken b c rest) e
 
-  one_sound : (bytes rest : List ℕ) (a : ℕ) → one_at test bytes ≡ Ok (a, rest) → (front : List ℕ) × (bytes ≡ front ++ rest) × (front ≡ a ∷ []) × (test a ≡ true)
+  one_sound : (bytes rest : List ℕ) (a : ℕ) → one_at test bytes ≡ Ok (a, rest)
+      → (front : List ℕ) × (bytes ≡ front ++ rest) × (front ≡ a ∷ []) × (test a ≡ true)
   one_sound [] rest a e = cc
   one_sound (c ∷ bytes) rest a e = by_test (test c) refl e
     where
@@ -103,11 +106,12 @@ module _ (test : ℕ → Bool) where
   pub good_one_of : {V : Type 0} (after : ℕ → Bool) (example : ℕ) → test example ≡ true → Good V after (one_of test)
   good_one_of {V} after example passes = good_from (one_of test) sound (λ next v f. only next) (λ next v f. stops next v)
     where
-      sound : (bytes rest : List ℕ) (a : ℕ) → one_at test bytes ≡ Ok (a, rest) → (front : List ℕ) × (bytes ≡ front ++ rest) × (one_of test).lang front a
+      sound : (bytes rest : List ℕ) (a : ℕ) → one_at test bytes ≡ Ok (a, rest)
+          → (front : List ℕ) × (bytes ≡ front ++ rest) × (one_of test).lang front a
       sound bytes rest a e = let s = one_sound bytes rest a e in (s.0, s.1, (s.2, s.3))
 
-      only : (next : ℕ → List ℕ → Result V ℕ) (bytes : List ℕ) (w : V) → Joins (one_of test).lang (λ a. Taken (next a)) bytes w → one_at test bytes >>=
-          next ≡ Ok w
+      only : (next : ℕ → List ℕ → Result V ℕ) (bytes : List ℕ) (w : V) → Joins (one_of test).lang (λ a. Taken (next a)) bytes w
+          → one_at test bytes >>= next ≡ Ok w
       only next bytes w j =
           ap (λ s. one_at test s >>= next) (j.parts ∙ ap (λ s. s ++ j.back) j.begins.0)
           ∙ ap (λ r. r >>= next) (one_reads j.between j.back true j.begins.1) ∙ j.goes_on
@@ -125,7 +129,8 @@ module _ (test : ℕ → Bool) where
         ends = λ c tail more w same taken. cc;
       }
 
-      by_test : (next : ℕ → List ℕ → Result V ℕ) → ((a : ℕ) → IsViable (next a)) → (c : ℕ) (rest : List ℕ) (left : ℕ) (b : Bool) → test c ≡ b
+      by_test : (next : ℕ → List ℕ → Result V ℕ) → ((a : ℕ) → IsViable (next a)) → (c : ℕ) (rest : List ℕ) (left : ℕ) (b : Bool)
+          → test c ≡ b
           → taken b c rest >>= next ≡ Err left →
           Stops (Taken (λ s. one_at test s >>= next)) (c ∷ rest) left
       by_test next v c rest left true is e =
@@ -138,7 +143,8 @@ module _ (test : ℕ → Bool) where
             more = s.more;
             value = s.value;
             begins = ap (λ r. r >>= next) (one_reads c (s.front ++ s.more) true is) ∙ s.begins;
-            ends = λ d tail more w same taken. s.ends d tail more w same (sym (ap (λ r. r >>= next) (one_reads c (s.front ++ (d ∷ more)) true is)) ∙ taken);
+            ends = λ d tail more w same taken.
+                s.ends d tail more w same (sym (ap (λ r. r >>= next) (one_reads c (s.front ++ (d ∷ more)) true is)) ∙ taken);
           }
       by_test next v c rest left false is e =
           let some = takes_some (next example) (v example) in

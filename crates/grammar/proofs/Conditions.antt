@@ -43,16 +43,19 @@ not_true true h = cc
 not_true false h = refl
 
 -- a test that holds of some member holds of it by a weaker test
-pub any_weaker : {X : Type 0} (p q : X → Bool) → ((x : X) → p x ≡ true → q x ≡ true) → (xs : List X) → list_any p xs ≡ true → list_any q xs ≡ true
+pub any_weaker : {X : Type 0} (p q : X → Bool) → ((x : X) → p x ≡ true → q x ≡ true) → (xs : List X) → list_any p xs ≡ true
+    → list_any q xs ≡ true
 any_weaker p q to [] h = h
 any_weaker p q to (x ∷ xs) h = by_case (p x) refl h (any_weaker p q to xs)
   where
-    by_case : (b : Bool) → p x ≡ b → b || list_any p xs ≡ true → (list_any p xs ≡ true → list_any q xs ≡ true) → list_any q (x ∷ xs) ≡ true
+    by_case : (b : Bool) → p x ≡ b → b || list_any p xs ≡ true → (list_any p xs ≡ true → list_any q xs ≡ true)
+        → list_any q (x ∷ xs) ≡ true
     by_case true e h again = or_left (q x) _ (to x e)
     by_case false e h again = or_right (q x) _ (again h)
 
 -- a member of which a test holds
-pub any_some : {X : Type 0} (p : X → Bool) (xs : List X) → list_any p xs ≡ true → (x : X) × (p x ≡ true) × ((q : X → Bool) → q x ≡ true → list_any q xs ≡ true)
+pub any_some : {X : Type 0} (p : X → Bool) (xs : List X) → list_any p xs ≡ true
+    → (x : X) × (p x ≡ true) × ((q : X → Bool) → q x ≡ true → list_any q xs ≡ true)
 any_some p [] h = cc
 any_some p (x ∷ xs) h = by_case (p x) refl h (any_some p xs)
   where
@@ -63,7 +66,8 @@ any_some p (x ∷ xs) h = by_case (p x) refl h (any_some p xs)
     by_case false e h again = let some = again h in (some.0, some.1, λ q k. or_right (q x) _ (some.2 q k))
 
 -- a test that fails for each
-pub any_none : {X : Type 0} (p q : X → Bool) → ((x : X) → p x ≡ true → q x ≡ false) → (xs : List X) → list_all p xs ≡ true → list_any q xs ≡ false
+pub any_none : {X : Type 0} (p q : X → Bool) → ((x : X) → p x ≡ true → q x ≡ false) → (xs : List X) → list_all p xs ≡ true
+    → list_any q xs ≡ false
 any_none p q to [] h = refl
 any_none p q to (x ∷ xs) h = or_none _ _ (to x (and_left _ _ h)) (any_none p q to xs (and_right _ _ h))
 

@@ -1,5 +1,6 @@
 -- What so many bytes of a set are read as, from how many of the first bytes pass.
-use Rattle.std.proofs.Common.{◌≡◌, ℕ, zero, suc, ◌+◌, ◌-◌, ◌<◌, ◌≤◌, List, [], ◌∷◌, length, take, drop, get_or, Ok, Err, Bool, true, false, refl, ap, ◌∙◌, min, ⊎_elim, arith}
+use Rattle.std.proofs.Common.{◌≡◌, ℕ, zero, suc, ◌+◌, ◌-◌, ◌<◌, ◌≤◌, List, [], ◌∷◌, length, take, drop, get_or, Ok, Err, Bool}
+use Rattle.std.proofs.Common.{true, false, refl, ap, ◌∙◌, min, ⊎_elim, arith}
 use Rattle.std.proofs.lemmas.Bool.{cases_lt}
 use Rattle.std.specs.List.{list_all}
 use Rattle.grammar.specs.Part.{◌>>=◌, exactly, map, taken}
@@ -33,7 +34,8 @@ module _ (test : ℕ → Bool) where
   exactly_stops (suc n) (suc i) [] l h k e = absurd (omega arith)
   exactly_stops (suc n) (suc i) (c ∷ bytes) l h k e =
       exactly_step n c bytes true (and_left _ _ k)
-      ∙ ap (λ r. r >>= (λ s rest. Ok (c ∷ s, rest))) (exactly_stops n i bytes (omega arith) (omega arith) (and_right (test c) _ k) (λ m. e (omega arith)))
+      ∙ ap (λ r. r >>= (λ s rest. Ok (c ∷ s, rest)))
+      (exactly_stops n i bytes (omega arith) (omega arith) (and_right (test c) _ k) (λ m. e (omega arith)))
       ∙ ap (λ n. Err n) (let same : length bytes - i ≡ length (c ∷ bytes) - suc i = omega arith in same)
 
   -- more bytes than there are stop where one more than there are does

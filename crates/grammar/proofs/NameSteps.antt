@@ -1,5 +1,6 @@
 -- What one byte more and the lengths say of a name and a text.
-use Rattle.std.proofs.Common.{◌≡◌, ℕ, suc, ◌+◌, ◌<◌, ◌≤◌, List, [], ◌∷◌, ◌++◌, length, drop, get_or, Bool, true, false, ◌&&◌, refl, ap, ap₂, ◌∙◌, arith, add-one, drop-cons, drop_of_length-le}
+use Rattle.std.proofs.Common.{◌≡◌, ℕ, suc, ◌+◌, ◌<◌, ◌≤◌, List, [], ◌∷◌, ◌++◌, length, drop, get_or, Bool, true, false}
+use Rattle.std.proofs.Common.{◌&&◌, refl, ap, ap₂, ◌∙◌, arith, add-one, drop-cons, drop_of_length-le}
 use Rattle.std.specs.Char.{eq_ignore_ascii_case}
 use Rattle.grammar.specs.Tables.{starts_name, is_name}
 use Rattle.grammar.proofs.Conditions.{and_false_right}

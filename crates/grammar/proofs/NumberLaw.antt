@@ -1,5 +1,6 @@
 -- Numerals are lawful words, and end before a byte that is no digit.
-use Rattle.std.proofs.Common.{◌≡◌, ℕ, ◌+◌, ◌-◌, ◌*◌, ◌≤◌, List, [], ◌∷◌, ◌++◌, Bool, true, false, ◌&&◌, ◌||◌, leb, refl, ap, ◌∙◌, subst, append-nil, le_trans, le_refl, arith, leb-true, le-leb}
+use Rattle.std.proofs.Common.{◌≡◌, ℕ, ◌+◌, ◌-◌, ◌*◌, ◌≤◌, List, [], ◌∷◌, ◌++◌, Bool, true, false, ◌&&◌, ◌||◌, leb}
+use Rattle.std.proofs.Common.{refl, ap, ◌∙◌, subst, append-nil, le_trans, le_refl, arith, leb-true, le-leb}
 use Rattle.std.specs.List.{list_all}
 use Rattle.grammar.specs.Words.{Lawful, Apart}
 use Rattle.mur_base.specs.Number.{is_digit, digits_behind}

@@ -1,5 +1,7 @@
 -- One digit more in the scan of a numeral.
-use Rattle.std.proofs.Common.{◌≡◌, ℕ, suc, ◌+◌, ◌-◌, ◌*◌, ◌<◌, List, [], ◌∷◌, ◌++◌, length, take, drop, get_or, Bool, true, false, ◌&&◌, ◌||◌, not, ◌==◌, nat_eq, leb, refl, sym, ap, ap₂, ◌∙◌, arith, add-one, take-suc, length-take-le, ne_eqb, le_of_lt}
+use Rattle.std.proofs.Common.{◌≡◌, ℕ, suc, ◌+◌, ◌-◌, ◌*◌, ◌<◌, List, [], ◌∷◌, ◌++◌, length, take, drop, get_or, Bool, true}
+use Rattle.std.proofs.Common.{false, ◌&&◌, ◌||◌, not, ◌==◌, nat_eq, leb, refl, sym, ap, ap₂, ◌∙◌, arith, add-one, take-suc, length-take-le}
+use Rattle.std.proofs.Common.{ne_eqb, le_of_lt}
 use Rattle.std.specs.List.{list_all}
 use Rattle.grammar.specs.Words.{scan, halt}
 use Rattle.mur_base.specs.Number.{is_digit}
@@ -44,7 +46,8 @@ module _ (zeros : Bool) (most : ℕ) where
     numeral_halts ends = scan_halts (numerals zeros most) bytes i within scanned (place_is ∙ not_then_false _ ends)
 
     -- a next digit is taken
-    pub numeral_more : (next : ℕ) → is_next_digit zeros most number (nat_eq i 0) (get_or bytes i 0) ≡ true → next ≡ 10 * number + (get_or bytes i 0 - 48) →
+    pub numeral_more : (next : ℕ) → is_next_digit zeros most number (nat_eq i 0) (get_or bytes i 0) ≡ true →
+        next ≡ 10 * number + (get_or bytes i 0 - 48) →
         record {
           value : next ≡ value_of (take (i + 1) bytes);
           begins : (numerals zeros most).begins (take (i + 1) bytes) ≡ true;
@@ -58,5 +61,6 @@ module _ (zeros : Bool) (most : ℕ) where
     }
 
 -- one digit more
-pub value_of-take : (digits : List ℕ) (i : ℕ) → i < length digits → value_of (take (i + 1) digits) ≡ 10 * value_of (take i digits) + (get_or digits i 0 - 48)
+pub value_of-take : (digits : List ℕ) (i : ℕ) → i < length digits
+    → value_of (take (i + 1) digits) ≡ 10 * value_of (take i digits) + (get_or digits i 0 - 48)
 value_of-take digits i h = ap value_of (ap (λ n. take n digits) (add-one i) ∙ take-suc digits i 0 h) ∙ value_of-push (take i digits) (get_or digits i 0)

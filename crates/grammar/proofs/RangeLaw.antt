@@ -27,7 +27,8 @@ pub record Ranged (V : Type 0) {A : Type 0} (after : ℕ → Bool) (low high : �
   pub starts : StartsWith (between low high) p
 
 -- one of two by ranges, the lower first
-pub ranged_choose : {V A : Type 0} {after : ℕ → Bool} {low high next_low next_high : ℕ} (p q : Part A) → low ≤ next_low → high < next_low → high ≤ next_high →
+pub ranged_choose : {V A : Type 0} {after : ℕ → Bool} {low high next_low next_high : ℕ} (p q : Part A) → low ≤ next_low →
+    high < next_low → high ≤ next_high →
     Ranged V after low high p → Ranged V after next_low next_high q → Ranged V after low next_high (choose (between low high) p q)
 ranged_choose {V} {A} {after} {low} {high} {next_low} {next_high} p q from below upto r s = record {
   good = good_choose (between low high) p q r.good s.good r.starts

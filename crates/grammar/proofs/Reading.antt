@@ -1,5 +1,6 @@
 -- Small facts on readings that go on, on stops, and on exactness carried from one reader to another.
-use Rattle.std.proofs.Common.{◌≡◌, ℕ, List, [], ◌∷◌, ◌++◌, length, Result, Ok, Err, Bool, refl, sym, ap, ◌∙◌, length-append, ap₂, arith}
+use Rattle.std.proofs.Common.{◌≡◌, ℕ, List, [], ◌∷◌, ◌++◌, length, Result, Ok, Err, Bool, refl, sym, ap, ◌∙◌, length-append, ap₂}
+use Rattle.std.proofs.Common.{arith}
 use Rattle.grammar.specs.Part.{Part, ◌>>=◌, Joins}
 use Rattle.grammar.specs.Exact.{Stops, Exact, Taken, IsViable, Follows, Good}
 
@@ -67,7 +68,8 @@ empty_halves [] b e = (refl, sym e)
 empty_halves (c ∷ a) b e = cc
 
 -- the parts of a reading
-pub ok_parts : {A : Type 0} {a b : A} {rest back : List ℕ} → (let left : Result (A × List ℕ) ℕ = Ok (a, rest) in left ≡ Ok (b, back)) → (a ≡ b) × (rest ≡ back)
+pub ok_parts : {A : Type 0} {a b : A} {rest back : List ℕ} → (let left : Result (A × List ℕ) ℕ = Ok (a, rest) in left ≡ Ok (b, back))
+    → (a ≡ b) × (rest ≡ back)
 ok_parts {A} {a} {b} {rest} {back} e =
     let pair : (a, rest) ≡ (b, back) = cc in (ap (λ (x : A × List ℕ). x.0) pair, ap (λ (x : A × List ℕ). x.1) pair)
 
@@ -90,7 +92,8 @@ pub good_from : {V A : Type 0} {set : ℕ → Bool} (p : Part A) →
     ((bytes rest : List ℕ) (a : A) → p.at bytes ≡ Ok (a, rest) → (front : List ℕ) × (bytes ≡ front ++ rest) × p.lang front a) →
     ((next : A → List ℕ → Result V ℕ) → ((a : A) → IsViable (next a)) → ((a : A) → Follows set (next a)) →
     (bytes : List ℕ) (w : V) → Joins p.lang (λ a. Taken (next a)) bytes w → p.at bytes >>= next ≡ Ok w) →
-    ((next : A → List ℕ → Result V ℕ) → ((a : A) → IsViable (next a)) → ((a : A) → Follows set (next a)) → IsViable (λ bytes. p.at bytes >>= next)) →
+    ((next : A → List ℕ → Result V ℕ) → ((a : A) → IsViable (next a)) → ((a : A) → Follows set (next a)) →
+    IsViable (λ bytes. p.at bytes >>= next)) →
     Good V set p
 good_from {V} {A} p sound only stops = record {
   sound = sound;

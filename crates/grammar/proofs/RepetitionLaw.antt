@@ -1,5 +1,6 @@
 -- A number of bytes, and turns of a part that changes a state.
-use Rattle.std.proofs.Common.{◌≡◌, ℕ, zero, suc, ◌+◌, ◌<◌, ◌≤◌, List, [], ◌∷◌, ◌++◌, length, Result, Ok, Err, Bool, true, false, cond, inl, inr, ⊎_elim, refl, sym, ap, ◌∙◌, length-append, arith}
+use Rattle.std.proofs.Common.{◌≡◌, ℕ, zero, suc, ◌+◌, ◌<◌, ◌≤◌, List, [], ◌∷◌, ◌++◌, length, Result, Ok, Err, Bool, true, false}
+use Rattle.std.proofs.Common.{cond, inl, inr, ⊎_elim, refl, sym, ap, ◌∙◌, length-append, arith}
 use Rattle.grammar.specs.Part.{Part, ◌>>=◌, Joins, give, map, one_of, ◌then◌, exactly, turns, repeat}
 use Rattle.grammar.specs.Exact.{Begins, StartsWith, Taken, IsViable, Follows, Good, any}
 use Rattle.grammar.proofs.Reading.{viable, good_from, same_split}
@@ -11,7 +12,8 @@ pub begins_any : {A : Type 0} (after : ℕ → Bool) (p : Part A) → Begins any
 begins_any after p = record { full = λ _ _ _ _. refl; empty = λ _ _ _ _. refl }
 
 -- so many bytes
-pub good_exactly : {V : Type 0} (test : ℕ → Bool) (after : ℕ → Bool) (example : ℕ) → test example ≡ true → (n : ℕ) → Good V after (exactly test n)
+pub good_exactly : {V : Type 0} (test : ℕ → Bool) (after : ℕ → Bool) (example : ℕ) → test example ≡ true → (n : ℕ)
+    → Good V after (exactly test n)
 unfolding exactly
 good_exactly test after example passes zero = good_give after []
 good_exactly test after example passes (suc n) =
@@ -58,8 +60,8 @@ module _ {S : Type 0} (test : ℕ → Bool) (turn : S → Part S) (one : (s : S)
   few_turns (suc n) s bytes last (inr l) zero h = l
   few_turns (suc n) s bytes last (inr l) (suc m) h = inr l
 
-module _ {V S : Type 0} (test after between : ℕ → Bool) (turn : S → Part S) (g : (s : S) → Good V between (turn s)) (one : (s : S) → StartsWith test (turn s))
-    (apart : (c : ℕ) → after c ≡ true → test c ≡ false) (turn_next : (c : ℕ) → test c ≡ true → between c ≡ true)
+module _ {V S : Type 0} (test after between : ℕ → Bool) (turn : S → Part S) (g : (s : S) → Good V between (turn s))
+    (one : (s : S) → StartsWith test (turn s)) (apart : (c : ℕ) → after c ≡ true → test c ≡ false) (turn_next : (c : ℕ) → test c ≡ true → between c ≡ true)
     (after_next : (c : ℕ) → after c ≡ true → between c ≡ true) where
   begins_turns : (n : ℕ) (s : S) → Begins between after (turns test turn n s)
   unfolding turns
@@ -85,7 +87,8 @@ module _ {V S : Type 0} (test after between : ℕ → Bool) (turn : S → Part S
       (record { full = λ c tail a l. absurd (no_byte l.0); empty = λ a l. apart })
 
   -- turns beyond the number of bytes change nothing
-  pub enough_turns : (n m : ℕ) (s : S) (bytes : List ℕ) → length bytes ≤ n → length bytes ≤ m → (turns test turn n s).at bytes ≡ (turns test turn m s).at bytes
+  pub enough_turns : (n m : ℕ) (s : S) (bytes : List ℕ) → length bytes ≤ n → length bytes ≤ m
+      → (turns test turn n s).at bytes ≡ (turns test turn m s).at bytes
   unfolding turns
   enough_turns zero zero s bytes h k = refl
   enough_turns zero (suc m) s [] h k = refl
@@ -107,7 +110,8 @@ module _ {V S : Type 0} (test after between : ℕ → Bool) (turn : S → Part S
           again x.0 x.1 (omega arith) (omega arith)
 
   module _ (next : S → List ℕ → Result V ℕ) (v : (a : S) → IsViable (next a)) (f : (a : S) → Follows after (next a)) (s : S) where
-    repeat_only : (bytes : List ℕ) (w : V) → Joins (repeat test turn s).lang (λ a. Taken (next a)) bytes w → (repeat test turn s).at bytes >>= next ≡ Ok w
+    repeat_only : (bytes : List ℕ) (w : V) → Joins (repeat test turn s).lang (λ a. Taken (next a)) bytes w
+        → (repeat test turn s).at bytes >>= next ≡ Ok w
     unfolding repeat
     repeat_only bytes w j =
         ((good_turns (length bytes) s).exact next v f).only bytes w (record {

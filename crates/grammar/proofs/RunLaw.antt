@@ -1,5 +1,6 @@
 -- Runs of bytes are lawful words, and end before a byte that doesn't pass.
-use Rattle.std.proofs.Common.{◌≡◌, ℕ, ◌<◌, List, [], ◌∷◌, ◌++◌, length, Bool, true, false, ◌&&◌, refl, ap, ◌∙◌, append-nil, length-append, arith, leb, leb-true, le-leb}
+use Rattle.std.proofs.Common.{◌≡◌, ℕ, ◌<◌, List, [], ◌∷◌, ◌++◌, length, Bool, true, false, ◌&&◌, refl, ap, ◌∙◌, append-nil}
+use Rattle.std.proofs.Common.{length-append, arith, leb, leb-true, le-leb}
 use Rattle.std.specs.List.{list_all}
 use Rattle.grammar.specs.Words.{Lawful, Apart}
 use Rattle.grammar.specs.Runs.{run, run_upto, some}
@@ -49,7 +50,8 @@ module _ (test : ℕ → Bool) where
     upto_goes_on : (example : ℕ) → test example ≡ true → 0 < most → (s : List ℕ) → list_all test s && leb (length s) most ≡ true
         → (t : List ℕ) × (run_upto most test).whole (s ++ t) ≡ true
     upto_goes_on example passes room [] h = (example ∷ [], and_both _ _ (and_both _ _ (and_both _ _ passes refl) (le-leb _ _ room)) refl)
-    upto_goes_on example passes room (c ∷ s) h = ([], ap (λ t. list_all test t && leb (length t) most && some t) (append-nil (c ∷ s)) ∙ and_both _ _ h refl)
+    upto_goes_on example passes room (c ∷ s) h =
+        ([], ap (λ t. list_all test t && leb (length t) most && some t) (append-nil (c ∷ s)) ∙ and_both _ _ h refl)
 
     pub lawful_run_upto : (example : ℕ) → test example ≡ true → 0 < most → Lawful (run_upto most test)
     lawful_run_upto example passes room = record {

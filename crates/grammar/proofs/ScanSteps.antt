@@ -1,5 +1,6 @@
 -- One byte more in a scan at a place of the bytes.
-use Rattle.std.proofs.Common.{◌≡◌, ℕ, suc, ◌+◌, ◌<◌, List, [], ◌∷◌, ◌++◌, length, take, drop, get_or, Bool, true, false, cond, sym, ap, ap₂, ◌∙◌, add-one, drop-cons, take-suc}
+use Rattle.std.proofs.Common.{◌≡◌, ℕ, suc, ◌+◌, ◌<◌, List, [], ◌∷◌, ◌++◌, length, take, drop, get_or, Bool, true, false, cond, sym}
+use Rattle.std.proofs.Common.{ap, ap₂, ◌∙◌, add-one, drop-cons, take-suc}
 use Rattle.grammar.specs.Words.{Words, scan, halt}
 
 module _ (w : Words) (bytes : List ℕ) (i : ℕ) (within : i < length bytes) (scanned : scan w (take i bytes) (drop i bytes) ≡ scan w [] bytes) where

@@ -6,11 +6,13 @@ use Rattle.grammar.proofs.Reading.{bind_assoc, Went, went, ok_parts, viable, Exa
 
 module _ {V : Type 0} where
   -- what follows a part that begins with `starts` follows with `starts`
-  pub follows_begins : {A : Type 0} {starts after : ℕ → Bool} (p : Part A) (next : A → List ℕ → Result V ℕ) → Begins starts after p → Good V after p →
+  pub follows_begins : {A : Type 0} {starts after : ℕ → Bool} (p : Part A) (next : A → List ℕ → Result V ℕ) →
+      Begins starts after p → Good V after p →
       ((a : A) → IsViable (next a)) → ((a : A) → Follows after (next a)) → Follows starts (λ bytes. p.at bytes >>= next)
   follows_begins {A} {starts} {after} p next b g v f c tail w h = go ((g.exact next v f).found (c ∷ tail) w h)
     where
-      by_front : (front back : List ℕ) (a : A) → (let s : List ℕ = c ∷ tail in s ≡ front ++ back) → p.lang front a → next a back ≡ Ok w → starts c ≡ true
+      by_front : (front back : List ℕ) (a : A) → (let s : List ℕ = c ∷ tail in s ≡ front ++ back) → p.lang front a → next a back ≡ Ok w
+          → starts c ≡ true
       by_front [] back a e l n = b.empty a l c (f a c tail w (ap (next a) e ∙ n))
       by_front (d ∷ front) back a e l n = let same : c ≡ d = cc in ap starts same ∙ b.full d front a l
 
@@ -24,7 +26,8 @@ module _ {V : Type 0} where
         (given next) (v a);
   }
     where
-      given : (next : A → List ℕ → Result V ℕ) (bytes : List ℕ) (w : V) → Joins (give a).lang (λ b. Taken (next b)) bytes w → next a bytes ≡ Ok w
+      given : (next : A → List ℕ → Result V ℕ) (bytes : List ℕ) (w : V) → Joins (give a).lang (λ b. Taken (next b)) bytes w
+          → next a bytes ≡ Ok w
       given next bytes w j =
           let at : next j.between j.back ≡ Ok w = j.goes_on in
           let from : j.between ≡ a = j.begins.1 in
@@ -69,7 +72,8 @@ module _ {V : Type 0} where
         outer;
   }
     where
-      sound : (bytes rest : List ℕ) (w : B) → Went (p.at bytes) (λ a. (f a).at) (w, rest) → (front : List ℕ) × (bytes ≡ front ++ rest) × (p then f).lang front w
+      sound : (bytes rest : List ℕ) (w : B) → Went (p.at bytes) (λ a. (f a).at) (w, rest)
+          → (front : List ℕ) × (bytes ≡ front ++ rest) × (p then f).lang front w
       sound bytes rest w s =
           let one = g.sound bytes s.rest s.value s.was in
           let two = (h s.value).sound s.rest rest w s.gave in

@@ -35,7 +35,8 @@ module _ {A : Type 0} {test : ℕ → Bool} where
   begins_from after p s = record { full = s.full; empty = λ a l. absurd (s.empty a l) }
 
   -- and with no other
-  pub without_from : (other after : ℕ → Bool) (p : Part A) → ((c : ℕ) → test c ≡ true → other c ≡ false) → StartsWith test p → StartsWithout other after p
+  pub without_from : (other after : ℕ → Bool) (p : Part A) → ((c : ℕ) → test c ≡ true → other c ≡ false) → StartsWith test p
+      → StartsWithout other after p
   without_from other after p to s = record { full = λ c tail a l. to c (s.full c tail a l); empty = λ a l. absurd (s.empty a l) }
 
 -- a single byte

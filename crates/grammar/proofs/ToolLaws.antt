@@ -1,5 +1,6 @@
 -- The small parts that productions are made of are exact too.
-use Rattle.std.proofs.Common.{◌≡◌, ℕ, List, [], ◌∷◌, ◌++◌, Bool, true, false, ◌==◌, refl, sym, ap, ⊎_elim, subst, ◌∙◌, eq-eqb, eqb-true}
+use Rattle.std.proofs.Common.{◌≡◌, ℕ, List, [], ◌∷◌, ◌++◌, Bool, true, false, ◌==◌, refl, sym, ap, ⊎_elim, subst, ◌∙◌, eq-eqb}
+use Rattle.std.proofs.Common.{eqb-true}
 use Rattle.grammar.specs.Part.{Part, ◌then◌, ◌sp◌, give, map, byte, when, optional, spaced, listed, repeat}
 use Rattle.grammar.specs.Exact.{Begins, StartsWith, Good, any}
 use Rattle.grammar.proofs.Reading.{empty_halves}
@@ -10,7 +11,8 @@ use Rattle.grammar.proofs.StartLaw.{starts_one_of, starts_then, begins_from, sta
 
 module _ {V : Type 0} where
   -- fewer bytes follow
-  pub good_weaker : {A : Type 0} {wide : ℕ → Bool} (after : ℕ → Bool) (p : Part A) → ((c : ℕ) → after c ≡ true → wide c ≡ true) → Good V wide p → Good V after p
+  pub good_weaker : {A : Type 0} {wide : ℕ → Bool} (after : ℕ → Bool) (p : Part A) → ((c : ℕ) → after c ≡ true → wide c ≡ true)
+      → Good V wide p → Good V after p
   good_weaker after p to g = record { sound = g.sound; exact = λ next v f. g.exact next v (λ a c tail w e. to c (f a c tail w e)) }
 
   pub good_byte : (after : ℕ → Bool) (c : ℕ) → Good V after (byte c)
@@ -35,7 +37,8 @@ module _ {V : Type 0} where
       (starts_weaker (byte c then λ _. f a) (λ d e. ap starts (eqb-true d c e) ∙ is) (starts_then (byte c) (λ _. f a) (starts_one_of (λ b. b == c)))))
 
   -- one part, a space and another part
-  pub good_sp : {A B : Type 0} {starts after : ℕ → Bool} (p : Part A) (f : A → Part B) → starts 32 ≡ true → Good V starts p → ((a : A) → Good V after (f a))
+  pub good_sp : {A B : Type 0} {starts after : ℕ → Bool} (p : Part A) (f : A → Part B) → starts 32 ≡ true → Good V starts p
+      → ((a : A) → Good V after (f a))
       → Good V after (p sp f)
   good_sp p f is g h = good_between 32 p f is g h
 
@@ -52,7 +55,8 @@ pub begins_optional : {starts : ℕ → Bool} (after : ℕ → Bool) (c : ℕ) �
     → Begins starts after (optional c)
 unfolding optional
 begins_optional {starts} after c is to = record {
-  full = λ d tail a l. ⊎_elim (λ j. ap starts (eqb-true d c ((starts_then (byte c) (λ _. give true) (starts_one_of (λ b. b == c))).full d tail a j)) ∙ is)
+  full = λ d tail a l.
+      ⊎_elim (λ j. ap starts (eqb-true d c ((starts_then (byte c) (λ _. give true) (starts_one_of (λ b. b == c))).full d tail a j)) ∙ is)
       (λ e. absurd (no_byte e.0)) l;
   empty = λ a l. to;
 }
@@ -63,7 +67,8 @@ pub begins_then : {A B : Type 0} {starts middle after : ℕ → Bool} (p : Part 
 begins_then {A} {B} {starts} {middle} {after} p f b c = record {
   full = λ d tail w j. full d tail w j.front j.back j.between j.parts j.begins j.goes_on;
   empty = λ w j d h. let none = empty_halves j.front j.back j.parts in
-      b.empty j.between (subst (λ s. p.lang s j.between) none.0 j.begins) d ((c j.between).empty w (subst (λ s. (f j.between).lang s w) none.1 j.goes_on) d h);
+      b.empty j.between (subst (λ s. p.lang s j.between) none.0 j.begins) d
+      ((c j.between).empty w (subst (λ s. (f j.between).lang s w) none.1 j.goes_on) d h);
 }
   where
     full : (d : ℕ) (tail : List ℕ) (w : B) (front back : List ℕ) (a : A) → (let s : List ℕ = d ∷ tail in s ≡ front ++ back) → p.lang front a

@@ -1,5 +1,6 @@
 -- What one turn makes of the reading of many.
-use Rattle.std.proofs.Common.{◌≡◌, ℕ, zero, suc, ◌+◌, ◌-◌, ◌<◌, ◌≤◌, List, length, Ok, Err, Bool, true, false, cond, ap, refl, sym, ◌∙◌, arith}
+use Rattle.std.proofs.Common.{◌≡◌, ℕ, zero, suc, ◌+◌, ◌-◌, ◌<◌, ◌≤◌, List, length, Ok, Err, Bool, true, false, cond, ap, refl, sym}
+use Rattle.std.proofs.Common.{◌∙◌, arith}
 use Rattle.grammar.specs.Part.{Part, ◌>>=◌, starts, turns, repeat}
 
 module _ {S : Type 0} (test : ℕ → Bool) (turn : S → Part S) (s : S) (bytes : List ℕ) where
@@ -32,7 +33,8 @@ module _ {S : Type 0} (test : ℕ → Bool) (turn : S → Part S) (first s : S) 
       let one : length bytes - i ≡ suc (length bytes - (i + 1)) = omega arith in
       sym so_far ∙ ap (λ n. (turns test turn n s).at rest) one ∙ turns_more test turn s rest (length bytes - (i + 1)) e
 
-  pub repeat_stops : i < length bytes → starts test rest ≡ true → (left : ℕ) → (turn s).at rest ≡ Err left → (repeat test turn first).at bytes ≡ Err left
+  pub repeat_stops : i < length bytes → starts test rest ≡ true → (left : ℕ) → (turn s).at rest ≡ Err left
+      → (repeat test turn first).at bytes ≡ Err left
   repeat_stops h e left r = turn_of h e ∙ ap (λ r. r >>= (λ t. (turns test turn (length bytes - (i + 1)) t).at)) r
 
   pub repeat_more : i < length bytes → starts test rest ≡ true → (t : S) (behind : List ℕ) → (turn s).at rest ≡ Ok (t, behind) →

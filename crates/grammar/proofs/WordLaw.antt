@@ -1,5 +1,6 @@
 -- Words are read to their end, where no byte that follows goes on with one.
-use Rattle.std.proofs.Common.{◌≡◌, ℕ, List, [], ◌∷◌, ◌++◌, Result, Ok, Err, Bool, true, false, cond, refl, sym, ap, subst, ◌∙◌, append_assoc, append-nil}
+use Rattle.std.proofs.Common.{◌≡◌, ℕ, List, [], ◌∷◌, ◌++◌, Result, Ok, Err, Bool, true, false, cond, refl, sym, ap, subst, ◌∙◌}
+use Rattle.std.proofs.Common.{append_assoc, append-nil}
 use Rattle.grammar.specs.Part.{◌>>=◌, Joins}
 use Rattle.grammar.specs.Exact.{Stops, Taken, IsViable, Follows, Good}
 use Rattle.grammar.specs.Words.{Words, Lawful, Apart, word, scan, halt}
@@ -16,7 +17,8 @@ module _ (w : Words) (lawful : Lawful w) where
   halt_sound true front bytes rest v is e = let same = ok_parts e in (same.0, same.1, ap w.whole (sym same.0) ∙ is)
   halt_sound false front bytes rest v is e = cc
 
-  scan_sound : (front bytes rest v : List ℕ) → scan w front bytes ≡ Ok (v, rest) → (x : List ℕ) × (bytes ≡ x ++ rest) × (front ++ x ≡ v) × (w.whole v ≡ true)
+  scan_sound : (front bytes rest v : List ℕ) → scan w front bytes ≡ Ok (v, rest)
+      → (x : List ℕ) × (bytes ≡ x ++ rest) × (front ++ x ≡ v) × (w.whole v ≡ true)
   scan_sound front [] rest v e =
       let h = halt_sound (w.whole front) front [] rest v refl e in
       ([], h.1, append-nil front ∙ h.0, h.2)
@@ -24,7 +26,8 @@ module _ (w : Words) (lawful : Lawful w) where
       by_test (w.begins (front ++ c ∷ [])) (λ e. scan_sound (front ++ c ∷ []) bytes rest v e) e
     where
       by_test : (b : Bool) →
-          (scan w (front ++ c ∷ []) bytes ≡ Ok (v, rest) → (x : List ℕ) × (bytes ≡ x ++ rest) × ((front ++ c ∷ []) ++ x ≡ v) × (w.whole v ≡ true)) →
+          (scan w (front ++ c ∷ []) bytes ≡ Ok (v, rest) →
+          (x : List ℕ) × (bytes ≡ x ++ rest) × ((front ++ c ∷ []) ++ x ≡ v) × (w.whole v ≡ true)) →
           cond b (scan w (front ++ c ∷ []) bytes) (halt (w.whole front) front (c ∷ bytes)) ≡ Ok (v, rest) →
           (x : List ℕ) × ((let s : List ℕ = c ∷ bytes in s) ≡ x ++ rest) × (front ++ x ≡ v) × (w.whole v ≡ true)
       by_test true again e = let s = again e in (c ∷ s.0, ap (λ t. c ∷ t) s.1, sym (append_assoc front (c ∷ []) s.0) ∙ s.2, s.3)
@@ -67,13 +70,15 @@ module _ {V : Type 0} (w : Words) (lawful : Lawful w) (after : ℕ → Bool) (ap
 
   -- where the scan halted it halts with any text that begins with the same byte
   halts : (front bytes : List ℕ) → ((c : ℕ) (tail : List ℕ) → bytes ≡ c ∷ tail → w.begins (front ++ c ∷ []) ≡ false) →
-      (x : List ℕ) (c : ℕ) (tail more : List ℕ) → bytes ≡ x ++ (c ∷ tail) → scan w front (x ++ (c ∷ more)) ≡ halt (w.whole front) front (x ++ (c ∷ more))
+      (x : List ℕ) (c : ℕ) (tail more : List ℕ) → bytes ≡ x ++ (c ∷ tail) →
+      scan w front (x ++ (c ∷ more)) ≡ halt (w.whole front) front (x ++ (c ∷ more))
   halts front bytes last [] c tail more e = scan_step w lawful front c more false (last c tail e)
   halts front bytes last (d ∷ x) c tail more e = scan_step w lawful front d (x ++ (c ∷ more)) false (last d (x ++ (c ∷ tail)) e)
 
   -- where the scan halts, what follows the word stops, or the text is no word yet
   at_halt : (front bytes : List ℕ) (left : ℕ) (b : Bool) → w.begins front ≡ true → w.whole front ≡ b →
-      ((c : ℕ) (tail : List ℕ) → bytes ≡ c ∷ tail → w.begins (front ++ c ∷ []) ≡ false) → halt b front bytes >>= next ≡ Err left → Stopped front bytes left
+      ((c : ℕ) (tail : List ℕ) → bytes ≡ c ∷ tail → w.begins (front ++ c ∷ []) ≡ false) →
+      halt b front bytes >>= next ≡ Err left → Stopped front bytes left
   at_halt front bytes left true begins whole last e =
       let s = v front bytes left e in
       record {

@@ -1,6 +1,9 @@
 -- The bytes of blocks, one block behind the other.
-use Rattle.std.proofs.Common.{◌≡◌, ℕ, ◌+◌, ◌<◌, ◌≤◌, List, [], ◌∷◌, ◌++◌, length, take, drop, get_or, refl, sym, ap, ◌∙◌, append_assoc, arith}
+use Rattle.std.proofs.Common.{◌≡◌, ℕ, ◌+◌, ◌*◌, ◌<◌, ◌≤◌, List, [], ◌∷◌, ◌++◌, length, take, drop, get_or}
+use Rattle.std.proofs.Common.{inl, inr, refl, sym, ap, ◌∙◌, append_assoc, arith}
+use Rattle.std.proofs.lemmas.Bool.{cases_lt}
 use Rattle.std.proofs.lemmas.List.{append-nil, length-append, take_more, take-append-drop}
+use Rattle.mur_base.specs.declared.limits.TheConstants.{LINE_LIMIT}
 use Rattle.imap_wire.specs.declared.block.Block.{Block}
 use Rattle.imap_wire.specs.Kept.{joined_blocks, joined}
 
@@ -11,7 +14,8 @@ joined_blocks-append (block ∷ front) back =
     ∙ sym (append_assoc block.bytes.items (joined_blocks front) (joined_blocks back))
 
 pub joined_blocks-push : (blocks : List Block) (block : Block) → joined_blocks (blocks ++ block ∷ []) ≡ joined_blocks blocks ++ block.bytes.items
-joined_blocks-push blocks block = joined_blocks-append blocks (block ∷ []) ∙ ap (λ (l : List ℕ). joined_blocks blocks ++ l) (append-nil block.bytes.items)
+joined_blocks-push blocks block =
+    joined_blocks-append blocks (block ∷ []) ∙ ap (λ (l : List ℕ). joined_blocks blocks ++ l) (append-nil block.bytes.items)
 
 pub joined_blocks-more : (blocks : List Block) (i : ℕ) (block : Block) → i < length blocks → block ≡ get_or blocks i block
     → joined_blocks (take (i + 1) blocks) ≡ joined_blocks (take i blocks) ++ block.bytes.items
@@ -44,3 +48,12 @@ joined_blocks-fit blocks i block room within is fits =
       length-append (joined_blocks (take i blocks)) block.bytes.items,
       joined_blocks-part blocks (i + 1),
     )
+
+-- where a block that is half full becomes one of the full ones, these still are so, but for the first
+pub halves-next : (full grown : List Block) (moved : Block) → grown ≡ full ++ moved ∷ []
+    → length full * (LINE_LIMIT + 2) ≤ length (joined_blocks full) + (LINE_LIMIT + 2)
+    → (0 < length full → LINE_LIMIT + 2 ≤ length moved.bytes.items)
+    → length grown * (LINE_LIMIT + 2) ≤ length (joined_blocks grown) + (LINE_LIMIT + 2)
+halves-next full grown moved grown_is halves half =
+    rw (grown_is, length-append full (moved ∷ []), joined_blocks-push full moved, length-append (joined_blocks full) moved.bytes.items)
+    (elim (cases_lt 0 (length full)) [ inl some ↦ omega (arith, half some) | inr none ↦ omega arith ])

@@ -1,5 +1,6 @@
 -- The machine that takes one byte after the other gives the frames of the bytes.
-use Rattle.std.proofs.Common.{◌≡◌, ℕ, zero, suc, ◌-◌, ◌<◌, ◌≤◌, true, false, ◌&&◌, ◌==◌, nat_lt, List, [], ◌∷◌, ◌++◌, length, take, drop, Option, None, Some, inl, inr, refl, sym, ap, ◌∙◌, arith, append_assoc}
+use Rattle.std.proofs.Common.{◌≡◌, ℕ, zero, suc, ◌-◌, ◌<◌, ◌≤◌, true, false, ◌&&◌, ◌==◌, nat_lt, List, [], ◌∷◌, ◌++◌}
+use Rattle.std.proofs.Common.{length, take, drop, Option, None, Some, inl, inr, refl, sym, ap, ◌∙◌, arith, append_assoc}
 use Rattle.std.specs.Option.{option_to_list}
 use Rattle.std.proofs.lemmas.List.{append-nil, length-take, length-drop, take-append-drop}
 use Rattle.std.proofs.lemmas.Bool.{cases_Bool, cases_lt, and_parts}
@@ -15,7 +16,8 @@ use Rattle.imap_wire.specs.Line.{without_last, split_line, least_length}
 use Rattle.imap_wire.specs.Literal.{announced, admission_of}
 use Rattle.imap_wire.specs.Frames.{PartialCommand, empty_command, Cut, with_frame, ends_at, cut_literal, cut_announced, cut_after, cut_line, cut_lines, cut}
 use Rattle.imap_wire.specs.Steps.{State, Step, start, giving, step, announced_step, line_end, at_line_end, line_step, given, after, begun_of}
-use Rattle.imap_wire.proofs.StepLaws.{step-end, step-line, line_step-fits, line_step-too_long, after-append, given-append, given-spent, after-spent, after-literal, given-literal}
+use Rattle.imap_wire.proofs.StepLaws.{step-end, step-line, line_step-fits, line_step-too_long, after-append, given-append, given-spent, after-spent}
+use Rattle.imap_wire.proofs.StepLaws.{after-literal, given-literal}
 use Rattle.imap_wire.proofs.LineLaws.{without_last-cr, split_line-push, split_line-end, least_length-append, least_length-split}
 
 -- what the machine makes of bytes
@@ -100,7 +102,8 @@ module _ (go : PartialCommand → List ℕ → Cut) (n : ℕ)
       let text = without_last line in
       let line_is : line ≡ text ++ 13 ∷ [] = without_last-cr line cr in
       let least : least_length line ≡ length text = rw cr refl in
-      let all : line ++ 10 ∷ bytes ≡ text ++ 13 ∷ 10 ∷ bytes = ap (λ (l : List ℕ). l ++ 10 ∷ bytes) line_is ∙ append_assoc text (13 ∷ []) (10 ∷ bytes) in
+      let all : line ++ 10 ∷ bytes ≡ text ++ 13 ∷ 10 ∷ bytes =
+      ap (λ (l : List ℕ). l ++ 10 ∷ bytes) line_is ∙ append_assoc text (13 ∷ []) (10 ∷ bytes) in
       let split : split_line (line ++ 10 ∷ bytes) ≡ Some (text, bytes) = ap split_line all ∙ split_line-end text bytes (rw line_is at none) in
       let test : nat_lt c.line_room (length text) ≡ false = grind (arith, nat_tests) in
       let joined : c.bytes ++ line ++ 10 ∷ [] ≡ c.bytes ++ text ++ 13 ∷ 10 ∷ [] =
@@ -126,7 +129,8 @@ module _ (go : PartialCommand → List ℕ → Cut) (n : ℕ)
       rw test refl
 
   -- the rest of a line of which this much has come, and what follows it
-  shown-line : (bytes : List ℕ) (c : PartialCommand) (line : List ℕ) → length bytes ≤ n → split_line line ≡ None → least_length line ≤ c.line_room
+  shown-line : (bytes : List ℕ) (c : PartialCommand) (line : List ℕ) → length bytes ≤ n → split_line line ≡ None
+      → least_length line ≤ c.line_room
       → shown (in_line c line) bytes ≡ cut_line go c (line ++ bytes) (split_line (line ++ bytes))
   unfolding cut_line
   shown-line [] c line fits none room =
@@ -162,7 +166,8 @@ module _ (go : PartialCommand → List ℕ → Cut) (n : ℕ)
 pub shown-lines : (lines : ℕ) (c : PartialCommand) (bytes : List ℕ) → length bytes < lines → shown (before_line c) bytes ≡ cut_lines lines c bytes
 unfolding cut_lines split_line ends_with_cr
 shown-lines zero c bytes fits = absurd (omega arith)
-shown-lines (suc lines) c bytes fits = rw (← in_line-nil c) (shown-line (cut_lines lines) lines (shown-lines lines) bytes c [] (omega arith) refl (omega arith))
+shown-lines (suc lines) c bytes fits =
+    rw (← in_line-nil c) (shown-line (cut_lines lines) lines (shown-lines lines) bytes c [] (omega arith) refl (omega arith))
 
 -- the machine gives the frames of the bytes, and holds the command that has begun
 pub cut-shown : (bytes : List ℕ) → cut bytes ≡ shown start bytes

@@ -1,5 +1,6 @@
 -- From the bytes of one command to those of a connection.
-use Rattle.std.proofs.Common.{◌≡◌, ℕ, zero, suc, ◌<◌, Bool, true, false, cond, List, [], ◌∷◌, ◌++◌, ◌+◌, ◌-◌, length, take, drop, get_or, Option, None, Some, inl, inr, refl, sym, ap, ◌∙◌, append_assoc, arith}
+use Rattle.std.proofs.Common.{◌≡◌, ℕ, zero, suc, ◌<◌, Bool, true, false, cond, List, [], ◌∷◌, ◌++◌, ◌+◌, ◌-◌, length, take, drop}
+use Rattle.std.proofs.Common.{get_or, Option, None, Some, inl, inr, refl, sym, ap, ◌∙◌, append_assoc, arith}
 use Rattle.std.specs.Option.{option_to_list, is_none, IsSome, IfSome}
 use Rattle.std.specs.List.{concat}
 use Rattle.std.proofs.lemmas.List.{append-nil, take_all, take_rest, take-append-drop, take_more}
@@ -84,7 +85,8 @@ unfolding after
 begun-start s is = rw is (sym (begun-shown []))
 
 -- a frame has a byte, and a piece too
-pub Takes-some : (s to : State) (piece : List ℕ) (frame : Option Frame) (taken : ℕ) → Takes s piece frame taken to → (frame ≡ None → taken ≡ length piece)
+pub Takes-some : (s to : State) (piece : List ℕ) (frame : Option Frame) (taken : ℕ) → Takes s piece frame taken to
+    → (frame ≡ None → taken ≡ length piece)
     → 0 < length piece → 0 < taken
 unfolding given
 Takes-some s to piece None taken takes whole some = let all = whole refl in omega arith
@@ -134,7 +136,8 @@ none_from None none = refl
 none_from (Some bytes) none = cc
 
 past-rest : (past piece : List ℕ) (taken : ℕ) → past ++ piece ≡ past ++ take taken piece ++ drop taken piece
-past-rest past piece taken = ap (λ (l : List ℕ). past ++ l) (sym (take-append-drop taken piece)) ∙ sym (append_assoc past (take taken piece) (drop taken piece))
+past-rest past piece taken =
+    ap (λ (l : List ℕ). past ++ l) (sym (take-append-drop taken piece)) ∙ sym (append_assoc past (take taken piece) (drop taken piece))
 
 -- a spent framer leaves the rest of a piece
 pub frames-rest : (past piece : List ℕ) (taken : ℕ) (held : Option (List ℕ)) → is_none held ≡ true → begun (past ++ take taken piece) ≡ held

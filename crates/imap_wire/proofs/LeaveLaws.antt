@@ -1,5 +1,6 @@
 -- What a frame leaves of the command that has begun.
-use Rattle.std.proofs.Common.{◌≡◌, ℕ, zero, suc, ◌+◌, false, ◌&&◌, ◌==◌, List, [], ◌∷◌, ◌++◌, take, get_or, Option, None, Some, inl, inr, refl, ap, ◌∙◌, arith}
+use Rattle.std.proofs.Common.{◌≡◌, ℕ, zero, suc, ◌+◌, false, ◌&&◌, ◌==◌, List, [], ◌∷◌, ◌++◌, take, get_or, Option, None, Some}
+use Rattle.std.proofs.Common.{inl, inr, refl, ap, ◌∙◌, arith}
 use Rattle.std.specs.Option.{option_to_list, IfSome}
 use Rattle.std.proofs.lemmas.List.{take_more}
 use Rattle.std.proofs.lemmas.Bool.{cases_Bool, cases_lt, and_parts}

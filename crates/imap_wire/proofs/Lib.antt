@@ -9,5 +9,6 @@ pub mod FeedLaws
 pub mod LeaveLaws
 pub mod BlockLaws
 pub mod TallyLaws
+pub mod BulkLaws
 pub mod MoreLaws
 pub mod FaultLaws

@@ -1,5 +1,6 @@
 -- The end of a line as the program reaches it.
-use Rattle.std.proofs.Common.{◌≡◌, ℕ, ◌-◌, ◌^◌, Bool, true, false, nat_lt, cond, List, [], ◌∷◌, ◌++◌, length, take, drop, min, Option, None, Some, inl, inr, refl, sym, ◌∙◌, arith}
+use Rattle.std.proofs.Common.{◌≡◌, ℕ, ◌-◌, ◌^◌, Bool, true, false, nat_lt, cond, List, [], ◌∷◌, ◌++◌, length, take, drop, min, Option}
+use Rattle.std.proofs.Common.{None, Some, inl, inr, refl, sym, ◌∙◌, arith}
 use Rattle.std.specs.Option.{option_map}
 use Rattle.std.proofs.lemmas.Bool.{cases_lt, cases_Bool}
 use Rattle.std.proofs.lemmas.Bool.Decides.{nat_tests}
@@ -34,7 +35,8 @@ unfolding line_end
 line_end-capped s None = refl
 line_end-capped s (Some literal) = announced_step-capped s literal
 
-pub line_end-step : (s between : State) (text : List ℕ) (literal : Option Literal) → s.spent ≡ false → s.literal_left ≡ 0 → ends_with_cr s.line ≡ true
+pub line_end-step : (s between : State) (text : List ℕ) (literal : Option Literal) → s.spent ≡ false → s.literal_left ≡ 0
+    → ends_with_cr s.line ≡ true
     → text ≡ take (length s.line - 1) s.line → literal ≡ option_map capped (announced text) → between ≡ at_line_end s text
     → line_end between literal ≡ step s 10
 line_end-step s between text literal going in_line cr text_is literal_is between_is =

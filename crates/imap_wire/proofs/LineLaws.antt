@@ -1,5 +1,6 @@
 -- Where a line ends.
-use Rattle.std.proofs.Common.{◌≡◌, ℕ, suc, ◌+◌, ◌-◌, ◌≤◌, Bool, true, false, ◌&&◌, ◌==◌, cond, List, [], ◌∷◌, ◌++◌, length, take, get_or, ◌≢◌, Option, unwrap_or, inl, inr, refl, sym, ap, ◌∙◌, arith, None, Some}
+use Rattle.std.proofs.Common.{◌≡◌, ℕ, suc, ◌+◌, ◌-◌, ◌≤◌, Bool, true, false, ◌&&◌, ◌==◌, cond, List, [], ◌∷◌, ◌++◌}
+use Rattle.std.proofs.Common.{length, take, get_or, ◌≢◌, Option, unwrap_or, inl, inr, refl, sym, ap, ◌∙◌, arith, None, Some}
 use Rattle.std.proofs.lemmas.List.{append-nil, length-append}
 use Rattle.std.proofs.lemmas.Bool.{cases_Bool}
 use Rattle.std.proofs.lemmas.Bool.Decides.{nat_tests}
@@ -47,16 +48,19 @@ none-parts true now x later head h = cc
 none-parts false now x None head h = (refl, refl)
 none-parts false now x (Some split) head h = cc
 
-split_line-none : (x : ℕ) (rest : List ℕ) → split_line (x ∷ rest) ≡ None → ((x == 13 && begins_with_lf rest) ≡ false) × (split_line rest ≡ None)
+split_line-none : (x : ℕ) (rest : List ℕ) → split_line (x ∷ rest) ≡ None
+    → ((x == 13 && begins_with_lf rest) ≡ false) × (split_line rest ≡ None)
 unfolding split_line
 split_line-none x rest h = none-parts (x == 13 && begins_with_lf rest) None x (split_line rest) _ h
 
-split_line-more : (x : ℕ) (rest : List ℕ) → (x == 13 && begins_with_lf rest) ≡ false → split_line (x ∷ rest) ≡ option_map (with_byte x) (split_line rest)
+split_line-more : (x : ℕ) (rest : List ℕ) → (x == 13 && begins_with_lf rest) ≡ false
+    → split_line (x ∷ rest) ≡ option_map (with_byte x) (split_line rest)
 unfolding split_line
 split_line-more x rest h = rw h refl
 
 -- one byte more ends no line, unless it is LF behind CR
-pub split_line-push : (xs : List ℕ) (byte : ℕ) → split_line xs ≡ None → (byte == 10 && ends_with_cr xs) ≡ false → split_line (xs ++ byte ∷ []) ≡ None
+pub split_line-push : (xs : List ℕ) (byte : ℕ) → split_line xs ≡ None → (byte == 10 && ends_with_cr xs) ≡ false
+    → split_line (xs ++ byte ∷ []) ≡ None
 unfolding ends_with_cr begins_with_lf split_line
 split_line-push [] byte h goes_on = rw (and-false (byte == 13)) refl
 split_line-push (x ∷ []) byte h goes_on =
@@ -85,7 +89,10 @@ least_length-le xs =
 pub least_length-ge : (xs : List ℕ) → length xs ≤ least_length xs + 1
 least_length-ge xs =
     let shorter = length-without_last xs in
-    elim (ends_with_cr xs) as (λ v. length xs ≤ cond v (length (without_last xs)) (length xs) + 1) [ true ↦ omega (arith, shorter) | false ↦ omega arith ]
+    elim (ends_with_cr xs) as (λ v. length xs ≤ cond v (length (without_last xs)) (length xs) + 1) [
+      | true ↦ omega (arith, shorter)
+      | false ↦ omega arith
+    ]
 
 -- more bytes make no line shorter
 pub least_length-append : (xs more : List ℕ) → least_length xs ≤ least_length (xs ++ more)

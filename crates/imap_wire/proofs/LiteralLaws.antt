@@ -1,5 +1,6 @@
 -- The digits that bytes end in, and their number.
-use Rattle.std.proofs.Common.{◌≡◌, ℕ, ◌+◌, ◌-◌, ◌*◌, ◌^◌, ◌<◌, ◌≤◌, Bool, true, false, List, length, get_or, drop, min, nat_lt, cond, ◌||◌, refl, arith}
+use Rattle.std.proofs.Common.{◌≡◌, ℕ, ◌+◌, ◌-◌, ◌*◌, ◌^◌, ◌<◌, ◌≤◌, Bool, true, false, List, length, get_or, drop, min}
+use Rattle.std.proofs.Common.{nat_lt, cond, ◌||◌, refl, arith}
 use Rattle.std.specs.Char.{is_ascii_digit, digit_value}
 use Rattle.std.proofs.lemmas.List.{get_or-drop, get_or_default, length-drop}
 use Rattle.std.proofs.lemmas.List.Sums.{suffix_len_is}
@@ -31,7 +32,8 @@ pub size-more : (number digit : ℕ) → min (min (min number (2 ^ 64 - 1) * 10)
 size-more number digit = omega arith
 
 -- which literals belong to a command
-asked_tests : (waits large unasked_large : Bool) → cond waits (cond large Refused Asked) (cond unasked_large RefusedUnasked Unasked) ≡ Asked → large ≡ false
+asked_tests : (waits large unasked_large : Bool) → cond waits (cond large Refused Asked) (cond unasked_large RefusedUnasked Unasked) ≡ Asked
+    → large ≡ false
 asked_tests true true unasked_large h = cc
 asked_tests true false unasked_large h = refl
 asked_tests false large true h = cc
@@ -50,8 +52,11 @@ asked_fits literal room is =
     let fits = asked_tests literal.waits (nat_lt MESSAGE_LIMIT literal.size || nat_lt room literal.size) _ is in
     (grind (arith, nat_tests), grind (arith, nat_tests))
 
-pub unasked_fits : (literal : Literal) (room : ℕ) → admission_of literal room ≡ Unasked → (literal.size ≤ room) × (literal.size ≤ PLUS_LITERAL_LIMIT)
+pub unasked_fits : (literal : Literal) (room : ℕ) → admission_of literal room ≡ Unasked
+    → (literal.size ≤ room) × (literal.size ≤ PLUS_LITERAL_LIMIT)
 unfolding admission_of
 unasked_fits literal room is =
     let fits = unasked_tests literal.waits _ (nat_lt PLUS_LITERAL_LIMIT literal.size || nat_lt room literal.size) is in
     (grind (arith, nat_tests), grind (arith, nat_tests))
+
+pub ruleset by_size = (asked_fits, unasked_fits)

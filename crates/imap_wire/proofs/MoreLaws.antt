@@ -1,5 +1,6 @@
 -- What more bytes bring is what they bring behind all bytes of the connection.
-use Rattle.std.proofs.Common.{◌≡◌, ℕ, ◌≤◌, false, true, List, [], ◌∷◌, ◌++◌, length, take, drop, Option, None, Some, refl, sym, ◌∙◌, ap, arith, append_assoc, length-append}
+use Rattle.std.proofs.Common.{◌≡◌, ℕ, ◌≤◌, false, true, List, [], ◌∷◌, ◌++◌, length, take, drop, Option, None, Some, refl, sym}
+use Rattle.std.proofs.Common.{◌∙◌, ap, arith, append_assoc, length-append}
 use Rattle.std.proofs.lemmas.List.{append-nil, take-append-drop}
 use Rattle.std.specs.Option.{option_to_list}
 use Rattle.imap_wire.specs.declared.frame.Frame.{Frame}
@@ -38,7 +39,8 @@ pub given_more : (past bytes more : List ℕ) (s : Stands past bytes) → frames
 unfolding frames_of_more
 given_more past bytes more s = ap (drop (length (frames bytes))) (frames-past s.state bytes more s.own) ∙ drop_front (frames bytes) (given s.state more)
 
-pub frames_with_more : (past more : List ℕ) (held : Option (List ℕ)) → begun past ≡ held → frames (past ++ more) ≡ frames past ++ frames_of_more held more
+pub frames_with_more : (past more : List ℕ) (held : Option (List ℕ)) → begun past ≡ held
+    → frames (past ++ more) ≡ frames past ++ frames_of_more held more
 unfolding frames_of_more
 frames_with_more past more None held = frames-ended past more held ∙ sym (append-nil (frames past))
 frames_with_more past more (Some bytes) held =
@@ -85,7 +87,8 @@ more_fed bytes piece frame taken held own gives next =
     let one : frames (bytes ++ take taken piece) ≡ frames bytes ++ option_to_list frame = frames-given bytes piece frame taken gives in
     let all : frames bytes ++ frames_of_more (Some bytes) piece ≡ frames bytes ++ (option_to_list frame ++ frames_of_more held (drop taken piece)) =
     sym (frames_with_more bytes piece (Some bytes) own) ∙ ap frames whole ∙ frames_with_more (bytes ++ take taken piece) (drop taken piece) held next
-    ∙ ap (λ f. f ++ frames_of_more held (drop taken piece)) one ∙ append_assoc (frames bytes) (option_to_list frame) (frames_of_more held (drop taken piece)) in
+    ∙ ap (λ f. f ++ frames_of_more held (drop taken piece)) one
+    ∙ append_assoc (frames bytes) (option_to_list frame) (frames_of_more held (drop taken piece)) in
     sym (drop_front (frames bytes) (frames_of_more (Some bytes) piece)) ∙ ap (drop (length (frames bytes))) all
     ∙ drop_front (frames bytes) (option_to_list frame ++ frames_of_more held (drop taken piece))
 

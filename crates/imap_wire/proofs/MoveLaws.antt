@@ -1,5 +1,6 @@
 -- Bytes that are taken all at once: those of a literal, and those of a line without LF.
-use Rattle.std.proofs.Common.{◌≡◌, ℕ, zero, suc, ◌+◌, ◌-◌, ◌<◌, ◌≤◌, Bool, true, false, ◌&&◌, ◌==◌, nat_lt, cond, List, [], ◌∷◌, ◌++◌, length, take, drop, get_or, Option, None, Some, unwrap_or, refl, sym, ◌∙◌, arith, append_assoc}
+use Rattle.std.proofs.Common.{◌≡◌, ℕ, zero, suc, ◌+◌, ◌-◌, ◌<◌, ◌≤◌, Bool, true, false, ◌&&◌, ◌==◌, nat_lt, cond, List, []}
+use Rattle.std.proofs.Common.{◌∷◌, ◌++◌, length, take, drop, get_or, Option, None, Some, unwrap_or, refl, sym, ◌∙◌, arith, append_assoc}
 use Rattle.std.proofs.lemmas.List.{append-nil, length-append, length-take-le, drop-append-le, drop_all}
 use Rattle.std.proofs.lemmas.Bool.{false_from_ne_true}
 use Rattle.std.proofs.lemmas.Bool.Decides.{nat_tests}
@@ -23,10 +24,12 @@ line-goes_on : (s : State) (byte : ℕ) → s.spent ≡ false → s.literal_left
     → step s byte ≡ record { frame = None; after = line_moved s (s.bytes ++ byte ∷ []) (s.line ++ byte ∷ []) }
 line-goes_on s byte going in_line other room =
     let goes_on : (byte == 10 && ends_with_cr s.line) ≡ false = rw other refl in
-    let fits : least_length (s.line ++ byte ∷ []) ≤ s.line_room = omega (arith, least_length-le (s.line ++ byte ∷ []), length-append s.line (byte ∷ [])) in
+    let fits : least_length (s.line ++ byte ∷ []) ≤ s.line_room =
+    omega (arith, least_length-le (s.line ++ byte ∷ []), length-append s.line (byte ∷ [])) in
     step-line s byte going in_line goes_on ∙ line_step-fits s byte fits
 
-pub after-text : (s : State) (bytes : List ℕ) → s.spent ≡ false → s.literal_left ≡ 0 → IsOneLine bytes → length s.line + length bytes ≤ s.line_room
+pub after-text : (s : State) (bytes : List ℕ) → s.spent ≡ false → s.literal_left ≡ 0 → IsOneLine bytes
+    → length s.line + length bytes ≤ s.line_room
     → after s bytes ≡ line_moved s (s.bytes ++ bytes) (s.line ++ bytes)
 unfolding after
 after-text s [] going in_line one room = rw (append-nil, append-nil) refl
@@ -36,7 +39,8 @@ after-text s (x ∷ bytes) going in_line one room =
     (let rest = after-text (line_moved s (s.bytes ++ x ∷ []) (s.line ++ x ∷ [])) bytes going in_line one.1 (omega (arith, longer)) in
     rw (append_assoc s.bytes (x ∷ []) bytes, append_assoc s.line (x ∷ []) bytes) at rest)
 
-pub given-text : (s : State) (bytes : List ℕ) → s.spent ≡ false → s.literal_left ≡ 0 → IsOneLine bytes → length s.line + length bytes ≤ s.line_room
+pub given-text : (s : State) (bytes : List ℕ) → s.spent ≡ false → s.literal_left ≡ 0 → IsOneLine bytes
+    → length s.line + length bytes ≤ s.line_room
     → given s bytes ≡ []
 unfolding given
 given-text s [] going in_line one room = refl
@@ -81,7 +85,8 @@ unfolding given after
 Moves-none s to piece is = record { within = omega arith; silent = refl; arrives = rw (append-nil s.bytes, append-nil s.line) at is }
 
 pub Moves-text : (s to : State) (piece : List ℕ) (found : Option ℕ) (taken : ℕ) → s.spent ≡ false → s.literal_left ≡ 0
-    → IsFirstByte (is_byte 10) piece found → taken ≤ unwrap_or found (length piece) → taken ≤ length piece → (0 < taken → taken + length s.line ≤ s.line_room)
+    → IsFirstByte (is_byte 10) piece found → taken ≤ unwrap_or found (length piece) → taken ≤ length piece
+    → (0 < taken → taken + length s.line ≤ s.line_room)
     → to ≡ line_moved s (s.bytes ++ take taken piece) (s.line ++ take taken piece) → Moves s piece taken to
 Moves-text s to piece found zero going in_line first before within room is = Moves-none s to piece is
 Moves-text s to piece found (suc n) going in_line first before within room is =
@@ -107,7 +112,8 @@ kept bytes last line_at line_room literal_room literal_left spent =
     }
 
 -- while a literal comes the present line is empty, and so it is behind the literal
-pub kept-literal : (bytes same all before grown more : List ℕ) (line_at at line_room literal_room left less : ℕ) (spent : Bool) → 0 < left → same ≡ bytes
+pub kept-literal : (bytes same all before grown more : List ℕ) (line_at at line_room literal_room left less : ℕ) (spent : Bool) → 0 < left
+    → same ≡ bytes
     → all ≡ same ++ more → at ≡ length grown
     → kept all grown at line_room literal_room less spent ≡ literal_moved (kept bytes before line_at line_room literal_room left spent) (bytes ++ more) less
 kept-literal bytes same all before grown more line_at at line_room literal_room left less spent some same_is all_is at_is =

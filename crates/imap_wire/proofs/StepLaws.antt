@@ -1,5 +1,6 @@
 -- What one byte does, case by case, and a run over bytes.
-use Rattle.std.proofs.Common.{◌≡◌, ℕ, ◌-◌, ◌<◌, ◌≤◌, true, false, ◌&&◌, ◌==◌, nat_lt, List, [], ◌∷◌, ◌++◌, length, refl, sym, arith, append_assoc}
+use Rattle.std.proofs.Common.{◌≡◌, ℕ, ◌-◌, ◌<◌, ◌≤◌, true, false, ◌&&◌, ◌==◌, nat_lt, List, [], ◌∷◌, ◌++◌, length, refl}
+use Rattle.std.proofs.Common.{sym, arith, append_assoc}
 use Rattle.std.specs.Option.{option_to_list}
 use Rattle.std.proofs.lemmas.List.{append-nil}
 use Rattle.std.proofs.lemmas.Bool.Decides.{nat_tests}
@@ -22,7 +23,8 @@ pub step-end : (s : State) → s.spent ≡ false → s.literal_left ≡ 0 → en
 unfolding step
 step-end s going none cr = rw (going, none, cr)
 
-pub step-line : (s : State) (byte : ℕ) → s.spent ≡ false → s.literal_left ≡ 0 → (byte == 10 && ends_with_cr s.line) ≡ false → step s byte ≡ line_step s byte
+pub step-line : (s : State) (byte : ℕ) → s.spent ≡ false → s.literal_left ≡ 0 → (byte == 10 && ends_with_cr s.line) ≡ false
+    → step s byte ≡ line_step s byte
 unfolding step
 step-line s byte going none goes_on = rw (going, none, goes_on)
 

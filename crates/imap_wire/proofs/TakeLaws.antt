@@ -1,7 +1,8 @@
 -- Bytes of a piece that are taken up to the end of a frame.
-use Rattle.std.proofs.Common.{◌≡◌, ℕ, ◌+◌, ◌-◌, ◌<◌, ◌≤◌, true, false, ◌&&◌, ◌==◌, List, [], ◌∷◌, ◌++◌, length, take, drop, get_or, Option, None, Some, ◌⊎◌, inl, inr, refl, sym, ap, ◌∙◌, arith}
+use Rattle.std.proofs.Common.{◌≡◌, ℕ, ◌+◌, ◌-◌, ◌<◌, ◌≤◌, true, false, ◌&&◌, ◌==◌, List, [], ◌∷◌, ◌++◌, length}
+use Rattle.std.proofs.Common.{take, drop, get_or, Option, None, Some, ◌⊎◌, inl, inr, refl, sym, ap, ◌∙◌, arith}
 use Rattle.std.specs.Option.{option_to_list, IsSome, is_some}
-use Rattle.std.proofs.lemmas.List.{append-nil, length-drop}
+use Rattle.std.proofs.lemmas.List.{append-nil, length-drop, get_or-drop}
 use Rattle.std.proofs.Math.Seq.{take-add}
 use Rattle.std.proofs.lemmas.Bool.{cases_lt, cases_Bool, and_parts}
 use Rattle.std.proofs.lemmas.Bool.Decides.{nat_tests}
@@ -18,7 +19,8 @@ use Rattle.imap_wire.proofs.StepLaws.{step-literal, step-end, step-line, line_st
 
 -- what a step does to the bytes of the command: they grow, or a new command begins, or the framer is spent
 abbrev pub Effect : Step → List ℕ → Type 0
-Effect next bytes = ((next.after.spent ≡ false) × (next.after.bytes ≡ bytes)) ⊎ ((next.after ≡ start) ⊎ ((next.after.spent ≡ true) × IsSome next.frame))
+Effect next bytes =
+    ((next.after.spent ≡ false) × (next.after.bytes ≡ bytes)) ⊎ ((next.after ≡ start) ⊎ ((next.after.spent ≡ true) × IsSome next.frame))
 
 announced_step-effect : (admission : Admission) (s : State) (literal : Literal) → s.spent ≡ false → Effect (announced_step admission s literal) s.bytes
 unfolding announced_step
@@ -118,15 +120,21 @@ Takes-more s mid to piece frame taken more before behind =
         | inl past ↦
             let split : take n piece ≡ take taken piece ++ take (n - taken) (drop taken piece) =
             ap (λ (k : ℕ). take k piece) (omega arith) ∙ take-add taken (n - taken) piece in
-            rw (split, given-append s (take taken piece) (take (n - taken) (drop taken piece)), before.gives, ← mid_is) (behind.first (n - taken) (omega arith))
+            rw (split, given-append s (take taken piece) (take (n - taken) (drop taken piece)), before.gives, ← mid_is)
+            (behind.first (n - taken) (omega arith))
         | inr within ↦ given-take s piece taken n within before.gives
       ];
       arrives = rw (take-add taken more piece, after-append s (take taken piece) (take more (drop taken piece)), ← mid_is) behind.arrives;
     }
 
-pub Moves-zero : (s to : State) (piece : List ℕ) (taken : ℕ) → Moves s piece taken to → taken ≡ 0 → to ≡ s
-unfolding after
-Moves-zero s to piece taken moves none = rw none at moves.arrives
+-- bytes of a line, and the byte behind them
+pub Takes-text : (s mid to : State) (piece : List ℕ) (frame : Option Frame) (taken : ℕ) → taken < length piece → Moves s piece taken mid
+    → frame ≡ (step mid (get_or piece taken 0)).frame → to ≡ (step mid (get_or piece taken 0)).after → Takes s piece frame (taken + 1) to
+Takes-text s mid to piece frame taken within moves frame_is to_is =
+    let here : taken + 0 ≡ taken = omega arith in
+    let byte : get_or (drop taken piece) 0 0 ≡ get_or piece taken 0 = rw here at (get_or-drop taken piece 0 0) in
+    Takes-more s mid to piece frame taken 1 (Takes-silent s mid piece taken moves)
+    (Takes-byte mid mid to (drop taken piece) frame (omega (arith, length-drop taken piece)) refl (rw byte frame_is) (rw byte to_is))
 
 pub Takes-going : (s to : State) (piece : List ℕ) (taken : ℕ) → s.spent ≡ false → Takes s piece None taken to → to.spent ≡ false
 Takes-going s to piece taken going takes = rw takes.arrives (spent-none s (take taken piece) going takes.gives)

@@ -50,9 +50,16 @@ more-none tally taken copied =
     rw (taken_is, copied_is) refl
 
 -- part of a stretch behind another one
-pub fed-part : (tally mid to : Tally) (taken rest size : ℕ) → mid ≡ fed tally None taken → IsFedPart mid rest to → taken + rest ≤ size → IsFedPart tally size to
+pub fed-part : (tally mid to : Tally) (taken rest size : ℕ) → mid ≡ fed tally None taken → IsFedPart mid rest to → taken + rest ≤ size
+    → IsFedPart tally size to
 fed-part tally mid to taken rest size mid_is part within = record {
   taken = taken + part.taken;
   within = omega (arith, part.within);
   counts = part.counts ∙ (ap (λ (w : Tally). fed w None part.taken) mid_is ∙ more-more tally taken taken part.taken part.taken);
 }
+
+-- what was taken before the call failed
+pub fed-failed : (tally mid to : Tally) (taken more size : ℕ) → mid ≡ fed tally None taken → to ≡ fed mid None more → taken + more ≤ size
+    → IsFedPart tally size to
+fed-failed tally mid to taken more size mid_is to_is within = fed-part tally mid to taken more size mid_is
+    (record { taken = more; within = omega arith; counts = to_is }) within

@@ -1,5 +1,5 @@
 -- The command that has begun as the program keeps it, and what it does with bytes.
-use Rattle.std.specs.Prelude.{◌≡◌, ℕ, ◌+◌, ◌<◌, ◌≤◌, nat_lt, vec_capacity, List, [], length, take, drop, Option, if◌then◌else◌}
+use Rattle.std.specs.Prelude.{◌≡◌, ℕ, ◌+◌, ◌<◌, ◌≤◌, nat_lt, List, [], length, take, drop, Option, if◌then◌else◌}
 use Rattle.std.specs.Option.{option_to_list}
 use Rattle.imap_wire.specs.declared.frame.Frame.{Frame}
 use Rattle.imap_wire.specs.declared.begun.Begun.{Begun}
@@ -22,7 +22,7 @@ state_of begun = record {
 
 -- the last block has room for the present line to its end, its CRLF included
 abbrev pub IsRoomy : Begun → Type 0
-IsRoomy begun = begun.line_at + begun.line_room + 2 ≤ vec_capacity begun.kept.last.bytes
+IsRoomy begun = begun.line_at + begun.line_room + 2 ≤ begun.kept.last.room
 
 -- of the present line nothing has come
 abbrev pub IsBetween : Begun → Type 0

@@ -5,10 +5,11 @@ use Rattle.imap_wire.specs.declared.frame.Frame.TheVariants.{Whole, NeedLiteral,
 use Rattle.imap_wire.specs.declared.tally.Tally.{Tally}
 use Rattle.imap_wire.specs.Frames.{frames}
 
--- what a contract sees of a framer: the bytes of the command that has begun, none once it is spent, and what it did
+-- what a contract sees of a framer: the bytes of the command that has begun, none once it is spent, and what it did for the connection
 pub record Progress : Type 0 where
   pub begun : Option (List ℕ)
   pub tally : Tally
+  pub moves : ℕ
 
 -- the frame ends at the last of the bytes that are taken, and none ends before it
 pub record EndsFrame (past piece : List ℕ) (frame : Frame) (taken : ℕ) : Type 0 where

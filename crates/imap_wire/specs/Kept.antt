@@ -1,5 +1,5 @@
 -- The bytes of a command in blocks.
-use Rattle.std.specs.Prelude.{ℕ, ◌-◌, nat_lt, if◌then◌else◌, List, [], ◌∷◌, ◌++◌, length, vec_capacity}
+use Rattle.std.specs.Prelude.{ℕ, ◌-◌, nat_lt, if◌then◌else◌, List, [], ◌∷◌, ◌++◌, length}
 use Rattle.imap_wire.specs.declared.block.Block.{Block}
 use Rattle.imap_wire.specs.declared.block.TheConstants.{BLOCK_ROOM}
 
@@ -14,4 +14,8 @@ joined full last = joined_blocks full ++ last.bytes.items
 
 -- how many bytes have room in this block, or in a new one where it is full
 abbrev pub next_room : Block → ℕ
-next_room block = let left = vec_capacity block.bytes - length block.bytes.items in if nat_lt 0 left then left else BLOCK_ROOM
+next_room block = let left = block.room - length block.bytes.items in if nat_lt 0 left then left else BLOCK_ROOM
+
+-- how many bytes less this block takes than a new one
+abbrev pub filled : Block → ℕ
+filled block = BLOCK_ROOM - next_room block

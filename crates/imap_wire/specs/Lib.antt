@@ -5,5 +5,6 @@ pub mod Tally
 pub mod Kept
 pub mod Steps
 pub mod Begun
+pub mod Bulk
 pub mod Feeding
 pub mod More

@@ -1,5 +1,6 @@
 -- The literal that a line announces (RFC 9051, 4.3), and what becomes of it.
-use Rattle.std.specs.Prelude.{ℕ, ◌-◌, ◌^◌, IsTrue, Bool, true, false, ◌&&◌, ◌||◌, nat_eq, nat_lt, List, codes, length, take, drop, min, Option, None, Some, if◌then◌else◌}
+use Rattle.std.specs.Prelude.{ℕ, ◌-◌, ◌^◌, IsTrue, Bool, true, false, ◌&&◌, ◌||◌, nat_eq, nat_lt, List, codes, length, take, drop, min}
+use Rattle.std.specs.Prelude.{Option, None, Some, if◌then◌else◌}
 use Rattle.std.specs.List.{ends_with, suffix_len}
 use Rattle.std.specs.Char.{is_ascii_digit}
 use Rattle.std.specs.Str.Parse.{digits_value}

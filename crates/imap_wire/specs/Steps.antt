@@ -1,5 +1,6 @@
 -- A framer as a machine that takes one byte after the other.
-use Rattle.std.specs.Prelude.{◌≡◌, ℕ, ◌-◌, Bool, true, false, ◌&&◌, ◌==◌, nat_lt, List, [], ◌∷◌, ◌++◌, length, Option, None, Some, if◌then◌else◌}
+use Rattle.std.specs.Prelude.{◌≡◌, ℕ, ◌-◌, Bool, true, false, ◌&&◌, ◌==◌, nat_lt, List, [], ◌∷◌, ◌++◌, length, Option, None, Some}
+use Rattle.std.specs.Prelude.{if◌then◌else◌}
 use Rattle.std.specs.Option.{option_to_list}
 use Rattle.mur_base.specs.declared.limits.TheConstants.{LINE_LIMIT, COMMAND_LITERALS_LIMIT}
 use Rattle.imap_wire.specs.declared.frame.Frame.{Frame}

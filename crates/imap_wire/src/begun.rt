@@ -1,11 +1,11 @@
-ghost use Rattle.std.specs.Prelude.{◌≡◌, ◌+◌, ◌<◌, ◌≤◌, length, IfOk, OnOk, OnErr, true, false, [], ◌∷◌, ◌++◌, IsTrue, ◌↔◌, None, min, vec_capacity};
+ghost use Rattle.std.specs.Prelude.{◌≡◌, ◌+◌, ◌<◌, ◌≤◌, ◌⊎◌, length, take, slice_index, IfOk, OnOk, OnErr, true, false};
+ghost use Rattle.std.specs.Prelude.{[], ◌∷◌, ◌++◌, IsTrue, ◌↔◌, None, min};
 ghost use Rattle.mur_base.specs.declared.limits.TheConstants.{LINE_LIMIT};
 
 // The command that has begun, and how it grows.
 use crate::frame::{Frame, FrameFault};
 use crate::kept::Kept;
 use crate::literal::{Admission, Literal, announced};
-use memchr::memchr;
 use mur_base::limits::{COMMAND_LITERALS_LIMIT, LINE_LIMIT};
 use mur_base::{Bytes, Memory};
 use std::alloc::Global;
@@ -29,22 +29,24 @@ pub struct Begun {
     // Only a CR that may begin the line's CRLF stands past the limit.
     ghost line_short: { length kept.last.bytes.items ≤ line_at + line_room + 1 },
     // A line that has begun has room to its end where it stands.
-    ghost line_fits: { line_at < length kept.last.bytes.items → line_at + line_room + 2 ≤ vec_capacity kept.last.bytes },
+    ghost line_fits: { line_at < length kept.last.bytes.items → line_at + line_room + 2 ≤ kept.last.room },
     ghost room_within: { line_room ≤ LINE_LIMIT },
 }
 
 impl Begun {
     ghost use Rattle.imap_wire.specs.Begun.{state_of, present_line, IsRoomy, IsBetween, Moves, Takes};
-    ghost use Rattle.imap_wire.specs.Kept.{next_room};
+    ghost use Rattle.imap_wire.specs.Kept.{next_room, filled};
+    ghost use Rattle.imap_wire.specs.Bulk.{credit, account, IsPaid, IsUpTo, most_moves, frame_moves, join_moves};
     ghost use Rattle.imap_wire.specs.Steps.{start, step, line_step, line_end, with_literal, failing};
     ghost use Rattle.mur_base.specs.Ascii.{lf, ends_with_cr};
     ghost use Rattle.imap_wire.specs.Line.{least_length};
-    ghost use Rattle.imap_wire.specs.Tally.{no_tally, more, copies, fed, IsFedPart};
+    ghost use Rattle.imap_wire.specs.Tally.{no_tally, more, copies, counted, fed, IsFedPart};
 
     /// The state between two commands, at the beginning of a connection.
     pub fn new(alloc: Global) -> Begun
         ensures state { state_of result ≡ start }
         ensures tally { result.kept.tally ≡ no_tally }
+        ensures count { result.kept.moves ≡ 0 }
     {
         Begun {
             kept: Kept::new(alloc),
@@ -70,10 +72,14 @@ impl Begun {
         requires left { 0 < self.old.literal_left }
         ensures moves { IfOk result (λ taken. Moves (state_of self.old) piece.now taken (state_of self.new)) }
         ensures some { IfOk result (λ taken. 0 < length piece.now → 0 < taken) }
+        ensures one { OnOk result (self.new.kept.moves ≡ counted (self.old.kept.moves + 1)) }
+        ensures none { OnErr result (self.new.kept.moves ≡ self.old.kept.moves) }
+        // Bytes that end neither the piece nor the literal fill a block, which pays for the move.
+        ensures paid { IfOk result (λ taken. taken < length piece.now → account self.new ≤ account self.old + taken) }
         ensures bulk { IfOk result (λ taken. taken ≡ min (min self.old.literal_left (next_room self.old.kept.last)) (length piece.now)) }
         ensures tally { IfOk result (λ taken. self.new.kept.tally ≡ fed self.old.kept.tally None taken) }
         ensures memory { OnErr result (self.new.kept.tally ≡ self.old.kept.tally) }
-        ensures cause { OnErr result (vec_capacity self.old.kept.last.bytes ≤ length self.old.kept.last.bytes.items) }
+        ensures cause { OnErr result (self.old.kept.last.room ≤ length self.old.kept.last.bytes.items) }
     {
         self.kept.make_room(alloc)?;
         let room = self.literal_left.min(self.kept.room_left());
@@ -90,6 +96,8 @@ impl Begun {
         ensures room { OnOk result (IsRoomy self.new) }
         ensures cause { OnErr result (¬ IsRoomy self.old) }
         ensures tally { self.new.kept.tally ≡ self.old.kept.tally }
+        ensures count { self.new.kept.moves ≡ self.old.kept.moves }
+        ensures filled { OnOk result (filled self.new.kept.last ≤ filled self.old.kept.last) }
     {
         if self.kept.last.room() - self.line_at < self.line_room + 2 {
             self.kept.next_block(alloc)?;
@@ -104,11 +112,21 @@ impl Begun {
         requires in_line { self.old.literal_left ≡ 0 }
         requires room { IsRoomy self.old }
         ensures moves { Moves (state_of self.old) piece.now result (state_of self.new) }
+        ensures going { self.new.spent ≡ false }
+        ensures in_line { self.new.literal_left ≡ 0 }
         ensures room { IsRoomy self.new }
         ensures tally { self.new.kept.tally ≡ fed self.old.kept.tally None result }
+        // The search, and the bytes.
+        ensures two { self.new.kept.moves ≡ counted (self.old.kept.moves + 2) }
+        ensures filled { filled self.new.kept.last ≤ filled self.old.kept.last + result }
+        ensures credit { credit (state_of self.new) ≡ credit (state_of self.old) }
+        // No further byte of the piece is a line's that is sure to be allowed.
+        ensures bulk { result < length piece.now
+            → (slice_index piece.now result ≡ lf) ⊎ (self.new.line_room ≤ length (present_line self.new)) }
     {
         let room = self.line_room.saturating_sub(self.line().len());
-        let taken = memchr(b'\n', piece).unwrap_or(piece.len()).min(room);
+        let found = self.kept.find_lf(piece);
+        let taken = found.unwrap_or(piece.len()).min(room);
         self.kept.keep(&piece[..taken]);
         taken
     }
@@ -142,6 +160,9 @@ impl Begun {
         ensures whole { IfOk result (λ r. r.0 ≡ None → r.1 ≡ length piece.now) }
         ensures tally { IfOk result (λ r. self.new.kept.tally ≡ fed self.old.kept.tally r.0 r.1) }
         ensures memory { OnErr result (IsFedPart self.old.kept.tally (length piece.now) self.new.kept.tally) }
+        ensures bulk { IfOk result (λ r. let most = most_moves (state_of self.old) (take r.1 piece.now) + frame_moves r.0 in
+            IsUpTo self.old.kept.moves most self.new.kept.moves) }
+        ensures part { OnErr result (IsUpTo self.old.kept.moves (most_moves (state_of self.old) piece.now) self.new.kept.moves) }
     {
         let mut taken = 0;
         while taken < piece.len() {
@@ -162,16 +183,19 @@ impl Begun {
         ensures some { IfOk result (λ r. 0 < r.1) }
         ensures tally { IfOk result (λ r. self.new.kept.tally ≡ fed self.old.kept.tally r.0 r.1) }
         ensures memory { OnErr result (IsFedPart self.old.kept.tally (length piece.now) self.new.kept.tally) }
+        ensures few { IfOk result (λ r. IsUpTo self.old.kept.moves (3 + frame_moves r.0) self.new.kept.moves) }
+        ensures part { OnErr result (IsUpTo self.old.kept.moves 3 self.new.kept.moves) }
+        ensures paid { IfOk result (λ r. r.0 ≡ None → r.1 < length piece.now → IsPaid self.old (take r.1 piece.now) self.new) }
     {
         if self.literal_left > 0 {
             return Ok((None, self.take_literal(alloc, piece)?));
         }
         self.make_line_room(alloc)?;
         let taken = self.take_text(piece);
-        if taken > 0 {
+        if taken == piece.len() {
             return Ok((None, taken));
         }
-        Ok((self.take_byte(alloc, piece[0])?, 1))
+        Ok((self.take_byte(alloc, piece[taken])?, taken + 1))
     }
 
     /// Takes one byte where a line stands, and gives the frame that it ends.
@@ -183,6 +207,9 @@ impl Begun {
         ensures after { OnOk result (state_of self.new ≡ (step (state_of self.old) byte).after) }
         ensures tally { IfOk result (λ frame. self.new.kept.tally ≡ fed self.old.kept.tally frame 1) }
         ensures memory { OnErr result (self.new.kept.tally ≡ fed self.old.kept.tally None 1) }
+        ensures count { IfOk result (λ frame. IsUpTo self.old.kept.moves (1 + frame_moves frame) self.new.kept.moves) }
+        ensures one { OnErr result (self.new.kept.moves ≡ counted (self.old.kept.moves + 1)) }
+        ensures filled { IfOk result (λ frame. frame ≡ None → filled self.new.kept.last ≤ filled self.old.kept.last + 1) }
     {
         if byte == b'\n' && self.ends_with_cr() {
             self.take_lf(alloc)
@@ -199,6 +226,9 @@ impl Begun {
         ensures frame { result ≡ (line_step (state_of self.old) byte).frame }
         ensures after { state_of self.new ≡ (line_step (state_of self.old) byte).after }
         ensures tally { self.new.kept.tally ≡ fed self.old.kept.tally result 1 }
+        ensures one { self.new.kept.moves ≡ counted (self.old.kept.moves + 1) }
+        ensures no_more { frame_moves result ≡ 0 }
+        ensures filled { result ≡ None → filled self.new.kept.last ≤ filled self.old.kept.last + 1 }
     {
         if !self.has_room_for(byte) {
             self.kept.pass();
@@ -218,6 +248,9 @@ impl Begun {
         ensures after { OnOk result (state_of self.new ≡ (step (state_of self.old) lf).after) }
         ensures tally { IfOk result (λ frame. self.new.kept.tally ≡ fed self.old.kept.tally frame 1) }
         ensures memory { OnErr result (self.new.kept.tally ≡ fed self.old.kept.tally None 1) }
+        ensures count { IfOk result (λ frame. IsUpTo self.old.kept.moves (1 + frame_moves frame) self.new.kept.moves) }
+        ensures one { OnErr result (self.new.kept.moves ≡ counted (self.old.kept.moves + 1)) }
+        ensures filled { IfOk result (λ frame. frame ≡ None → filled self.new.kept.last ≤ filled self.old.kept.last + 1) }
     {
         let line = self.line();
         let text = &line[..line.len() - 1];
@@ -231,7 +264,7 @@ impl Begun {
     }
 
     /// Goes on behind a line that announces this literal or none, and gives the frame that ends with the line.
-    #[tactic(auto, using(crate::proofs::LiteralLaws::asked_fits, crate::proofs::LiteralLaws::unasked_fits), unfolding(crate::specs::Steps::line_end, crate::specs::Steps::announced_step))]
+    #[tactic(auto, using(crate::proofs::LiteralLaws::by_size), unfolding(crate::specs::Steps::line_end, crate::specs::Steps::announced_step))]
     fn end_line(&mut self, alloc: Global, literal: Option<Literal>) -> Result<Option<Frame>, Memory>
         requires going { self.old.spent ≡ false }
         requires between { IsBetween self.old }
@@ -239,6 +272,9 @@ impl Begun {
         ensures after { OnOk result (state_of self.new ≡ (line_end (state_of self.old) literal).after) }
         ensures tally { IfOk result (λ frame. self.new.kept.tally ≡ more self.old.kept.tally 0 (copies frame 0)) }
         ensures memory { OnErr result (self.new.kept.tally ≡ self.old.kept.tally) }
+        ensures count { IfOk result (λ frame. IsUpTo self.old.kept.moves (frame_moves frame) self.new.kept.moves) }
+        ensures none { OnErr result (self.new.kept.moves ≡ self.old.kept.moves) }
+        ensures last { IfOk result (λ frame. frame ≡ None → self.new.kept.last ≡ self.old.kept.last) }
         // The line's last byte was kept.
         ensures kept { IfOk result (λ frame. copies frame 1 ≡ 1 + copies frame 0) }
     {
@@ -264,7 +300,7 @@ impl Begun {
         requires room { size ≤ self.old.literal_room }
         requires between { IsBetween self.old }
         ensures state { state_of self.new ≡ with_literal (state_of self.old) size }
-        ensures tally { self.new.kept.tally ≡ self.old.kept.tally }
+        ensures kept { self.new.kept ≡ self.old.kept }
     {
         self.literal_room -= size;
         self.literal_left = size;
@@ -274,7 +310,7 @@ impl Begun {
     fn fail(&mut self, fault: FrameFault) -> Frame
         ensures frame { result ≡ Frame.Fault fault }
         ensures after { state_of self.new ≡ (failing fault (state_of self.old)).after }
-        ensures tally { self.new.kept.tally ≡ self.old.kept.tally }
+        ensures kept { self.new.kept ≡ self.old.kept }
     {
         self.spent = true;
         Frame::Fault(fault)
@@ -287,6 +323,8 @@ impl Begun {
         ensures after { OnOk result (state_of self.new ≡ start) }
         ensures tally { IfOk result (λ bytes. self.new.kept.tally ≡ more self.old.kept.tally 0 (length bytes)) }
         ensures memory { OnErr result (self.new.kept.tally ≡ self.old.kept.tally) }
+        ensures count { IfOk result (λ bytes. IsUpTo self.old.kept.moves (join_moves bytes) self.new.kept.moves) }
+        ensures none { OnErr result (self.new.kept.moves ≡ self.old.kept.moves) }
     {
         let bytes = self.kept.take_all(alloc)?;
         self.line_at = 0;

@@ -1,5 +1,5 @@
 // Bytes in a place that they never leave.
-ghost use Rattle.std.specs.Prelude.{◌≡◌, ◌+◌, ◌-◌, ◌≤◌, [], ◌++◌, length, IfOk, vec_capacity, IsTrue, ◌↔◌};
+ghost use Rattle.std.specs.Prelude.{◌≡◌, ◌+◌, ◌≤◌, [], ◌++◌, length, IfOk, vec_capacity};
 
 use crate::tally::Tally;
 use mur_base::limits::LINE_LIMIT;
@@ -11,40 +11,47 @@ use std::alloc::Global;
 pub const BLOCK_ROOM: usize = 2 * (LINE_LIMIT + 2);
 
 /// A place for bytes that never grows, so they stay where they are put. `put` is the one function of this crate that
-/// copies bytes.
+/// copies bytes, and counts them and its calls.
 #[derive(Drop)]
 pub struct Block {
     bytes: Vec<u8>,
+    /// How many bytes it was made for.
+    room: usize,
+    ghost within: { length bytes.items ≤ room },
+    ghost fits: { room ≤ vec_capacity bytes },
 }
 
 impl Block {
-    ghost use Rattle.imap_wire.specs.Tally.{more};
+    ghost use Rattle.imap_wire.specs.Tally.{counted, more};
 
     /// A block with no room. It takes no memory.
     pub fn none(alloc: Global) -> Block
-        ensures { result.bytes.items ≡ [] }
+        ensures bytes { result.bytes.items ≡ [] }
+        ensures room { result.room ≡ 0 }
     {
         Block {
             bytes: Vec::new(alloc),
+            room: 0,
         }
     }
 
     /// An empty block with room for so many bytes.
     pub fn new(alloc: Global, room: usize) -> Result<Block, Memory>
         ensures bytes { IfOk result (λ block. block.bytes.items ≡ []) }
-        ensures room { IfOk result (λ block. vec_capacity block.bytes ≡ room) }
+        ensures room { IfOk result (λ block. block.room ≡ room) }
     {
         Ok(Block {
             bytes: Vec::with_capacity(alloc, room)?,
+            room,
         })
     }
 
     /// How many bytes there are and may come.
     pub fn room(&self) -> usize
-        ensures room { result ≡ vec_capacity self.now.bytes }
+        ensures room { result ≡ self.now.room }
         ensures within { length self.now.bytes.items ≤ result }
     {
-        self.bytes.capacity()
+        self.room
     }
 
     pub fn len(&self) -> usize
@@ -60,12 +67,14 @@ impl Block {
     }
 
     /// Puts bytes behind those that are there.
-    pub fn put(&mut self, bytes: &[u8], tally: &mut Tally)
-        requires room { length self.old.bytes.items + length bytes.now ≤ vec_capacity self.old.bytes }
+    pub fn put(&mut self, bytes: &[u8], tally: &mut Tally, moves: &mut u64)
+        requires room { length self.old.bytes.items + length bytes.now ≤ self.old.room }
         ensures bytes { self.new.bytes.items ≡ self.old.bytes.items ++ bytes.now }
-        ensures room { vec_capacity self.old.bytes ≤ vec_capacity self.new.bytes }
+        ensures room { self.new.room ≡ self.old.room }
         ensures tally { tally.new ≡ more tally.old 0 (length bytes.now) }
+        ensures moves { moves.new ≡ counted (moves.old + 1) }
     {
+        *moves = moves.saturating_add(1);
         tally.add(0, bytes.len());
         self.bytes.extend_from_slice(bytes).unwrap();
     }
@@ -73,7 +82,7 @@ impl Block {
     /// Takes all bytes away and keeps the room.
     pub fn clear(&mut self)
         ensures bytes { self.new.bytes.items ≡ [] }
-        ensures room { vec_capacity self.new.bytes ≡ vec_capacity self.old.bytes }
+        ensures room { self.new.room ≡ self.old.room }
     {
         self.bytes.clear();
     }
@@ -82,7 +91,7 @@ impl Block {
     pub fn into_bytes(self) -> Bytes
         ensures { result ≡ self.bytes.items }
     {
-        let Block { bytes } = self;
+        let Block { bytes, room: _ } = self;
         Bytes::from_vec(bytes)
     }
 }

@@ -1,5 +1,6 @@
 // A connection's bytes, taken piece by piece.
-ghost use Rattle.std.specs.Prelude.{◌≡◌, ◌<◌, ◌≤◌, ◌*◌, ◌++◌, [], List, ℕ, length, take, IfOk, OnErr, OnOk, IsSome, IsNone, is_none, IfSome};
+ghost use Rattle.std.specs.Prelude.{◌≡◌, ◌<◌, ◌≤◌, ◌*◌, ◌++◌, [], List, ℕ, length, take};
+ghost use Rattle.std.specs.Prelude.{IfOk, OnErr, OnOk, IsSome, IsNone, is_none, IfSome, None};
 
 use crate::begun::Begun;
 use crate::frame::Frame;
@@ -11,8 +12,8 @@ use std::marker::Model;
 /// Cuts the bytes of one connection into frames, in whatever pieces they come.
 ///
 /// Contracts see the bytes of the command that has begun, or `None` once the framer is spent: after a fault, and
-/// after want of memory; and how many bytes were taken and copied. `past` are all bytes of the connection before the
-/// call.
+/// after want of memory; and how many bytes were taken and copied, in how many moves. `past` are all bytes of the
+/// connection before the call.
 #[derive(Drop)]
 pub struct Framer {
     alloc: Global,
@@ -26,7 +27,7 @@ impl Model for Framer {
 
     ghost Value = { Progress };
 
-    ghost view = { λ framer. record { begun = begun_of (state_of framer.begun); tally = framer.begun.kept.tally } };
+    ghost view = { λ framer. record { begun = begun_of (state_of framer.begun); tally = framer.begun.kept.tally; moves = framer.begun.kept.moves } };
 
     ghost invariant = { λ framer. IsReached (state_of framer.begun) };
 }
@@ -35,11 +36,13 @@ impl Framer {
     ghost use Rattle.imap_wire.specs.Frames.{begun, frames as frames_of};
     ghost use Rattle.imap_wire.specs.Feeding.{Gives, Leaves};
     ghost use Rattle.imap_wire.specs.Tally.{no_tally, fed as tally_fed, IsFedPart};
+    ghost use Rattle.imap_wire.specs.Bulk.{IsInBulk};
 
     /// The framer of a new connection. It takes no memory until bytes come.
     pub fn new(alloc: Global) -> Framer
         ensures begun { result.begun ≡ begun [] }
         ensures tally { result.tally ≡ no_tally }
+        ensures moves { result.moves ≡ 0 }
     {
         Framer {
             alloc,
@@ -62,6 +65,14 @@ impl Framer {
         self.begun.kept.tally()
     }
 
+    /// How many moves were made: each copy of bytes is one, however many they are, and each search for an LF. The
+    /// count stands still at the largest number of 64 bits.
+    pub fn moves(&self) -> u64
+        ensures { result ≡ self.now.moves }
+    {
+        self.begun.kept.moves
+    }
+
     /// Takes bytes of the piece up to the end of the next frame, or all where none ends in it, and says how many.
     pub fn feed(&mut self, piece: &[u8]) -> Result<(Option<Frame>, usize), Memory>
         ensures frame { IfOk result (λ fed. IsSome self.old.begun → (past : List ℕ) → begun past ≡ self.old.begun
@@ -79,6 +90,9 @@ impl Framer {
         // Each byte is copied as it comes, and once more into its frame.
         ensures tally { IfOk result (λ fed. self.new.tally ≡ tally_fed self.old.tally fed.0 fed.1) }
         ensures part { OnErr result (IsFedPart self.old.tally (length piece.now) self.new.tally) }
+        // Few moves: by the lines, their literals and the blocks that these bytes fill.
+        ensures bulk { IfOk result (λ fed. IsInBulk self.old.begun (take fed.1 piece.now) fed.0 self.old.moves self.new.moves) }
+        ensures bulk_part { OnErr result (IsInBulk self.old.begun piece.now None self.old.moves self.new.moves) }
     {
         if self.begun.spent {
             return Ok((None, 0));

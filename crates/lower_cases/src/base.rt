@@ -1,9 +1,9 @@
-// Names, numbers, lists and maps.
+// Names, numbers, lists, queues and maps.
 use crate::field::bytes_of;
 use anyhow::Result;
 use mur_base::{
-    Bytes, Copied, Items, MailName, Map, NameFault, mail_name, node_name, put_number, read_number,
-    shown, taken, user_name,
+    Bytes, Copied, Items, MailName, Map, NameFault, Queue, is_own, mail_name, node_name, owns,
+    put_number, read_number, shown, taken, user_name,
 };
 use std::alloc::Global;
 use std::cmp::Ordering;
@@ -15,7 +15,9 @@ pub fn holds(alloc: Global, fields: &[&str]) -> Result<bool> {
         ["order", one, other, order] => is_order(alloc, one, other, order),
         ["shown", user, name, want] => is_shown(alloc, user, name, want),
         ["taken", user, text, want] => is_taken(alloc, user, text, want),
+        ["owner", user, name, want] => is_owner(alloc, user, name, want),
         ["list", front, back, whole] => is_list(alloc, front, back, whole),
+        ["queue", steps, want] => is_queue(alloc, steps, want),
         [kind, text, want] => {
             let text = bytes_of(alloc, text)?;
             let bytes = text.as_slice();
@@ -83,6 +85,44 @@ fn is_taken(alloc: Global, user: &str, text: &str, want: &str) -> Result<bool> {
     match taken(alloc, &user, text.as_slice()) {
         Ok(name) => Ok(name.as_bytes() == want.as_bytes()),
         Err(fault) => Ok(word_of(Some(fault)) == want),
+    }
+}
+
+/// Whether a name is this user's own mailbox, below it or neither.
+fn is_owner(alloc: Global, user: &str, name: &str, want: &str) -> Result<bool> {
+    let user = user_name(alloc, user.as_bytes())?;
+    let name = mail_name(alloc, name.as_bytes())?;
+    let told = match (is_own(&user, &name), owns(&user, &name)) {
+        (true, true) => "own",
+        (false, true) => "below",
+        (false, false) => "other",
+        (true, false) => "neither way",
+    };
+    Ok(told == want)
+}
+
+/// Whether a queue into which letters are put, each `-` taking one out, gives these letters, and has none at the end.
+fn is_queue(alloc: Global, steps: &str, want: &str) -> Result<bool> {
+    let mut queue = Queue::new(alloc);
+    let mut taken = Bytes::new(alloc);
+    for step in steps.as_bytes() {
+        if *step == b'-' {
+            taken.push(taken_from(&mut queue))?;
+        } else {
+            queue.push(*step)?;
+        }
+    }
+    queue.clear();
+    Ok(taken.as_slice() == want.as_bytes() && queue.is_empty() && queue.len() == 0)
+}
+
+/// The letter that a queue gives: `.` where it is empty, `?` where it gives another one than its first.
+fn taken_from(queue: &mut Queue<u8>) -> u8 {
+    let first = queue.first().copied();
+    match queue.pop() {
+        Some(letter) if first == Some(letter) => letter,
+        None if first.is_none() => b'.',
+        _ => b'?',
     }
 }
 

@@ -1,6 +1,6 @@
 //! Reads worked cases from text files, and compares what the lowest crates make of each with what the case wants:
-//! `lower_cases WIRE COMMAND BASE` takes the frames of connections, the commands of frames, and names, numbers, lists and
-//! maps. It prints how many cases of each file passed, or ends with status 1 at the first one that differs.
+//! `lower_cases WIRE COMMAND BASE` takes the frames of connections, the commands of frames, and names, numbers, lists,
+//! queues and maps. It prints how many cases of each file passed, or ends with status 1 at the first one that differs.
 //!
 //! A case is a line of fields with ` | ` between them. A file's first lines, which begin with `#`, say what the fields are.
 #![tactic(auto)]

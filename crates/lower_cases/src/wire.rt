@@ -57,7 +57,9 @@ fn holds_byte_by_byte(alloc: Global, bytes: &[u8], wanted: &[Frame]) -> Result<b
         }
     }
     let all = framer.spent() || framer.tally().taken == bytes.len() as u64;
-    Ok(all && are_same(found.as_slice(), wanted))
+    // A byte that comes by itself is moved by itself.
+    let moved = framer.moves() >= framer.tally().taken;
+    Ok(all && moved && are_same(found.as_slice(), wanted))
 }
 
 /// Whether the bytes cut in two give the frames that are wanted: at each place, or at those near the ends of lines.

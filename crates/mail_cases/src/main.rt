@@ -1,6 +1,6 @@
-//! Reads worked cases of flags, dates, sets, mailboxes, search keys and fetch items from text files, and compares what
-//! `mail_message`, `mail_store`, `mail_search` and `mail_fetch` make of each with what the case wants: `mail_cases TABLE ..`. It
-//! prints how many cases of each table passed, or ends with status 1 at the first one that differs.
+//! Reads worked cases of flags, dates, sets, mailboxes, homes of mailboxes, search keys and fetch items from text files, and
+//! compares what `mail_message`, `mail_store`, `backend_core`, `mail_search` and `mail_fetch` make of each with what the case wants:
+//! `mail_cases TABLE ..`. It prints how many cases of each table passed, or ends with status 1 at the first one that differs.
 //!
 //! A case is a line of fields with ` | ` between them, of which the first is its kind. Lines that begin with `#` say what the
 //! fields of each kind are.
@@ -8,13 +8,15 @@
 
 mod field;
 mod flags;
+mod home;
 mod keys;
 mod operation;
 mod parts;
 mod sets;
 
 use anyhow::{Result, anyhow};
-use mail_message::date;
+use mail_message::{date, first_acl};
+use mur_base::{Bytes, mail_name};
 use std::alloc::Global;
 use std::{env, fs};
 
@@ -31,7 +33,9 @@ fn holds(alloc: Global, fields: &[&str]) -> Result<bool> {
         ["search", keys, messages, want] => keys::find(alloc, keys, messages, want),
         ["part", item, message @ .., want] => parts::give(alloc, item, message, want),
         ["long", item, bytes, head, rest] => parts::give_long(alloc, item, bytes, head, rest),
+        ["acl", name, want] => is_first_acl(alloc, name, want),
         ["box", operations @ ..] => operation::hold(alloc, operations),
+        ["home", steps @ ..] => home::hold(alloc, steps),
         _ => Ok(false),
     }
 }
@@ -42,6 +46,16 @@ fn is_date(text: &str) -> bool {
         Some(read) => read.as_bytes() == text.as_bytes(),
         None => false,
     }
+}
+
+/// Whether a new mailbox of this name has this access list, in which a comma stands for each TAB.
+fn is_first_acl(alloc: Global, name: &str, want: &str) -> Result<bool> {
+    let acl = first_acl(alloc, &mail_name(alloc, name.as_bytes())?)?;
+    let mut text = Bytes::new(alloc);
+    for byte in acl.as_slice() {
+        text.push(if *byte == b'\t' { b',' } else { *byte })?;
+    }
+    Ok(text.as_slice() == want.as_bytes())
 }
 
 /// How many cases a text has, each of which holds.

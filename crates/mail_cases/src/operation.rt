@@ -74,7 +74,7 @@ fn appended(alloc: Global, mailbox: &mut MailBox, count: u32) -> Result<Bytes> {
 }
 
 /// A message of two bytes without flags.
-fn message(alloc: Global) -> Result<Message> {
+pub fn message(alloc: Global) -> Result<Message> {
     let Some(date) = date(b" 1-Jan-2026 00:00:00 +0000") else {
         return Err(anyhow!("no date"));
     };

@@ -1,6 +1,7 @@
 pub mod Boxes
 pub mod Date
 pub mod Days
+pub mod FirstAcl
 pub mod FlagNames
 pub mod FlagSets
 pub mod Keywords

@@ -1,6 +1,7 @@
 //! Messages as a mailbox keeps them: flags, dates, a box's content and its changes.
 #![tactic(auto)]
 
+mod acl;
 mod change;
 mod date_text;
 mod day;
@@ -17,6 +18,7 @@ mod slots;
 mod system_flags;
 mod word;
 
+pub use acl::first_acl;
 pub use change::{Change, Changes};
 pub use date_text::{DATE_LENGTH, DateText, date};
 pub use day::Day;

@@ -1,2 +1,2 @@
-mod AppendLaws
+pub mod AppendLaws
 mod TouchedLaws

@@ -5,3 +5,4 @@ pub mod MapLaws
 pub mod MapOrder
 mod UsersLaw
 pub mod InboxLaw
+pub mod OwnLaw

@@ -54,7 +54,8 @@ module _ {K X : Type 0} (cmp : K → K → Ordering) (apart : TellsApart cmp) wh
   value_at-with_entry [] k v = rw (apart.itself k) refl
   value_at-with_entry (e ∷ es) k v = same_entry_by e es k v (value_at-with_entry es k v) (cmp k e.0) refl
 
-  other_entry_by : (e : K × X) (es : List (K × X)) (k q : K) (v : X) → is_eq (cmp q k) ≡ false → value_at cmp (with_entry cmp es k v) q ≡ value_at cmp es q
+  other_entry_by : (e : K × X) (es : List (K × X)) (k q : K) (v : X) → is_eq (cmp q k) ≡ false
+      → value_at cmp (with_entry cmp es k v) q ≡ value_at cmp es q
       → (o : Ordering) → cmp k e.0 ≡ o
       → value_at cmp (match_ordering o ((k, v) ∷ e ∷ es) ((e.0, v) ∷ es) (e ∷ insert_entry cmp es k v)) q ≡ value_at cmp (e ∷ es) q
   other_entry_by e es k q v ne ih Less h = rw ne refl
@@ -80,7 +81,8 @@ module _ {K X : Type 0} (cmp : K → K → Ordering) (apart : TellsApart cmp) wh
   value_at-with_value [] k v old there = cc
   value_at-with_value (e ∷ es) k v old there = same_value_by e es k v (is_eq (cmp k e.0)) refl (value_at-with_value es k v) old there
 
-  other_value_by : (e : K × X) (es : List (K × X)) (k q : K) (v : X) → is_eq (cmp q k) ≡ false → value_at cmp (with_value cmp es k v) q ≡ value_at cmp es q
+  other_value_by : (e : K × X) (es : List (K × X)) (k q : K) (v : X) → is_eq (cmp q k) ≡ false
+      → value_at cmp (with_value cmp es k v) q ≡ value_at cmp es q
       → (b : Bool) → is_eq (cmp k e.0) ≡ b → value_at cmp (with_value cmp (e ∷ es) k v) q ≡ value_at cmp (e ∷ es) q
   other_value_by e es k q v ne ih true h =
       let gone : is_eq (cmp q e.0) ≡ false = subst (λ x. is_eq (cmp q x) ≡ false) (apart.exact k e.0 h) ne in rw h (rw gone refl)

@@ -1,5 +1,6 @@
 -- Reading digits one by one within 64 bits gives the number of the whole text.
-use Rattle.std.proofs.Common.{◌≡◌, ℕ, ◌+◌, ◌-◌, ◌*◌, ◌^◌, ◌<◌, ◌≤◌, Bool, true, false, cond, nat_lt, List, [], ◌∷◌, length, Option, None, Some, refl, sym, ◌∙◌, arith}
+use Rattle.std.proofs.Common.{◌≡◌, ℕ, ◌+◌, ◌-◌, ◌*◌, ◌^◌, ◌<◌, ◌≤◌, Bool, true, false, cond, nat_lt, List, [], ◌∷◌}
+use Rattle.std.proofs.Common.{length, Option, None, Some, refl, sym, ◌∙◌, arith}
 use Rattle.std.specs.List.{list_all}
 use Rattle.std.proofs.lemmas.Bool.Decides.{nat_tests}
 use Rattle.mur_base.specs.Number.{is_digit, digits_behind, is_numeral, number_of, with_digit}
@@ -30,7 +31,8 @@ read_behind-none [] = refl
 read_behind-none (b ∷ text) = refl
 
 read_by : (b : ℕ) (text : List ℕ) (n : ℕ) → ((m : ℕ) → m < 2 ^ 64 → read_behind (Some m) text ≡ number_behind m text)
-    → (digit fits : Bool) → is_digit b ≡ digit → nat_lt (10 * n + (b - 48)) (2 ^ 64) ≡ fits → read_behind (with_digit n b) text ≡ number_behind n (b ∷ text)
+    → (digit fits : Bool) → is_digit b ≡ digit → nat_lt (10 * n + (b - 48)) (2 ^ 64) ≡ fits
+    → read_behind (with_digit n b) text ≡ number_behind n (b ∷ text)
 unfolding number_behind with_digit digits_behind
 read_by b text n ih false fits d f = rw d (read_behind-none text)
 read_by b text n ih true true d f = rw (d, f) (ih (10 * n + (b - 48)) (grind (arith, nat_tests)))

@@ -4,6 +4,9 @@ use Rattle.std.specs.Prelude.{ℕ, Bool, false, ◌==◌, List, [], ◌∷◌}
 abbrev pub nul : ℕ
 nul = 0
 
+abbrev pub tab : ℕ
+tab = 9
+
 abbrev pub lf : ℕ
 lf = 10
 

@@ -1,7 +1,8 @@
 -- INBOX, the name under which a user is shown their own mailbox, and with it the names below (RFC 9051, 5.1).
-use Rattle.std.specs.Prelude.{ℕ, Bool, true, ◌&&◌, ◌==◌, nat_eq, nat_le, if◌then◌else◌, List, [], ◌∷◌, ◌++◌, length, take, drop, Option, None, Some, codes}
+use Rattle.std.specs.Prelude.{ℕ, Bool, true, ◌&&◌, ◌==◌, nat_eq, nat_le, if◌then◌else◌}
+use Rattle.std.specs.Prelude.{List, [], ◌∷◌, ◌++◌, length, take, drop, Option, None, Some, is_some, codes}
 use Rattle.std.specs.List.{starts_with}
-use Rattle.std.specs.Str.{str_eq_ignore_ascii_case}
+use Rattle.std.specs.Str.{bytes_eq, str_eq_ignore_ascii_case}
 use Rattle.mur_base.specs.Ascii.{dot}
 
 -- the user's own mailbox
@@ -17,6 +18,14 @@ is_level_end (b ∷ rest) = b == dot
 unfoldable pub behind : List ℕ → List ℕ → Option (List ℕ)
 behind top name =
     if starts_with nat_eq name top && is_level_end (drop (length top) name) then Some (drop (length top) name) else None
+
+-- the name is in the user's personal namespace: their own mailbox or one below it (RFC 2342, 3)
+unfoldable pub owns : List ℕ → List ℕ → Bool
+owns user name = is_some (behind (own_name user) name)
+
+-- the name is that of the user's own mailbox
+unfoldable pub is_own : List ℕ → List ℕ → Bool
+is_own user name = bytes_eq (own_name user) name
 
 -- what follows a first level that is INBOX in any case
 unfoldable pub behind_inbox : List ℕ → Option (List ℕ)

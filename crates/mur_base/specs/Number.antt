@@ -1,5 +1,6 @@
 -- Numbers as decimal text (RFC 9051, 9).
-use Rattle.std.specs.Prelude.{ℕ, ◌+◌, ◌-◌, ◌*◌, ◌^◌, Bool, false, ◌&&◌, nat_lt, nat_le, if◌then◌else◌, List, [], ◌∷◌, Option, None, Some}
+use Rattle.std.specs.Prelude.{ℕ, ◌+◌, ◌-◌, ◌*◌, ◌^◌, Bool, false, ◌&&◌, nat_lt, nat_le, if◌then◌else◌, List, [], ◌∷◌, Option}
+use Rattle.std.specs.Prelude.{None, Some}
 use Rattle.std.specs.List.{list_all}
 use Rattle.mur_base.specs.Ascii.{digit_zero, digit_nine}
 

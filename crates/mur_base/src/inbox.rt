@@ -2,7 +2,7 @@
 ghost use Rattle.std.specs.Prelude.{◌≡◌, ◌⊎◌, ℕ, List, None, Some, IfOk, IfErr};
 ghost use Rattle.std.specs.Option.{option_map};
 ghost use Rattle.mur_base.specs.Names.{mail_name_fault};
-ghost use Rattle.mur_base.specs.Inbox.{own_name, is_level_end, behind, behind_inbox, shown_name, taken_name};
+ghost use Rattle.mur_base.specs.Inbox.{own_name, is_level_end, behind, behind_inbox, shown_name, taken_name, owns, is_own};
 
 use crate::list::Bytes;
 use crate::memory::Memory;
@@ -48,6 +48,23 @@ pub fn taken(alloc: Global, user: &UserName, text: &[u8]) -> Result<MailName, Na
 pub fn what_is_shown_is_taken()
     ensures { (user name : List ℕ) → behind_inbox name ≡ None → taken_name user (shown_name user name) ≡ name }
 {}
+
+/// Whether a name is in a user's personal namespace: their own mailbox `user.NAME` or one below it (RFC 2342, 3). It
+/// takes no memory.
+pub fn owns(user: &UserName, name: &MailName) -> bool
+    ensures { result ≡ owns user.now name.now }
+{
+    let name = name.as_bytes();
+    name.starts_with(b"user.") && behind(user.as_bytes(), &name[5..]).is_some()
+}
+
+/// Whether a name is that of a user's own mailbox, `user.NAME`. It takes no memory.
+pub fn is_own(user: &UserName, name: &MailName) -> bool
+    ensures { result ≡ is_own user.now name.now }
+{
+    let name = name.as_bytes();
+    name.starts_with(b"user.") && user.as_bytes() == &name[5..]
+}
 
 #[tactic(auto, unfolding(crate::specs::Inbox::own_name))]
 fn own_name(alloc: Global, user: &UserName) -> Result<Bytes, Memory>

@@ -1,4 +1,4 @@
-//! What every crate of the Murder speaks of: lists of bytes and of values, the ordered map, names,
+//! What every crate of the Murder speaks of: lists of bytes and of values, queues, the ordered map, names,
 //! numbers as text, the points of a history, locations, phases and the limits.
 #![tactic(auto)]
 
@@ -14,12 +14,13 @@ mod name;
 mod name_rules;
 mod number;
 mod point;
+mod queue;
 mod user;
 
 pub use boxed::Boxed;
 pub use copied::Copied;
 pub use home::{Location, Phase};
-pub use inbox::{shown, taken, what_is_shown_is_taken};
+pub use inbox::{is_own, owns, shown, taken, what_is_shown_is_taken};
 pub use list::{Bytes, Items};
 pub use map::Map;
 pub use memory::Memory;
@@ -29,4 +30,5 @@ pub use name_rules::{
 };
 pub use number::{put_number, read_number};
 pub use point::{AskId, Point, What};
+pub use queue::Queue;
 pub use user::{PASSWORD_LIMIT, User, Users, UsersFault};

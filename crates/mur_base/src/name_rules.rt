@@ -2,7 +2,8 @@
 ghost use Rattle.std.specs.Prelude.{◌≡◌, ℕ, List, Bool};
 ghost use Rattle.std.specs.List.{list_all};
 ghost use Rattle.std.specs.Str.{is_utf8};
-ghost use Rattle.mur_base.specs.Names.{short_name_fault, has_short_name_bytes, mail_name_fault, is_short_name_byte, is_mail_name_byte, has_mail_name_bytes, has_empty_level, IsReadAsName};
+ghost use Rattle.mur_base.specs.Names.{short_name_fault, has_short_name_bytes, mail_name_fault, is_short_name_byte, is_mail_name_byte, has_mail_name_bytes};
+ghost use Rattle.mur_base.specs.Names.{has_empty_level, IsReadAsName};
 
 use crate::limits::{NAME_LIMIT, SHORT_NAME_LIMIT};
 use crate::name::{Name, NameFault, NameRule};

@@ -1,5 +1,6 @@
 -- Bytes that were given or taken in two steps.
-use Rattle.std.specs.Prelude.{◌≡◌, ℕ, ◌+◌, ◌-◌, ◌≤◌, min, List, [], ◌++◌, MatchOption, ⊤, Option, None, Some, Ok, take, drop, length, refl}
+use Rattle.std.specs.Prelude.{◌≡◌, ℕ, ◌+◌, ◌-◌, ◌≤◌, min, List, [], ◌++◌, MatchOption, ⊤, Option, None, Some, Ok, take, drop}
+use Rattle.std.specs.Prelude.{length, refl}
 use Rattle.std.proofs.Common.{◌∙◌, ap, sym, subst, arith, append_assoc, length-drop}
 use Rattle.std.proofs.Math.Seq.{take-append-add}
 use Rattle.std.proofs.lemmas.List.{take-append-le, take-append-drop, length-take-le, take_min, take_all, drop-drop, drop_all}
@@ -26,7 +27,8 @@ TookFront-append_left first second xs ys front =
     (n, rw same front.1)
 
 -- all of the first part and a front of the second are a front of the whole
-pub TookFront-append_right : (first second third : Option (List ℕ)) (xs ys : List ℕ) → Took first second xs → TookFront second third ys → TookFront first third (xs ++ ys)
+pub TookFront-append_right : (first second third : Option (List ℕ)) (xs ys : List ℕ) → Took first second xs → TookFront second third ys
+    → TookFront first third (xs ++ ys)
 TookFront-append_right first second third xs ys all front =
     (length xs + front.0, rw (take-append-add xs ys front.0) (Took-append first second third xs (take front.0 ys) all front.1))
 
@@ -37,14 +39,18 @@ take-add a n xs h =
     let until : length (take a xs) ≡ a = length-take-le a xs h in
     let rest : take (length xs - a) (drop a xs) ≡ drop a xs = take_all _ _ (rw length-drop (omega arith)) in
     let seam : take (length (take a xs) + n) (take a xs ++ drop a xs) ≡ take a xs ++ take n (drop a xs) = take-append-add (take a xs) (drop a xs) n in
-    rw rest (subst (λ ys. take (a + n) ys ≡ take a xs ++ take n (drop a xs)) whole (subst (λ m. take (m + n) (take a xs ++ drop a xs) ≡ take a xs ++ take n (drop a xs)) until seam))
+    rw rest
+    (subst (λ ys. take (a + n) ys ≡ take a xs ++ take n (drop a xs)) whole
+    (subst (λ m. take (m + n) (take a xs ++ drop a xs) ≡ take a xs ++ take n (drop a xs)) until seam))
 
 -- what is taken from a place on joins what was taken before it
-pub Took-from_place : (first second third : Option (List ℕ)) (a n : ℕ) (xs : List ℕ) → a ≤ length xs → Took first second (take a xs) → Took second third (take n (take (length xs - a) (drop a xs))) → Took first third (take (a + n) xs)
+pub Took-from_place : (first second third : Option (List ℕ)) (a n : ℕ) (xs : List ℕ) → a ≤ length xs → Took first second (take a xs)
+    → Took second third (take n (take (length xs - a) (drop a xs))) → Took first third (take (a + n) xs)
 Took-from_place first second third a n xs h one two = rw (take-add a n xs h) (Took-append first second third (take a xs) _ one two)
 
 -- a read of a list from a place on gives what fits into the buffer, or what is left
-pub ReadGives-drop : (whole : List ℕ) (at n : ℕ) (buffer : List ℕ) → n ≡ min (length buffer) (length (drop at whole)) → take n buffer ≡ take n (drop at whole) → ReadGives {E = Unit {0}} (Some (drop at whole)) (Some (drop (at + n) whole)) (Ok n) buffer
+pub ReadGives-drop : (whole : List ℕ) (at n : ℕ) (buffer : List ℕ) → n ≡ min (length buffer) (length (drop at whole))
+    → take n buffer ≡ take n (drop at whole) → ReadGives {E = Unit {0}} (Some (drop at whole)) (Some (drop (at + n) whole)) (Ok n) buffer
 ReadGives-drop whole at n buffer count bytes =
     let rest : drop n (drop at whole) ≡ drop (at + n) whole = drop-drop n at whole in
     let parts : take n (drop at whole) ++ drop n (drop at whole) ≡ drop at whole = take-append-drop n (drop at whole) in (
@@ -53,10 +59,13 @@ ReadGives-drop whole at n buffer count bytes =
     )
 
 -- what a sink has taken since it was handed out is all that it holds
-pub HoldsAll-from_fresh : (before now : Option (List ℕ)) (text : List ℕ) → MatchOption before ⊤ (λ bytes. bytes ≡ []) → Took before now text → HoldsAll now text
+pub HoldsAll-from_fresh : (before now : Option (List ℕ)) (text : List ℕ) → MatchOption before ⊤ (λ bytes. bytes ≡ []) → Took before now text
+    → HoldsAll now text
 HoldsAll-from_fresh None now text empty took = subst (λ known. HoldsAll known text) (sym took) tt
 HoldsAll-from_fresh (Some bytes) now text empty took = subst (λ known. HoldsAll known text) (sym took) (ap (λ front. front ++ text) empty)
 
-pub HoldsFront-from_fresh : (before now : Option (List ℕ)) (text : List ℕ) → MatchOption before ⊤ (λ bytes. bytes ≡ []) → TookFront before now text → HoldsFront now text
+pub HoldsFront-from_fresh : (before now : Option (List ℕ)) (text : List ℕ) → MatchOption before ⊤ (λ bytes. bytes ≡ []) → TookFront before now text
+    → HoldsFront now text
 HoldsFront-from_fresh None now text empty took = subst (λ known. HoldsFront known text) (sym took.1) tt
-HoldsFront-from_fresh (Some bytes) now text empty took = subst (λ known. HoldsFront known text) (sym took.1) (took.0, ap (λ front. front ++ take took.0 text) empty)
+HoldsFront-from_fresh (Some bytes) now text empty took =
+    subst (λ known. HoldsFront known text) (sym took.1) (took.0, ap (λ front. front ++ take took.0 text) empty)

@@ -1,5 +1,6 @@
 -- A host in memory: what its objects tell, which of them a call hands out, and which are out.
-use Rattle.std.specs.Prelude.{◌≡◌, ℕ, List, Option, None, Some, Bool, true, false, drop, nat_eq, slice_get, slice_index_or, slice_set, IsSomeAnd, if◌then◌else◌}
+use Rattle.std.specs.Prelude.{◌≡◌, ℕ, List, Option, None, Some, Bool, true, false, drop, nat_eq, slice_get, slice_index_or, slice_set, IsSomeAnd}
+use Rattle.std.specs.Prelude.{if◌then◌else◌}
 use Rattle.std.specs.Cmp.Lexicographic.{pointwise}
 use Rattle.std.specs.List.{position, list_any}
 use Rattle.std.specs.Option.{option_map}

@@ -1,11 +1,13 @@
 // A host in memory. It keeps the objects that it was made with and hands out fresh copies of them.
-ghost use Rattle.std.specs.Prelude.{◌≡◌, ◌<◌, ◌+◌, ◌∷◌, ◌++◌, ◌||◌, [], true, false, None, Some, Err, map, replicate, length, IfOk, OnOk, IfSome, IsSomeAnd, slice_set};
+ghost use Rattle.std.specs.Prelude.{◌≡◌, ◌<◌, ◌+◌, ◌∷◌, ◌++◌, ◌||◌, [], true, false, None, Some, Err, map, replicate, length, IfOk};
+ghost use Rattle.std.specs.Prelude.{OnOk, IfSome, IsSomeAnd, slice_set};
 ghost use Rattle.mur_edge.specs.Counts.{SourceFault, one_more};
 ghost use Rattle.mur_edge.specs.Source.{IsFreshSource, HasContent};
 ghost use Rattle.mur_edge.specs.Sink.{IsFreshSink};
 ghost use Rattle.mur_edge.specs.Returned.{entries_of};
 ghost use Rattle.mur_edge.specs.Host.{DidAsk, TakesBack, last_output, last_errors};
-ghost use Rattle.mur_edge.specs.Memory.{fails_at, place_named, free_place, content_named, source_facts, sink_facts, memory_came, object_came, IsFreshCopy, freed, sources_out_after, output_out_after, errors_out_after};
+ghost use Rattle.mur_edge.specs.Memory.{fails_at, place_named, free_place, content_named, source_facts, sink_facts, memory_came, object_came, IsFreshCopy};
+ghost use Rattle.mur_edge.specs.Memory.{freed, sources_out_after, output_out_after, errors_out_after};
 ghost use Rattle.mur_edge.specs.declared.fault.HostFault.TheVariants.{Failed as failed};
 ghost use Rattle.mur_edge.specs.declared.host.Asked.TheVariants.{Source as source_asked, Out as out_asked, Errors as errors_asked};
 ghost use Rattle.mur_edge.specs.declared.host.Used.TheVariants.{Source as source_used};

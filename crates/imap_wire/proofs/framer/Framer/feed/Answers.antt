@@ -1,9 +1,10 @@
 -- What the command that has begun makes of the piece holds of the connection.
-use Rattle.std.proofs.Common.{◌∙◌, sym, ap}
+use Rattle.std.proofs.Common.{◌∙◌, sym, ap, arith}
 use Rattle.imap_wire.specs.Begun.{state_of}
 use Rattle.imap_wire.specs.Feeding.{Progress}
 use Rattle.imap_wire.proofs.FeedLaws.{IsReached-takes, past-state, Gives-takes, begun-takes, Takes-some, begun-own}
 use Rattle.imap_wire.proofs.LeaveLaws.{Takes-leaves}
+use Rattle.imap_wire.proofs.BulkLaws.{bulk-own}
 use Rattle.imap_wire.proofs.framer.Framer.feed.Goals as goal
 
 pub invariant_of-self : goal.invariant_of-self
@@ -35,3 +36,17 @@ returns-in-Ok-clause-own c = begun-own (state_of c.self.inside.begun) c.args.sel
 
 pub returns-in-Err-clause-own : goal.returns-in-Err-clause-own
 returns-in-Err-clause-own c = begun-own (state_of c.self.inside.begun) c.args.self.now.begun c.self.invariant (ap (λ (p : Progress). p.begun) c.self.view_is)
+
+pub returns-in-Ok-clause-bulk : goal.returns-in-Ok-clause-bulk
+returns-in-Ok-clause-bulk c =
+    let before = ap (λ (p : Progress). p.moves) c.self.view_is in
+    let most = c.in-Ok.ensures.bulk in
+    bulk-own (state_of c.self.inside.begun) c.args.self.now.begun _ _ _ _ c.if-self.false c.self.invariant
+    (ap (λ (p : Progress). p.begun) c.self.view_is) (omega arith, omega arith)
+
+pub returns-in-Err-clause-bulk_part : goal.returns-in-Err-clause-bulk_part
+returns-in-Err-clause-bulk_part c =
+    let before = ap (λ (p : Progress). p.moves) c.self.view_is in
+    let most = c.in-Err.ensures.part in
+    bulk-own (state_of c.self.inside.begun) c.args.self.now.begun _ _ _ _ c.if-self.false c.self.invariant
+    (ap (λ (p : Progress). p.begun) c.self.view_is) (omega arith, omega arith)

@@ -6,7 +6,8 @@ abbrev pub invariant-loop-taken : goal.invariant-loop-taken
 invariant-loop-taken l = record {
   within : l.taken ≤ length l.piece;
   after : (past : List ℕ) → begun past ≡ l.initial.self.begun → begun (past ++ take l.taken l.piece) ≡ l.self.begun;
-  frames : (past : List ℕ) → begun past ≡ l.initial.self.begun → l.initial.frames ≡ frames past → l.frames ≡ frames (past ++ take l.taken l.piece);
+  frames : (past : List ℕ) → begun past ≡ l.initial.self.begun → l.initial.frames ≡ frames past
+      → l.frames ≡ frames (past ++ take l.taken l.piece);
 }
 
 abbrev pub decreases-loop-taken : goal.decreases-loop-taken

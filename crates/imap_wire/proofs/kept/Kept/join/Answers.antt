@@ -1,5 +1,5 @@
 -- Block by block.
-use Rattle.std.proofs.Common.{◌≡◌, ℕ, ◌+◌, ◌∙◌, refl, sym, length, take, ap, arith, length-append, vec_capacity}
+use Rattle.std.proofs.Common.{◌≡◌, ℕ, ◌+◌, ◌∙◌, refl, sym, length, take, ap, arith, length-append}
 use Rattle.imap_wire.specs.Kept.{joined_blocks}
 use Rattle.imap_wire.specs.declared.tally.Tally.{Tally}
 use Rattle.imap_wire.specs.Tally.{more}
@@ -9,7 +9,7 @@ use Rattle.imap_wire.proofs.kept.Kept.join.Goals as goal
 
 pub put-requires : goal.put-requires
 put-requires c =
-    let fits = joined_blocks-fit c.deref-block-items.result.now c.loop-block.block-index c.block-item.result (vec_capacity c.loop-block.all.bytes)
+    let fits = joined_blocks-fit c.deref-block-items.result.now c.loop-block.block-index c.block-item.result c.loop-block.all.room
     (omega arith) c.block-item.is (omega (arith, c.loop-block.invariant.room)) in
     omega (arith, fits, ap length c.loop-block.invariant.all, ap length c.as_slice.ensures)
 
@@ -21,6 +21,7 @@ loop-block-preserved c =
     record {
       all = rw (joined_more, c.put.ensures.bytes, c.loop-block.invariant.all, c.as_slice.ensures) refl;
       room = omega (arith, c.loop-block.invariant.room, c.put.ensures.room);
+      moves = omega (arith, c.put.ensures.moves, c.loop-block.invariant.moves);
       tally =
           let size : length (joined_blocks (take at blocks)) + length c.as_slice.result.now ≡ length (joined_blocks (take (at + 1) blocks)) =
           rw (joined_more, c.as_slice.ensures) (sym (length-append (joined_blocks (take at blocks)) c.block-item.result.bytes.items)) in

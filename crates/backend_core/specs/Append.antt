@@ -1,0 +1,30 @@
+-- APPEND at a mailbox's home (RFC 9051, 6.3.12).
+use Rattle.std.specs.Prelude.{ℕ, List, Option, None, Some}
+use Rattle.mail_message.specs.declared.message.Message.{Message}
+use Rattle.mail_message.specs.Boxes.{Content}
+use Rattle.mail_store.specs.declared.fault.StoreFault.{StoreFault}
+use Rattle.mail_store.specs.Append.{append_fault, appended, uids_from}
+use Rattle.link_msg.specs.declared.outcome.Outcome.TheVariants.{Uids, Limit}
+use Rattle.backend_core.specs.declared.backend.Backend.{Backend}
+use Rattle.backend_core.specs.declared.held.Held.{Held}
+use Rattle.backend_core.specs.declared.response.Response.{Response}
+use Rattle.backend_core.specs.HomeStep.{HomeStep, BoxStep, answers, changes}
+use Rattle.backend_core.specs.Refusal.{refusal}
+use Rattle.backend_core.specs.Response.{bare, done, not_now}
+
+-- the messages stand behind the others, unless a limit would be passed
+unfoldable pub append_to : Content → List Message → Option StoreFault → BoxStep
+append_to content messages (Some fault) = record { content = content; response = done Limit (bare content) }
+append_to content messages None = record {
+  content = appended content messages;
+  response = done (Uids (uids_from content.next messages)) (bare (appended content messages));
+}
+
+unfoldable pub append_unless : Backend → List ℕ → Held → List Message → Option Response → HomeStep
+append_unless home name held messages (Some response) = answers home response
+append_unless home name held messages None =
+    changes home name held (append_to held.content messages (append_fault held.content messages))
+
+unfoldable pub append_step : Backend → List ℕ → ℕ → List Message → Option Held → HomeStep
+append_step home name serial messages None = answers home not_now
+append_step home name serial messages (Some held) = append_unless home name held messages (refusal serial held)

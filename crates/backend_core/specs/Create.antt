@@ -1,0 +1,40 @@
+-- CREATE at a home of mailboxes (RFC 9051, 6.3.4): the new mailbox's UIDVALIDITY is one more than the last.
+use Rattle.std.specs.Prelude.{ℕ, ◌+◌, ◌-◌, ◌^◌, Bool, true, false, ◌==◌, List, Option, None, Some}
+use Rattle.std.specs.Ordering.{nat_cmp}
+use Rattle.std.specs.Cmp.Lexicographic.{slice_cmp}
+use Rattle.mur_base.specs.Map.{with_entry}
+use Rattle.mur_base.specs.declared.home.Phase.{Phase}
+use Rattle.mur_base.specs.declared.home.Phase.TheVariants.{Open}
+use Rattle.mail_message.specs.Boxes.{empty_box}
+use Rattle.mail_message.specs.FirstAcl.{first_acl}
+use Rattle.link_msg.specs.declared.outcome.Outcome.TheVariants.{None as nothing, Exists, Limit}
+use Rattle.backend_core.specs.declared.backend.Backend.{Backend}
+use Rattle.backend_core.specs.declared.held.Held.{Held}
+use Rattle.backend_core.specs.declared.response.Response.{Response}
+use Rattle.backend_core.specs.HomeStep.{HomeStep, answers}
+use Rattle.backend_core.specs.Response.{no_snapshot, done, refused, not_now}
+
+-- a new mailbox, empty and Open
+abbrev pub new_held : ℕ → List ℕ → Held
+new_held serial name = record { phase = Open; content = empty_box serial (first_acl name) }
+
+-- the home with a new mailbox, which has the UIDVALIDITY behind the last
+abbrev pub with_new : Backend → List ℕ → Backend
+with_new home name = record home {
+  held = with_entry (slice_cmp nat_cmp) home.held name (new_held (home.last_serial + 1) name);
+  last_serial = home.last_serial + 1;
+}
+
+-- where no mailbox is, by whether every UIDVALIDITY was given
+unfoldable pub make : Backend → List ℕ → Bool → HomeStep
+make home name true = answers home (refused Limit)
+make home name false = answers (with_new home name) (done nothing no_snapshot)
+
+-- where something is known of the name
+unfoldable pub created_in : Phase → Response
+created_in Open = refused Exists
+created_in _ = not_now
+
+unfoldable pub create_step : Backend → List ℕ → Option Held → HomeStep
+create_step home name None = make home name (home.last_serial == 2 ^ 32 - 1)
+create_step home name (Some held) = answers home (created_in held.phase)

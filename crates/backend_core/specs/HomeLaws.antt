@@ -1,0 +1,37 @@
+-- What a home keeps through every ask.
+use Rattle.std.specs.Prelude.{◌≡◌, ℕ, ◌<◌, ◌≤◌, Bool, true, false, List, Option, None, Some, All}
+use Rattle.std.specs.Ordering.{nat_cmp}
+use Rattle.std.specs.Cmp.Lexicographic.{slice_cmp}
+use Rattle.mur_base.specs.Map.{IsInOrder}
+use Rattle.mur_base.specs.declared.home.Phase.{Phase}
+use Rattle.mur_base.specs.declared.home.Phase.TheVariants.{Open}
+use Rattle.backend_core.specs.declared.backend.Backend.{Backend}
+use Rattle.backend_core.specs.declared.held.Held.{Held}
+use Rattle.backend_core.specs.HomeStep.{held_at}
+
+unfoldable pub is_open : Phase → Bool
+is_open Open = true
+is_open _ = false
+
+-- by what the home has of a name
+unfoldable pub is_open_here : Option Held → Bool
+is_open_here None = false
+is_open_here (Some held) = is_open held.phase
+
+-- the names stand in rising byte order, each once
+abbrev pub HasNamesInOrder : Backend → Type 0
+HasNamesInOrder home = IsInOrder (slice_cmp nat_cmp) home.held
+
+-- a mailbox goes on: it keeps its UIDVALIDITY, and UIDNEXT never falls (RFC 9051, 2.3.1.1)
+abbrev pub GoesOn : Held → Option Held → Type 0
+GoesOn held None = ⊥
+GoesOn held (Some later) = (later.content.serial ≡ held.content.serial) × (held.content.next ≤ later.content.next)
+
+-- UIDs from UIDNEXT on, below the later UIDNEXT
+abbrev pub AreNewUids : List ℕ → Held → Option Held → Type 0
+AreNewUids uids held None = ⊥
+AreNewUids uids held (Some later) = All (λ uid. (held.content.next ≤ uid) × (uid < later.content.next)) uids
+
+-- no mailbox here has a UIDVALIDITY that wasn't given yet
+abbrev pub HasGivenSerials : Backend → Type 0
+HasGivenSerials home = (name : List ℕ) (held : Held) → held_at home name ≡ Some held → held.content.serial ≤ home.last_serial

@@ -1,0 +1,9 @@
+pub mod Append
+pub mod Create
+pub mod HomeLaws
+pub mod HomeStep
+pub mod Look
+pub mod Plan
+pub mod Refusal
+pub mod Response
+pub mod Step

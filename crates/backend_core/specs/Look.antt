@@ -1,0 +1,22 @@
+-- What a mailbox looks like, as its home tells it.
+use Rattle.std.specs.Prelude.{ℕ, Option, None, Some}
+use Rattle.mail_message.specs.Boxes.{Content, snapshot_of}
+use Rattle.link_msg.specs.declared.outcome.Outcome.TheVariants.{None as nothing}
+use Rattle.backend_core.specs.declared.backend.Backend.{Backend}
+use Rattle.backend_core.specs.declared.held.Held.{Held}
+use Rattle.backend_core.specs.declared.response.Response.{Response}
+use Rattle.backend_core.specs.HomeStep.{HomeStep, answers}
+use Rattle.backend_core.specs.Refusal.{refusal}
+use Rattle.backend_core.specs.Response.{done, not_now}
+
+unfoldable pub look_unless : Content → Option Response → Response
+look_unless content (Some response) = response
+look_unless content None = done nothing (snapshot_of content)
+
+-- by what the home has of the name
+unfoldable pub look_at : ℕ → Option Held → Response
+look_at serial None = not_now
+look_at serial (Some held) = look_unless held.content (refusal serial held)
+
+unfoldable pub look_step : Backend → ℕ → Option Held → HomeStep
+look_step home serial found = answers home (look_at serial found)

@@ -1,0 +1,47 @@
+// What every ask leaves of a home, as laws of its definition.
+ghost use Rattle.std.specs.Prelude.{◌≡◌, ◌≢◌, ◌+◌, ◌≤◌, ℕ, List, Some, false};
+ghost use Rattle.mail_message.specs.declared.message.Message.{Message};
+ghost use Rattle.link_msg.specs.declared.ask.FrontAsk.{FrontAsk};
+ghost use Rattle.mail_message.specs.declared.message.Snapshot.{Snapshot};
+ghost use Rattle.link_msg.specs.declared.answer.AnswerBody.TheVariants.{Done};
+ghost use Rattle.link_msg.specs.declared.op.Op.TheVariants.{Append};
+ghost use Rattle.link_msg.specs.declared.outcome.Outcome.TheVariants.{Uids};
+ghost use Rattle.backend_core.specs.declared.backend.Backend.{Backend};
+ghost use Rattle.backend_core.specs.declared.held.Held.{Held};
+ghost use Rattle.backend_core.specs.HomeStep.{held_at};
+ghost use Rattle.backend_core.specs.HomeLaws.{is_open_here, HasNamesInOrder, GoesOn, AreNewUids, HasGivenSerials};
+ghost use Rattle.backend_core.specs.Step.{home_step};
+
+/// An APPEND changes nothing where its mailbox isn't Open here.
+pub fn an_append_elsewhere_changes_nothing()
+    ensures { (home : Backend) (ask : FrontAsk) (messages : List Message) → ask.op ≡ Append messages
+        → is_open_here (held_at home ask.name) ≡ false → (home_step home ask).home ≡ home }
+{}
+
+/// Each mailbox goes on with its UIDVALIDITY, and its UIDNEXT never falls (RFC 9051, 2.3.1.1).
+pub fn uidnext_never_falls()
+    ensures { (home : Backend) (ask : FrontAsk) (name : List ℕ) (held : Held) → held_at home name ≡ Some held
+        → GoesOn held (held_at (home_step home ask).home name) }
+{}
+
+/// The UIDs that an APPEND is answered with lie from UIDNEXT before it on and below UIDNEXT behind it. So no UID of a
+/// mailbox is given twice (RFC 9051, 2.3.1.1).
+pub fn no_uid_is_given_twice()
+    ensures { (home : Backend) (ask : FrontAsk) (messages : List Message) (held : Held) (uids : List ℕ) (seen : Snapshot)
+        → ask.op ≡ Append messages → held_at home ask.name ≡ Some held → (home_step home ask).body ≡ Some (Done (Uids uids) seen)
+        → AreNewUids uids held (held_at (home_step home ask).home ask.name) }
+{}
+
+/// The last UIDVALIDITY never falls, and no mailbox has one that wasn't given: a new mailbox's is greater than each here.
+pub fn uidvalidity_is_not_given_again()
+    ensures not_falls { (home : Backend) (ask : FrontAsk) → home.last_serial ≤ (home_step home ask).home.last_serial }
+    ensures by_one { (home : Backend) (ask : FrontAsk) → (home_step home ask).home.last_serial ≤ home.last_serial + 1 }
+    ensures given { (home : Backend) (ask : FrontAsk) → HasGivenSerials home → HasGivenSerials (home_step home ask).home }
+{}
+
+/// Every other name keeps what the home has of it, and the names stay in order.
+pub fn other_names_stay()
+    ensures others { (home : Backend) (ask : FrontAsk) (other : List ℕ) → other ≢ ask.name
+        → held_at (home_step home ask).home other ≡ held_at home other }
+    ensures ordered { (home : Backend) (ask : FrontAsk) → HasNamesInOrder home → HasNamesInOrder (home_step home ask).home }
+{}

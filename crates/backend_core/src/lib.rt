@@ -1,0 +1,23 @@
+//! A home of mailboxes: what a backend does with each ask, as one step of its own state.
+#![tactic(auto)]
+
+mod append;
+mod backend;
+mod create;
+mod held;
+mod input;
+mod laws;
+mod look;
+mod plan;
+mod refusal;
+mod response;
+mod step;
+
+pub use backend::Backend;
+pub use held::Held;
+pub use input::BackInput;
+pub use laws::{
+    an_append_elsewhere_changes_nothing, no_uid_is_given_twice, other_names_stay,
+    uidnext_never_falls, uidvalidity_is_not_given_again,
+};
+pub use plan::BackPlan;

@@ -1,0 +1,33 @@
+// What a home does with an ask.
+ghost use Rattle.std.specs.Prelude.{◌≡◌, IfOk};
+ghost use Rattle.backend_core.specs.Step.{home_step};
+ghost use Rattle.backend_core.specs.HomeStep.{responds};
+
+use crate::append::append;
+use crate::backend::Backend;
+use crate::create::create;
+use crate::look::look;
+use crate::response::Response;
+use link_msg::{FrontAsk, Op};
+use mur_base::Memory;
+use std::alloc::Global;
+
+/// Carries out what is asked, and gives the answer, if there is one. For want of memory the home is spent.
+#[tactic(auto, unfolding(crate::specs::Step::home_step, crate::specs::Step::op_step, crate::specs::Look::look_step))]
+pub fn serve(alloc: Global, home: &mut Backend, ask: FrontAsk) -> Result<Option<Response>, Memory>
+    ensures { IfOk result (λ response. responds home.new response ≡ home_step home.old ask) }
+{
+    let FrontAsk {
+        id: _,
+        user: _,
+        name,
+        serial,
+        op,
+    } = ask;
+    match op {
+        Op::Create => Ok(Some(create(alloc, home, name)?)),
+        Op::Append(messages) => Ok(Some(append(alloc, home, &name, serial, messages)?)),
+        Op::Look => Ok(Some(look(alloc, serial, home.held.get(&name))?)),
+        _ => Ok(None),
+    }
+}

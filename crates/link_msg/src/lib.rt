@@ -1,0 +1,19 @@
+//! What the nodes of a cluster say to each other: a frontend asks the home of a mailbox, and the home answers. Nothing
+//! here knows how an answer is found.
+#![tactic(auto)]
+
+mod answer;
+mod ask;
+mod counts;
+mod message;
+mod op;
+mod out;
+mod outcome;
+
+pub use answer::{AnswerBody, BackAnswer};
+pub use ask::FrontAsk;
+pub use counts::Counts;
+pub use message::LinkMsg;
+pub use op::Op;
+pub use out::{Out, Outs};
+pub use outcome::Outcome;

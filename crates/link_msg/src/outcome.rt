@@ -1,0 +1,21 @@
+// What was done.
+use mail_message::{Messages, Rows, Uids};
+
+/// What came of an operation that its home carried out or refused for good.
+#[derive(Drop)]
+pub enum Outcome {
+    /// It is done, and there is nothing to tell.
+    None,
+    /// The messages that were read, with the flags that they had before.
+    Messages(Messages),
+    /// The messages whose flags were changed, with the flags that they have now.
+    Rows(Rows),
+    /// The UIDs of the messages that were appended, in their order, or that were expunged, in rising order.
+    Uids(Uids),
+    /// There is a mailbox with that name already.
+    Exists,
+    /// It would pass a limit.
+    Limit,
+    /// The mailbox that the asking session has selected is gone: another one has its name.
+    Gone,
+}
