@@ -108,10 +108,7 @@ fn asked(alloc: Global, node: &str, name: &str, serial: &str, op: Op) -> Result<
         serial: number_of(serial)?,
         op,
     };
-    Ok(BackInput::FromFront(
-        node_name(alloc, node.as_bytes())?,
-        ask,
-    ))
+    Ok(BackInput::FromFront(node_name(alloc, node.as_bytes())?, ask))
 }
 
 /// Outputs in words, a semicolon between them.
