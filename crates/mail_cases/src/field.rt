@@ -21,8 +21,13 @@ pub fn fields_of(alloc: Global, line: &str) -> Result<Vec<&str>, Memory> {
 
 /// The number that a field writes.
 pub fn number_of(field: &str) -> Result<u32> {
+    Ok(u32::try_from(wide_number_of(field)?)?)
+}
+
+/// The number of at most 64 bits that a field writes.
+pub fn wide_number_of(field: &str) -> Result<u64> {
     match read_number(field.as_bytes()) {
-        Some(number) => Ok(u32::try_from(number)?),
+        Some(number) => Ok(number),
         None => Err(anyhow!("no number: {field}")),
     }
 }

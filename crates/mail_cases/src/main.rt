@@ -1,6 +1,6 @@
-//! Reads worked cases of flags, dates, sets, mailboxes and homes of mailboxes from a text file, and compares what `mail_message`,
-//! `mail_store` and `backend_core` make of each with what the case wants: `mail_cases TABLE`. It prints how many cases passed, or
-//! ends with status 1 at the first one that differs.
+//! Reads worked cases of flags, dates, sets, mailboxes, search keys, fetch items and homes of mailboxes from text files, and compares
+//! what `mail_message`, `mail_store`, `mail_search`, `mail_fetch` and `backend_core` make of each with what the case wants:
+//! `mail_cases TABLE ..`. It prints how many cases of each table passed, or ends with status 1 at the first one that differs.
 //!
 //! A case is a line of fields with ` | ` between them, of which the first is its kind. Lines that begin with `#` say what the
 //! fields of each kind are.
@@ -9,7 +9,9 @@
 mod field;
 mod flags;
 mod home;
+mod keys;
 mod operation;
+mod parts;
 mod sets;
 
 use anyhow::{Result, anyhow};
@@ -26,10 +28,12 @@ fn holds(alloc: Global, fields: &[&str]) -> Result<bool> {
         ["flags", before, mode, named, want] => {
             flags::are_after(alloc, before, mode, named, want)
         }
-        ["set", set, last, want] => {
-            Ok(sets::members(alloc, set, last)?.as_slice() == want.as_bytes())
-        }
+        ["set", set, want] => Ok(sets::members(alloc, set)?.as_slice() == want.as_bytes()),
         ["acl", name, want] => is_first_acl(alloc, name, want),
+        ["key", key, message @ .., want] => keys::match_message(alloc, key, message, want),
+        ["search", keys, messages, want] => keys::find(alloc, keys, messages, want),
+        ["part", item, message @ .., want] => parts::give(alloc, item, message, want),
+        ["long", item, bytes, head, rest] => parts::give_long(alloc, item, bytes, head, rest),
         ["box", operations @ ..] => operation::hold(alloc, operations),
         ["home", steps @ ..] => home::hold(alloc, steps),
         _ => Ok(false),
@@ -70,11 +74,10 @@ fn passed(alloc: Global, text: &str) -> Result<u64> {
 }
 
 fn main(rt: HostRuntime) -> Result<()> {
-    let Some(file) = env::args(&rt)?.nth(1) else {
-        return Err(anyhow!("mail_cases TABLE"));
-    };
-    let text = fs::read_to_string(&rt, file.as_str())?;
-    let passed = passed(rt.alloc(), text.as_str())?;
-    println!(rt; "{file}: {passed} cases passed")?;
+    for file in env::args(&rt)?.skip(1) {
+        let text = fs::read_to_string(&rt, file.as_str())?;
+        let passed = passed(rt.alloc(), text.as_str())?;
+        println!(rt; "{file}: {passed} cases passed")?;
+    }
     Ok(())
 }

@@ -1,3 +1,4 @@
+mod DayLaws
 mod BoxLaws
 mod KeywordLaws
 pub mod OtherLaws

@@ -1,9 +1,11 @@
 pub mod Boxes
 pub mod Date
+pub mod Days
 pub mod FirstAcl
 pub mod FlagNames
 pub mod FlagSets
 pub mod Keywords
+pub mod Partials
 pub mod Sets
 pub mod Slots
 pub mod SystemFlags

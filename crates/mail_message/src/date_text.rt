@@ -2,9 +2,13 @@
 ghost use Rattle.std.specs.Prelude.{◌≡◌, [], ◌∷◌, length, map};
 ghost use Rattle.std.specs.List.{list_all};
 ghost use Rattle.std.specs.Char.{is_ascii_digit};
+ghost use Rattle.std.specs.Prelude.{◌≤◌, true};
+ghost use Rattle.mur_base.specs.Ascii.{digit_nine};
 ghost use Rattle.mail_message.specs.Date.{date_of, is_date, is_calendar, is_clock, is_zone, is_day, is_month, is_below, months};
+ghost use Rattle.mail_message.specs.Days.{day_of, calendar_day, month_number, two_digits, four_digits, is_on_calendar};
 
-use crate::word::is_some_word;
+use crate::day::Day;
+use crate::word::{is_some_word, place_of_word};
 use std::marker::Model;
 
 /// Bytes of a date text.
@@ -39,6 +43,60 @@ impl DateText {
         ensures date { date_of result.now ≡ Some self.now }
     {
         &self.text
+    }
+
+    /// The day that the text names, without its time and zone.
+    #[tactic(auto, unfolding(crate::specs::Days::day_of, crate::specs::Date::is_date))]
+    pub fn day(&self) -> Day
+        ensures day { result ≡ day_of self.now }
+        ensures calendar { is_on_calendar result ≡ true }
+    {
+        calendar_day(&self.text[0..11])
+    }
+}
+
+#[tactic(auto, unfolding(crate::specs::Days::calendar_day, crate::specs::Date::is_calendar))]
+fn calendar_day(text: &[u8]) -> Day
+    requires length { length text.now ≡ 11 }
+    requires calendar { is_calendar text.now ≡ true }
+    ensures day { result ≡ calendar_day text.now }
+    ensures calendar { is_on_calendar result ≡ true }
+{
+    Day {
+        day: two_digits(text[0], text[1]),
+        month: month_number(&text[3..6]),
+        year: four_digits(&text[7..11]),
+    }
+}
+
+/// The number of two digits, or of one behind a space.
+#[tactic(auto, unfolding(crate::specs::Days::two_digits))]
+fn two_digits(tens: u8, ones: u8) -> u8
+    requires tens { tens ≤ digit_nine }
+    requires ones { ones ≤ digit_nine }
+    ensures value { result ≡ two_digits tens ones }
+    ensures below { result ≤ 99 }
+{
+    10 * tens.saturating_sub(b'0') + ones.saturating_sub(b'0')
+}
+
+#[tactic(auto, unfolding(crate::specs::Days::four_digits))]
+fn four_digits(text: &[u8]) -> u16
+    requires length { length text.now ≡ 4 }
+    requires digits { list_all is_ascii_digit text.now ≡ true }
+    ensures value { result ≡ four_digits text.now }
+    ensures below { result ≤ 9999 }
+{
+    100 * u16::from(two_digits(text[0], text[1])) + u16::from(two_digits(text[2], text[3]))
+}
+
+#[tactic(auto, unfolding(crate::specs::Days::month_number))]
+fn month_number(text: &[u8]) -> u8
+    ensures { result ≡ month_number text.now }
+{
+    match place_of_word(text, &MONTHS) {
+        Some(at) => at as u8 + 1,
+        None => 0,
     }
 }
 

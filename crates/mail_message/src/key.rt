@@ -1,8 +1,8 @@
 // Search keys.
 use crate::day::Day;
-use crate::keyword::Keyword;
+use crate::flag_name::FlagName;
 use crate::set::SetParts;
-use mur_base::Items;
+use mur_base::{Boxed, Items};
 
 /// A search key (RFC 9051, 6.4.4).
 #[derive(Drop)]
@@ -18,8 +18,8 @@ pub enum Key {
     Undraft,
     Unflagged,
     Unseen,
-    Keyword(Keyword),
-    Unkeyword(Keyword),
+    Keyword(FlagName),
+    Unkeyword(FlagName),
     /// The message has more bytes.
     Larger(u64),
     /// The message has fewer bytes.
@@ -31,10 +31,10 @@ pub enum Key {
     Uid(SetParts),
     /// The sequence number is in the set.
     Numbers(SetParts),
-    Not(Box<Key>),
-    Or(Box<Key>, Box<Key>),
-    /// Both keys: `(a b c)` is `a` and both of `b` and `c`.
-    Both(Box<Key>, Box<Key>),
+    Not(Boxed<Key>),
+    Or(Boxed<Key>, Boxed<Key>),
+    /// Keys in parentheses, of which all are meant.
+    Group(Keys),
 }
 
 /// The keys of a command, of which all are meant.

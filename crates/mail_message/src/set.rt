@@ -1,6 +1,6 @@
 // Sets of message numbers as clients write them.
-ghost use Rattle.std.specs.Prelude.{◌≡◌, ◌&&◌, ◌||◌, nat_le};
-ghost use Rattle.mail_message.specs.Sets.{end_at, part_has};
+ghost use Rattle.std.specs.Prelude.{◌≡◌};
+ghost use Rattle.mail_message.specs.Sets.{numbered, end_at, part_at, part_bounds, part_holds};
 
 use mur_base::Items;
 
@@ -25,31 +25,59 @@ pub enum SetPart {
 pub type SetParts = Items<SetPart>;
 
 impl SetEnd {
-    /// The number that it is where `last` is the largest in use.
-    pub fn at(self, last: u32) -> u32
+    /// The end at a number. `None` exactly for 0, which no message has.
+    pub fn new(number: u32) -> Option<SetEnd>
+        ensures { result ≡ numbered number }
+    {
+        if number == 0 {
+            return None;
+        }
+        Some(SetEnd::Number(number))
+    }
+
+    /// The end with a number in the place of `*`.
+    pub fn at(self, last: u32) -> SetEnd
         ensures { result ≡ end_at last self }
     {
         match self {
-            SetEnd::Number(number) => number,
-            SetEnd::Last => last,
+            SetEnd::Number(number) => SetEnd::Number(number),
+            SetEnd::Last => SetEnd::Number(last),
         }
     }
 }
 
 impl SetPart {
-    /// Whether a number is in it where `last` is the largest in use.
-    pub fn has(self, number: u32, last: u32) -> bool
-        ensures { result ≡ part_has last self number }
+    /// The part with a number in the place of `*`.
+    pub fn at(self, last: u32) -> SetPart
+        ensures { result ≡ part_at last self }
     {
         match self {
-            SetPart::One(end) => number == end.at(last),
-            SetPart::Range(one, other) => is_between(number, one.at(last), other.at(last)),
+            SetPart::One(end) => SetPart::One(end.at(last)),
+            SetPart::Range(one, other) => SetPart::Range(one.at(last), other.at(last)),
         }
     }
-}
 
-fn is_between(number: u32, one: u32, other: u32) -> bool
-    ensures { result ≡ ((nat_le one number && nat_le number other) || (nat_le other number && nat_le number one)) }
-{
-    (one <= number && number <= other) || (other <= number && number <= one)
+    /// The least and the greatest number of the part, which holds all between them. `None` exactly where `*` stands in it, whose
+    /// number isn't known here.
+    pub fn bounds(self) -> Option<(u32, u32)>
+        ensures { result ≡ part_bounds self }
+    {
+        match self {
+            SetPart::One(SetEnd::Number(number)) => Some((number, number)),
+            SetPart::Range(SetEnd::Number(one), SetEnd::Number(other)) => {
+                Some((one.min(other), one.max(other)))
+            }
+            SetPart::One(SetEnd::Last) | SetPart::Range(_, _) => None,
+        }
+    }
+
+    /// Whether a number is in the part; none is where `*` stands in it.
+    pub fn holds(self, number: u32) -> bool
+        ensures { result ≡ part_holds self number }
+    {
+        match self.bounds() {
+            Some((least, greatest)) => least <= number && number <= greatest,
+            None => false,
+        }
+    }
 }

@@ -5,3 +5,4 @@ pub mod MapLoan
 pub mod Names
 pub mod Number
 pub mod Users
+pub mod formers

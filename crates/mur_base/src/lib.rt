@@ -2,6 +2,7 @@
 //! numbers as text, the points of a history, locations, phases and the limits.
 #![tactic(auto)]
 
+mod boxed;
 mod copied;
 mod home;
 mod inbox;
@@ -16,6 +17,7 @@ mod point;
 mod queue;
 mod user;
 
+pub use boxed::Boxed;
 pub use copied::Copied;
 pub use home::{Location, Phase};
 pub use inbox::{is_own, owns, shown, taken, what_is_shown_is_taken};

@@ -1,0 +1,17 @@
+-- The body of a message, and parts of it, as a FETCH gives them (RFC 9051, 6.4.5 and 7.5.2).
+use Rattle.std.specs.Prelude.{ℕ, List, ◌++◌, length, take, drop, codes, decimal, Option, Some, None}
+use Rattle.mur_base.specs.Ascii.{crlf}
+use Rattle.mail_message.specs.declared.item.Partial.{Partial}
+
+-- literal: the number of octets, and the octets as they are (RFC 9051, 4.3)
+abbrev pub literal : List ℕ → List ℕ
+literal octets = codes "{" ++ decimal (length octets) ++ codes "}" ++ crlf ++ octets
+
+-- the octets from a place on, at most so many; none where the place is behind the last
+abbrev pub octets_of : Partial → List ℕ → List ℕ
+octets_of partial body = take partial.count (drop partial.from body)
+
+-- the whole body, or a part of it beside the place at which it begins
+abbrev pub body_text : Option Partial → List ℕ → List ℕ
+body_text None body = codes "BODY[] " ++ literal body
+body_text (Some partial) body = codes "BODY[]<" ++ decimal partial.from ++ codes "> " ++ literal (octets_of partial body)

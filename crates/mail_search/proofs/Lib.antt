@@ -1,0 +1,4 @@
+mod FoundLaw
+mod GroupLaw
+mod MarkLaws
+mod SpanLaws

@@ -1,0 +1,10 @@
+//! What a search key matches, and which messages a SEARCH finds.
+#![tactic(auto)]
+
+mod marks;
+mod matching;
+mod searching;
+mod spans;
+
+pub use matching::{key_matches, set_holds};
+pub use searching::search;
