@@ -1,5 +1,5 @@
-//! Reads worked cases of flags, dates, sets, mailboxes, search keys, fetch items and homes of mailboxes from text files, and compares
-//! what `mail_message`, `mail_store`, `mail_search`, `mail_fetch` and `backend_core` make of each with what the case wants:
+//! Reads worked cases of flags, dates, sets, mailboxes, homes of mailboxes, search keys and fetch items from text files, and
+//! compares what `mail_message`, `mail_store`, `backend_core`, `mail_search` and `mail_fetch` make of each with what the case wants:
 //! `mail_cases TABLE ..`. It prints how many cases of each table passed, or ends with status 1 at the first one that differs.
 //!
 //! A case is a line of fields with ` | ` between them, of which the first is its kind. Lines that begin with `#` say what the
@@ -29,11 +29,11 @@ fn holds(alloc: Global, fields: &[&str]) -> Result<bool> {
             flags::are_after(alloc, before, mode, named, want)
         }
         ["set", set, want] => Ok(sets::members(alloc, set)?.as_slice() == want.as_bytes()),
-        ["acl", name, want] => is_first_acl(alloc, name, want),
         ["key", key, message @ .., want] => keys::match_message(alloc, key, message, want),
         ["search", keys, messages, want] => keys::find(alloc, keys, messages, want),
         ["part", item, message @ .., want] => parts::give(alloc, item, message, want),
         ["long", item, bytes, head, rest] => parts::give_long(alloc, item, bytes, head, rest),
+        ["acl", name, want] => is_first_acl(alloc, name, want),
         ["box", operations @ ..] => operation::hold(alloc, operations),
         ["home", steps @ ..] => home::hold(alloc, steps),
         _ => Ok(false),
