@@ -1,35 +1,39 @@
--- The headline holds of every run whose events fit the serials.
-use Rattle.std.proofs.Common.{◌≡◌, ◌^◌, ◌<◌, List, ◌++◌, sym, subst}
-use Rattle.std.proofs.lemmas.List.Elements.{All-weaker}
+-- The headline holds of every run.
+use Rattle.std.proofs.Common.{◌≡◌, List, refl, sym, subst}
+use Rattle.std.specs.Prelude.{All}
+use Rattle.std.proofs.Math.Logic.{⊎_elim}
 use Rattle.mur_base.specs.declared.point.Point.{Point}
-use Rattle.mur_base.specs.declared.point.What.TheVariants.{Reply as replied}
 use Rattle.mur_config.specs.declared.config.Config.{Config}
+use Rattle.mur_config.specs.Nodes.{AreNodes}
 use Rattle.schedule_text.specs.declared.event.Event.{Event}
+use Rattle.cluster_core.specs.declared.world.Mark.{Mark}
+use Rattle.cluster_core.specs.declared.world.World.{World}
+use Rattle.cluster_core.specs.Flow.{run, run_steps, unrolled}
 use Rattle.cluster_core.specs.Headline.{IsOneServer}
-use Rattle.cluster_core.specs.HomeLaw.{HasCause}
-use Rattle.cluster_core.specs.OneStore.{IsToldByOneStore}
-use Rattle.schedule_text.specs.Brings.{bytes_of_all}
-use Rattle.cluster_core.specs.World.{start, run}
-use Rattle.cluster_core.proofs.InTime.{run_timely, start_timely, stands_in_time}
+use Rattle.cluster_core.specs.History.{history_of}
+use Rattle.cluster_core.specs.HomeLaw.{HasCause, RefusesForCause}
+use Rattle.cluster_core.specs.World.{start}
+use Rattle.cluster_core.proofs.Marks.{IsOf, all_points}
+use Rattle.cluster_core.proofs.OneNodeLaw.{one_node_each}
 use Rattle.cluster_core.proofs.OneHome.{keeps_one_home_each}
-use Rattle.cluster_core.proofs.OneStoreLaw.{told_so_far, kept_all, all_reply}
+use Rattle.cluster_core.proofs.ToldSoFar.{told_by_one_store}
+use Rattle.cluster_core.proofs.Unrolled.{by_steps}
 
-told_by_one_store : (config : Config) (events : List Event) → bytes_of_all events < 2 ^ 32 → IsToldByOneStore config events
-told_by_one_store config events small =
-    let all = kept_all config events small in
-    record {
-      talk = all.talk;
-      at_each_step = λ before later e. told_so_far all.talk before (run (start config) before) (all.at before later e);
-      in_time = λ before later e. stands_in_time config events before later e;
-      steps_rise = (run_timely (start config) events (start_timely config)).rise;
-    }
+has_cause : (world : World) (mark : Mark) (point : Point) → IsOf world mark point → HasCause point.what
+has_cause world mark point is = ⊎_elim (λ both. subst HasCause (sym both.0) tt) (λ lost. subst HasCause (sym lost) tt) is.either
 
-has_cause : (point : Point) → point.what ≡ replied → HasCause point.what
-has_cause point e = subst HasCause (sym e) tt
+anything : (world : World) (marks : List Mark) → All (λ (mark : Mark). mark ≡ mark) marks
+anything world marks = λ k d h. refl
 
-pub one_server : (config : Config) (events : List Event) → bytes_of_all events < 2 ^ 32 → IsOneServer config events
-one_server config events small = record {
-  one_store = told_by_one_store config events small;
-  one_home = keeps_one_home_each config events;
-  refusals = All-weaker (λ (point : Point). point.what ≡ replied) (λ (point : Point). HasCause point.what) has_cause (run (start config) events).points (all_reply config events small);
+refuses : (world : World) → RefusesForCause world
+unfolding history_of
+refuses world = all_points world (λ (mark : Mark). mark ≡ mark) (λ (point : Point). HasCause point.what) (λ mark point same is. has_cause world mark point is) world.marks (anything world world.marks)
+
+pub one_server : (config : Config) (events : List Event) → AreNodes config.nodes → IsOneServer config events
+one_server config events are = record {
+  by_steps = by_steps (start config) events;
+  one_node = one_node_each (start config) (unrolled (start config) events);
+  one_store = told_by_one_store config events are;
+  one_home = keeps_one_home_each config events are;
+  refusals = refuses (run (start config) events);
 }

@@ -1,18 +1,40 @@
-mod FirstUser
-mod ReaderLaws
-mod CarryLaws
-mod FramesLaws
-mod ServedAlike
-mod CreateLaw
-mod ServeLaw
-mod AnswerLaw
-mod FrameForms
-mod Points
-mod Told
-mod TurnLaw
-mod Keeps
-mod OneStoreLaw
-mod InTime
-mod OneHome
-mod Room
+pub mod Wires
+pub mod Ways
+pub mod ServedAlike
+pub mod CreateLaw
+pub mod AppendLaw
+pub mod StatusLaw
+pub mod ServeLaw
+pub mod Marks
+pub mod Told
+pub mod RequestsOf
+pub mod FrontAnswers
+pub mod ConnectionLaw
+pub mod FrameLaw
+pub mod KeepsLaw
+pub mod KeepsStill
+pub mod KeepsFront
+pub mod KeepsOpen
+pub mod KeepsData
+pub mod KeepsHang
+pub mod KeepsAsk
+pub mod KeepsAnswer
+pub mod KeepsDeliver
+pub mod KeepsReply
+pub mod Keeps
+pub mod Unrolled
+pub mod StartLaw
+pub mod OneStoreLaw
+pub mod InTime
+pub mod HomesLaw
+pub mod ToldSoFar
+pub mod OneNodeLaw
+pub mod OneHome
 pub mod HeadlineLaw
+pub mod FirstBackend
+pub mod Entries
+pub mod FirstTaken
+pub mod CarryOn
+pub mod RoomLaw
+pub mod FlowMade
+pub mod RunRoom

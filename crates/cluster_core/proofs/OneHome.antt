@@ -1,97 +1,68 @@
 -- After every step each name has at most one writable home.
-use Rattle.std.proofs.Common.{◌≡◌, ℕ, ◌+◌, ◌≤◌, Bool, true, false, cond, nat_eq, List, [], ◌∷◌, map, Option, None, Some, refl, sym, ◌∙◌, ap, arith, zero-add}
+use Rattle.std.proofs.Common.{◌≡◌, ◌≢◌, ◌⊎◌, ℕ, zero, suc, ◌+◌, ◌≤◌, ◌<◌, ◌&&◌, Bool, true, false, cond, nat_eq, List, [], ◌∷◌, ◌++◌, length, Option, None, Some, refl, sym, ◌∙◌, ap, subst, arith, length-append}
 use Rattle.std.specs.Prelude.{All, count_by}
-use Rattle.std.specs.declared.cmp.Ordering.TheVariants.{Less, Equal}
-use Rattle.std.specs.Ordering.{nat_cmp}
+use Rattle.std.specs.List.{fold, AllByRecursion}
+use Rattle.std.specs.Map.{keys_of}
+use Rattle.std.specs.declared.cmp.Ordering.{Ordering}
+use Rattle.std.specs.declared.cmp.Ordering.TheVariants.{Less, Equal, Greater}
+use Rattle.std.specs.List.Sorted.{IsStrictlySortedBy}
+use Rattle.std.specs.Ordering.{nat_cmp, match_ordering, ordering_reverse}
+use Rattle.std.specs.BTreeSet.{insert_key}
 use Rattle.std.specs.Cmp.Lexicographic.{pointwise, slice_cmp}
 use Rattle.std.proofs.lemmas.Bool.Decides.{nat_tests}
-use Rattle.std.specs.Map.{keys_of}
-use Rattle.std.specs.Str.{bytes_eq}
-use Rattle.std.specs.List.Sorted.{IsStrictlySortedBy}
 use Rattle.std.proofs.lemmas.Cmp.{tied_itself, nat_list_cmp_total}
-use Rattle.std.proofs.lemmas.List.Elements.{All-head, All-tail}
+use Rattle.std.proofs.lemmas.List.Elements.{All-head, All-tail, All-cons, All-weaker}
+use Rattle.std.proofs.lemmas.Map.Views.{All-after_first, All-insert_key}
+use Rattle.backend_core.specs.declared.backend.Backend.{Backend}
+use Rattle.std.specs.Str.{bytes_eq}
 use Rattle.std.proofs.lemmas.List.Sums.{sum_by-append}
-use Rattle.std.proofs.lemmas.Map.Views.{All-after_first}
-use Rattle.imap_wire.specs.declared.frame.Frame.{Frame}
-use Rattle.mur_base.specs.Map.{IsInOrder}
-use Rattle.mur_base.proofs.MapOrder.{with_entry-in_order}
-use Rattle.mur_model.specs.declared.command.Command.{Command}
-use Rattle.mur_model.specs.declared.command.Command.TheVariants.{Create}
-use Rattle.mur_model.specs.declared.create.Named.{Named}
-use Rattle.mur_model.specs.declared.create.Named.TheVariants.{Name, Refused}
-use Rattle.mur_model.specs.declared.store.MailBox.{MailBox}
-use Rattle.mur_model.specs.Create.{named_by}
-use Rattle.mur_model.specs.Store.{new_box}
-use Rattle.cluster_core.specs.declared.cluster.HomeRow.{HomeRow}
+use Rattle.backend_core.specs.declared.held.Held.{Held}
+use Rattle.mur_base.specs.Map.{value_at}
 use Rattle.mur_config.specs.declared.config.Config.{Config}
+use Rattle.mur_config.specs.Nodes.{AreNodes}
 use Rattle.schedule_text.specs.declared.event.Event.{Event}
-use Rattle.schedule_text.specs.declared.event.Event.TheVariants.{Open, Data}
-use Rattle.cluster_core.specs.declared.front.Ask.{Ask}
-use Rattle.cluster_core.specs.declared.world.Client.{Client}
-use Rattle.cluster_core.specs.declared.world.Home.{Home}
+use Rattle.cluster_core.specs.declared.cluster.HomeRow.{HomeRow}
 use Rattle.cluster_core.specs.declared.world.World.{World}
-use Rattle.cluster_core.specs.Home.{serve}
-use Rattle.cluster_core.specs.HomeCreate.{create, create_at, make}
+use Rattle.cluster_core.specs.Flow.{run_steps, unrolled}
 use Rattle.cluster_core.specs.HomeLaw.{is_open, is_writable_home, HasOneHomeEach, KeepsOneHomeEach}
-use Rattle.cluster_core.specs.Shown.{home_row, home_rows}
-use Rattle.cluster_core.specs.Front.{frame_in}
-use Rattle.cluster_core.specs.Turn.{Turn, with_outs, serve_ask, take_frame, take_frames}
-use Rattle.cluster_core.specs.World.{start, open_at, data_at, stepped, takes, happens, run}
+use Rattle.cluster_core.specs.Shown.{row_if, home_row, rows_of, rows_of_all, names_at, home_rows, held_at}
+use Rattle.cluster_core.specs.World.{start, home_of}
+use Rattle.cluster_core.proofs.HomesLaw.{rows_here}
+use Rattle.cluster_core.proofs.Keeps.{KeepsAll}
+use Rattle.cluster_core.proofs.KeepsLaw.{KeepsLaw, AreNodesOf}
+use Rattle.cluster_core.proofs.ToldSoFar.{kept_all}
 
--- the names of a home rise
-abbrev pub RisesIn : Home → Type 0
-RisesIn home = IsInOrder (slice_cmp nat_cmp) home.boxes
+count_both : (p : HomeRow → Bool) (xs ys : List HomeRow) → count_by p (xs ++ ys) ≡ count_by p xs + count_by p ys
+count_both p xs ys = sum_by-append (λ y. cond (p y) 1 0) xs ys
 
-make_rises : (home : Home) (name : List ℕ) (spent : Bool) → RisesIn home → RisesIn (make home name spent).home
-unfolding make
-make_rises home name true rises = rises
-make_rises home name false rises = with_entry-in_order (slice_cmp nat_cmp) nat_list_cmp_total home.boxes name (new_box (home.last_serial + 1)) rises
+-- whether a name is this one
+abbrev is_name : List ℕ → List ℕ → Bool
+is_name name other = bytes_eq other name
 
-create_at_rises : (home : Home) (name : List ℕ) (found : Option MailBox) → RisesIn home → RisesIn (create_at home name found).home
-unfolding create_at
-create_at_rises home name (Some there) rises = rises
-create_at_rises home name None rises = make_rises home name _ rises
+names_cons : (p : List ℕ → Bool) (x : List ℕ) (xs : List (List ℕ)) → count_by p (x ∷ xs) ≡ cond (p x) 1 0 + count_by p xs
+names_cons p x xs = sum_by-append (λ y. cond (p y) 1 0) (x ∷ []) xs ∙ ap (λ n. n + count_by p xs) (omega arith)
 
-create_rises : (home : Home) (named : Named) → RisesIn home → RisesIn (create home named).home
-unfolding create
-create_rises home (Refused why) rises = rises
-create_rises home (Name name) rises = create_at_rises home name _ rises
+by_tests : (writable named : Bool) → 0 + cond (writable && named) 1 0 ≤ cond named 1 0
+by_tests true true = omega arith
+by_tests true false = omega arith
+by_tests false true = omega arith
+by_tests false false = omega arith
 
-serve_rises : (home : Home) (it : Command) → RisesIn home → RisesIn (serve home it).home
-unfolding serve
-serve_rises home (Create text) rises = create_rises home (named_by text) rises
-serve_rises home it rises = rises
+row_counts : (name other node : List ℕ) (found : Option Held) → count_by (is_writable_home name) (row_if other node found) ≤ cond (is_name name other) 1 0
+row_counts name other node None = omega arith
+row_counts name other node (Some held) = by_tests (is_open held.phase) (is_name name other)
 
-ask_rises : (step : ℕ) (turn : Turn) (ask : Option Ask) → RisesIn turn.home → RisesIn (serve_ask step turn ask).home
-unfolding serve_ask
-ask_rises step turn None rises = rises
-ask_rises step turn (Some ask) rises = serve_rises turn.home ask.command rises
-
-frame_rises : (step conn : ℕ) (turn : Turn) (frame : Frame) → RisesIn turn.home → RisesIn (take_frame step conn turn frame).home
-unfolding take_frame
-frame_rises step conn turn frame rises =
-    ask_rises step (with_outs step turn (frame_in conn turn.connection frame turn.connection.session)) _ rises
-
-frames_rise : (step conn : ℕ) (turn : Turn) (frames : List Frame) → RisesIn turn.home → RisesIn (take_frames step conn turn frames).home
-unfolding take_frames
-frames_rise step conn turn [] rises = rises
-frames_rise step conn turn (frame ∷ frames) rises = frames_rise step conn (take_frame step conn turn frame) frames (frame_rises step conn turn frame rises)
-
-data_rises : (world : World) (conn : ℕ) (bytes : List ℕ) (there : Option Client) → RisesIn world.home → RisesIn (data_at world conn bytes there).home
-unfolding data_at
-data_rises world conn bytes None rises = rises
-data_rises world conn bytes (Some there) rises = frames_rise _ _ _ _ rises
-
-open_rises : (world : World) (conn : ℕ) (there : Option Client) → RisesIn world.home → RisesIn (open_at world conn there).home
-unfolding open_at
-open_rises world conn None rises = rises
-open_rises world conn (Some there) rises = rises
-
-takes_rises : (world : World) (event : Event) → RisesIn world.home → RisesIn (takes world event).home
-unfolding takes
-takes_rises world (Open node conn) rises = open_rises world conn _ rises
-takes_rises world (Data conn bytes) rises = data_rises world conn bytes _ rises
-takes_rises world event rises = rises
+-- no name has more writable homes than it stands among the names
+rows_count : (config : Config) (world : World) (law : AreNodes config.nodes) (backend : _) → AreNodesOf config world backend → (name : List ℕ) (names : List (List ℕ))
+    → count_by (is_writable_home name) (rows_of_all world names) ≤ count_by (is_name name) names
+unfolding rows_of_all
+rows_count config world are backend nodes name [] = omega arith
+rows_count config world are backend nodes name (other ∷ names) = omega (arith,
+    count_both (is_writable_home name) (rows_of world other world.backends) (rows_of_all world names),
+    ap (count_by (is_writable_home name)) (rows_here config world backend other are nodes),
+    row_counts name other (home_of config) (value_at (slice_cmp nat_cmp) backend.held other),
+    names_cons (is_name name) other names,
+    rows_count config world are backend nodes name names)
 
 -- texts that compare equal are the same
 same_bytes : (xs ys : List ℕ) → pointwise nat_eq xs ys ≡ true → xs ≡ ys
@@ -102,62 +73,78 @@ same_bytes (x ∷ xs) (y ∷ ys) h =
     let heads : x ≡ y = grind (arith, nat_tests) in
     let tails = same_bytes xs ys (grind (arith, nat_tests)) in cc
 
-run_rises : (world : World) (events : List Event) → RisesIn world.home → RisesIn (run world events).home
-unfolding run happens
-run_rises world [] rises = rises
-run_rises world (event ∷ events) rises = run_rises (happens world event) events (takes_rises (stepped world) event rises)
-
-start_rises : (config : Config) → RisesIn (start config).home
-unfolding start IsStrictlySortedBy
-start_rises config = tt
-
-is_home_if : (node name : List ℕ) (e : List ℕ × MailBox) → is_writable_home name (home_row node e) ≡ bytes_eq e.0 name
-unfolding is_open
-is_home_if node name e = refl
-
--- a row more
-count_more : (node name : List ℕ) (e : List ℕ × MailBox) (es : List (List ℕ × MailBox)) (b : Bool) → bytes_eq e.0 name ≡ b
-    → count_by (is_writable_home name) (map (home_row node) (e ∷ es)) ≡ cond b 1 0 + count_by (is_writable_home name) (map (home_row node) es)
-count_more node name e es b h =
-    sum_by-append (λ (row : HomeRow). cond (is_writable_home name row) 1 0) (home_row node e ∷ []) (map (home_row node) es)
-    ∙ ap (λ t. (0 + cond t 1 0) + count_by (is_writable_home name) (map (home_row node) es)) (is_home_if node name e ∙ h)
-    ∙ ap (λ n. n + count_by (is_writable_home name) (map (home_row node) es)) (zero-add (cond b 1 0))
-
-later_by : (node first name : List ℕ) (e : List ℕ × MailBox) (es : List (List ℕ × MailBox)) → first ≡ name → slice_cmp nat_cmp first e.0 ≡ Less → (b : Bool) → bytes_eq e.0 name ≡ b
-    → count_by (is_writable_home name) (map (home_row node) es) ≡ 0 → count_by (is_writable_home name) (map (home_row node) (e ∷ es)) ≡ 0
-later_by node first name e es same less false h later =
-    let more : count_by (is_writable_home name) (map (home_row node) (e ∷ es)) ≡ 0 + count_by (is_writable_home name) (map (home_row node) es) = count_more node name e es false h in omega arith
-later_by node first name e es same less true h later =
-    let key : e.0 ≡ first = same_bytes e.0 name h ∙ sym same in
-    let tied : slice_cmp nat_cmp first e.0 ≡ Equal = ap (slice_cmp nat_cmp first) key ∙ tied_itself nat_list_cmp_total first in
+later_by : (name first other : List ℕ) (names : List (List ℕ)) → first ≡ name → slice_cmp nat_cmp first other ≡ Less → (b : Bool) → bytes_eq other name ≡ b
+    → count_by (is_name name) names ≡ 0 → count_by (is_name name) (other ∷ names) ≡ 0
+later_by name first other names same less false h later = omega (arith, names_cons (is_name name) other names, ap {B = ℕ} (λ b. cond b 1 0) h, later)
+later_by name first other names same less true h later =
+    let key : other ≡ first = same_bytes other name h ∙ sym same in
+    let tied : slice_cmp nat_cmp first other ≡ Equal = ap (slice_cmp nat_cmp first) key ∙ tied_itself nat_list_cmp_total first in
     cc
 
--- no later entry has the name of the first
-none_later : (node first name : List ℕ) (es : List (List ℕ × MailBox)) → first ≡ name → All (λ q. slice_cmp nat_cmp first q ≡ Less) (keys_of es)
-    → count_by (is_writable_home name) (map (home_row node) es) ≡ 0
-none_later node first name [] same below = refl
-none_later node first name (e ∷ es) same below =
-    later_by node first name e es same (All-head (λ q. slice_cmp nat_cmp first q ≡ Less) e.0 (keys_of es) below) (bytes_eq e.0 name) refl
-    (none_later node first name es same (All-tail (λ q. slice_cmp nat_cmp first q ≡ Less) e.0 (keys_of es) below))
+-- no later name is the first
+none_later : (name first : List ℕ) (names : List (List ℕ)) → first ≡ name → All (λ q. slice_cmp nat_cmp first q ≡ Less) names → count_by (is_name name) names ≡ 0
+none_later name first [] same below = refl
+none_later name first (other ∷ names) same below =
+    later_by name first other names same (All-head (λ q. slice_cmp nat_cmp first q ≡ Less) other names below) (bytes_eq other name) refl
+    (none_later name first names same (All-tail (λ q. slice_cmp nat_cmp first q ≡ Less) other names below))
 
-one_by : (node name : List ℕ) (e : List ℕ × MailBox) (es : List (List ℕ × MailBox)) → All (λ q. slice_cmp nat_cmp e.0 q ≡ Less) (keys_of es) → (b : Bool) → bytes_eq e.0 name ≡ b
-    → count_by (is_writable_home name) (map (home_row node) es) ≤ 1 → count_by (is_writable_home name) (map (home_row node) (e ∷ es)) ≤ 1
-one_by node name e es below false h later =
-    let more : count_by (is_writable_home name) (map (home_row node) (e ∷ es)) ≡ 0 + count_by (is_writable_home name) (map (home_row node) es) = count_more node name e es false h in omega arith
-one_by node name e es below true h later =
-    let more : count_by (is_writable_home name) (map (home_row node) (e ∷ es)) ≡ 1 + count_by (is_writable_home name) (map (home_row node) es) = count_more node name e es true h in
-    let none : count_by (is_writable_home name) (map (home_row node) es) ≡ 0 = none_later node e.0 name es (same_bytes e.0 name h) below in omega arith
+once_by : (name first : List ℕ) (names : List (List ℕ)) → All (λ q. slice_cmp nat_cmp first q ≡ Less) names → (b : Bool) → bytes_eq first name ≡ b → count_by (is_name name) names ≤ 1
+    → count_by (is_name name) (first ∷ names) ≤ 1
+once_by name first names below false h later = omega (arith, names_cons (is_name name) first names, ap {B = ℕ} (λ b. cond b 1 0) h, later)
+once_by name first names below true h later =
+    omega (arith, names_cons (is_name name) first names, ap {B = ℕ} (λ b. cond b 1 0) h, none_later name first names (same_bytes first name h) below)
 
-one_row : (node name : List ℕ) (es : List (List ℕ × MailBox)) → IsInOrder (slice_cmp nat_cmp) es → count_by (is_writable_home name) (map (home_row node) es) ≤ 1
+-- a name stands once among names that rise
+once_among : (name : List ℕ) (names : List (List ℕ)) → IsStrictlySortedBy (slice_cmp nat_cmp) names → count_by (is_name name) names ≤ 1
 unfolding IsStrictlySortedBy
-one_row node name [] sorted = omega arith
-one_row node name (e ∷ es) sorted =
-    one_by node name e es (All-after_first (slice_cmp nat_cmp) e.0 (keys_of es) sorted) (bytes_eq e.0 name) refl (one_row node name es sorted.1)
+once_among name [] sorted = omega arith
+once_among name (first ∷ names) sorted =
+    once_by name first names (All-after_first (slice_cmp nat_cmp) first names sorted) (bytes_eq first name) refl (once_among name names sorted.1)
 
-one_home : (world : World) → RisesIn world.home → HasOneHomeEach world
+by_recursion : (P : List ℕ → Type 0) (names : List (List ℕ)) → All P names → AllByRecursion P names
+by_recursion P [] all = tt
+by_recursion P (name ∷ names) all = (All-head P name names all, by_recursion P names (All-tail P name names all))
+
+insert_by : (key first : List ℕ) (names : List (List ℕ)) → IsStrictlySortedBy (slice_cmp nat_cmp) (first ∷ names) → IsStrictlySortedBy (slice_cmp nat_cmp) (insert_key (slice_cmp nat_cmp) names key)
+    → (o : Ordering) → slice_cmp nat_cmp key first ≡ o → IsStrictlySortedBy (slice_cmp nat_cmp) (match_ordering o (key ∷ first ∷ names) (first ∷ names) (first ∷ insert_key (slice_cmp nat_cmp) names key))
+unfolding IsStrictlySortedBy
+insert_by key first names sorted later Less h = (by_recursion (λ q. slice_cmp nat_cmp key q ≡ Less) (first ∷ names)
+    (All-cons (λ q. slice_cmp nat_cmp key q ≡ Less) first names h
+    (All-weaker (λ q. slice_cmp nat_cmp first q ≡ Less) (λ q. slice_cmp nat_cmp key q ≡ Less) (λ q l. nat_list_cmp_total.trans key first q h l) names (All-after_first (slice_cmp nat_cmp) first names sorted))), sorted)
+insert_by key first names sorted later Equal h = sorted
+insert_by key first names sorted later Greater h = (
+  by_recursion (λ q. slice_cmp nat_cmp first q ≡ Less) (insert_key (slice_cmp nat_cmp) names key)
+      (All-insert_key (slice_cmp nat_cmp) key (λ q. slice_cmp nat_cmp first q ≡ Less) names (All-after_first (slice_cmp nat_cmp) first names sorted)
+      (nat_list_cmp_total.antisymm first key ∙ ap ordering_reverse h)),
+  later,
+)
+
+insert_rises : (key : List ℕ) (names : List (List ℕ)) → IsStrictlySortedBy (slice_cmp nat_cmp) names → IsStrictlySortedBy (slice_cmp nat_cmp) (insert_key (slice_cmp nat_cmp) names key)
+unfolding IsStrictlySortedBy
+insert_rises key [] sorted = (tt, tt)
+insert_rises key (first ∷ names) sorted = insert_by key first names sorted (insert_rises key names sorted.1) (slice_cmp nat_cmp key first) refl
+
+fold_rises : (keys names : List (List ℕ)) → IsStrictlySortedBy (slice_cmp nat_cmp) names → IsStrictlySortedBy (slice_cmp nat_cmp) (fold (insert_key (slice_cmp nat_cmp)) names keys)
+fold_rises [] names sorted = sorted
+fold_rises (key ∷ keys) names sorted = fold_rises keys (insert_key (slice_cmp nat_cmp) names key) (insert_rises key names sorted)
+
+names_rise : (world : World) (nodes names : List (List ℕ)) → IsStrictlySortedBy (slice_cmp nat_cmp) names → IsStrictlySortedBy (slice_cmp nat_cmp) (names_at world names nodes)
+unfolding names_at
+names_rise world [] names sorted = sorted
+names_rise world (node ∷ nodes) names sorted =
+    names_rise world nodes (fold (insert_key (slice_cmp nat_cmp)) names (keys_of (held_at world node))) (fold_rises (keys_of (held_at world node)) names sorted)
+
+nothing_rises : IsStrictlySortedBy (slice_cmp nat_cmp) []
+unfolding IsStrictlySortedBy
+nothing_rises = tt
+
+one_home : (config : Config) (world : World) (backend : Backend) → AreNodes config.nodes → AreNodesOf config world backend → HasOneHomeEach world
 unfolding home_rows
-one_home world rises = λ name. one_row world.node name world.home.boxes rises
+one_home config world backend are nodes = λ name. omega (arith, rows_count config world are backend nodes name (names_at world [] world.backends),
+    once_among name (names_at world [] world.backends) (names_rise world world.backends [] nothing_rises))
 
 -- the home law
-pub keeps_one_home_each : (config : Config) (events : List Event) → KeepsOneHomeEach config events
-keeps_one_home_each config events = λ before later parts. one_home (run (start config) before) (run_rises (start config) before (start_rises config))
+pub keeps_one_home_each : (config : Config) (events : List Event) → AreNodes config.nodes → KeepsOneHomeEach config events
+keeps_one_home_each config events are = λ before later parts.
+    let law = ((kept_all config events are).at before later parts).law in
+    one_home config (run_steps (start config) before) law.backend are law.nodes

@@ -1,109 +1,180 @@
--- The one-store law of every run whose events fit the serials.
-use Rattle.std.proofs.Common.{◌≡◌, ℕ, ◌^◌, ◌<◌, ◌≤◌, true, false, List, [], ◌∷◌, ◌++◌, length, get_or, Option, None, Some, refl, sym, ◌∙◌, ap, subst, arith}
-use Rattle.std.specs.Prelude.{All, count_by, unwrap_or}
+-- The one-store law at every step of a run.
+use Rattle.std.proofs.Common.{◌≡◌, ◌≢◌, ◌⊎◌, ℕ, zero, suc, ◌+◌, ◌≤◌, ◌<◌, Bool, true, false, List, [], ◌∷◌, ◌++◌, length, Option, None, Some, refl, sym, ◌∙◌, ap, subst, arith, append_assoc, length-append}
+use Rattle.std.specs.Prelude.{All, AllPairs, count_by}
+use Rattle.std.specs.Ordering.{nat_cmp}
+use Rattle.std.specs.Cmp.Lexicographic.{slice_cmp}
+use Rattle.std.proofs.Math.Logic.{⊎_elim}
 use Rattle.std.proofs.lemmas.Bool.Decides.{nat_tests}
 use Rattle.std.proofs.lemmas.List.{append-nil}
-use Rattle.std.proofs.lemmas.List.Elements.{All-head, All-tail, All-weaker, All-get_or}
+use Rattle.front_core.specs.declared.connection.Connection.{Connection}
+use Rattle.front_core.specs.declared.front.Front.{Front}
+use Rattle.front_core.specs.Front.{connection_at}
 use Rattle.imap_reply.specs.Transcript.{transcript_of}
-use Rattle.imap_wire.specs.declared.frame.Frame.{Frame}
-use Rattle.imap_wire.specs.Frames.{frames}
-use Rattle.imap_wire.proofs.FeedLaws.{frames-nil}
+use Rattle.imap_wire.specs.Frames.{frames, begun}
+use Rattle.mur_base.specs.declared.point.AskId.{AskId}
 use Rattle.mur_base.specs.declared.point.Point.{Point}
-use Rattle.mur_base.specs.declared.point.What.TheVariants.{Reply as replied}
-use Rattle.mur_model.specs.declared.request.Answer.{Answer}
-use Rattle.mur_model.specs.declared.request.Request.{Request}
-use Rattle.mur_model.specs.History.{Course, Talk, IsLegal, loses, reads, is_about}
-use Rattle.mur_model.proofs.HistoryGrows.{one_up_to}
+use Rattle.mur_base.specs.declared.point.What.TheVariants.{Reply as replied, Lost as lost}
 use Rattle.mur_config.specs.declared.config.Config.{Config}
+use Rattle.mur_model.specs.declared.request.Answer.{Answer}
+use Rattle.mur_model.specs.declared.setting.Setting.{Setting}
+use Rattle.mur_model.specs.History.{Course, Talk, IsLegal, IsInOrder, EndsAtLoss, answers, loses, reads, is_about}
+use Rattle.mur_model.proofs.HistoryGrows.{one_up_to}
 use Rattle.schedule_text.specs.declared.event.Event.{Event}
-use Rattle.cluster_core.specs.declared.front.Connection.{Connection}
 use Rattle.cluster_core.specs.declared.world.Client.{Client}
+use Rattle.cluster_core.specs.declared.world.Mark.{Mark}
 use Rattle.cluster_core.specs.declared.world.World.{World}
-use Rattle.cluster_core.specs.OneStore.{heard_from, first_course, IsToldSoFar}
+use Rattle.cluster_core.specs.Heard.{Heard, nobody, elsewhere, client, bytes_heard, frames_heard, has_closed}
+use Rattle.cluster_core.specs.History.{answered_in, connection_in, connection_by, connection_of, answered_of, points_of_all, history_of}
+use Rattle.cluster_core.specs.OneStore.{AreEmpty, first_course}
 use Rattle.cluster_core.specs.Requests.{AskFor}
-use Rattle.cluster_core.specs.Requests.AskFor.{no_frames}
-use Rattle.cluster_core.specs.Shown.{given_to, given_by}
-use Rattle.schedule_text.specs.Brings.{bytes_of_all}
-use Rattle.cluster_core.specs.World.{start, client_at, run}
-use Rattle.cluster_core.proofs.Keeps.{IsClient, ConnectionIs, KeepsLaw, IsAt, KeepsAll, run_keeps, start_keeps}
-use Rattle.cluster_core.proofs.Keeps.ConnectionIs.{unknown, known}
-use Rattle.cluster_core.proofs.Told.{IsTold}
-use Rattle.cluster_core.proofs.TurnLaw.{IsLeft}
-use Rattle.cluster_core.proofs.TurnLaw.IsLeft.{still_open, has_ended}
+use Rattle.cluster_core.specs.Shown.{given_by, given_to}
+use Rattle.cluster_core.specs.World.{client_at, front_at, home_of, setting_of}
+use Rattle.cluster_core.proofs.ConnectionLaw.{Story, told_of, client_with, OnItsWay, Stands, IsLeft, IsStanding}
+use Rattle.cluster_core.proofs.ConnectionLaw.OnItsWay.{there, back}
+use Rattle.cluster_core.proofs.ConnectionLaw.Stands.{reads as it_reads, waits, faulted}
+use Rattle.cluster_core.proofs.ConnectionLaw.IsLeft.{nothing, its_ask, its_answer}
+use Rattle.cluster_core.proofs.KeepsLaw.{ConnectionIs, IsAt, KeepsLaw}
+use Rattle.cluster_core.proofs.KeepsLaw.ConnectionIs.{is_nobody, is_elsewhere, is_open, is_closed}
+use Rattle.cluster_core.proofs.Marks.{conn_of, command_of, IsOf, all_points, pairs_of_points, marks_follow, answering_points, losing_points, is_mark, MarkedOnce}
+use Rattle.cluster_core.proofs.RequestsOf.{requests_of, asks_all, answered_lengths}
+use Rattle.cluster_core.proofs.Told.{IsTold, Later}
+use Rattle.cluster_core.proofs.Ways.{none_on_empty}
 
-asks_of : (frames : List Frame) (held : Option (List ℕ)) (connection : Connection) (given : List ℕ) (requests : List Request) (answers : List Answer)
-    → IsLeft frames held connection given requests answers → AskFor frames requests
-asks_of frames held connection given requests answers (still_open mine) = mine.asks
-asks_of frames held connection given requests answers (has_ended none closed) = closed.asks
+-- what was replied is what was told and at most one more
+pub record IsToldSo (told said : List Answer) : Type 0 where
+  pub rest : List Answer
+  pub parts : said ≡ told ++ rest
+  pub few : length rest ≤ 1
 
-given_of : (bytes : List ℕ) (held : Option (List ℕ)) (connection : Connection) (given : List ℕ) (requests : List Request) (answers : List Answer)
-    → IsLeft (frames bytes) held connection given requests answers → given ≡ transcript_of (Some bytes) answers
-unfolding transcript_of
-given_of bytes held connection given requests answers (still_open mine) = mine.given_is
-given_of bytes held connection given requests answers (has_ended none closed) = closed.given_is
+all_told : (told said : List Answer) → said ≡ told → IsToldSo told said
+all_told told said e = record { rest = []; parts = e ∙ sym (append-nil told); few = omega arith }
 
-asked_by : (requests : List Request) (answers : List Answer) (heard : Option (List ℕ)) (found : Option Client) → ConnectionIs requests answers heard found → AskFor (frames (unwrap_or heard [])) requests
-asked_by requests answers heard found (unknown r a) = rw (r, ← frames-nil) no_frames
-asked_by requests answers heard found (known bytes client is) = asks_of _ _ _ _ _ _ is.left
+told_standing : (setting : Setting) (front home : List ℕ) (conn : ℕ) (all : _) (held : _) (connection : Connection) (links : _) (told said : List Answer) (session : _)
+    → Stands setting front home conn all held connection links told said session → IsToldSo told said
+told_standing setting front home conn all held connection links told said session (it_reads a b c d e way) = all_told told said e
+told_standing setting front home conn all held connection links told said session (waits passed bytes tag it name work a b c d e f g (there s way)) = all_told told said s
+told_standing setting front home conn all held connection links told said session (waits passed bytes tag it name work a b c d e f g (back body reply s shown way)) = record { rest = _; parts = s; few = omega arith }
+told_standing setting front home conn all held connection links told said session (faulted a b c d way) = all_told told said d
 
-given_as : (requests : List Request) (answers : List Answer) (heard : Option (List ℕ)) (found : Option Client) → ConnectionIs requests answers heard found → given_by found ≡ transcript_of heard answers
-unfolding transcript_of
-given_as requests answers heard found (unknown r a) = refl
-given_as requests answers heard found (known bytes client is) = given_of bytes _ _ _ _ _ is.left
+told_left : (setting : Setting) (front home : List ℕ) (conn : ℕ) (requests : _) (connection : Connection) (links : _) (told said : List Answer) (session : _)
+    → IsLeft setting front home conn requests connection links told said session → IsToldSo told said
+told_left setting front home conn requests connection links told said session (nothing rest a b way) = record { rest = rest; parts = a; few = b }
+told_left setting front home conn requests connection links told said session (its_ask tag it name work a b c d way) = all_told told said a
+told_left setting front home conn requests connection links told said session (its_answer rest answer a b way) = record { rest = rest; parts = a; few = b }
 
--- among points that all reply there is no loss
-no_loss_of : (conn number : ℕ) (points : List Point) → All (λ (point : Point). point.what ≡ replied) points → count_by (is_about loses conn number) points ≡ 0
-unfolding loses
-no_loss_of conn number [] all = refl
-no_loss_of conn number (point ∷ points) all =
-    let here : loses point.what ≡ false = ap loses (All-head (λ (p : Point). p.what ≡ replied) point points all) in
-    let later : count_by (is_about loses conn number) points ≡ 0 = no_loss_of conn number points (All-tail (λ (p : Point). p.what ≡ replied) point points all) in
-    rw (here, later) refl
+-- what can be said of a connection, whatever was heard of it
+pub record SaysOf (world : World) (conn : ℕ) (heard : Heard) (told said : List Answer) : Type 0 where
+  pub count : answered_of world conn ≡ length told
+  pub given : given_to world conn ≡ transcript_of (bytes_heard heard) told
+  pub so : IsToldSo told said
+  pub waits_not : AreEmpty world → has_closed heard ≡ false → length told ≡ length (requests_of (frames_heard heard))
 
-not_lost : (point : Point) → point.what ≡ replied → loses point.what ≡ true → ⊥
-unfolding loses
-not_lost point e lost = let none : loses point.what ≡ false = ap loses e in cc
+count_at : (world : World) (conn : ℕ) (node : List ℕ) (given : List ℕ) (front : Front) (connection : Connection) → client_at world conn ≡ Some (record { at = node; given = given }) → IsAt world conn node front connection
+    → answered_of world conn ≡ connection.answered
+unfolding answered_of connection_of
+count_at world conn node given front connection at is =
+    ap (λ c. answered_in (connection_by world conn c)) at ∙ ap (λ f. answered_in (connection_in f conn)) is.at ∙ ap answered_in is.has
 
-no_read : (point : Point) → point.what ≡ replied → reads point.what ≡ false
-unfolding reads
-no_read point e = ap reads e
+count_none : (world : World) (conn : ℕ) → client_at world conn ≡ None → answered_of world conn ≡ 0
+unfolding answered_of connection_of
+count_none world conn at = ap (λ c. answered_in (connection_by world conn c)) at
+
+count_elsewhere : (world : World) (conn : ℕ) (node given : List ℕ) → client_at world conn ≡ Some (record { at = node; given = given }) → front_at world node ≡ None → answered_of world conn ≡ 0
+unfolding answered_of connection_of
+count_elsewhere world conn node given at none = ap (λ c. answered_in (connection_by world conn c)) at ∙ ap (λ f. answered_in (connection_in f conn)) none
+
+given_at : (world : World) (conn : ℕ) (found : Option Client) → client_at world conn ≡ found → given_to world conn ≡ given_by found
+unfolding given_to
+given_at world conn found at = ap given_by at
+
+-- where nothing is on the way, a client that hasn't closed its connection was answered in all
+none_waits : (setting : Setting) (front home : List ℕ) (conn : ℕ) (bytes : List ℕ) (connection : Connection) (world : World) (told said : List Answer) (session : _) → AreEmpty world
+    → Stands setting front home conn (frames bytes) (begun bytes) connection world.links told said session → length told ≡ length (requests_of (frames bytes))
+none_waits setting front home conn bytes connection world told said session empty (it_reads a b c d e way) = sym (answered_lengths (frames bytes) told d)
+none_waits setting front home conn bytes connection world told said session empty (waits passed asking tag it name work a b c d e f g (there s way)) =
+    (let none = (none_on_empty world.links conn front home _ _ empty way).0 in cc)
+none_waits setting front home conn bytes connection world told said session empty (waits passed asking tag it name work a b c d e f g (back body reply s shown way)) =
+    (let none = (none_on_empty world.links conn front home _ _ empty way).1 in cc)
+none_waits setting front home conn bytes connection world told said session empty (faulted a b c d way) = sym c
+
+pub says_of : (setting : Setting) (home : List ℕ) (conn : ℕ) (world : World) (story : Story) (heard : Heard) → ConnectionIs setting home conn world story heard
+    → SaysOf world conn heard (story.told conn) (story.talk.answers conn)
+unfolding transcript_of bytes_heard frames_heard has_closed requests_of
+says_of setting home conn world story heard (is_nobody none fronts untold) = record {
+  count = count_none world conn none ∙ ap length (sym untold.told);
+  given = given_at world conn None none;
+  so = all_told (story.told conn) (story.talk.answers conn) (untold.said ∙ sym untold.told);
+  waits_not = λ empty stays. ap length untold.told;
+}
+says_of setting home conn world story heard (is_elsewhere node at none untold) = record {
+  count = count_elsewhere world conn node [] at none ∙ ap length (sym untold.told);
+  given = given_at world conn (Some (record { at = node; given = [] })) at;
+  so = all_told (story.told conn) (story.talk.answers conn) (untold.said ∙ sym untold.told);
+  waits_not = λ empty stays. ap length untold.told;
+}
+says_of setting home conn world story heard (is_open bytes node front connection at reader standing) = record {
+  count = count_at world conn node _ front connection standing.client at ∙ standing.count;
+  given = given_at world conn (Some (client_with node (frames bytes) (story.told conn))) standing.client;
+  so = told_standing setting node home conn (frames bytes) (begun bytes) connection world.links (story.told conn) (story.talk.answers conn) (story.course.sessions conn) standing.stands;
+  waits_not = λ empty stays. none_waits setting node home conn bytes connection world (story.told conn) (story.talk.answers conn) (story.course.sessions conn) empty standing.stands;
+}
+says_of setting home conn world story heard (is_closed bytes node front connection at gone) = record {
+  count = count_at world conn node _ front connection gone.client at ∙ gone.count;
+  given = given_at world conn (Some (client_with node (frames bytes) (story.told conn))) gone.client;
+  so = told_left setting node home conn (requests_of (frames bytes)) connection world.links (story.told conn) (story.talk.answers conn) (story.course.sessions conn) gone.left;
+  waits_not = λ empty stays. cc;
+}
 
 answered_once : (count number n : ℕ) → n ≡ one_up_to count number → 0 < number → number ≤ count → n ≡ 1
 unfolding one_up_to
 answered_once count number n e low high = grind (arith, nat_tests)
 
-legal_history : (world : World) (talk : Talk) (course : Course) → IsTold world.points world.home talk course → IsLegal first_course talk world.points course
-legal_history world talk course told = record {
-  follows = told.follows;
-  answered_once = λ conn number low high. answered_once (length (talk.answers conn)) number _ (told.once conn number) low high;
-  lost_once = λ conn number. omega (arith, no_loss_of conn number world.points told.kinds);
-  lost_last = λ i j d h k. λ lost same. not_lost (get_or world.points i d) (All-get_or (λ (p : Point). p.what ≡ replied) world.points i d (omega arith) told.kinds) lost;
-  never_read = All-weaker (λ (p : Point). p.what ≡ replied) (λ (p : Point). reads p.what ≡ false) no_read world.points told.kinds;
-  in_order = told.in_order;
+at_most_one : (count number n : ℕ) → n ≡ one_up_to count number → n ≤ 1
+unfolding one_up_to
+at_most_one count number n e = grind (arith, nat_tests)
+
+-- what is related of two points, by their marks
+conns_same : (world : World) (earlier later : Mark) (one other : Point) → IsOf world earlier one → IsOf world later other → one.ask.conn ≡ other.ask.conn → conn_of earlier ≡ conn_of later
+conns_same world earlier later one other is at same = sym (ap (λ (a : AskId). a.conn) is.same_ask) ∙ same ∙ ap (λ (a : AskId). a.conn) at.same_ask
+
+in_order_by : (world : World) (earlier later : Mark) (one other : Point) → Later earlier later → IsOf world earlier one → IsOf world later other → one.ask.conn ≡ other.ask.conn → one.ask.command ≤ other.ask.command
+in_order_by world earlier later one other behind is at same =
+    omega (arith, behind.0 (conns_same world earlier later one other is at same), ap (λ (a : AskId). a.command) is.same_ask, ap (λ (a : AskId). a.command) at.same_ask)
+
+no_more : (world : World) (story : Story) → ((conn : ℕ) → answered_of world conn ≡ length (story.told conn)) → ((conn : ℕ) → IsToldSo (story.told conn) (story.talk.answers conn))
+    → (earlier later : Mark) (one other : Point) → Later earlier later → command_of later ≤ length (story.talk.answers (conn_of later)) → IsOf world earlier one → IsOf world later other
+    → loses one.what ≡ true → one.ask.conn ≡ other.ask.conn → ⊥
+no_more world story counts so earlier later one other behind bound is at loss same =
+    let e = conns_same world earlier later one other is at same in
+    absurd (omega (arith, is.if_lost loss, counts (conn_of earlier), behind.0 e, bound, ap (λ c. length (story.talk.answers c)) e, ap length (so (conn_of earlier)).parts,
+        length-append (story.told (conn_of earlier)) (so (conn_of earlier)).rest, (so (conn_of earlier)).few))
+
+no_read : (world : World) (mark : Mark) (point : Point) → IsOf world mark point → reads point.what ≡ false
+unfolding reads
+no_read world mark point is = ⊎_elim (λ both. ap reads both.0) (λ lost. ap reads lost) is.either
+
+-- the history is legal for what was asked and told
+pub legal_history : (setting : Setting) (world : World) (story : Story) (home : _) → IsTold setting world.steps world.marks home story.talk story.course
+    → ((conn : ℕ) → answered_of world conn ≡ length (story.told conn)) → ((conn : ℕ) → IsToldSo (story.told conn) (story.talk.answers conn))
+    → IsLegal setting first_course (told_of story) (history_of world) story.course
+unfolding history_of
+legal_history setting world story home told counts so = record {
+  follows = marks_follow setting world story.talk story.told (record { rest = λ conn. (so conn).rest; parts = λ conn. (so conn).parts }) counts first_course story.course world.marks told.carries;
+  answered_once = λ conn number low high. answering_points world conn number world.marks (subst (λ n. number ≤ n) (sym (counts conn)) high)
+      ∙ answered_once (length (story.talk.answers conn)) number _ (told.once conn number) low (omega (arith, high, ap length (so conn).parts, length-append (story.told conn) (so conn).rest));
+  lost_once = λ conn number. omega (arith, losing_points world conn number world.marks, at_most_one (length (story.talk.answers conn)) number _ (told.once conn number));
+  lost_last = pairs_of_points world Later (λ (m : Mark). command_of m ≤ length (story.talk.answers (conn_of m))) EndsAtLoss
+      (λ earlier later one other behind bound is at. no_more world story counts so earlier later one other behind bound is at) world.marks told.later told.numbers;
+  never_read = all_points world (λ (m : Mark). command_of m ≤ length (story.talk.answers (conn_of m))) (λ (point : Point). reads point.what ≡ false)
+      (λ mark point bound is. no_read world mark point is) world.marks told.numbers;
+  in_order = pairs_of_points world Later (λ (m : Mark). command_of m ≤ length (story.talk.answers (conn_of m))) IsInOrder
+      (λ earlier later one other behind bound is at. in_order_by world earlier later one other behind is at) world.marks told.later told.numbers;
 }
 
-pub told_so_far : (talk : Talk) (events : List Event) (world : World) → IsAt talk (λ conn. heard_from conn None events) world → IsToldSoFar talk events world
-unfolding given_to
-told_so_far talk events world at = record {
-  so_far = at.law.talk;
-  goes_on = at.more;
-  asked = λ conn. asked_by _ _ _ _ (at.law.connections conn);
-  all_answered = at.law.told.answered;
-  given = λ conn. given_as _ _ _ _ (at.law.connections conn);
-  last = at.law.course;
-  legal = legal_history world at.law.talk at.law.course at.law.told;
-  behind_command = at.law.told.numbers;
-  one_content = at.law.told.same.boxes;
-}
-
-no_points_yet : (config : Config) → length (start config).points ≡ 0
-unfolding start
-no_points_yet config = refl
-
--- the law at every step
-pub kept_all : (config : Config) (events : List Event) → bytes_of_all events < 2 ^ 32 → KeepsAll (start_keeps config).talk (λ conn. None) (start config) events
-kept_all config events small = run_keeps (λ conn. None) (start config) events (omega (arith, no_points_yet config)) (start_keeps config)
-
--- every point of a run replies
-pub all_reply : (config : Config) (events : List Event) → bytes_of_all events < 2 ^ 32 → All (λ (point : Point). point.what ≡ replied) (run (start config) events).points
-all_reply config events small = ((kept_all config events small).at events [] (sym (append-nil events))).law.told.kinds
+-- the steps of the history rise
+pub steps_rise : (setting : Setting) (world : World) (story : Story) (home : _) → IsTold setting world.steps world.marks home story.talk story.course
+    → AllPairs (λ (one other : Point). one.step ≤ other.step) (history_of world)
+unfolding history_of
+steps_rise setting world story home told =
+    pairs_of_points world Later (λ (m : Mark). command_of m ≤ length (story.talk.answers (conn_of m))) (λ (one other : Point). one.step ≤ other.step)
+    (λ earlier later one other behind bound is at. omega (arith, behind.1, is.same_step, at.same_step)) world.marks told.later told.numbers

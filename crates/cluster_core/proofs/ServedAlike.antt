@@ -1,24 +1,36 @@
--- A command carried out by the home and by the one store beside it.
-use Rattle.std.specs.Prelude.{◌≡◌, ℕ, ◌+◌, ◌≤◌, List, All}
-use Rattle.std.specs.Ordering.{nat_cmp}
-use Rattle.std.specs.Cmp.Lexicographic.{slice_cmp}
-use Rattle.mur_base.specs.Map.{value_at}
-use Rattle.mur_model.specs.declared.command.Command.{Command}
+-- What a home answers and leaves is what the one store replies and leaves, for work at a mailbox.
+use Rattle.std.proofs.Common.{◌≡◌, ℕ, ◌+◌, ◌-◌, ◌^◌, ◌<◌, ◌≤◌, ◌==◌, nat_eq, List, Option, Some}
+use Rattle.std.specs.Prelude.{All}
+use Rattle.backend_core.specs.declared.backend.Backend.{Backend}
+use Rattle.backend_core.specs.declared.held.Held.{Held}
+use Rattle.backend_core.specs.HomeStep.{HomeStep, held_at}
+use Rattle.backend_core.specs.Step.{op_step}
+use Rattle.front_core.specs.Awaited.{op_of, awaited_of, reply_shown}
+use Rattle.link_msg.specs.declared.answer.AnswerBody.{AnswerBody}
+use Rattle.link_msg.specs.declared.ask.FrontAsk.{FrontAsk}
+use Rattle.link_msg.specs.declared.counts.Counts.TheVariants.{IfAnswered}
+use Rattle.mur_base.specs.declared.home.Phase.TheVariants.{Open as open_here}
+use Rattle.mur_model.specs.declared.need.Work.{Work}
+use Rattle.mur_model.specs.declared.reply.Reply.{Reply}
 use Rattle.mur_model.specs.declared.store.Pair.{Pair}
 use Rattle.mur_model.specs.declared.store.Store.{Store}
-use Rattle.mur_model.specs.Store.{box_at}
-use Rattle.mur_model.specs.Act.{serve, MayGive}
-use Rattle.cluster_core.specs.declared.world.Home.{Home}
-use Rattle.cluster_core.specs.Home.{serve as home_serve}
+use Rattle.mur_model.specs.Act.{worked_at, MayWork}
+use Rattle.mur_model.specs.Left.{Worked, store_after, kept}
+use Rattle.mur_model.specs.Store.{box_at, is_spent}
+use Rattle.cluster_core.specs.OneStore.{open_content}
 
--- the home has the boxes of the store, and no UIDVALIDITY that was given is above its last
-pub record IsStoreOf (store : Store) (home : Home) : Type 0 where
-  pub boxes : (name : List ℕ) → box_at store name ≡ value_at (slice_cmp nat_cmp) home.boxes name
+-- the home has the mailboxes of the store, all of them open, and its last UIDVALIDITY is the greatest that was given
+pub record IsStoreOf (store : Store) (home : Backend) : Type 0 where
+  pub boxes : (name : List ℕ) → box_at store name ≡ open_content (held_at home name)
+  pub all_open : (name : List ℕ) (held : Held) → held_at home name ≡ Some held → held.phase ≡ open_here
   pub serials : All (λ (pair : Pair). pair.serial ≤ home.last_serial) store.given
+  pub spent : is_spent store.given ≡ nat_eq home.last_serial (2 ^ 32 - 1)
 
--- a command carried out on both sides
-pub record ServesAlike (store : Store) (home : Home) (it : Command) : Type 0 where
-  pub free : MayGive store it (home.last_serial + 1)
-  pub same_verdict : (home_serve home it).verdict ≡ (serve store it (home.last_serial + 1)).verdict
-  pub still : IsStoreOf (serve store it (home.last_serial + 1)).store (home_serve home it).home
-  pub rises : (home_serve home it).home.last_serial ≤ home.last_serial + 1
+-- work at a mailbox on both sides
+pub record ServesAlike (store : Store) (home : Backend) (name : List ℕ) (work : Work) (worked : Worked) (step : HomeStep) : Type 0 where
+  pub free : MayWork store name (home.last_serial + 1) work
+  pub body : AnswerBody
+  pub is_body : step.body ≡ Some body
+  pub shown : reply_shown (awaited_of work) body ≡ Some worked.reply
+  pub still : IsStoreOf (store_after store name worked.left) step.home
+  pub unless : step.counts ≡ IfAnswered → worked.left ≡ kept

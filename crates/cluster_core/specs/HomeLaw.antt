@@ -6,12 +6,14 @@ use Rattle.mur_base.specs.declared.home.Phase.TheVariants.{Open as open_here}
 use Rattle.mur_base.specs.declared.point.Point.{Point}
 use Rattle.mur_base.specs.declared.point.What.{What}
 use Rattle.mur_base.specs.declared.point.What.TheVariants.{Reserved as reserved, Unreached as unreached}
-use Rattle.cluster_core.specs.declared.cluster.HomeRow.{HomeRow}
 use Rattle.mur_config.specs.declared.config.Config.{Config}
 use Rattle.schedule_text.specs.declared.event.Event.{Event}
+use Rattle.cluster_core.specs.declared.cluster.HomeRow.{HomeRow}
 use Rattle.cluster_core.specs.declared.world.World.{World}
+use Rattle.cluster_core.specs.Flow.{run_steps, unrolled}
+use Rattle.cluster_core.specs.History.{history_of}
 use Rattle.cluster_core.specs.Shown.{home_rows}
-use Rattle.cluster_core.specs.World.{start, run}
+use Rattle.cluster_core.specs.World.{start}
 
 unfoldable pub is_open : Phase → Bool
 is_open open_here = true
@@ -26,9 +28,10 @@ HasOneHomeEach world = (name : List ℕ) → count_by (is_writable_home name) (h
 
 -- after every step each name has at most one writable home
 abbrev pub KeepsOneHomeEach : Config → List Event → Type 0
-KeepsOneHomeEach config events = (before later : List Event) → events ≡ before ++ later → HasOneHomeEach (run (start config) before)
+KeepsOneHomeEach config events =
+    (before later : List Event) → unrolled (start config) events ≡ before ++ later → HasOneHomeEach (run_steps (start config) before)
 
--- on one node no name is reserved and no node is unreached, so there is no cause for a refusal of relocation
+-- no name is reserved and no node is unreached yet, so there is no cause for a refusal of relocation
 abbrev pub HasCause : What → Type 0
 HasCause reserved = ⊥
 HasCause (unreached node) = ⊥
@@ -36,4 +39,4 @@ HasCause _ = ⊤
 
 -- a refusal of relocation comes only at a reserved name or an unreached node
 abbrev pub RefusesForCause : World → Type 0
-RefusesForCause world = All (λ (point : Point). HasCause point.what) world.points
+RefusesForCause world = All (λ (point : Point). HasCause point.what) (history_of world)

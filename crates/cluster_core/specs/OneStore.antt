@@ -1,86 +1,96 @@
 -- The one-store law: what each client was given is what one mailbox store replies to the printed history, at every step.
-use Rattle.std.specs.Prelude.{◌≡◌, ℕ, ◌<◌, ◌≤◌, ◌==◌, if◌then◌else◌, List, [], ◌∷◌, ◌++◌, length, Option, None, Some, unwrap_or, All, AllPairs}
+use Rattle.std.specs.Prelude.{◌≡◌, ℕ, ◌≤◌, Bool, false, List, [], ◌∷◌, ◌++◌, length, Option, None, Some, All, AllPairs}
 use Rattle.std.specs.Ordering.{nat_cmp}
 use Rattle.std.specs.Cmp.Lexicographic.{slice_cmp}
+use Rattle.backend_core.specs.declared.held.Held.{Held}
 use Rattle.imap_reply.specs.Transcript.{transcript_of}
-use Rattle.imap_wire.specs.Frames.{frames}
+use Rattle.link_msg.specs.declared.message.LinkMsg.{LinkMsg}
+use Rattle.mail_message.specs.Boxes.{Content}
 use Rattle.mur_base.specs.Map.{value_at}
+use Rattle.mur_base.specs.declared.home.Phase.{Phase}
+use Rattle.mur_base.specs.declared.home.Phase.TheVariants.{Creating, Open as open_here, Closing, Receiving, Ready, Pointer}
 use Rattle.mur_base.specs.declared.point.Point.{Point}
-use Rattle.mur_model.specs.declared.session.Sess.TheVariants.{In}
-use Rattle.mur_model.specs.declared.store.MailBox.{MailBox}
+use Rattle.mur_config.specs.declared.config.Config.{Config}
+use Rattle.mur_model.specs.declared.session.Sess.TheVariants.{Off}
 use Rattle.mur_model.specs.declared.store.Store.{Store}
 use Rattle.mur_model.specs.History.{Course, Talk, TalkGoesOn, IsLegal}
 use Rattle.mur_model.specs.Store.{empty_store, box_at}
-use Rattle.mur_config.specs.declared.config.Config.{Config}
 use Rattle.schedule_text.specs.declared.event.Event.{Event}
-use Rattle.schedule_text.specs.declared.event.Event.TheVariants.{Open, Data}
 use Rattle.cluster_core.specs.declared.world.World.{World}
+use Rattle.cluster_core.specs.Flow.{run_steps, unrolled}
+use Rattle.cluster_core.specs.Heard.{heard, bytes_heard, frames_heard, has_closed}
+use Rattle.cluster_core.specs.History.{history_of}
+use Rattle.cluster_core.specs.Links.{on_link}
 use Rattle.cluster_core.specs.Requests.{AskFor}
-use Rattle.cluster_core.specs.Shown.{given_to}
-use Rattle.cluster_core.specs.World.{start, run, first_user}
+use Rattle.cluster_core.specs.Shown.{given_to, held_at}
+use Rattle.cluster_core.specs.World.{start, setting_of}
 
--- an event at a connection that was not opened yet
-abbrev pub heard_at_first : ℕ → Event → Option (List ℕ)
-heard_at_first conn (Open node other) = if conn == other then Some [] else None
-heard_at_first conn event = None
-
--- an event at a connection whose client has sent these bytes
-abbrev pub heard_behind : ℕ → List ℕ → Event → Option (List ℕ)
-heard_behind conn bytes (Data other more) = if conn == other then Some (bytes ++ more) else Some bytes
-heard_behind conn bytes event = Some bytes
-
-unfoldable pub hears : ℕ → Option (List ℕ) → Event → Option (List ℕ)
-hears conn None event = heard_at_first conn event
-hears conn (Some bytes) event = heard_behind conn bytes event
-
-unfoldable pub heard_from : ℕ → Option (List ℕ) → List Event → Option (List ℕ)
-heard_from conn heard [] = heard
-heard_from conn heard (event ∷ events) = heard_from conn (hears conn heard event) events
-
--- the bytes that came from the client of a connection, if the events open it
-abbrev pub heard : ℕ → List Event → Option (List ℕ)
-heard conn events = heard_from conn None events
-
--- the empty store, and every session begun
+-- the empty store, and no session begun
 abbrev pub first_course : Course
-first_course = record { store = empty_store; sessions = λ _. In first_user }
+first_course = record { store = empty_store; sessions = λ _. Off }
 
--- the mailbox of a name at its home
-abbrev pub box_of_home : World → List ℕ → Option MailBox
-box_of_home world name = value_at (slice_cmp nat_cmp) world.home.boxes name
+unfoldable pub open_box : Phase → Content → Option Content
+open_box open_here content = Some content
+open_box Creating content = None
+open_box Closing content = None
+open_box Receiving content = None
+open_box Ready content = None
+open_box (Pointer server) content = None
 
--- one content: the store has of each name the mailbox that its home has, UIDVALIDITY and UIDNEXT included, and none where no
--- home has one
+-- the content of a mailbox that is open
+abbrev pub open_content : Option Held → Option Content
+open_content None = None
+open_content (Some held) = open_box held.phase held.content
+
+abbrev pub or_else : Option Content → Option Content → Option Content
+or_else None other = other
+or_else (Some content) other = Some content
+
+unfoldable pub box_among : World → List ℕ → List (List ℕ) → Option Content
+box_among world name [] = None
+box_among world name (node ∷ nodes) =
+    or_else (open_content (value_at (slice_cmp nat_cmp) (held_at world node) name)) (box_among world name nodes)
+
+-- the mailbox of a name at its home, which is the node that has it open
+unfoldable pub box_of_home : World → List ℕ → Option Content
+box_of_home world name = box_among world name world.backends
+
+-- one content: the store has of each name the mailbox that its home has, and none where no home has one
 abbrev pub HasBoxesOf : Store → World → Type 0
 HasBoxesOf store world = (name : List ℕ) → box_at store name ≡ box_of_home world name
 
--- after these events: so far the clients asked and were answered a front of what they are in the whole run; each client was
--- given its transcript; and one store that takes the requests of the points one at a time, in each session's order, gave
--- these answers and has the mailboxes that the homes have
-pub record IsToldSoFar (talk : Talk) (events : List Event) (world : World) : Type 0 where
+-- no message is on its way
+abbrev pub AreEmpty : World → Type 0
+AreEmpty world = (from to : List ℕ) → on_link world.links from to ≡ []
+
+-- in time: of the whole history, the points up to this step stand behind their commands, and every command that was answered
+-- by now has its point here
+pub record StandsInTime (talk : Talk) (now : ℕ) (points : List Point) : Type 0 where
+  pub behind_command : All (λ (point : Point). point.step ≤ now → point.ask.command ≤ length (talk.requests point.ask.conn)) points
+  pub before_reply : All (λ (point : Point). point.ask.command ≤ length (talk.answers point.ask.conn) → point.step ≤ now) points
+
+-- after these steps of a run whose whole history is this: so far the clients asked and were answered a front of what they are
+-- in the whole run; each client was given its transcript; and one store that takes the requests of the points one at a time, in
+-- each session's order, gave these answers and has the mailboxes that the homes have
+pub record IsToldSoFar (config : Config) (talk : Talk) (points : List Point) (steps : List Event) (world : World) : Type 0 where
   pub so_far : Talk
   pub goes_on : TalkGoesOn so_far talk
-  pub asked : (conn : ℕ) → AskFor (frames (unwrap_or (heard conn events) [])) (so_far.requests conn)
-  pub all_answered : (conn : ℕ) → length (so_far.answers conn) ≡ length (so_far.requests conn)
-  pub given : (conn : ℕ) → given_to world conn ≡ transcript_of (heard conn events) (so_far.answers conn)
+  pub asked : (conn : ℕ) → AskFor (frames_heard (heard config conn steps)) (so_far.requests conn)
+  pub given : (conn : ℕ) → given_to world conn ≡ transcript_of (bytes_heard (heard config conn steps)) (so_far.answers conn)
   pub last : Course
-  pub legal : IsLegal first_course so_far world.points last
-  -- each point stands behind its command
-  pub behind_command : All (λ (point : Point). point.ask.command ≤ length (so_far.requests point.ask.conn)) world.points
+  pub legal : IsLegal (setting_of config) first_course so_far (history_of world) last
   pub one_content : HasBoxesOf last.store world
+  pub in_time : StandsInTime so_far world.steps points
+  -- nothing waits on empty links: then each whole command of a client that hasn't closed its connection was answered
+  pub nothing_waits : AreEmpty world → (conn : ℕ) → has_closed (heard config conn steps) ≡ false
+      → length (so_far.answers conn) ≡ length (so_far.requests conn)
 
--- the history of a run that goes on from here: the points up to now have steps up to now, those that follow have later ones
-pub record StandsInTime (now later : World) : Type 0 where
-  pub rest : List Point
-  pub parts : later.points ≡ now.points ++ rest
-  pub by_now : All (λ (point : Point). point.step ≤ now.steps) now.points
-  pub from_now : All (λ (point : Point). now.steps < point.step) rest
-
--- at every step; so a point stands at a step that is not before the one whose bytes completed its command, and not behind
--- the one that gave its reply: a command that was answered before another one was sent stands before it, whoever sent them
--- (linearizability, Herlihy and Wing 1990)
+-- at every step, each delivery of a flow being one; so a point stands at a step that is not before the one whose bytes
+-- completed its command, and not behind the one that gave its reply: a command that was answered before another one was sent
+-- stands before it, whoever sent them (linearizability, Herlihy and Wing 1990)
 pub record IsToldByOneStore (config : Config) (events : List Event) : Type 0 where
   pub talk : Talk
-  pub at_each_step : (before later : List Event) → events ≡ before ++ later → IsToldSoFar talk before (run (start config) before)
-  pub in_time : (before later : List Event) → events ≡ before ++ later → StandsInTime (run (start config) before) (run (start config) events)
-  pub steps_rise : AllPairs (λ (earlier later : Point). earlier.step ≤ later.step) (run (start config) events).points
+  pub at_each_step : (before later : List Event) → unrolled (start config) events ≡ before ++ later
+      → IsToldSoFar config talk (history_of (run_steps (start config) (unrolled (start config) events))) before (run_steps (start config) before)
+  pub steps_rise : AllPairs (λ (earlier later : Point). earlier.step ≤ later.step)
+      (history_of (run_steps (start config) (unrolled (start config) events)))

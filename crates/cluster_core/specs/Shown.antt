@@ -1,11 +1,17 @@
 -- What can be read off the cluster.
-use Rattle.std.specs.Prelude.{ℕ, List, [], Option, None, Some, map}
-use Rattle.mur_base.specs.declared.home.Phase.TheVariants.{Open as open_here}
-use Rattle.mur_model.specs.declared.store.MailBox.{MailBox}
+use Rattle.std.specs.Prelude.{ℕ, List, [], ◌∷◌, ◌++◌, length, Option, None, Some}
+use Rattle.std.specs.List.{fold}
+use Rattle.std.specs.Map.{keys_of}
+use Rattle.std.specs.Ordering.{nat_cmp}
+use Rattle.std.specs.Cmp.Lexicographic.{slice_cmp}
+use Rattle.std.specs.BTreeSet.{insert_key}
+use Rattle.backend_core.specs.declared.backend.Backend.{Backend}
+use Rattle.backend_core.specs.declared.held.Held.{Held}
+use Rattle.mur_base.specs.Map.{value_at}
 use Rattle.cluster_core.specs.declared.cluster.HomeRow.{HomeRow}
 use Rattle.cluster_core.specs.declared.world.Client.{Client}
 use Rattle.cluster_core.specs.declared.world.World.{World}
-use Rattle.cluster_core.specs.World.{client_at}
+use Rattle.cluster_core.specs.World.{client_at, home_at}
 
 abbrev pub given_by : Option Client → List ℕ
 given_by None = []
@@ -15,17 +21,43 @@ given_by (Some client) = client.given
 unfoldable pub given_to : World → ℕ → List ℕ
 given_to world conn = given_by (client_at world conn)
 
--- a mailbox at the node that holds it
-abbrev pub home_row : List ℕ → List ℕ × MailBox → HomeRow
-home_row node entry = record {
-  name = entry.0;
+abbrev pub held_by : Option Backend → List (List ℕ × Held)
+held_by None = []
+held_by (Some home) = home.held
+
+-- what a backend has
+abbrev pub held_at : World → List ℕ → List (List ℕ × Held)
+held_at world node = held_by (home_at world node)
+
+-- a mailbox at a node that has it
+abbrev pub home_row : List ℕ → List ℕ → Held → HomeRow
+home_row name node held = record {
+  name = name;
   backend = node;
-  phase = open_here;
-  serial = (entry.1).serial;
-  next = (entry.1).next;
-  count = 0;
+  phase = held.phase;
+  serial = held.content.serial;
+  next = held.content.next;
+  count = length held.content.messages;
 }
 
--- the mailboxes of all nodes, in byte order of names
+abbrev pub row_if : List ℕ → List ℕ → Option Held → List HomeRow
+row_if name node None = []
+row_if name node (Some held) = home_row name node held ∷ []
+
+-- a mailbox at the nodes that have it, in their order
+unfoldable pub rows_of : World → List ℕ → List (List ℕ) → List HomeRow
+rows_of world name [] = []
+rows_of world name (node ∷ nodes) = row_if name node (value_at (slice_cmp nat_cmp) (held_at world node) name) ++ rows_of world name nodes
+
+unfoldable pub rows_of_all : World → List (List ℕ) → List HomeRow
+rows_of_all world [] = []
+rows_of_all world (name ∷ names) = rows_of world name world.backends ++ rows_of_all world names
+
+-- the names that some node has, in byte order, each once
+unfoldable pub names_at : World → List (List ℕ) → List (List ℕ) → List (List ℕ)
+names_at world names [] = names
+names_at world names (node ∷ nodes) = names_at world (fold (insert_key (slice_cmp nat_cmp)) names (keys_of (held_at world node))) nodes
+
+-- the mailboxes of all nodes, in byte order of names, and each in the order of its nodes
 unfoldable pub home_rows : World → List HomeRow
-home_rows world = map (home_row world.node) world.home.boxes
+home_rows world = rows_of_all world (names_at world [] world.backends)

@@ -1,49 +1,50 @@
-// Carrying out what a frontend lets out.
-ghost use Rattle.std.specs.Prelude.{◌≡◌, None, IfOk, OnOk};
-ghost use Rattle.cluster_core.specs.Carry.{carry, carry_all};
+// Carrying out what a node lets out.
+ghost use Rattle.std.specs.Prelude.{◌≡◌, OnOk};
+ghost use Rattle.cluster_core.specs.World.{carry, carry_all, given_more, client_at};
 
-use crate::front::{Ask, Out, Outs};
-use mur_base::{Bytes, Items, Memory, Point};
+use crate::links::send;
+use crate::world::{Mark, World};
+use link_msg::{Out, Outs};
+use mur_base::{Bytes, Memory, NodeName};
+use std::alloc::Global;
 
-/// Gives the client its bytes, puts each mark behind the history as a point of this step, and hands back the ask for a
-/// home, if there is one. For want of memory the bytes and the history are spent.
+/// Carries out what a node lets out in this step, in order. For want of memory the world is spent.
 pub fn carry_out(
-    step: u64,
+    alloc: Global,
+    world: &mut World,
+    node: &NodeName,
     outs: Outs,
-    given: &mut Bytes,
-    points: &mut Items<Point>,
-) -> Result<Option<Ask>, Memory>
-    ensures { IfOk result (λ ask. record { given = given.new; points = points.new; ask = ask }
-        ≡ carry_all step (record { given = given.old; points = points.old; ask = None }) outs) }
+) -> Result<(), Memory>
+    ensures { OnOk result (world.new ≡ carry_all node.now world.old outs) }
 {
-    let mut ask = None;
     for out in outs.into_vec() {
-        carry(step, out, given, points, &mut ask)?;
+        carry(alloc, world, node, out)?;
     }
-    Ok(ask)
+    Ok(())
 }
 
-#[tactic(auto, unfolding(crate::specs::Carry::carry))]
-fn carry(
-    step: u64,
-    out: Out,
-    given: &mut Bytes,
-    points: &mut Items<Point>,
-    ask: &mut Option<Ask>,
-) -> Result<(), Memory>
-    ensures { OnOk result (record { given = given.new; points = points.new; ask = ask.new }
-        ≡ carry step (record { given = given.old; points = points.old; ask = ask.old }) out) }
+#[tactic(auto, unfolding(crate::specs::World::carry))]
+fn carry(alloc: Global, world: &mut World, node: &NodeName, out: Out) -> Result<(), Memory>
+    ensures { OnOk result (world.new ≡ carry node.now world.old out) }
 {
     match out {
-        Out::Client(bytes) => given.extend_from_slice(bytes.as_slice()),
-        Out::Mark(of, what) => points.push(Point {
-            step,
-            ask: of,
-            what,
+        Out::Client(conn, bytes) => give(world, conn, &bytes),
+        Out::Close(_conn) => Ok(()),
+        Out::Link(other, message) => send(alloc, &mut world.links, node, other, message),
+        Out::Mark(ask, counts) => world.marks.push(Mark {
+            step: world.steps,
+            ask,
+            counts,
         }),
-        Out::Ask(new) => {
-            *ask = Some(new);
-            Ok(())
-        }
+    }
+}
+
+#[tactic(auto, unfolding(crate::specs::World::given_more))]
+fn give(world: &mut World, conn: u64, bytes: &Bytes) -> Result<(), Memory>
+    ensures { OnOk result (world.new ≡ given_more world.old conn bytes.now (client_at world.old conn)) }
+{
+    match world.clients.get_mut(&conn) {
+        Some(client) => client.given.extend_from_slice(bytes.as_slice()),
+        None => Ok(()),
     }
 }

@@ -1,15 +1,23 @@
 // The cluster as one value.
 ghost use Rattle.std.specs.Prelude.{◌≡◌, ◌<◌, ◌^◌, List, IfOk, OnOk};
 ghost use Rattle.mur_config.specs.declared.config.Config.{Config};
+ghost use Rattle.mur_config.specs.Nodes.{AreNodes};
 ghost use Rattle.schedule_text.specs.declared.event.Event.{Event};
-ghost use Rattle.cluster_core.specs.Headline.{IsOneServer};
-ghost use Rattle.cluster_core.specs.Shown.{given_to, home_rows};
-ghost use Rattle.cluster_core.specs.World.{start, happens, run, HasRoom};
 ghost use Rattle.schedule_text.specs.Brings.{steps_of_all, bytes_of_all};
+ghost use Rattle.cluster_core.specs.Flow.{happens, run, run_steps, steps_of_event};
+ghost use Rattle.cluster_core.specs.Headline.{IsOneServer};
+ghost use Rattle.cluster_core.specs.History.{history_of};
+ghost use Rattle.cluster_core.specs.OneNode.{OneNodeWorksEach};
+ghost use Rattle.cluster_core.specs.Room.{HasRoom};
+ghost use Rattle.cluster_core.specs.Shown.{given_to, home_rows};
+ghost use Rattle.cluster_core.specs.World.{start};
 
-use crate::happens::{happens, start};
+use crate::happens::happens;
+use crate::history::history;
+use crate::homes::home_rows;
+use crate::start::start;
 use crate::world::World;
-use mur_base::{Copied, Items, MailName, Memory, NodeName, Phase, Point};
+use mur_base::{Items, MailName, Memory, NodeName, Phase, Point};
 use mur_config::Config;
 use schedule_text::{Event, Events};
 use std::alloc::Global;
@@ -53,7 +61,8 @@ impl Model for Cluster {
 impl Cluster {
     /// The cluster before its first event.
     pub fn new(alloc: Global, config: &Config) -> Result<Cluster, Memory>
-        ensures { IfOk result (λ cluster. cluster ≡ start config.now) }
+        ensures start { IfOk result (λ cluster. cluster ≡ start config.now) }
+        ensures nodes { AreNodes config.now.nodes }
     {
         Ok(Cluster {
             alloc,
@@ -61,10 +70,13 @@ impl Cluster {
         })
     }
 
-    /// Takes one event. For want of memory the cluster is spent: drop it.
-    pub fn step(&mut self, event: &Event) -> Result<(), Memory>
-        requires { HasRoom self.old event.now }
-        ensures { OnOk result (self.new ≡ happens self.old event.now) }
+    /// Takes one event, in single steps, in each of which one node works. For want of memory the cluster is spent: drop it.
+    #[tactic(auto, using(crate::proofs::Unrolled::event_made))]
+    pub fn step(&mut self, event: Event) -> Result<(), Memory>
+        requires { HasRoom self.old event }
+        ensures event { OnOk result (self.new ≡ happens self.old event) }
+        ensures steps { OnOk result (self.new ≡ run_steps self.old (steps_of_event self.old event)) }
+        ensures one_node { OneNodeWorksEach self.old (steps_of_event self.old event) }
     {
         happens(self.alloc, &mut self.world, event)
     }
@@ -85,9 +97,9 @@ impl Cluster {
 
     /// The history so far.
     pub fn history(&self, alloc: Global) -> Result<Points, Memory>
-        ensures { IfOk result (λ points. points ≡ self.now.points) }
+        ensures { IfOk result (λ points. points ≡ history_of self.now) }
     {
-        self.world.points.copy(alloc)
+        history(alloc, &self.world)
     }
 
     /// The bytes given to the client of a connection so far; none where there is no such connection.
@@ -109,26 +121,7 @@ impl Cluster {
     }
 }
 
-#[tactic(auto, unfolding(crate::specs::Shown::home_rows))]
-fn home_rows(alloc: Global, world: &World) -> Result<HomeRows, Memory>
-    ensures { IfOk result (λ rows. rows ≡ home_rows world.now) }
-{
-    let mut rows = Items::new(alloc);
-    for (name, mailbox) in world.home.boxes.iter() {
-        rows.push(HomeRow {
-            name: name.copy(alloc)?,
-            backend: world.node.copy(alloc)?,
-            phase: Phase::Open,
-            serial: mailbox.serial,
-            next: mailbox.next,
-            count: 0,
-        })?;
-    }
-    Ok(rows)
-}
-
-/// Runs the events one after another from the start. Each event is let go once it was taken. The headline holds of the run:
-/// its events are few enough for the UIDVALIDITYs.
+/// Runs the events one after another from the start. Each event is let go once it was taken. The headline holds of the run.
 pub fn run(alloc: Global, config: &Config, events: Events) -> Result<Cluster, Memory>
     requires steps { steps_of_all events < 2 ^ 64 }
     requires bytes { bytes_of_all events < 2 ^ 32 }
@@ -137,20 +130,12 @@ pub fn run(alloc: Global, config: &Config, events: Events) -> Result<Cluster, Me
 {
     let mut cluster = Cluster::new(alloc, config)?;
     for event in events.into_vec() {
-        take(&mut cluster, event)?;
+        cluster.step(event)?;
     }
     Ok(cluster)
 }
 
-/// The headline as a law of its own: it holds of every configuration and of all events that are few enough for the
-/// UIDVALIDITYs. The call does nothing.
+/// The headline as a law of its own: it holds of every configuration and of all events. The call does nothing.
 pub fn headline()
-    ensures { (config : Config) (events : List Event) → bytes_of_all events < 2 ^ 32 → IsOneServer config events }
+    ensures { (config : Config) (events : List Event) → AreNodes config.nodes → IsOneServer config events }
 {}
-
-fn take(cluster: &mut Cluster, event: Event) -> Result<(), Memory>
-    requires { HasRoom cluster.old event }
-    ensures { OnOk result (cluster.new ≡ happens cluster.old event) }
-{
-    cluster.step(&event)
-}

@@ -1,104 +1,187 @@
 // What each event does.
 ghost use Rattle.std.specs.Prelude.{◌≡◌, ◌+◌, ◌<◌, ◌^◌, OnOk, IfOk, IfSome, length};
-ghost use Rattle.cluster_core.specs.World.{start, first_user, new_client, client_at, open_at, data_at, takes, happens, HasRoom};
+ghost use Rattle.schedule_text.specs.declared.event.Event.TheVariants.{Open, Data, Hang, Deliver};
+ghost use Rattle.front_core.specs.Room.{HasRoomAt, HasRoomFor};
+ghost use Rattle.cluster_core.specs.Room.{HasRoom};
+ghost use Rattle.cluster_core.specs.World.{client_at, front_at, home_at, with_client, opens, open_at, bytes_from, bytes_at, hangs, hang_at, input_of, comes_to, comes_to_home, steps_by};
+ghost use Rattle.cluster_core.specs.Flow.{happens};
 
-use crate::front::Connection;
-use crate::reader::Reader;
-use crate::turn::take_bytes;
-use crate::world::{Client, Home, World};
-use imap_reply::put_greeting;
-use mur_base::{Bytes, Copied, Items, Map, Memory, NameFault, UserName, user_name};
-use mur_config::Config;
-use mur_model::Sess;
+use crate::carry::carry_out;
+use crate::flow::flow;
+use crate::links::take_first;
+use crate::world::{Client, World};
+use backend_core::BackInput;
+use link_msg::LinkMsg;
+use mur_base::{Bytes, Copied, Memory, NodeName};
 use schedule_text::Event;
 use std::alloc::Global;
 
-/// The cluster before its first event.
-#[tactic(auto, unfolding(crate::specs::World::start))]
-pub fn start(alloc: Global, config: &Config) -> Result<World, Memory>
-    ensures { IfOk result (λ world. world ≡ start config.now) }
+/// Carries an event out. For want of memory the world is spent.
+#[tactic(auto, unfolding(crate::specs::Flow::happens, crate::specs::World::takes))]
+pub fn happens(alloc: Global, world: &mut World, event: Event) -> Result<(), Memory>
+    requires { HasRoom world.old event }
+    ensures { OnOk result (world.new ≡ happens world.old event) }
 {
-    Ok(World {
-        node: config.nodes.frontend().unwrap().copy(alloc)?,
-        clients: Map::new(alloc),
-        home: Home {
-            boxes: Map::new(alloc),
-            last_serial: 0,
-        },
-        points: Items::new(alloc),
-        steps: 0,
-    })
-}
-
-/// One event is one step. For want of memory the world is spent.
-#[tactic(auto, unfolding(crate::specs::World::happens, crate::specs::World::takes))]
-pub fn happens(alloc: Global, world: &mut World, event: &Event) -> Result<(), Memory>
-    requires { HasRoom world.old event.now }
-    ensures { OnOk result (world.new ≡ happens world.old event.now) }
-{
-    world.steps += 1;
     match event {
-        Event::Open(_, conn) => open_connection(alloc, world, *conn),
-        Event::Data(conn, bytes) => take_data(alloc, world, *conn, bytes),
-        _ => Ok(()),
+        Event::Flow(count) => flow(alloc, world, count),
+        Event::Open(node, conn) => open(alloc, world, node, conn),
+        Event::Data(conn, bytes) => data(alloc, world, conn, &bytes),
+        Event::Hang(conn) => {
+            hang(world, conn);
+            Ok(())
+        }
+        Event::Deliver(from, to) => deliver(alloc, world, &from, &to),
+        _ => {
+            world.steps += 1;
+            Ok(())
+        }
     }
 }
 
-#[tactic(auto, unfolding(crate::specs::World::open_at))]
-fn open_connection(alloc: Global, world: &mut World, conn: u64) -> Result<(), Memory>
-    ensures { OnOk result (world.new ≡ open_at world.old conn (client_at world.old conn)) }
+/// A connection is opened at a node, unless there is one of its number.
+#[tactic(auto, unfolding(crate::specs::World::takes, crate::specs::World::opens, crate::specs::World::open_at))]
+fn open(alloc: Global, world: &mut World, node: NodeName, conn: u64) -> Result<(), Memory>
+    requires { world.old.steps + 1 < 2 ^ 64 }
+    ensures { OnOk result (world.new ≡ steps_by world.old (Open node conn)) }
 {
+    world.steps += 1;
     if world.clients.contains_key(&conn) {
         return Ok(());
     }
-    world.clients.insert(conn, new_client(alloc)?)?;
-    Ok(())
-}
-
-#[tactic(auto, unfolding(crate::specs::World::new_client))]
-fn new_client(alloc: Global) -> Result<Client, Memory>
-    ensures { IfOk result (λ client. client ≡ new_client) }
-{
-    let mut given = Bytes::new(alloc);
-    put_greeting(&mut given)?;
-    Ok(Client {
-        reader: Reader::new(alloc),
-        connection: Connection {
-            session: Sess::In(first_user(alloc)?),
-            asked: None,
-            commands: 0,
-        },
-        given,
-    })
-}
-
-#[tactic(auto, unfolding(crate::specs::World::data_at))]
-fn take_data(alloc: Global, world: &mut World, conn: u64, bytes: &Bytes) -> Result<(), Memory>
-    requires { IfSome (client_at world.old conn) (λ client. client.connection.commands + length bytes.now < 2 ^ 64) }
-    ensures { OnOk result (world.new ≡ data_at world.old conn bytes.now (client_at world.old conn)) }
-{
-    let step = world.steps;
-    match world.clients.get_mut(&conn) {
-        Some(client) => take_bytes(
-            alloc,
-            step,
-            conn,
-            client,
-            &mut world.home,
-            &mut world.points,
-            bytes.as_slice(),
-        ),
+    let client = Client {
+        at: node.copy(alloc)?,
+        given: Bytes::new(alloc),
+    };
+    world.clients.insert(conn, client)?;
+    match world.fronts.get_mut(&node) {
+        Some(front) => {
+            let outs = front.connect(alloc, conn)?;
+            carry_out(alloc, world, &node, outs)
+        }
         None => Ok(()),
     }
 }
 
-#[tactic(auto, using(crate::proofs::FirstUser::first_user_is_a_name))]
-fn first_user(alloc: Global) -> Result<UserName, Memory>
-    ensures { IfOk result (λ user. user ≡ first_user) }
+/// Bytes come from the client of a connection.
+#[tactic(auto, unfolding(crate::specs::World::takes, crate::specs::World::bytes_from))]
+fn data(alloc: Global, world: &mut World, conn: u64, bytes: &Bytes) -> Result<(), Memory>
+    requires { HasRoom world.old (Data conn bytes.now) }
+    ensures { OnOk result (world.new ≡ steps_by world.old (Data conn bytes.now)) }
 {
-    match user_name(alloc, b"adm") {
-        Ok(user) => Ok(user),
-        Err(NameFault::Memory) => Err(Memory),
-        Err(_) => unreachable!(),
+    world.steps += 1;
+    match world.clients.get(&conn) {
+        Some(client) => {
+            let node = client.at.copy(alloc)?;
+            data_at(alloc, world, conn, bytes, &node)
+        }
+        None => Ok(()),
+    }
+}
+
+#[tactic(auto, unfolding(crate::specs::World::bytes_at))]
+fn data_at(
+    alloc: Global,
+    world: &mut World,
+    conn: u64,
+    bytes: &Bytes,
+    node: &NodeName,
+) -> Result<(), Memory>
+    requires { IfSome (front_at world.old node.now) (λ front. HasRoomAt front conn (length bytes.now)) }
+    ensures { OnOk result (world.new ≡ bytes_at world.old conn bytes.now node.now (front_at world.old node.now)) }
+{
+    match world.fronts.get_mut(node) {
+        Some(front) => {
+            let outs = front.bytes_in(alloc, conn, bytes.as_slice())?;
+            carry_out(alloc, world, node, outs)
+        }
+        None => Ok(()),
+    }
+}
+
+/// The client of a connection closes it.
+#[tactic(auto, unfolding(crate::specs::World::takes, crate::specs::World::hangs, crate::specs::World::hang_at))]
+fn hang(world: &mut World, conn: u64)
+    requires { world.old.steps + 1 < 2 ^ 64 }
+    ensures { world.new ≡ steps_by world.old (Hang conn) }
+{
+    world.steps += 1;
+    if let Some(client) = world.clients.get(&conn) {
+        if let Some(front) = world.fronts.get_mut(&client.at) {
+            front.hang(conn);
+        }
+    }
+}
+
+/// The first message from one node to another is taken, if there is one. For want of memory the world is spent.
+#[tactic(auto, unfolding(crate::specs::World::takes, crate::specs::World::deliver_first))]
+pub fn deliver(
+    alloc: Global,
+    world: &mut World,
+    from: &NodeName,
+    to: &NodeName,
+) -> Result<(), Memory>
+    requires { HasRoom world.old (Deliver from.now to.now) }
+    ensures { OnOk result (world.new ≡ steps_by world.old (Deliver from.now to.now)) }
+{
+    world.steps += 1;
+    match take_first(&mut world.links, from, to) {
+        Some(message) => comes_to(alloc, world, from, to, message),
+        None => Ok(()),
+    }
+}
+
+#[tactic(auto, unfolding(crate::specs::World::comes_to))]
+fn comes_to(
+    alloc: Global,
+    world: &mut World,
+    from: &NodeName,
+    to: &NodeName,
+    message: LinkMsg,
+) -> Result<(), Memory>
+    requires { IfSome (front_at world.old to.now) (λ front. HasRoomFor front message) }
+    ensures { OnOk result (world.new ≡ comes_to world.old from.now to.now message (front_at world.old to.now)) }
+{
+    match world.fronts.get_mut(to) {
+        Some(front) => {
+            let outs = front.deliver(alloc, message)?;
+            carry_out(alloc, world, to, outs)
+        }
+        None => comes_to_home(alloc, world, from, to, message),
+    }
+}
+
+#[tactic(auto, unfolding(crate::specs::World::comes_to_home, crate::specs::World::home_takes), using(std::proofs::lemmas::Map::Steps::set_value_same))]
+fn comes_to_home(
+    alloc: Global,
+    world: &mut World,
+    from: &NodeName,
+    to: &NodeName,
+    message: LinkMsg,
+) -> Result<(), Memory>
+    ensures { OnOk result (world.new ≡ comes_to_home world.old from.now to.now message (home_at world.old to.now)) }
+{
+    let Some(home) = world.homes.get_mut(to) else {
+        return Ok(());
+    };
+    match input_of(alloc, from, message)? {
+        Some(input) => {
+            let plan = home.plan(alloc, input)?;
+            let outs = home.settle(plan);
+            carry_out(alloc, world, to, outs)
+        }
+        None => Ok(()),
+    }
+}
+
+#[tactic(auto, unfolding(crate::specs::World::input_of))]
+fn input_of(alloc: Global, from: &NodeName, message: LinkMsg) -> Result<Option<BackInput>, Memory>
+    ensures { IfOk result (λ input. input ≡ input_of from.now message) }
+{
+    match message {
+        LinkMsg::Up => Ok(Some(BackInput::Up(from.copy(alloc)?))),
+        LinkMsg::End => Ok(Some(BackInput::End(from.copy(alloc)?))),
+        LinkMsg::Ask(ask) => Ok(Some(BackInput::FromFront(from.copy(alloc)?, ask))),
+        LinkMsg::Line(_bytes) => Ok(None),
+        LinkMsg::Answer(_answer) => Ok(None),
     }
 }

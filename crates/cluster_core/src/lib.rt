@@ -4,14 +4,13 @@
 
 mod carry;
 mod cluster;
-mod front;
+mod flow;
 mod happens;
-mod home;
-mod reader;
-mod turn;
+mod history;
+mod homes;
+mod links;
+mod start;
 mod world;
 
 pub use cluster::{Cluster, HomeRow, HomeRows, Points, headline, run};
-pub use front::{Ask, Connection, Out, Outs};
-pub use reader::Reader;
-pub use world::{Client, Home, World};
+pub use world::{Client, Links, Mark, Ways, World};

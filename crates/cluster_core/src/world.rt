@@ -1,34 +1,44 @@
 // The whole cluster at one moment.
-use crate::front::Connection;
-use crate::reader::Reader;
-use mur_base::{Bytes, Items, MailName, Map, NodeName, Point};
-use mur_model::MailBox;
+use backend_core::Backend;
+use front_core::Front;
+use link_msg::{Counts, LinkMsg};
+use mur_base::{AskId, Bytes, Items, Map, NodeName, Queue};
+use mur_config::Link;
 
-/// A mail client: its connection, as its bytes are cut and as the frontend has it, and all bytes that it was given.
+/// A client: the node that it connected to, and all bytes that it was given.
 #[derive(Drop)]
 pub struct Client {
-    pub reader: Reader,
-    pub connection: Connection,
+    pub at: NodeName,
     pub given: Bytes,
 }
 
-/// The mailboxes of the node that holds them.
-#[derive(Drop)]
-pub struct Home {
-    pub boxes: Map<MailName, MailBox>,
-    /// The last UIDVALIDITY that was given, 0 at first.
-    pub last_serial: u32,
+/// A step that counts as the point of a command.
+#[derive(Clone, Copy)]
+pub struct Mark {
+    pub step: u64,
+    pub ask: AskId,
+    pub counts: Counts,
 }
 
-/// The cluster: its clients, its mailboxes, the history and the number of steps.
+/// What is on its way from one node, by the node that it goes to.
+pub type Ways = Map<NodeName, Queue<LinkMsg>>;
+
+/// What is on its way, by the node that it comes from.
+pub type Links = Map<NodeName, Ways>;
+
+/// The cluster: its nodes, what is on its way between them, its clients, and what its steps did.
 #[derive(Drop)]
 pub struct World {
-    /// The node that the clients reach, and that holds the mailboxes.
-    pub node: NodeName,
+    pub fronts: Map<NodeName, Front>,
+    pub homes: Map<NodeName, Backend>,
+    /// The backends in the configuration's order.
+    pub backends: Items<NodeName>,
+    /// The directed pairs of linked nodes in the order in which a flow goes over them.
+    pub pairs: Items<Link>,
     /// The clients, by the numbers of their connections.
     pub clients: Map<u64, Client>,
-    pub home: Home,
-    /// The points of the history, in order.
-    pub points: Items<Point>,
+    pub links: Links,
+    /// The steps that count as points, in order.
+    pub marks: Items<Mark>,
     pub steps: u64,
 }

@@ -1,7 +1,7 @@
 -- The character classes of the grammar (RFC 9051, 9).
 use Rattle.std.specs.Prelude.{ℕ, Bool, ◌&&◌, ◌||◌, not, ◌==◌, nat_le}
 use Rattle.std.specs.Char.{is_ascii_graphic}
-use Rattle.mur_base.specs.Ascii.{nul, lf, cr, quote, percent, open_paren, close_paren, star, plus, backslash, open_brace, delete}
+use Rattle.mur_base.specs.Ascii.{nul, lf, cr, quote, percent, open_paren, close_paren, star, plus, backslash, close_bracket, open_brace, delete}
 
 -- printable ASCII other than a space
 abbrev pub is_visible : ℕ → Bool
@@ -15,6 +15,10 @@ is_atom_special b =
 -- ASTRING-CHAR: an ATOM-CHAR or ]
 unfoldable pub is_astring_char : ℕ → Bool
 is_astring_char c = is_visible c && not (is_atom_special c)
+
+-- ATOM-CHAR
+unfoldable pub is_atom_char : ℕ → Bool
+is_atom_char c = is_astring_char c && not (c == close_bracket)
 
 -- a byte of a tag: ASTRING-CHAR except +
 unfoldable pub is_tag_byte : ℕ → Bool

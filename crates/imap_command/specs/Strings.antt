@@ -7,7 +7,7 @@ use Rattle.grammar.specs.Part.{Part, ◌then◌, map, byte, choose, exactly, opt
 use Rattle.grammar.specs.Words.{word}
 use Rattle.grammar.specs.Runs.{run, some}
 use Rattle.grammar.specs.Numbers.{value_of}
-use Rattle.imap_command.specs.Characters.{is_astring_char, is_quoted_plain, is_quoted_special, is_text_char, is_char8}
+use Rattle.imap_command.specs.Characters.{is_astring_char, is_atom_char, is_quoted_plain, is_quoted_special, is_text_char, is_char8}
 use Rattle.imap_command.specs.Utf8.{utf8_char}
 
 -- CRLF
@@ -68,6 +68,10 @@ literal_text text = open_brace ∷ (decimal (length text) ++ (plus ∷ close_bra
 -- 1*ASTRING-CHAR
 unfoldable pub is_astring_atom : List ℕ → Bool
 is_astring_atom text = list_all is_astring_char text && some text
+
+-- atom = 1*ATOM-CHAR
+unfoldable pub is_atom : List ℕ → Bool
+is_atom text = list_all is_atom_char text && some text
 
 -- what is printed in quotes, where it is no atom
 unfoldable pub is_quotable : List ℕ → Bool

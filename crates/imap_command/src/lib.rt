@@ -26,3 +26,5 @@ pub use printer::print;
 pub use reader::read;
 pub use request::{read_request, too_big};
 pub use round_trip::{a_frame_spells_one_command, reread};
+pub use status::put_item;
+pub use strings::{is_atom, put_quoted};

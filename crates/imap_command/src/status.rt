@@ -56,7 +56,7 @@ pub fn status_of(alloc: Global, bytes: &[u8]) -> Result<(Command, &[u8]), ReadEr
 
 /// Prints the name of an item.
 #[tactic(auto, unfolding(crate::specs::Status::item_text))]
-fn put_item(item: StatusItem, out: &mut Bytes) -> Result<(), Memory>
+pub fn put_item(item: StatusItem, out: &mut Bytes) -> Result<(), Memory>
     ensures { OnOk result (out.new ≡ out.old ++ item_text item) }
 {
     match item {

@@ -3,8 +3,8 @@ ghost use Rattle.std.specs.Prelude.{◌≡◌, ◌==◌, ◌++◌, not, true, On
 ghost use Rattle.std.specs.List.{list_all};
 ghost use Rattle.mur_base.specs.Ascii.{lf};
 ghost use Rattle.grammar.specs.Gives.{Finds, Gives};
-ghost use Rattle.imap_command.specs.Characters.{is_astring_char, is_quoted_plain, is_quoted_special, is_text_char, is_char8};
-ghost use Rattle.imap_command.specs.Strings.{crlf_part, quoted_char, is_no_quote, quoted, literal, string, astring, IsString, escaped, escaped_text, quoted_text, literal_text, is_astring_atom, is_quotable, astring_text};
+ghost use Rattle.imap_command.specs.Characters.{is_astring_char, is_atom_char, is_quoted_plain, is_quoted_special, is_text_char, is_char8};
+ghost use Rattle.imap_command.specs.Strings.{crlf_part, quoted_char, is_no_quote, quoted, literal, string, astring, IsString, escaped, escaped_text, quoted_text, literal_text, is_astring_atom, is_atom, is_quotable, astring_text};
 
 use crate::utf8::utf8_of;
 use grammar::{
@@ -25,6 +25,19 @@ impl Class for AstringChar {
     #[tactic(auto, unfolding(crate::specs::Characters::is_astring_char))]
     fn holds(&self, byte: u8) -> bool {
         byte.is_ascii_graphic() && !matches!(byte, b'(' | b')' | b'{' | b'%' | b'*' | b'"' | b'\\')
+    }
+}
+
+/// ATOM-CHAR.
+#[derive(Clone, Copy)]
+struct AtomChar;
+
+impl Class for AtomChar {
+    ghost test = { λ _. is_atom_char };
+
+    #[tactic(auto, unfolding(crate::specs::Characters::is_atom_char))]
+    fn holds(&self, byte: u8) -> bool {
+        AstringChar.holds(byte) && byte != b']'
     }
 }
 
@@ -197,6 +210,14 @@ fn is_astring_atom(text: &[u8]) -> bool
     are_all(&AstringChar, text) && !text.is_empty()
 }
 
+/// Whether a text is an atom.
+#[tactic(auto, unfolding(crate::specs::Strings::is_atom))]
+pub fn is_atom(text: &[u8]) -> bool
+    ensures { result ≡ is_atom text.now }
+{
+    are_all(&AtomChar, text) && !text.is_empty()
+}
+
 /// The greatest length in bytes of a text that is printed in quotes.
 const QUOTED_MOST: usize = 1024;
 
@@ -230,9 +251,9 @@ fn put_escaped_text(text: &[u8], out: &mut Bytes) -> Result<(), Memory>
     Ok(())
 }
 
-/// Prints a quoted string.
+/// Prints a text as a quoted string, with a backslash before each `"` and `\`.
 #[tactic(auto, using(std::proofs::lemmas::Grind::common_steps), unfolding(crate::specs::Strings::quoted_text))]
-fn put_quoted(text: &[u8], out: &mut Bytes) -> Result<(), Memory>
+pub fn put_quoted(text: &[u8], out: &mut Bytes) -> Result<(), Memory>
     ensures { OnOk result (out.new ≡ out.old ++ quoted_text text.now) }
 {
     out.push(b'"')?;

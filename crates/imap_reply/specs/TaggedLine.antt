@@ -1,13 +1,14 @@
 -- The line that ends a reply (RFC 9051, 7.1).
-use Rattle.std.specs.Prelude.{ℕ, List, [], ◌++◌, codes}
+use Rattle.std.specs.Prelude.{ℕ, List, [], ◌∷◌, ◌++◌, codes, decimal}
+use Rattle.mur_base.specs.Ascii.{space}
 use Rattle.mur_model.specs.declared.command.Tag.{Tag}
 use Rattle.mur_model.specs.declared.command.Tag.TheVariants.{Star, Text}
 use Rattle.mur_model.specs.declared.reply.Verdict.{Verdict}
 use Rattle.mur_model.specs.declared.reply.Verdict.TheVariants.{Ok as ok_reply, No as no_reply, Bad as bad_reply}
 use Rattle.mur_model.specs.declared.reply.Code.{Code}
-use Rattle.mur_model.specs.declared.reply.Code.TheVariants.{None as no_code}
+use Rattle.mur_model.specs.declared.reply.Code.TheVariants.{None as no_code, AppendUid}
 use Rattle.mur_model.specs.declared.reply.NoText.{NoText}
-use Rattle.mur_model.specs.declared.reply.NoText.TheVariants.{AlreadyExists, NonExistent, Cannot, Limit}
+use Rattle.mur_model.specs.declared.reply.NoText.TheVariants.{AuthenticationFailed, AlreadyExists, NonExistent, TryCreate, NoPerm, Cannot, Limit}
 use Rattle.mur_model.specs.declared.reply.BadText.{BadText}
 use Rattle.mur_model.specs.declared.reply.BadText.TheVariants.{Syntax, State}
 
@@ -18,10 +19,14 @@ tag_text (Text tag) = tag
 -- the response code with its space, if there is one
 unfoldable pub code_text : Code → List ℕ
 code_text no_code = []
+code_text (AppendUid serial uid) = codes "[APPENDUID " ++ (decimal serial ++ space ∷ (decimal uid ++ codes "] "))
 
 unfoldable pub no_text : NoText → List ℕ
+no_text AuthenticationFailed = codes "[AUTHENTICATIONFAILED] login failed"
 no_text AlreadyExists = codes "[ALREADYEXISTS] mailbox exists"
 no_text NonExistent = codes "[NONEXISTENT] no such mailbox"
+no_text TryCreate = codes "[TRYCREATE] no such mailbox"
+no_text NoPerm = codes "[NOPERM] not permitted"
 no_text Cannot = codes "[CANNOT] cannot be done"
 no_text Limit = codes "[LIMIT] too large or too many"
 

@@ -6,7 +6,9 @@
 mod bye;
 mod continuation;
 mod greeting;
+mod mailbox;
 mod reply;
+mod status;
 mod tagged;
 
 pub use bye::put_bye;

@@ -1,6 +1,9 @@
 // Where a mailbox is, and how far a backend is with it.
+use crate::copied::Copied;
 use crate::list::Bytes;
+use crate::memory::Memory;
 use crate::name_rules::NodeName;
+use std::alloc::Global;
 
 /// A place for mailboxes, written `server!partition`.
 #[derive(Drop)]
@@ -24,4 +27,17 @@ pub enum Phase {
     Ready,
     /// Moved to this server.
     Pointer(NodeName),
+}
+
+impl Copied for Phase {
+    fn copy(&self, alloc: Global) -> Result<Phase, Memory> {
+        match self {
+            Phase::Creating => Ok(Phase::Creating),
+            Phase::Open => Ok(Phase::Open),
+            Phase::Closing => Ok(Phase::Closing),
+            Phase::Receiving => Ok(Phase::Receiving),
+            Phase::Ready => Ok(Phase::Ready),
+            Phase::Pointer(server) => Ok(Phase::Pointer(server.copy(alloc)?)),
+        }
+    }
 }

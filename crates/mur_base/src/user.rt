@@ -3,8 +3,11 @@ ghost use Rattle.std.specs.Prelude.{◌≡◌};
 ghost use Rattle.std.specs.List.{list_any, list_all};
 ghost use Rattle.mur_base.specs.Users.{users_fault, is_user_named, user_names_differ, has_password, is_password, is_no_nul, AreTakenAsUsers, AreUsers};
 
+use crate::copied::Copied;
 use crate::list::{Bytes, Items};
+use crate::memory::Memory;
 use crate::name_rules::UserName;
+use std::alloc::Global;
 use std::marker::Model;
 use thiserror::Error;
 
@@ -68,6 +71,24 @@ impl Users {
         ensures kept { AreUsers self.now }
     {
         self.users.as_slice()
+    }
+}
+
+impl Copied for User {
+    fn copy(&self, alloc: Global) -> Result<User, Memory> {
+        Ok(User {
+            name: self.name.copy(alloc)?,
+            password: Bytes::from_slice(alloc, self.password.as_slice())?,
+            admin: self.admin,
+        })
+    }
+}
+
+impl Copied for Users {
+    fn copy(&self, alloc: Global) -> Result<Users, Memory> {
+        Ok(Users {
+            users: self.users.copy(alloc)?,
+        })
     }
 }
 

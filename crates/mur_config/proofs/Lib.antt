@@ -1,2 +1,3 @@
 mod NodesLaw
 mod KnownConfigs
+pub mod LinksLaw

@@ -1,6 +1,6 @@
 -- Nodes that break no rule have names of their own, the kinds that a cluster needs, and a frontend.
-use Rattle.std.proofs.Common.{◌≡◌, ◌≢◌, ℕ, ◌<◌, ◌≤◌, Bool, true, false, ◌||◌, ◌&&◌, ◌==◌, not, nat_eq, nat_lt, nat_le, cond, is_none, IsSome, List, [], ◌∷◌, length, Option, None, Some, refl, sym, arith}
-use Rattle.std.specs.List.{All, AllPairs, list_any, list_all, filter}
+use Rattle.std.proofs.Common.{◌≡◌, ◌≢◌, ℕ, ◌≤◌, Bool, true, false, ◌||◌, ◌&&◌, not, nat_eq, nat_lt, nat_le, is_none, IsSome, List, [], ◌∷◌, length, Option, None, Some, refl, sym, arith}
+use Rattle.std.specs.List.{All, AllPairs, list_any, list_all}
 use Rattle.std.specs.Str.{bytes_eq}
 use Rattle.std.proofs.lemmas.Bool.{eqb-true}
 use Rattle.std.proofs.lemmas.Bool.Decides.{nat_tests}

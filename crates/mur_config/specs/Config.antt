@@ -1,5 +1,5 @@
 -- Configurations. Two texts are known so far, byte by byte.
-use Rattle.std.specs.Prelude.{◌≡◌, ℕ, Bool, true, false, if◌then◌else◌, List, [], ◌∷◌, codes, Option, None, Some, Result, Err, MatchResult}
+use Rattle.std.specs.Prelude.{◌≡◌, ℕ, true, false, if◌then◌else◌, List, [], ◌∷◌, codes, Option, None, Some, Result, Err, MatchResult}
 use Rattle.std.specs.Str.{bytes_eq}
 use Rattle.mur_base.specs.declared.user.User.{User}
 use Rattle.mur_config.specs.declared.node.Kind.TheVariants.{Master, Frontend, Backend}

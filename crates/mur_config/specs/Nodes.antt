@@ -1,5 +1,5 @@
--- The nodes of a configuration.
-use Rattle.std.specs.Prelude.{◌≡◌, ◌≢◌, ℕ, ◌≤◌, Bool, true, false, ◌&&◌, ◌==◌, not, nat_lt, nat_le, is_none, if◌then◌else◌, List, [], ◌∷◌, length, Option, None, Some, Result, Ok, Err}
+-- The nodes of a configuration, and the links that join them.
+use Rattle.std.specs.Prelude.{◌≡◌, ◌≢◌, ℕ, ◌≤◌, Bool, true, false, ◌&&◌, ◌==◌, not, nat_lt, nat_le, is_none, if◌then◌else◌, List, [], ◌∷◌, ◌++◌, length, Option, None, Some, Result, Ok, Err}
 use Rattle.std.specs.List.{All, AllPairs, list_any, list_all, filter}
 use Rattle.std.specs.Str.{bytes_eq}
 use Rattle.mur_base.specs.Names.{short_name_fault}
@@ -7,6 +7,7 @@ use Rattle.mur_base.specs.declared.limits.TheConstants.{FRONTEND_LIMIT, BACKEND_
 use Rattle.mur_config.specs.declared.node.Kind.{Kind}
 use Rattle.mur_config.specs.declared.node.Kind.TheVariants.{Master, Frontend, Backend}
 use Rattle.mur_config.specs.declared.node.Node.{Node}
+use Rattle.mur_config.specs.declared.node.Link.{Link}
 use Rattle.mur_config.specs.declared.nodes.NodesFault.{NodesFault}
 use Rattle.mur_config.specs.declared.nodes.NodesFault.TheVariants.{NameTwice, NodeCount, BadPartition}
 
@@ -83,3 +84,34 @@ or_frontend Backend name later = later
 unfoldable pub frontend_of : List Node → Option (List ℕ)
 frontend_of [] = None
 frontend_of (node ∷ nodes) = or_frontend node.kind node.name (frontend_of nodes)
+
+-- the node of a name, if there is one
+unfoldable pub node_named : List ℕ → List Node → Option Node
+node_named name [] = None
+node_named name (node ∷ nodes) = if is_node_named name node then Some node else node_named name nodes
+
+-- links join all kinds but two frontends
+unfoldable pub are_kinds_linked : Kind → Kind → Bool
+are_kinds_linked Frontend Frontend = false
+are_kinds_linked one other = true
+
+-- a link joins two nodes: the master and another node, a frontend and a backend, or two backends
+unfoldable pub are_linked : Node → Node → Bool
+are_linked one other = are_kinds_linked one.kind other.kind && not (is_node_named other.name one)
+
+abbrev pub link : Node → Node → Link
+link from to = record { from = from.name; to = to.name }
+
+-- the links from a node to these nodes, in their order
+unfoldable pub links_from : Node → List Node → List Link
+links_from from [] = []
+links_from from (to ∷ nodes) = if are_linked from to then link from to ∷ links_from from nodes else links_from from nodes
+
+-- the links from nodes to nodes, by the place of the first and then of the second
+unfoldable pub links_between : List Node → List Node → List Link
+links_between [] nodes = []
+links_between (from ∷ froms) nodes = links_from from nodes ++ links_between froms nodes
+
+-- each two linked nodes in both directions
+unfoldable pub links_of : List Node → List Link
+links_of nodes = links_between nodes nodes

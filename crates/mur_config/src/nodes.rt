@@ -1,12 +1,13 @@
 // The nodes of a cluster.
-ghost use Rattle.std.specs.Prelude.{◌≡◌, IsSome};
+ghost use Rattle.std.specs.Prelude.{◌≡◌, ◌++◌, IsSome, IfSome, IfOk, OnOk};
 ghost use Rattle.std.specs.Option.{option_copied};
 ghost use Rattle.std.specs.List.{list_any, list_all};
-ghost use Rattle.mur_config.specs.Nodes.{nodes_fault, node_names_differ, is_node_named, is_of_kind, is_node_of_kind, count_of_kind, is_some_within, has_node_counts, fits_kind, has_partition, frontend_of, AreTakenAsNodes, AreNodes};
+ghost use Rattle.mur_config.specs.Nodes.{nodes_fault, node_names_differ, is_node_named, is_of_kind, is_node_of_kind, count_of_kind, is_some_within, has_node_counts, fits_kind, has_partition, frontend_of, node_named, links_from, links_of, AreTakenAsNodes, AreNodes};
 
-use crate::node::{Kind, Node};
+use crate::node::{Kind, Links, Node};
 use mur_base::limits::{BACKEND_LIMIT, FRONTEND_LIMIT};
-use mur_base::{Items, NameRule, NodeName, NodeRule};
+use mur_base::{Items, Memory, NameRule, NodeName, NodeRule};
+use std::alloc::Global;
 use std::marker::Model;
 use thiserror::Error;
 
@@ -77,6 +78,45 @@ impl Nodes {
         }
         None
     }
+
+    /// The node of a name, if there is one.
+    #[tactic(auto, unfolding(crate::specs::Nodes::node_named))]
+    pub fn named(&self, name: &[u8]) -> Option<&Node>
+        ensures node { option_copied result ≡ node_named name.now self.now }
+        ensures named { IfSome result (λ node. node.now.name ≡ name.now) }
+    {
+        for node in self.as_slice() {
+            if node.is_named(name) {
+                return Some(node);
+            }
+        }
+        None
+    }
+
+    /// Each two linked nodes in both directions, by the place of the first and then of the second in the configuration.
+    #[tactic(auto, unfolding(crate::specs::Nodes::links_of, crate::specs::Nodes::links_between))]
+    pub fn links(&self, alloc: Global) -> Result<Links, Memory>
+        ensures { IfOk result (λ links. links ≡ links_of self.now) }
+    {
+        let mut links = Items::new(alloc);
+        for from in self.as_slice() {
+            put_links(alloc, from, self.as_slice(), &mut links)?;
+        }
+        Ok(links)
+    }
+}
+
+/// Puts the links from one node to others at the end; for want of memory the links are spent.
+#[tactic(auto, unfolding(crate::specs::Nodes::links_from))]
+fn put_links(alloc: Global, from: &Node, nodes: &[Node], links: &mut Links) -> Result<(), Memory>
+    ensures { OnOk result (links.new ≡ links.old ++ links_from from.now nodes.now) }
+{
+    for to in nodes {
+        if from.is_linked_with(to) {
+            links.push(from.link_to(alloc, to)?)?;
+        }
+    }
+    Ok(())
 }
 
 #[tactic(auto, unfolding(crate::specs::Nodes::node_names_differ))]
@@ -96,14 +136,7 @@ fn node_names_differ(nodes: &[Node]) -> bool
 fn has_name(nodes: &[Node], name: &[u8]) -> bool
     ensures { result ≡ list_any (is_node_named name.now) nodes.now }
 {
-    nodes.iter().any(|node| is_node_named(node, name))
-}
-
-#[tactic(auto, unfolding(crate::specs::Nodes::is_node_named))]
-fn is_node_named(node: &Node, name: &[u8]) -> bool
-    ensures { result ≡ is_node_named name.now node.now }
-{
-    node.name.as_bytes() == name
+    nodes.iter().any(|node| node.is_named(name))
 }
 
 #[tactic(auto, unfolding(crate::specs::Nodes::has_node_counts))]

@@ -1,5 +1,5 @@
 -- A history with one more point at its end, and the same history for longer lists of what was asked and answered.
-use Rattle.std.proofs.Common.{◌≡◌, ◌≢◌, ℕ, suc, zero, ◌+◌, Bool, true, false, ◌&&◌, cond, nat_eq, nat_lt, nat_le, List, [], ◌∷◌, ◌++◌, length, Some, refl, sym, ◌∙◌, ap, subst, arith}
+use Rattle.std.proofs.Common.{◌≡◌, ◌≢◌, ℕ, suc, ◌+◌, Bool, true, false, ◌&&◌, cond, nat_eq, nat_lt, nat_le, List, [], ◌∷◌, ◌++◌, Some, refl, sym, ◌∙◌, ap, arith}
 use Rattle.std.specs.Prelude.{All, AllPairs, count_by}
 use Rattle.std.proofs.lemmas.Bool.{cases_eq}
 use Rattle.std.proofs.lemmas.Bool.Decides.{nat_tests}
@@ -9,12 +9,13 @@ use Rattle.std.proofs.lemmas.List.Kept.{AllPairs-cons}
 use Rattle.std.proofs.lemmas.List.Sums.{sum_by-append}
 use Rattle.std.proofs.Math.Logic.{⊎_elim}
 use Rattle.mur_base.specs.declared.point.Point.{Point}
-use Rattle.mur_base.specs.declared.point.What.TheVariants.{Reply as replied}
+use Rattle.mur_base.specs.declared.point.What.TheVariants.{Reply as replied, Lost as lost}
 use Rattle.mur_model.specs.declared.request.Answer.{Answer}
 use Rattle.mur_model.specs.declared.request.Request.{Request}
+use Rattle.mur_model.specs.declared.setting.Setting.{Setting}
 use Rattle.mur_model.specs.History.{Course, Talk, GoesOn, TalkGoesOn, Takes, numbered, point_of, carried_out, after, Follows, answers, is_about}
 use Rattle.mur_model.specs.History.Follows.{no_points, a_reply, a_loss}
-use Rattle.mur_model.proofs.Numbered.{with_item, with_item-same, with_item-other, numbered_more}
+use Rattle.mur_model.proofs.Numbered.{with_item, numbered_more}
 
 pub same_lists : {T : Type 0} (lists : ℕ → List T) → GoesOn lists lists
 same_lists lists = record { more = λ conn. []; parts = λ conn. sym (append-nil (lists conn)) }
@@ -66,38 +67,51 @@ turn_more talk conn request answer serial = record {
   serials = item_more talk.serials conn serial;
 }
 
-numbered_on : {T : Type 0} (lists longer : ℕ → List T) → GoesOn lists longer → (conn number : ℕ) (item : T) → numbered (lists conn) number ≡ Some item → numbered (longer conn) number ≡ Some item
+pub numbered_on : {T : Type 0} (lists longer : ℕ → List T) → GoesOn lists longer → (conn number : ℕ) (item : T) → numbered (lists conn) number ≡ Some item → numbered (longer conn) number ≡ Some item
 numbered_on lists longer on conn number item h = ap (λ l. numbered l number) (on.parts conn) ∙ numbered_more (lists conn) (on.more conn) number item h
 
-takes_on : (talk longer : Talk) → TalkGoesOn talk longer → (course : Course) (conn number : ℕ) (request : Request) (serial : ℕ) → Takes talk course conn number request serial → Takes longer course conn number request serial
-takes_on talk longer on course conn number request serial takes = record {
+pub takes_on : (setting : Setting) (talk longer : Talk) → TalkGoesOn talk longer → (course : Course) (conn number : ℕ) (request : Request) (serial : ℕ)
+    → Takes setting talk course conn number request serial → Takes setting longer course conn number request serial
+takes_on setting talk longer on course conn number request serial takes = record {
   asked = numbered_on talk.requests longer.requests on.requests conn number request takes.asked;
   given = numbered_on talk.serials longer.serials on.serials conn number serial takes.given;
   free = takes.free;
 }
 
 -- a history goes on to hold when more is asked and answered
-pub follows_on : (talk longer : Talk) → TalkGoesOn talk longer → (first last : Course) (points : List Point) → Follows talk first points last → Follows longer first points last
-follows_on talk longer on first last points (no_points course) = no_points course
-follows_on talk longer on first last points (a_reply course end step conn number request serial rest takes answer later) =
-    a_reply course end step conn number request serial rest (takes_on talk longer on course conn number request serial takes)
-    (numbered_on talk.answers longer.answers on.answers conn number (carried_out course conn request serial).answer answer)
-    (follows_on talk longer on _ end rest later)
-follows_on talk longer on first last points (a_loss course end step conn number request serial rest takes later) =
-    a_loss course end step conn number request serial rest (takes_on talk longer on course conn number request serial takes)
-    (follows_on talk longer on _ end rest later)
+pub follows_on : (setting : Setting) (talk longer : Talk) → TalkGoesOn talk longer → (first last : Course) (points : List Point)
+    → Follows setting talk first points last → Follows setting longer first points last
+follows_on setting talk longer on first last points (no_points course) = no_points course
+follows_on setting talk longer on first last points (a_reply course end step conn number request serial rest takes answer later) =
+    a_reply course end step conn number request serial rest (takes_on setting talk longer on course conn number request serial takes)
+    (numbered_on talk.answers longer.answers on.answers conn number (carried_out setting course conn request serial).answer answer)
+    (follows_on setting talk longer on _ end rest later)
+follows_on setting talk longer on first last points (a_loss course end step conn number request serial rest takes later) =
+    a_loss course end step conn number request serial rest (takes_on setting talk longer on course conn number request serial takes)
+    (follows_on setting talk longer on _ end rest later)
 
 -- a reply is put at the end of a history
-pub follows_push : (talk : Talk) (first last : Course) (points : List Point) (step conn number : ℕ) (request : Request) (serial : ℕ)
-    → Follows talk first points last → Takes talk last conn number request serial
-    → numbered (talk.answers conn) number ≡ Some (carried_out last conn request serial).answer
-    → Follows talk first (points ++ point_of step conn number replied ∷ []) (after last conn (carried_out last conn request serial))
-follows_push talk first last points step conn number request serial (no_points course) takes answer =
+pub follows_push : (setting : Setting) (talk : Talk) (first last : Course) (points : List Point) (step conn number : ℕ) (request : Request) (serial : ℕ)
+    → Follows setting talk first points last → Takes setting talk last conn number request serial
+    → numbered (talk.answers conn) number ≡ Some (carried_out setting last conn request serial).answer
+    → Follows setting talk first (points ++ point_of step conn number replied ∷ []) (after last conn (carried_out setting last conn request serial))
+follows_push setting talk first last points step conn number request serial (no_points course) takes answer =
     a_reply course _ step conn number request serial [] takes answer (no_points _)
-follows_push talk first last points step conn number request serial (a_reply course end s c n it ser rest its_takes its_answer later) takes answer =
-    a_reply course _ s c n it ser _ its_takes its_answer (follows_push talk _ end rest step conn number request serial later takes answer)
-follows_push talk first last points step conn number request serial (a_loss course end s c n it ser rest its_takes later) takes answer =
-    a_loss course _ s c n it ser _ its_takes (follows_push talk _ end rest step conn number request serial later takes answer)
+follows_push setting talk first last points step conn number request serial (a_reply course end s c n it ser rest its_takes its_answer later) takes answer =
+    a_reply course _ s c n it ser _ its_takes its_answer (follows_push setting talk _ end rest step conn number request serial later takes answer)
+follows_push setting talk first last points step conn number request serial (a_loss course end s c n it ser rest its_takes later) takes answer =
+    a_loss course _ s c n it ser _ its_takes (follows_push setting talk _ end rest step conn number request serial later takes answer)
+
+-- a loss is put at the end of a history
+pub follows_push_loss : (setting : Setting) (talk : Talk) (first last : Course) (points : List Point) (step conn number : ℕ) (request : Request) (serial : ℕ)
+    → Follows setting talk first points last → Takes setting talk last conn number request serial
+    → Follows setting talk first (points ++ point_of step conn number lost ∷ []) (after last conn (carried_out setting last conn request serial))
+follows_push_loss setting talk first last points step conn number request serial (no_points course) takes =
+    a_loss course _ step conn number request serial [] takes (no_points _)
+follows_push_loss setting talk first last points step conn number request serial (a_reply course end s c n it ser rest its_takes its_answer later) takes =
+    a_reply course _ s c n it ser _ its_takes its_answer (follows_push_loss setting talk _ end rest step conn number request serial later takes)
+follows_push_loss setting talk first last points step conn number request serial (a_loss course end s c n it ser rest its_takes later) takes =
+    a_loss course _ s c n it ser _ its_takes (follows_push_loss setting talk _ end rest step conn number request serial later takes)
 
 head_pairs : (R : Point → Point → Type 0) (x : Point) (xs : List Point) → AllPairs R (x ∷ xs) → All (R x) xs
 head_pairs R x xs pairs = λ k d h. pairs 0 (suc k) d (omega arith) (omega arith)

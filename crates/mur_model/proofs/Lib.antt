@@ -1,2 +1,3 @@
+mod AppendLaws
 pub mod Numbered
 pub mod HistoryGrows

@@ -1,6 +1,5 @@
 -- What one request does to the store and its session, and its answer (RFC 9051, 2.2.2).
 use Rattle.std.specs.Prelude.{ℕ, ⊤}
-use Rattle.mur_model.specs.declared.command.Tag.{Tag}
 use Rattle.mur_model.specs.declared.reply.Verdict.TheVariants.{No as no_reply, Bad as bad_reply}
 use Rattle.mur_model.specs.declared.reply.BadText.TheVariants.{Syntax}
 use Rattle.mur_model.specs.declared.reply.NoText.TheVariants.{Limit}
@@ -9,7 +8,9 @@ use Rattle.mur_model.specs.declared.request.Request.{Request}
 use Rattle.mur_model.specs.declared.request.Request.TheVariants.{Command as command, Unknown as unknown, TooBig as too_big}
 use Rattle.mur_model.specs.declared.session.Sess.{Sess}
 use Rattle.mur_model.specs.declared.store.Store.{Store}
-use Rattle.mur_model.specs.Act.{act_of, reply_of, MayGive}
+use Rattle.mur_model.specs.declared.setting.Setting.{Setting}
+use Rattle.mur_model.specs.Act.{act_of, MayGive}
+use Rattle.mur_model.specs.Reply.{reply_of}
 
 -- store, session and answer after a request
 pub record Answered : Type 0 where
@@ -18,17 +19,17 @@ pub record Answered : Type 0 where
   pub answer : Answer
 
 -- a request that is no command is refused in every state (RFC 9051, 7.1.3)
-unfoldable pub answer_of : Store → Sess → Request → ℕ → Answered
-answer_of store session (command tag it) serial =
-    let acted = act_of store session it serial in
+unfoldable pub answer_of : Setting → Store → Sess → Request → ℕ → Answered
+answer_of setting store session (command tag it) serial =
+    let acted = act_of setting store session it serial in
     record { store = acted.store; session = acted.session; answer = record { tag = tag; reply = acted.reply } }
-answer_of store session (unknown tag) serial =
+answer_of setting store session (unknown tag) serial =
     record { store = store; session = session; answer = record { tag = tag; reply = reply_of (bad_reply Syntax) } }
-answer_of store session (too_big tag) serial =
+answer_of setting store session (too_big tag) serial =
     record { store = store; session = session; answer = record { tag = tag; reply = reply_of (no_reply Limit) } }
 
 -- the serial is free where the request makes a mailbox
-unfoldable pub MayTake : Store → Request → ℕ → Type 0
-MayTake store (command tag it) serial = MayGive store it serial
-MayTake store (unknown tag) serial = ⊤
-MayTake store (too_big tag) serial = ⊤
+unfoldable pub MayTake : Setting → Store → Sess → Request → ℕ → Type 0
+MayTake setting store session (command tag it) serial = MayGive setting store session it serial
+MayTake setting store session (unknown tag) serial = ⊤
+MayTake setting store session (too_big tag) serial = ⊤

@@ -1,39 +1,54 @@
 -- CREATE (RFC 9051, 6.3.4): no mailbox is made at INBOX, a text that is no name is no mailbox's, and a mailbox that is there
 -- stays as it is.
-use Rattle.std.specs.Prelude.{◌≡◌, ⊤, ℕ, Bool, true, false, List, Option, None, Some, codes}
+use Rattle.std.specs.Prelude.{ℕ, ◌-◌, Bool, true, false, List, [], ◌∷◌, length, take, nat_eq, Option, None, Some, codes, if◌then◌else◌}
+use Rattle.std.specs.List.{ends_with}
+use Rattle.std.specs.Str.{str_eq_ignore_ascii_case}
+use Rattle.mail_message.specs.Boxes.{Content, empty_box}
+use Rattle.mail_message.specs.FirstAcl.{first_acl}
+use Rattle.mur_base.specs.Ascii.{dot}
+use Rattle.mur_base.specs.Inbox.{taken_name}
 use Rattle.mur_base.specs.Names.{mail_name_fault}
 use Rattle.mur_base.specs.declared.name.NameFault.{NameFault}
-use Rattle.mur_model.specs.declared.create.Named.{Named}
-use Rattle.mur_model.specs.declared.create.Named.TheVariants.{Name, Refused}
-use Rattle.mur_model.specs.declared.reply.Verdict.TheVariants.{Ok as ok_reply, No as no_reply}
-use Rattle.mur_model.specs.declared.reply.Code.TheVariants.{None as no_code}
-use Rattle.mur_model.specs.declared.reply.NoText.TheVariants.{AlreadyExists, NonExistent, Cannot}
-use Rattle.mur_model.specs.declared.store.MailBox.{MailBox}
-use Rattle.mur_model.specs.declared.store.Store.{Store}
-use Rattle.mur_model.specs.Inbox.{begins_at_inbox, without_separator}
-use Rattle.mur_model.specs.Served.{Served}
-use Rattle.mur_model.specs.Store.{box_at, with_box, IsFree}
+use Rattle.mur_model.specs.declared.need.Need.{Need}
+use Rattle.mur_model.specs.declared.need.Need.TheVariants.{Refusal, Mailbox}
+use Rattle.mur_model.specs.declared.need.Work.TheVariants.{Make}
+use Rattle.mur_model.specs.declared.reply.NoText.TheVariants.{AlreadyExists, NonExistent, NoPerm, Cannot, Limit}
+use Rattle.mur_model.specs.declared.reply.Verdict.TheVariants.{No as no_reply}
+use Rattle.mur_model.specs.declared.setting.Setting.{Setting}
+use Rattle.mur_model.specs.Left.{Worked, kept, made}
+use Rattle.mur_model.specs.Reply.{completed, refused}
+use Rattle.mur_model.specs.Rights.{may_create}
 
--- the name by whether it begins at INBOX, and by the rule of names that it breaks
-unfoldable pub named_as : List ℕ → Bool → Option NameFault → Named
-named_as name true fault = Refused Cannot
-named_as name false (Some fault) = Refused NonExistent
-named_as name false None = Name name
+-- the name that a CREATE spells may have one separator behind it
+unfoldable pub without_separator : List ℕ → List ℕ
+without_separator text = if ends_with nat_eq text (dot ∷ []) then take (length text - 1) text else text
 
--- the name of the mailbox that a CREATE of this text is to make
-unfoldable pub named_by : List ℕ → Named
-named_by text = let name = without_separator text in named_as name (begins_at_inbox name) (mail_name_fault name)
+unfoldable pub is_inbox : List ℕ → Bool
+is_inbox text = str_eq_ignore_ascii_case text (codes "inbox")
 
--- CREATE of a name, by what stands there
-unfoldable pub create_at : Store → List ℕ → ℕ → Option MailBox → Served
-create_at store name serial (Some there) = record { store = store; verdict = no_reply AlreadyExists }
-create_at store name serial None = record { store = with_box store name serial; verdict = ok_reply no_code (codes "CREATE") }
+-- by whether the user may make it
+unfoldable pub create_by : List ℕ → Bool → Need
+create_by name true = Mailbox name Make
+create_by name false = Refusal (no_reply NoPerm)
 
-unfoldable pub create : Store → ℕ → Named → Served
-create store serial (Refused why) = record { store = store; verdict = no_reply why }
-create store serial (Name name) = create_at store name serial (box_at store name)
+-- by whether the text is INBOX, and by the rule of names that the name breaks
+unfoldable pub create_as : Setting → List ℕ → List ℕ → Bool → Option NameFault → Need
+create_as setting user name true fault = Refusal (no_reply Cannot)
+create_as setting user name false (Some fault) = Refusal (no_reply NonExistent)
+create_as setting user name false None = create_by name (may_create setting.users user name)
 
--- the serial is free where the mailbox is made
-unfoldable pub MayCreate : Store → ℕ → Named → Type 0
-MayCreate store serial (Refused why) = ⊤
-MayCreate store serial (Name name) = box_at store name ≡ None → IsFree store name serial
+unfoldable pub create_meant : Setting → List ℕ → List ℕ → Need
+create_meant setting user text =
+    create_as setting user (taken_name user text) (is_inbox text) (mail_name_fault (taken_name user text))
+
+unfoldable pub create : Setting → List ℕ → List ℕ → Need
+create setting user text = create_meant setting user (without_separator text)
+
+-- the mailbox is made, unless no UIDVALIDITY is left
+unfoldable pub make : List ℕ → ℕ → Bool → Worked
+make name serial true = record { left = kept; reply = refused Limit }
+make name serial false = record { left = made (empty_box serial (first_acl name)); reply = completed (codes "CREATE") }
+
+unfoldable pub create_on : List ℕ → ℕ → Bool → Option Content → Worked
+create_on name serial spent (Some there) = record { left = kept; reply = refused AlreadyExists }
+create_on name serial spent None = make name serial spent

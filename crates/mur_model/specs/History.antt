@@ -7,7 +7,7 @@ use Rattle.mur_base.specs.declared.point.What.TheVariants.{Reply as replied, Rea
 use Rattle.mur_model.specs.declared.request.Answer.{Answer}
 use Rattle.mur_model.specs.declared.request.Request.{Request}
 use Rattle.mur_model.specs.declared.session.Sess.{Sess}
-use Rattle.mur_model.specs.declared.session.Sess.TheVariants.{Ended}
+use Rattle.mur_model.specs.declared.setting.Setting.{Setting}
 use Rattle.mur_model.specs.declared.store.Store.{Store}
 use Rattle.mur_model.specs.Answer.{Answered, answer_of, MayTake}
 
@@ -43,8 +43,8 @@ abbrev pub after : Course → ℕ → Answered → Course
 after course conn answered = record { store = answered.store; sessions = with_session course.sessions conn answered.session }
 
 -- a request of a connection, carried out with this UIDVALIDITY
-abbrev pub carried_out : Course → ℕ → Request → ℕ → Answered
-carried_out course conn request serial = answer_of course.store (course.sessions conn) request serial
+abbrev pub carried_out : Setting → Course → ℕ → Request → ℕ → Answered
+carried_out setting course conn request serial = answer_of setting course.store (course.sessions conn) request serial
 
 -- the one of this number, from 1
 unfoldable pub numbered : {T : Type 0} → List T → ℕ → Option T
@@ -52,27 +52,27 @@ numbered items zero = None
 numbered items (suc number) = slice_get items number
 
 -- a request by its number, which may be carried out with the UIDVALIDITY that it had
-pub record Takes (talk : Talk) (course : Course) (conn number : ℕ) (request : Request) (serial : ℕ) : Type 0 where
+pub record Takes (setting : Setting) (talk : Talk) (course : Course) (conn number : ℕ) (request : Request) (serial : ℕ) : Type 0 where
   pub asked : numbered (talk.requests conn) number ≡ Some request
   pub given : numbered (talk.serials conn) number ≡ Some serial
-  pub free : MayTake course.store request serial
+  pub free : MayTake setting course.store (course.sessions conn) request serial
 
 abbrev pub point_of : ℕ → ℕ → ℕ → What → Point
 point_of step conn number what = record { step = step; ask = record { conn = conn; command = number }; what = what }
 
 -- the points, one after another, lead the store and the sessions from one state to another. A `reply` point carries out its
--- request, and the request's answer is this step's. A `lost` point carries it out, gives no answer and ends the session.
-pub data Follows (talk : Talk) : Course → List Point → Course → Type 0 where
-  no_points : (course : Course) → Follows talk course [] course
+-- request, and the request's answer is this step's. A `lost` point carries it out and gives no answer.
+pub data Follows (setting : Setting) (talk : Talk) : Course → List Point → Course → Type 0 where
+  no_points : (course : Course) → Follows setting talk course [] course
   a_reply : (course last : Course) (step conn number : ℕ) (request : Request) (serial : ℕ) (points : List Point)
-      → Takes talk course conn number request serial
-      → numbered (talk.answers conn) number ≡ Some (carried_out course conn request serial).answer
-      → Follows talk (after course conn (carried_out course conn request serial)) points last
-      → Follows talk course (point_of step conn number replied ∷ points) last
+      → Takes setting talk course conn number request serial
+      → numbered (talk.answers conn) number ≡ Some (carried_out setting course conn request serial).answer
+      → Follows setting talk (after course conn (carried_out setting course conn request serial)) points last
+      → Follows setting talk course (point_of step conn number replied ∷ points) last
   a_loss : (course last : Course) (step conn number : ℕ) (request : Request) (serial : ℕ) (points : List Point)
-      → Takes talk course conn number request serial
-      → Follows talk (record { store = (carried_out course conn request serial).store; sessions = with_session course.sessions conn Ended }) points last
-      → Follows talk course (point_of step conn number lost ∷ points) last
+      → Takes setting talk course conn number request serial
+      → Follows setting talk (after course conn (carried_out setting course conn request serial)) points last
+      → Follows setting talk course (point_of step conn number lost ∷ points) last
 
 -- `reply` and both kinds of `refused` answer their command
 unfoldable pub answers : What → Bool
@@ -102,12 +102,12 @@ abbrev pub EndsAtLoss : Point → Point → Type 0
 EndsAtLoss earlier later = loses earlier.what ≡ true → earlier.ask.conn ≡ later.ask.conn → ⊥
 
 -- a history that leads from one state to another is legal for what each connection's client asked and was answered
-pub record IsLegal (first : Course) (talk : Talk) (points : List Point) (last : Course) : Type 0 where
+pub record IsLegal (setting : Setting) (first : Course) (talk : Talk) (points : List Point) (last : Course) : Type 0 where
   -- each answer is that of its point's step, and each new UIDVALIDITY is free
-  pub follows : Follows talk first points last
+  pub follows : Follows setting talk first points last
   -- an answered command has exactly one point that answers it
   pub answered_once : (conn number : ℕ) → 0 < number → number ≤ length (talk.answers conn) → count_by (is_about answers conn number) points ≡ 1
-  -- a lost command has at most one point, and its connection has none behind it
+  -- a lost command has at most one point, and its connection has none behind it: its session has ended
   pub lost_once : (conn number : ℕ) → count_by (is_about loses conn number) points ≤ 1
   pub lost_last : AllPairs EndsAtLoss points
   -- a `read` belongs to a command that appends later what was read, and no command does

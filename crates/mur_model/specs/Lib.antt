@@ -1,7 +1,11 @@
 pub mod Store
-pub mod Served
-pub mod Inbox
+pub mod Rights
+pub mod Reply
+pub mod Left
+pub mod Login
 pub mod Create
+pub mod Append
+pub mod Status
 pub mod Act
 pub mod Answer
 pub mod History

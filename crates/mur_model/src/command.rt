@@ -1,5 +1,8 @@
 // The commands of a mail client (RFC 9051, 6).
-use mur_base::{Bytes, Items};
+ghost use Rattle.std.specs.Prelude.{◌≡◌, IfOk};
+
+use mur_base::{Bytes, Copied, Items, Memory};
+use std::alloc::Global;
 
 /// What a reply begins with: the command's tag, or `*` where none reads.
 #[derive(Drop)]
@@ -13,6 +16,12 @@ pub enum Tag {
 pub enum StatusItem {
     /// The number of messages.
     Messages,
+}
+
+impl Copied for StatusItem {
+    fn copy(&self, _alloc: Global) -> Result<StatusItem, Memory> {
+        Ok(*self)
+    }
 }
 
 /// What one STATUS asks for, in its order.
@@ -29,4 +38,27 @@ pub enum Command {
     Append(Bytes, Bytes),
     /// STATUS of a mailbox (RFC 9051, 6.3.11).
     Status(Bytes, StatusItems),
+}
+
+impl Copied for Command {
+    fn copy(&self, alloc: Global) -> Result<Command, Memory> {
+        Ok(match self {
+            Command::Login(user, password) => {
+                Command::Login(copy_of(alloc, user)?, copy_of(alloc, password)?)
+            }
+            Command::Create(text) => Command::Create(copy_of(alloc, text)?),
+            Command::Append(text, body) => {
+                Command::Append(copy_of(alloc, text)?, copy_of(alloc, body)?)
+            }
+            Command::Status(text, items) => {
+                Command::Status(copy_of(alloc, text)?, items.copy(alloc)?)
+            }
+        })
+    }
+}
+
+fn copy_of(alloc: Global, bytes: &Bytes) -> Result<Bytes, Memory>
+    ensures { IfOk result (λ copy. copy ≡ bytes.now) }
+{
+    Bytes::from_slice(alloc, bytes.as_slice())
 }

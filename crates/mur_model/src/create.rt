@@ -1,77 +1,101 @@
 // CREATE (RFC 9051, 6.3.4).
 ghost use Rattle.std.specs.Prelude.{◌≡◌, IfOk};
 ghost use Rattle.mur_base.specs.Names.{mail_name_fault};
-ghost use Rattle.mur_model.specs.Inbox.{begins_at_inbox};
-ghost use Rattle.mur_model.specs.Store.{box_at};
-ghost use Rattle.mur_model.specs.Create.{create, create_at, named_by, named_as};
+ghost use Rattle.mur_model.specs.Create.{without_separator, is_inbox, create, create_meant, create_by, create_on};
+ghost use Rattle.mur_model.specs.Left.{store_after};
+ghost use Rattle.mur_model.specs.Rights.{may_create};
+ghost use Rattle.mur_model.specs.Store.{box_at, is_spent};
 
-use crate::inbox::{begins_at_inbox, without_separator};
-use crate::reply::{Code, NoText, Verdict};
-use crate::store::{MailBox, Pair, Store};
-use mur_base::{Bytes, Copied, MailName, Memory, NameFault, mail_name};
+use crate::need::{Need, Work};
+use crate::reply::{NoText, Reply, Verdict, completed, refused};
+use crate::rights::may_create;
+use crate::setting::Setting;
+use crate::store::{Pair, Store};
+use mail_message::{MailBox, first_acl};
+use mur_base::{Copied, MailName, Memory, NameFault, UserName, taken};
 use std::alloc::Global;
 
-/// The mailbox that a CREATE is to make, or why it makes none whatever mailboxes there are.
-#[derive(Drop)]
-pub enum Named {
-    Name(MailName),
-    Refused(NoText),
-}
-
-/// The name that the text of a CREATE is.
-#[tactic(auto, unfolding(crate::specs::Create::named_by))]
-pub fn created_name(alloc: Global, text: &[u8]) -> Result<Named, Memory>
-    ensures { IfOk result (λ named. named ≡ named_by text.now) }
-{
-    named_as(alloc, without_separator(text))
-}
-
-#[tactic(auto, unfolding(crate::specs::Create::named_as))]
-fn named_as(alloc: Global, name: &[u8]) -> Result<Named, Memory>
-    ensures { IfOk result (λ named. named ≡ named_as name.now (begins_at_inbox name.now) (mail_name_fault name.now)) }
-{
-    if begins_at_inbox(name) {
-        return Ok(Named::Refused(NoText::Cannot));
-    }
-    match mail_name(alloc, name) {
-        Ok(name) => Ok(Named::Name(name)),
-        Err(NameFault::Memory) => Err(Memory),
-        Err(_) => Ok(Named::Refused(NoText::NonExistent)),
-    }
-}
-
-/// Carries out CREATE of a text on the store, and gives the tagged line of its reply.
+/// What CREATE of a text needs: a mailbox that is made, where the user may make it.
 #[tactic(auto, unfolding(crate::specs::Create::create))]
-pub fn create(
-    alloc: Global,
-    store: &mut Store,
-    text: &Bytes,
-    serial: u32,
-) -> Result<Verdict, Memory>
-    ensures { IfOk result (λ verdict. record { store = store.new; verdict = verdict } ≡ create store.old serial (named_by text.now)) }
+pub fn create(alloc: Global, with: &Setting, user: &UserName, text: &[u8]) -> Result<Need, Memory>
+    ensures { IfOk result (λ need. need ≡ create with.now user.now text.now) }
 {
-    match created_name(alloc, text.as_slice())? {
-        Named::Name(name) => create_at(alloc, store, name, serial),
-        Named::Refused(why) => Ok(Verdict::No(why)),
+    create_meant(alloc, with, user, without_separator(text))
+}
+
+/// A text without the separator that may stand behind it.
+#[tactic(auto, unfolding(crate::specs::Create::without_separator))]
+fn without_separator(text: &[u8]) -> &[u8]
+    ensures { result.now ≡ without_separator text.now }
+{
+    if text.ends_with(b".") {
+        &text[..text.len().saturating_sub(1)]
+    } else {
+        text
     }
 }
 
-#[tactic(auto, unfolding(crate::specs::Create::create_at))]
-fn create_at(
-    alloc: Global,
-    store: &mut Store,
-    name: MailName,
-    serial: u32,
-) -> Result<Verdict, Memory>
-    ensures { IfOk result (λ verdict. record { store = store.new; verdict = verdict } ≡ create_at store.old name serial (box_at store.old name)) }
+#[tactic(auto, unfolding(crate::specs::Create::create_meant, crate::specs::Create::create_as))]
+fn create_meant(alloc: Global, with: &Setting, user: &UserName, text: &[u8]) -> Result<Need, Memory>
+    ensures { IfOk result (λ need. need ≡ create_meant with.now user.now text.now) }
+{
+    if is_inbox(text) {
+        return Ok(Need::Refusal(Verdict::No(NoText::Cannot)));
+    }
+    match taken(alloc, user, text) {
+        Ok(name) => Ok(create_by(with, user, name)),
+        Err(NameFault::Memory) => Err(Memory),
+        Err(_) => Ok(Need::Refusal(Verdict::No(NoText::NonExistent))),
+    }
+}
+
+#[tactic(auto, unfolding(crate::specs::Create::is_inbox))]
+fn is_inbox(text: &[u8]) -> bool
+    ensures { result ≡ is_inbox text.now }
+{
+    text.eq_ignore_ascii_case(b"inbox")
+}
+
+#[tactic(auto, unfolding(crate::specs::Create::create_by))]
+fn create_by(with: &Setting, user: &UserName, name: MailName) -> Need
+    ensures { result ≡ create_by name (may_create with.now.users user.now name) }
+{
+    if may_create(&with.users, user, &name) {
+        Need::Mailbox(name, Work::Make)
+    } else {
+        Need::Refusal(Verdict::No(NoText::NoPerm))
+    }
+}
+
+/// Makes a mailbox, unless it is there or no UIDVALIDITY is left.
+#[tactic(auto, unfolding(crate::specs::Create::create_on, crate::specs::Create::make, crate::specs::Left::store_after))]
+pub fn make(alloc: Global, store: &mut Store, name: MailName, serial: u32) -> Result<Reply, Memory>
+    ensures { IfOk result (λ reply. let worked = create_on name serial (is_spent store.old.given) (box_at store.old name) in
+        (store.new ≡ store_after store.old name worked.left) × (reply ≡ worked.reply)) }
 {
     if store.boxes.contains_key(&name) {
-        return Ok(Verdict::No(NoText::AlreadyExists));
+        return Ok(refused(alloc, NoText::AlreadyExists));
     }
-    store.given.push(Pair {
+    if is_spent(store) {
+        return Ok(refused(alloc, NoText::Limit));
+    }
+    let made = MailBox::make(alloc, serial, first_acl(alloc, &name)?);
+    let pair = Pair {
         name: name.copy(alloc)?,
         serial,
-    })?;
-    store.boxes.insert(name, MailBox { serial, next: 1 })?;
-    Ok(Verdict::Ok(Code::None, Bytes::from_slice(alloc, b"CREATE")?))
+    };
+    store.given.push(pair)?;
+    store.boxes.insert(name, made)?;
+    completed(alloc, b"CREATE")
+}
+
+#[tactic(auto, unfolding(crate::specs::Store::is_spent))]
+fn is_spent(store: &Store) -> bool
+    ensures { result ≡ is_spent store.now.given }
+{
+    store
+        .given
+        .as_slice()
+        .iter()
+        .any(|pair| pair.serial == u32::MAX)
 }

@@ -2,19 +2,30 @@
 //! command, and the histories that are legal for it. Nothing here knows of nodes, links or disks.
 #![tactic(auto)]
 
+mod acting;
+mod append;
 mod command;
 mod create;
-mod inbox;
-mod model;
+mod login;
+mod need;
 mod reply;
 mod request;
+mod rights;
 mod session;
+mod setting;
+mod status;
 mod store;
 
+pub use acting::act;
+pub use append::append_reply;
 pub use command::{Command, StatusItem, StatusItems, Tag};
-pub use create::{Named, created_name};
-pub use model::act;
-pub use reply::{BadText, Bye, Code, NoText, Reply, Verdict};
+pub use need::{Need, Work, begin};
+pub use reply::{
+    BadText, Bye, Code, NoText, Reply, ReplyLine, ReplyLines, StatusCount, StatusCounts, Verdict,
+    completed, refused,
+};
 pub use request::{Answer, Answers, Request, Requests};
 pub use session::Sess;
-pub use store::{MailBox, Pair, Store};
+pub use setting::Setting;
+pub use status::status_reply;
+pub use store::{Pair, Store};

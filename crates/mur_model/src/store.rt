@@ -1,12 +1,6 @@
 // The mailbox store (RFC 9051, 2.3).
+use mail_message::MailBox;
 use mur_base::{Items, MailName, Map};
-
-/// A mailbox: its UIDVALIDITY, and the UID that its next message gets (RFC 9051, 2.3.1.1).
-#[derive(Clone, Copy, Debug, PartialEq, Eq)]
-pub struct MailBox {
-    pub serial: u32,
-    pub next: u32,
-}
 
 /// A UIDVALIDITY that was given to a mailbox of this name.
 #[derive(Drop)]

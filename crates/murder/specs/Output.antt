@@ -1,13 +1,17 @@
 -- The output of a run: what clients were given, the history, the mailboxes, and a last line. Each line ends with an LF.
-use Rattle.std.specs.Prelude.{ℕ, List, ◌++◌, length, codes}
+use Rattle.std.specs.Prelude.{ℕ, List, [], ◌++◌, length, codes}
 use Rattle.std.specs.List.{flat_map}
 use Rattle.std.specs.Fmt.{decimal}
 use Rattle.mur_base.specs.declared.point.Point.{Point}
 use Rattle.mur_base.specs.declared.point.What.{What}
 use Rattle.mur_base.specs.declared.point.What.TheVariants.{Reply, Read, Lost, Reserved, Unreached}
-use Rattle.mur_model.specs.declared.store.MailBox.{MailBox}
+use Rattle.mur_base.specs.declared.home.Phase.{Phase}
+use Rattle.mur_base.specs.declared.home.Phase.TheVariants.{Creating, Open as open_here, Closing, Receiving, Ready, Pointer}
+use Rattle.cluster_core.specs.declared.cluster.HomeRow.{HomeRow}
 use Rattle.cluster_core.specs.declared.world.Client.{Client}
 use Rattle.cluster_core.specs.declared.world.World.{World}
+use Rattle.cluster_core.specs.History.{history_of}
+use Rattle.cluster_core.specs.Shown.{home_rows}
 use Rattle.schedule_text.specs.Cuts.{cuts_of}
 use Rattle.schedule_text.specs.Text.{text_of, name_text_of}
 
@@ -35,18 +39,46 @@ point_line point =
     codes "point " ++ decimal point.step ++ codes " " ++ decimal (point.ask).conn ++ codes "." ++ decimal (point.ask).command ++ codes " "
     ++ what_text point.what ++ codes "\n"
 
--- `box NAME NODE open UIDVALIDITY UIDNEXT 0`: a mailbox at the node that holds it
-unfoldable pub box_line : List ℕ → List ℕ × MailBox → List ℕ
-box_line node entry =
-    codes "box " ++ name_text_of entry.0 ++ codes " " ++ node ++ codes " open " ++ decimal (entry.1).serial ++ codes " " ++ decimal (entry.1).next
-    ++ codes " 0\n"
+-- how far a node is with a mailbox that it has
+unfoldable pub counts_text : List ℕ → HomeRow → List ℕ
+counts_text phase row = phase ++ codes " " ++ decimal row.serial ++ codes " " ++ decimal row.next ++ codes " " ++ decimal row.count ++ codes "\n"
+
+unfoldable pub pointer_text : List ℕ → List ℕ
+pointer_text server = codes "pointer " ++ server ++ codes "\n"
+
+unfoldable pub phase_text : HomeRow → Phase → List ℕ
+phase_text row Creating = counts_text (codes "creating") row
+phase_text row open_here = counts_text (codes "open") row
+phase_text row Closing = counts_text (codes "closing") row
+phase_text row Ready = counts_text (codes "ready") row
+phase_text row Receiving = counts_text (codes "receiving") row
+phase_text row (Pointer server) = pointer_text server
+
+-- `box NAME NODE PHASE UIDVALIDITY UIDNEXT COUNT`, or `box NAME NODE pointer SERVER`: a mailbox at a node that has it
+unfoldable pub row_text : HomeRow → List ℕ
+row_text row = codes "box " ++ name_text_of row.name ++ codes " " ++ row.backend ++ codes " " ++ phase_text row row.phase
+
+-- what is coming in isn't shown
+unfoldable pub line_in : HomeRow → Phase → List ℕ
+line_in row Receiving = []
+line_in row Creating = row_text row
+line_in row open_here = row_text row
+line_in row Closing = row_text row
+line_in row Ready = row_text row
+line_in row (Pointer server) = row_text row
+
+unfoldable pub box_line : HomeRow → List ℕ
+box_line row = line_in row row.phase
 
 -- `end STEPS POINTS`
 unfoldable pub end_line : ℕ → ℕ → List ℕ
 end_line steps points = codes "end " ++ decimal steps ++ codes " " ++ decimal points ++ codes "\n"
 
 -- clients in rising order of connections, points in order, mailboxes in byte order of names
-unfoldable pub output_of : World → List ℕ
-output_of world =
+unfoldable pub lines_of : World → List Point → List HomeRow → List ℕ
+lines_of world points rows =
     flat_map client_lines world.clients
-    ++ (flat_map point_line world.points ++ (flat_map (box_line world.node) world.home.boxes ++ end_line world.steps (length world.points)))
+    ++ (flat_map point_line points ++ (flat_map box_line rows ++ end_line world.steps (length points)))
+
+unfoldable pub output_of : World → List ℕ
+output_of world = lines_of world (history_of world) (home_rows world)

@@ -12,7 +12,8 @@ use Rattle.mur_edge.specs.declared.host.Asked.{Asked}
 use Rattle.mur_edge.specs.declared.host.Asked.TheVariants.{Source, Out, Errors}
 use Rattle.mur_config.specs.declared.config.Config.{Config as Configuration}
 use Rattle.schedule_text.specs.declared.event.Event.{Event}
-use Rattle.cluster_core.specs.World.{start, run}
+use Rattle.cluster_core.specs.Flow.{run}
+use Rattle.cluster_core.specs.World.{start}
 use Rattle.mur_config.specs.Config.{config_of}
 use Rattle.cluster_core.specs.Headline.{IsOneServer}
 use Rattle.schedule_text.specs.Schedule.{schedule_of}

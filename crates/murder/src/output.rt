@@ -3,46 +3,57 @@ ghost use Rattle.std.specs.Prelude.{OnOk};
 ghost use Rattle.std.specs.List.{flat_map};
 ghost use Rattle.mur_edge.specs.Counts.{HasHostCause};
 ghost use Rattle.mur_edge.specs.Sink.{Took, TookFront};
-ghost use Rattle.murder.specs.Output.{client_lines, point_line, box_line, output_of};
+ghost use Rattle.murder.specs.Output.{client_lines, point_line, box_line, lines_of};
 ghost use Rattle.murder.specs.Writing.{DidPut};
 
 mod lines;
 #[cfg(test)]
 mod tests;
 
-use cluster_core::{Client, Points, World};
-use lines::{BoxRow, End, Given, Line};
+use cluster_core::{Client, HomeRows, Points, World};
+use lines::{End, Given, Line};
 use mur_base::limits::PIECE_LIMIT;
-use mur_base::{Bytes, MailName, Map, NodeName};
+use mur_base::{Bytes, Map};
 use mur_edge::{HostFault, Sink, write_all};
-use mur_model::MailBox;
 use schedule_text::LineCuts;
 use std::alloc::Global;
 
-/// Writes the output of a run, a part of about `PIECE_LIMIT` bytes at a time. Where it fails a front of the output is
-/// taken.
-pub fn write_output<S: Sink>(alloc: Global, world: &World, sink: &mut S) -> Result<(), HostFault>
-    ensures all { OnOk result (Took (S.facts sink.old).taken (S.facts sink.new).taken (output_of world.now)) }
-    ensures front { TookFront (S.facts sink.old).taken (S.facts sink.new).taken (output_of world.now) }
+/// Writes the output of a run, whose history and mailboxes are these, a part of about `PIECE_LIMIT` bytes at a time. Where it
+/// fails a front of the output is taken.
+pub fn write_output<S: Sink>(
+    alloc: Global,
+    world: &World,
+    points: &Points,
+    rows: &HomeRows,
+    sink: &mut S,
+) -> Result<(), HostFault>
+    ensures all { OnOk result (Took (S.facts sink.old).taken (S.facts sink.new).taken (lines_of world.now points.now rows.now)) }
+    ensures front { TookFront (S.facts sink.old).taken (S.facts sink.new).taken (lines_of world.now points.now rows.now) }
     ensures cause { HasHostCause (S.facts sink.old).faults (S.facts sink.new).faults result }
 {
     let mut part = Bytes::new(alloc);
-    write_lines(world, &mut part, sink)?;
+    write_lines(world, points, rows, &mut part, sink)?;
     write_all(sink, part.as_slice())?;
     Ok(())
 }
 
 /// All lines but what is kept back in `part`.
-fn write_lines<S: Sink>(world: &World, part: &mut Bytes, sink: &mut S) -> Result<(), HostFault>
-    ensures did { DidPut (S.facts sink.old).taken (S.facts sink.new).taken part.old part.new (output_of world.now) result }
+fn write_lines<S: Sink>(
+    world: &World,
+    points: &Points,
+    rows: &HomeRows,
+    part: &mut Bytes,
+    sink: &mut S,
+) -> Result<(), HostFault>
+    ensures did { DidPut (S.facts sink.old).taken (S.facts sink.new).taken part.old part.new (lines_of world.now points.now rows.now) result }
     ensures cause { HasHostCause (S.facts sink.old).faults (S.facts sink.new).faults result }
 {
     write_clients(&world.clients, part, sink)?;
-    write_points(&world.points, part, sink)?;
-    write_boxes(&world.node, &world.home.boxes, part, sink)?;
+    write_points(points, part, sink)?;
+    write_boxes(rows, part, sink)?;
     let end = End {
         steps: world.steps,
-        points: world.points.len() as u64,
+        points: points.len() as u64,
     };
     write_line(&end, part, sink)?;
     Ok(())
@@ -72,25 +83,12 @@ fn write_points<S: Sink>(points: &Points, part: &mut Bytes, sink: &mut S) -> Res
     Ok(())
 }
 
-fn write_boxes<S: Sink>(
-    node: &NodeName,
-    boxes: &Map<MailName, MailBox>,
-    part: &mut Bytes,
-    sink: &mut S,
-) -> Result<(), HostFault>
-    ensures did { DidPut (S.facts sink.old).taken (S.facts sink.new).taken part.old part.new (flat_map (box_line node.now) boxes.now) result }
+fn write_boxes<S: Sink>(rows: &HomeRows, part: &mut Bytes, sink: &mut S) -> Result<(), HostFault>
+    ensures did { DidPut (S.facts sink.old).taken (S.facts sink.new).taken part.old part.new (flat_map box_line rows.now) result }
     ensures cause { HasHostCause (S.facts sink.old).faults (S.facts sink.new).faults result }
 {
-    for (name, mailbox) in boxes.iter() {
-        write_line(
-            &BoxRow {
-                name,
-                node,
-                mailbox,
-            },
-            part,
-            sink,
-        )?;
+    for row in rows.as_slice() {
+        write_line(row, part, sink)?;
     }
     Ok(())
 }

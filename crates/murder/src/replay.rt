@@ -85,6 +85,7 @@ fn refused(fault: SchedFault) -> Status
 }
 
 // Runs the events and writes the text of the run.
+#[tactic(auto, unfolding(crate::specs::Output::output_of))]
 fn write_run<H: Host>(alloc: Global, host: &mut H, config: Config, events: Events) -> Status
     requires room { HasCountRoom events }
     ensures one_server { IsOneServer config events }
@@ -95,12 +96,15 @@ fn write_run<H: Host>(alloc: Global, host: &mut H, config: Config, events: Event
         return Status::Memory;
     };
     drop(config);
+    let (Ok(points), Ok(rows)) = (cluster.history(alloc), cluster.homes(alloc)) else {
+        return Status::Memory;
+    };
     let mut out = match host.out() {
         Ok(out) => out,
         Err(HostFault::Failed) => return Status::Write,
         Err(HostFault::Memory) => return Status::Memory,
     };
-    let written = write_output(alloc, cluster.world(), &mut out);
+    let written = write_output(alloc, cluster.world(), &points, &rows, &mut out);
     host.back(Used::Out(out));
     match written {
         Ok(()) => Status::Done,

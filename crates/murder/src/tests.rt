@@ -17,19 +17,20 @@ use std::process::Abort;
 use std::test::Fail;
 
 const SCHEDULE: &[u8] =
-    b"open f1 1\ndata 1 a1 CREATE user.bob\\r\\na2 CREATE user.bob\\r\\na3 NOOP\\r\\n\\r\\n\n";
+    b"open f1 1\ndata 1 a1 LOGIN adm x\\r\\na2 CREATE user.bob\\r\\na3 APPEND user.bob {5+}\\r\\nhello\\r\\na4 STATUS user.bob (MESSAGES)\\r\\n\nflow 100\n";
 
 const OUTPUT: &[u8] = br"to 1 * OK [CAPABILITY IMAP4rev2 AUTH=PLAIN] murder ready\r\n
-to 1 a1 OK CREATE completed\r\n
-to 1 a2 NO [ALREADYEXISTS] mailbox exists\r\n
-to 1 a3 BAD syntax error\r\n
-to 1 * BAD syntax error\r\n
+to 1 a1 OK LOGIN completed\r\n
+to 1 a2 OK CREATE completed\r\n
+to 1 a3 OK [APPENDUID 1 1] APPEND completed\r\n
+to 1 * STATUS user.bob (MESSAGES 1)\r\n
+to 1 a4 OK STATUS completed\r\n
 point 2 1.1 reply
-point 2 1.2 reply
-point 2 1.3 reply
-point 2 1.4 reply
-box user.bob f1 open 1 1 0
-end 2 4
+point 3 1.2 reply
+point 5 1.3 reply
+point 7 1.4 reply
+box user.bob b1 open 1 2 1
+end 8 4
 ";
 
 // What a call is given, and the numbers of the calls of each object that fail.

@@ -13,6 +13,9 @@ pub fn holds(alloc: Global, fields: &[&str]) -> Result<bool> {
             Err(ConfigFault::Memory) => Err(anyhow!("out of memory")),
         },
         ["nodes", list, want] => Ok(word_of_nodes(nodes_of(alloc, list)?) == *want),
+        ["links", list, want] => {
+            Ok(shown_links(alloc, nodes_of(alloc, list)?)?.as_slice() == want.as_bytes())
+        }
         ["users", list, want] => Ok(word_of_users(users_of(alloc, list)?) == *want),
         _ => Ok(false),
     }
@@ -60,7 +63,7 @@ fn put_user(user: &User, shown: &mut Bytes) -> Result<()> {
 }
 
 /// The nodes of a list of `NAME=KIND` and `NAME=backend:PARTITION`.
-fn nodes_of(alloc: Global, list: &str) -> Result<Items<Node>> {
+pub fn nodes_of(alloc: Global, list: &str) -> Result<Items<Node>> {
     let mut nodes = Items::new(alloc);
     for text in list.split_whitespace() {
         let Some((name, kind)) = text.split_once('=') else {
@@ -95,6 +98,21 @@ fn word_of_nodes(nodes: Items<Node>) -> &'static str {
         Err(NodesFault::NodeCount) => "node count",
         Err(NodesFault::BadPartition) => "bad partition",
     }
+}
+
+/// The links of nodes, each as `FROM>TO`.
+fn shown_links(alloc: Global, nodes: Items<Node>) -> Result<Bytes> {
+    let nodes = Nodes::new(nodes)?;
+    let mut shown = Bytes::new(alloc);
+    for link in nodes.links(alloc)?.as_slice() {
+        if !shown.is_empty() {
+            shown.push(b' ')?;
+        }
+        shown.extend_from_slice(link.from.as_bytes())?;
+        shown.push(b'>')?;
+        shown.extend_from_slice(link.to.as_bytes())?;
+    }
+    Ok(shown)
 }
 
 /// The users of a list of `NAME:PASSWORD`.

@@ -11,11 +11,17 @@ use Rattle.schedule_text.specs.declared.schedule.fault.ScheduleError.{ScheduleEr
 use Rattle.schedule_text.specs.declared.schedule.fault.ScheduleError.TheVariants.{Refused, Memory}
 use Rattle.schedule_text.specs.declared.schedule.open_line.TheConstants.{OPEN}
 use Rattle.schedule_text.specs.declared.schedule.data_line.TheConstants.{DATA}
+use Rattle.schedule_text.specs.declared.schedule.hang_line.TheConstants.{HANG}
+use Rattle.schedule_text.specs.declared.schedule.deliver_line.TheConstants.{DELIVER}
+use Rattle.schedule_text.specs.declared.schedule.flow_line.TheConstants.{FLOW}
 use Rattle.schedule_text.specs.Cuts.{cuts_of, line_in}
 use Rattle.schedule_text.specs.ScheduleRules.{◌>>=◌}
 use Rattle.schedule_text.specs.ScheduleWords.{first_word}
 use Rattle.schedule_text.specs.ScheduleOpen.{open_of}
 use Rattle.schedule_text.specs.ScheduleData.{data_of}
+use Rattle.schedule_text.specs.ScheduleHang.{hang_of}
+use Rattle.schedule_text.specs.ScheduleDeliver.{deliver_of}
+use Rattle.schedule_text.specs.ScheduleFlow.{flow_of}
 
 -- the number sign
 abbrev pub hash : ℕ
@@ -31,6 +37,9 @@ unfoldable pub event_of : Config → List Event → List ℕ → Result Event Ru
 event_of config before line =
     if bytes_eq (first_word line).word OPEN.now then open_of config before (first_word line).rest
     else if bytes_eq (first_word line).word DATA.now then data_of before (first_word line).rest
+    else if bytes_eq (first_word line).word HANG.now then hang_of before (first_word line).rest
+    else if bytes_eq (first_word line).word DELIVER.now then deliver_of config (first_word line).rest
+    else if bytes_eq (first_word line).word FLOW.now then flow_of (first_word line).rest
     else Err UnknownWord
 
 -- the events with the one of a line, or the line's number and the rule that it breaks

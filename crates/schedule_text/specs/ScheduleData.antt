@@ -1,19 +1,15 @@
 -- The line `data C TEXT`: bytes come from the client of connection C, which a line before opened. TEXT is the rest of
 -- the line, and may hold spaces or be empty.
-use Rattle.std.specs.Prelude.{ℕ, if◌then◌else◌, List, Result, Ok, Err}
+use Rattle.std.specs.Prelude.{ℕ, List, Result, Ok}
 use Rattle.std.specs.Option.{ok_or}
 use Rattle.schedule_text.specs.declared.event.Event.{Event}
 use Rattle.schedule_text.specs.declared.event.Event.TheVariants.{Data}
 use Rattle.schedule_text.specs.declared.schedule.fault.Rule.{Rule}
-use Rattle.schedule_text.specs.declared.schedule.fault.Rule.TheVariants.{Connection, BadText}
+use Rattle.schedule_text.specs.declared.schedule.fault.Rule.TheVariants.{BadText}
 use Rattle.schedule_text.specs.Text.{bytes_of}
 use Rattle.schedule_text.specs.ScheduleRules.{◌>>=◌}
 use Rattle.schedule_text.specs.ScheduleWords.{word_and_rest, number_in}
-use Rattle.schedule_text.specs.ScheduleOpened.{is_opened}
-
--- a connection that the events before opened
-unfoldable pub opened_before : List Event → ℕ → Result (Unit {0}) Rule
-opened_before before conn = if is_opened before conn then Ok tt else Err Connection
+use Rattle.schedule_text.specs.ScheduleOpened.{opened_before}
 
 -- the bytes that a text spells
 unfoldable pub text_in : List ℕ → Result (List ℕ) Rule

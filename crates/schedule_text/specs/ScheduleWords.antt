@@ -50,6 +50,10 @@ word_and_rest text = unless_empty (cut_at_space text)
 unfoldable pub is_one_word : List ℕ → Bool
 is_one_word text = nat_lt 0 (length text) && is_none (cut_at_space text)
 
+-- exactly one word
+unfoldable pub one_word : List ℕ → Result (List ℕ) Rule
+one_word text = if is_one_word text then Ok text else Err WrongCount
+
 -- exactly two words
 unfoldable pub two_words : List ℕ → Result Words Rule
 two_words text = do

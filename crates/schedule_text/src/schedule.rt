@@ -6,7 +6,11 @@ ghost use Rattle.schedule_text.specs.ScheduleFits.{FitSchedule, HasCountRoom};
 ghost use Rattle.schedule_text.specs.Schedule.{event_of, is_passed_over, line_read, schedule_of, IsTakenAs};
 
 mod data_line;
+mod deliver_line;
 mod fault;
+mod flow_line;
+mod hang_line;
+mod nodes;
 mod open_line;
 mod read_so_far;
 mod words;
@@ -14,7 +18,10 @@ mod words;
 use crate::cuts::{LineCuts, line_in};
 use crate::event::{Event, Events};
 use data_line::{DATA, read_data};
+use deliver_line::{DELIVER, read_deliver};
 pub use fault::{LineError, Rule, SchedFault, ScheduleError};
+use flow_line::{FLOW, read_flow};
+use hang_line::{HANG, read_hang};
 use mur_base::limits::SCHEDULE_LIMIT;
 use mur_config::Config;
 use open_line::{OPEN, read_open};
@@ -98,6 +105,12 @@ fn read_event(
         read_open(alloc, words.rest, config, so_far)
     } else if words.word == DATA {
         read_data(alloc, words.rest, so_far)
+    } else if words.word == HANG {
+        Ok(read_hang(words.rest, so_far)?)
+    } else if words.word == DELIVER {
+        read_deliver(alloc, words.rest, config)
+    } else if words.word == FLOW {
+        Ok(read_flow(words.rest)?)
     } else {
         Err(LineError::Broken(Rule::UnknownWord))
     }

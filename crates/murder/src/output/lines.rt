@@ -1,9 +1,9 @@
 // The lines of the output.
 ghost use Rattle.std.specs.Prelude.{◌≡◌, ℕ, List, ◌++◌, OnOk};
-ghost use Rattle.murder.specs.Output.{what_text, unreached_text};
+ghost use Rattle.murder.specs.Output.{what_text, unreached_text, row_text, phase_text, counts_text, pointer_text};
 
-use mur_base::{Bytes, MailName, Memory, NodeName, Point, What, put_number};
-use mur_model::MailBox;
+use cluster_core::HomeRow;
+use mur_base::{Bytes, Memory, NodeName, Phase, Point, What, put_number};
 use schedule_text::{put_name_text, put_text};
 
 /// What is printed as one line.
@@ -21,14 +21,6 @@ pub trait Line {
 pub struct Given<'a> {
     pub conn: u64,
     pub piece: &'a [u8],
-}
-
-/// `box NAME NODE open UIDVALIDITY UIDNEXT 0`: a mailbox at the node that holds it.
-#[derive(Drop)]
-pub struct BoxRow<'a> {
-    pub name: &'a MailName,
-    pub node: &'a NodeName,
-    pub mailbox: &'a MailBox,
 }
 
 /// `end STEPS POINTS`.
@@ -95,23 +87,71 @@ fn put_unreached(node: &NodeName, out: &mut Bytes) -> Result<(), Memory>
     Ok(())
 }
 
-impl Line for BoxRow<'_> {
+/// `box NAME NODE PHASE UIDVALIDITY UIDNEXT COUNT`, or `box NAME NODE pointer SERVER`. A mailbox whose content is coming in isn't
+/// printed.
+impl Line for HomeRow {
     ghost use Rattle.murder.specs.Output.{box_line};
 
-    ghost text = { λ line. box_line line.node.now (line.name.now, line.mailbox.now) };
+    ghost text = { box_line };
 
-    #[tactic(auto, unfolding(crate::specs::Output::box_line))]
+    #[tactic(auto, unfolding(crate::specs::Output::box_line, crate::specs::Output::line_in))]
     fn put(&self, out: &mut Bytes) -> Result<(), Memory> {
-        out.extend_from_slice(b"box ")?;
-        put_name_text(self.name.as_bytes(), out)?;
-        out.push(b' ')?;
-        out.extend_from_slice(self.node.as_bytes())?;
-        out.extend_from_slice(b" open ")?;
-        put_number(u64::from(self.mailbox.serial), out)?;
-        out.push(b' ')?;
-        put_number(u64::from(self.mailbox.next), out)?;
-        out.extend_from_slice(b" 0\n")
+        match &self.phase {
+            Phase::Receiving => Ok(()),
+            Phase::Creating | Phase::Open | Phase::Closing | Phase::Ready | Phase::Pointer(_) => {
+                put_row(self, out)
+            }
+        }
     }
+}
+
+#[tactic(auto, unfolding(crate::specs::Output::row_text))]
+fn put_row(row: &HomeRow, out: &mut Bytes) -> Result<(), Memory>
+    ensures { OnOk result (out.new ≡ out.old ++ row_text row.now) }
+{
+    out.extend_from_slice(b"box ")?;
+    put_name_text(row.name.as_bytes(), out)?;
+    out.push(b' ')?;
+    out.extend_from_slice(row.backend.as_bytes())?;
+    out.push(b' ')?;
+    put_phase(row, out)
+}
+
+#[tactic(auto, unfolding(crate::specs::Output::phase_text))]
+fn put_phase(row: &HomeRow, out: &mut Bytes) -> Result<(), Memory>
+    ensures { OnOk result (out.new ≡ out.old ++ phase_text row.now row.now.phase) }
+{
+    match &row.phase {
+        Phase::Creating => put_counts(b"creating", row, out),
+        Phase::Open => put_counts(b"open", row, out),
+        Phase::Closing => put_counts(b"closing", row, out),
+        Phase::Receiving => put_counts(b"receiving", row, out),
+        Phase::Ready => put_counts(b"ready", row, out),
+        Phase::Pointer(server) => put_pointer(server, out),
+    }
+}
+
+#[tactic(auto, unfolding(crate::specs::Output::counts_text))]
+fn put_counts(phase: &[u8], row: &HomeRow, out: &mut Bytes) -> Result<(), Memory>
+    ensures { OnOk result (out.new ≡ out.old ++ counts_text phase.now row.now) }
+{
+    out.extend_from_slice(phase)?;
+    out.push(b' ')?;
+    put_number(u64::from(row.serial), out)?;
+    out.push(b' ')?;
+    put_number(u64::from(row.next), out)?;
+    out.push(b' ')?;
+    put_number(row.count, out)?;
+    out.push(b'\n')
+}
+
+#[tactic(auto, unfolding(crate::specs::Output::pointer_text))]
+fn put_pointer(server: &NodeName, out: &mut Bytes) -> Result<(), Memory>
+    ensures { OnOk result (out.new ≡ out.old ++ pointer_text server.now) }
+{
+    out.extend_from_slice(b"pointer ")?;
+    out.extend_from_slice(server.as_bytes())?;
+    out.push(b'\n')
 }
 
 impl Line for End {

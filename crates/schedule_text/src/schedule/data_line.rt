@@ -2,7 +2,7 @@
 ghost use Rattle.std.specs.Prelude.{◌≡◌};
 ghost use Rattle.schedule_text.specs.ScheduleRules.{IsReadAs};
 ghost use Rattle.schedule_text.specs.ScheduleOpened.{KnowsOpened};
-ghost use Rattle.schedule_text.specs.ScheduleData.{data_of, opened_before, text_in};
+ghost use Rattle.schedule_text.specs.ScheduleData.{data_of, text_in};
 
 use crate::event::Event;
 use crate::schedule::fault::{LineError, Rule};
@@ -23,20 +23,8 @@ pub fn read_data(alloc: Global, text: &[u8], so_far: &ReadSoFar) -> Result<Event
 {
     let words = word_and_rest(text)?;
     let conn = number_in(words.word)?;
-    opened_before(so_far, conn)?;
+    so_far.opened_before(conn)?;
     Ok(Event::Data(conn, text_in(alloc, words.rest)?))
-}
-
-#[tactic(auto, unfolding(crate::specs::ScheduleData::opened_before))]
-fn opened_before(so_far: &ReadSoFar, conn: u64) -> Result<(), Rule>
-    requires { KnowsOpened so_far.now }
-    ensures { result ≡ opened_before so_far.now.events conn }
-{
-    if so_far.is_opened(conn) {
-        Ok(())
-    } else {
-        Err(Rule::Connection)
-    }
 }
 
 /// The bytes that a text spells.

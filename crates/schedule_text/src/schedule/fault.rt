@@ -12,11 +12,11 @@ pub enum Rule {
     UnknownWord,
     #[error("the word has not as many words behind it as it needs, with one space before each")]
     WrongCount,
-    #[error("a number isn't decimal, or doesn't fit 64 bits")]
+    #[error("a number isn't decimal, or is too large")]
     BadNumber,
     #[error("a node is none of the configuration, or doesn't fit the word")]
     UnknownNode,
-    #[error("a connection is opened twice, or has data before it is opened")]
+    #[error("a connection is opened twice, or used before it is opened")]
     Connection,
     #[error("the schedule has more than 268435456 bytes")]
     TooLong,

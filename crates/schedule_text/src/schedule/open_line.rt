@@ -1,12 +1,12 @@
-// The line `open NODE C`: connection C is opened at a frontend.
-ghost use Rattle.std.specs.Prelude.{◌≡◌, MatchResult};
-ghost use Rattle.std.specs.Bool.{OnTrue};
+// The line `open NODE C`: connection C is opened at a frontend, or at the master.
+ghost use Rattle.std.specs.Prelude.{◌≡◌, MatchResult, Ok, Err};
 ghost use Rattle.schedule_text.specs.ScheduleRules.{IsReadAs};
 ghost use Rattle.schedule_text.specs.ScheduleOpened.{KnowsOpened};
-ghost use Rattle.schedule_text.specs.ScheduleOpen.{open_of, frontend_in, is_frontend_named, unopened};
+ghost use Rattle.schedule_text.specs.ScheduleOpen.{open_of, client_node_in, takes_clients};
 
 use crate::event::Event;
 use crate::schedule::fault::{LineError, Rule};
+use crate::schedule::nodes::node_in;
 use crate::schedule::read_so_far::ReadSoFar;
 use crate::schedule::words::{number_in, two_words};
 use mur_base::Copied;
@@ -29,42 +29,29 @@ pub fn read_open(
 {
     let words = two_words(text)?;
     let conn = number_in(words.rest)?;
-    let node = frontend_in(config, words.word)?;
-    unopened(so_far, conn)?;
+    let node = client_node_in(config, words.word)?;
+    so_far.unopened(conn)?;
     Ok(Event::Open(node.name.copy(alloc)?, conn))
 }
 
-/// The frontend of a name.
-#[tactic(auto, unfolding(crate::specs::ScheduleOpen::frontend_in))]
-fn frontend_in<'a>(config: &'a Config, name: &[u8]) -> Result<&'a Node, Rule>
+/// A node of the configuration at which clients open connections.
+#[tactic(auto, unfolding(crate::specs::ScheduleOpen::client_node_in))]
+fn client_node_in<'a>(config: &'a Config, name: &[u8]) -> Result<&'a Node, Rule>
     ensures { MatchResult result
-        (λ node. frontend_in config.now name.now ≡ Ok node.now.name)
-        (λ rule. frontend_in config.now name.now ≡ Err rule) }
+        (λ node. client_node_in config.now name.now ≡ Ok node.now.name)
+        (λ rule. client_node_in config.now name.now ≡ Err rule) }
 {
-    for node in config.nodes.as_slice() {
-        if is_frontend_named(node, name) {
-            return Ok(node);
-        }
-    }
-    Err(Rule::UnknownNode)
-}
-
-#[tactic(auto, unfolding(crate::specs::ScheduleOpen::is_frontend_named, mur_config::specs::Nodes::is_node_of_kind, mur_config::specs::Nodes::is_of_kind, mur_config::specs::Nodes::is_node_named))]
-fn is_frontend_named(node: &Node, name: &[u8]) -> bool
-    ensures value { result ≡ is_frontend_named name.now node.now }
-    ensures named { OnTrue result (node.now.name ≡ name.now) }
-{
-    node.kind == Kind::Frontend && node.name.as_bytes() == name
-}
-
-#[tactic(auto, unfolding(crate::specs::ScheduleOpen::unopened))]
-fn unopened(so_far: &ReadSoFar, conn: u64) -> Result<(), Rule>
-    requires { KnowsOpened so_far.now }
-    ensures { result ≡ unopened so_far.now.events conn }
-{
-    if so_far.is_opened(conn) {
-        Err(Rule::Connection)
+    let node = node_in(config, name)?;
+    if takes_clients(node.kind) {
+        Ok(node)
     } else {
-        Ok(())
+        Err(Rule::UnknownNode)
     }
+}
+
+#[tactic(auto, unfolding(crate::specs::ScheduleOpen::takes_clients))]
+fn takes_clients(kind: Kind) -> bool
+    ensures { result ≡ takes_clients kind }
+{
+    kind != Kind::Backend
 }

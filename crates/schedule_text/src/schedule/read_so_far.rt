@@ -1,8 +1,9 @@
 // The events that were read so far.
 ghost use Rattle.std.specs.Prelude.{◌≡◌, ◌++◌, ◌∷◌, [], OnOk};
-ghost use Rattle.schedule_text.specs.ScheduleOpened.{is_opened, opened_after, KnowsOpened};
+ghost use Rattle.schedule_text.specs.ScheduleOpened.{is_opened, opened_before, unopened, opened_after, KnowsOpened};
 
 use crate::event::{Event, Events};
+use crate::schedule::fault::Rule;
 use mur_base::{Items, Map, Memory};
 use std::alloc::Global;
 
@@ -26,11 +27,37 @@ impl ReadSoFar {
     }
 
     /// Whether the events so far opened a connection. It takes logarithmic time.
-    pub fn is_opened(&self, conn: u64) -> bool
+    fn is_opened(&self, conn: u64) -> bool
         requires { KnowsOpened self.now }
         ensures { result ≡ is_opened self.now.events conn }
     {
         self.opened.contains_key(&conn)
+    }
+
+    /// A connection that the events so far opened.
+    #[tactic(auto, unfolding(crate::specs::ScheduleOpened::opened_before))]
+    pub fn opened_before(&self, conn: u64) -> Result<(), Rule>
+        requires { KnowsOpened self.now }
+        ensures { result ≡ opened_before self.now.events conn }
+    {
+        if self.is_opened(conn) {
+            Ok(())
+        } else {
+            Err(Rule::Connection)
+        }
+    }
+
+    /// A connection that the events so far didn't open.
+    #[tactic(auto, unfolding(crate::specs::ScheduleOpened::unopened))]
+    pub fn unopened(&self, conn: u64) -> Result<(), Rule>
+        requires { KnowsOpened self.now }
+        ensures { result ≡ unopened self.now.events conn }
+    {
+        if self.is_opened(conn) {
+            Err(Rule::Connection)
+        } else {
+            Ok(())
+        }
     }
 
     /// Puts an event at the end; for want of memory the events are spent.

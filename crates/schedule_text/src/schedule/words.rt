@@ -1,7 +1,7 @@
 // The words of a schedule's line, with one space before each but the first.
 ghost use Rattle.std.specs.Prelude.{◌≡◌, MatchResult, option_map, Ok, Err};
 ghost use Rattle.mur_base.specs.Number.{number_of};
-ghost use Rattle.schedule_text.specs.ScheduleWords.{IsCutAs, shown, cut_at_space, first_word, word_and_rest, is_one_word, two_words, number_in};
+ghost use Rattle.schedule_text.specs.ScheduleWords.{IsCutAs, shown, cut_at_space, first_word, word_and_rest, is_one_word, one_word, two_words, number_in};
 
 use crate::schedule::fault::Rule;
 use memchr::memchr;
@@ -47,6 +47,18 @@ pub fn word_and_rest(text: &[u8]) -> Result<Cut<'_>, Rule>
     match cut_at_space(text) {
         Some(cut) if !cut.word.is_empty() => Ok(cut),
         _ => Err(Rule::WrongCount),
+    }
+}
+
+/// Exactly one word.
+#[tactic(auto, unfolding(crate::specs::ScheduleWords::one_word))]
+pub fn one_word(text: &[u8]) -> Result<&[u8], Rule>
+    ensures { MatchResult result (λ word. one_word text.now ≡ Ok word.now) (λ rule. one_word text.now ≡ Err rule) }
+{
+    if is_one_word(text) {
+        Ok(text)
+    } else {
+        Err(Rule::WrongCount)
     }
 }
 

@@ -1,0 +1,174 @@
+-- What holds of a connection: what its client was told is a front of what the one store replied, and at most one command waits,
+-- whose ask or answer is on the way.
+use Rattle.std.proofs.Common.{◌≡◌, ◌≢◌, ◌⊎◌, ℕ, ◌+◌, ◌<◌, ◌≤◌, Bool, true, false, nat_eq, List, [], ◌∷◌, ◌++◌, length, Option, None, Some, refl, sym, ◌∙◌, ap, subst, arith}
+use Rattle.std.proofs.lemmas.Bool.Decides.{nat_tests}
+use Rattle.backend_core.specs.declared.backend.Backend.{Backend}
+use Rattle.front_core.specs.declared.connection.Connection.{Connection}
+use Rattle.front_core.specs.declared.connection.Stage.TheVariants.{Reading, Asked, Ended}
+use Rattle.front_core.specs.Awaited.{awaited_of, reply_shown}
+use Rattle.front_core.specs.Taken.{ask_for}
+use Rattle.imap_command.specs.Request.{request_of}
+use Rattle.imap_reply.specs.Greeting.{greeting}
+use Rattle.imap_reply.specs.Transcript.{replies_to}
+use Rattle.imap_reply.proofs.TranscriptGrows.{AreAnswered}
+use Rattle.imap_wire.specs.declared.frame.Frame.{Frame}
+use Rattle.imap_wire.specs.declared.frame.Frame.TheVariants.{Whole}
+use Rattle.imap_wire.proofs.FaultLaws.{FaultsLast}
+use Rattle.link_msg.specs.declared.answer.AnswerBody.{AnswerBody}
+use Rattle.link_msg.specs.declared.answer.BackAnswer.{BackAnswer}
+use Rattle.link_msg.specs.declared.ask.FrontAsk.{FrontAsk}
+use Rattle.mur_model.specs.declared.command.Command.{Command}
+use Rattle.mur_model.specs.declared.command.Tag.{Tag}
+use Rattle.mur_model.specs.declared.need.Need.TheVariants.{Mailbox}
+use Rattle.mur_model.specs.declared.need.Work.{Work}
+use Rattle.mur_model.specs.declared.reply.Reply.{Reply}
+use Rattle.mur_model.specs.declared.request.Answer.{Answer}
+use Rattle.mur_model.specs.declared.request.Request.{Request}
+use Rattle.mur_model.specs.declared.request.Request.TheVariants.{Command as a_command}
+use Rattle.mur_model.specs.declared.session.Sess.{Sess}
+use Rattle.mur_model.specs.declared.setting.Setting.{Setting}
+use Rattle.mur_model.specs.Act.{need_of}
+use Rattle.mur_model.specs.History.{Course, Talk, GoesOn, TalkGoesOn, numbered, with_session}
+use Rattle.mur_model.proofs.HistoryGrows.{same_lists, same_talk, talks_follow}
+use Rattle.cluster_core.specs.declared.world.Client.{Client}
+use Rattle.cluster_core.specs.declared.world.World.{World}
+use Rattle.cluster_core.specs.Links.{Links}
+use Rattle.cluster_core.specs.World.{client_at}
+use Rattle.cluster_core.proofs.Told.{IsTold}
+use Rattle.cluster_core.proofs.Ways.{AreOnWay}
+use Rattle.cluster_core.proofs.RequestsOf.{requests_of}
+
+-- what was asked, what the one store replied, how much of it the clients were told, and the store with its sessions
+pub record Story : Type 0 where
+  pub talk : Talk
+  pub told : ℕ → List Answer
+  pub course : Course
+
+-- what a step of one connection keeps of a world
+pub record KeepsOthers (conn : ℕ) (world next : World) : Type 0 where
+  pub fronts : next.fronts ≡ world.fronts
+  pub homes : next.homes ≡ world.homes
+  pub backends : next.backends ≡ world.backends
+  pub pairs : next.pairs ≡ world.pairs
+  pub steps : next.steps ≡ world.steps
+  pub clients : (other : ℕ) → other ≢ conn → client_at next other ≡ client_at world other
+  pub ways : (other : ℕ) → other ≢ conn → (front home : List ℕ) (asks : List FrontAsk) (answers : List BackAnswer)
+      → AreOnWay world.links other front home asks answers → AreOnWay next.links other front home asks answers
+
+pub keeps_all : (conn : ℕ) (world : World) → KeepsOthers conn world world
+keeps_all conn world = record {
+  fronts = refl; homes = refl; backends = refl; pairs = refl; steps = refl;
+  clients = λ other ne. refl;
+  ways = λ other ne front home asks answers way. way;
+}
+
+pub keeps_on : (conn : ℕ) (one two three : World) → KeepsOthers conn one two → KeepsOthers conn two three → KeepsOthers conn one three
+keeps_on conn one two three first second = record {
+  fronts = second.fronts ∙ first.fronts;
+  homes = second.homes ∙ first.homes;
+  backends = second.backends ∙ first.backends;
+  pairs = second.pairs ∙ first.pairs;
+  steps = second.steps ∙ first.steps;
+  clients = λ other ne. second.clients other ne ∙ first.clients other ne;
+  ways = λ other ne front home asks answers way. second.ways other ne front home asks answers (first.ways other ne front home asks answers way);
+}
+
+abbrev pub told_of : Story → Talk
+told_of story = record { requests = story.talk.requests; answers = story.told; serials = story.talk.serials }
+
+-- what a step of one connection keeps of a story
+pub record GoesOnAt (conn : ℕ) (story next : Story) : Type 0 where
+  pub requests : next.talk.requests ≡ story.talk.requests
+  pub said : (other : ℕ) → other ≢ conn → next.talk.answers other ≡ story.talk.answers other
+  pub told : (other : ℕ) → other ≢ conn → next.told other ≡ story.told other
+  pub sessions : (other : ℕ) → other ≢ conn → next.course.sessions other ≡ story.course.sessions other
+  pub more : TalkGoesOn (told_of story) (told_of next)
+
+pub same_story : (conn : ℕ) (story : Story) → GoesOnAt conn story story
+same_story conn story = record {
+  requests = refl;
+  said = λ other ne. refl;
+  told = λ other ne. refl;
+  sessions = λ other ne. refl;
+  more = same_talk (told_of story);
+}
+
+pub stories_follow : (conn : ℕ) (one two three : Story) → GoesOnAt conn one two → GoesOnAt conn two three → GoesOnAt conn one three
+stories_follow conn one two three first second = record {
+  requests = second.requests ∙ first.requests;
+  said = λ other ne. second.said other ne ∙ first.said other ne;
+  told = λ other ne. second.told other ne ∙ first.told other ne;
+  sessions = λ other ne. second.sessions other ne ∙ first.sessions other ne;
+  more = talks_follow (told_of one) (told_of two) (told_of three) first.more second.more;
+}
+
+abbrev pub client_with : List ℕ → List Frame → List Answer → Client
+client_with front frames told = record { at = front; given = greeting ++ replies_to frames told }
+
+-- the ask of a command is on the way, or the home's answer, of which the reply is made
+pub data OnItsWay (links : Links) (conn : ℕ) (front home : List ℕ) (connection : Connection) (tag : Tag) (name : List ℕ) (work : Work) (told said : List Answer) : Type 0 where
+  there : said ≡ told → AreOnWay links conn front home (ask_for conn connection name work ∷ []) [] → OnItsWay links conn front home connection tag name work told said
+  back : (body : AnswerBody) (reply : Reply) → said ≡ told ++ (record { tag = tag; reply = reply }) ∷ [] → reply_shown (awaited_of work) body ≡ Some reply
+      → AreOnWay links conn front home [] ((record { id = record { conn = conn; command = connection.answered + 1 }; body = body }) ∷ [])
+      → OnItsWay links conn front home connection tag name work told said
+
+-- a connection of a client that hasn't closed it: it reads, a command waits, or a fault ended it
+pub data Stands (setting : Setting) (front home : List ℕ) (conn : ℕ) (frames : List Frame) (held : Option (List ℕ)) (connection : Connection) (links : Links) (told said : List Answer) (session : Sess) : Type 0 where
+  reads : connection.stage ≡ Reading → connection.waiting ≡ [] → connection.session ≡ session → AreAnswered frames told → said ≡ told
+      → AreOnWay links conn front home [] [] → Stands setting front home conn frames held connection links told said session
+  waits : (passed : List Frame) (bytes : List ℕ) (tag : Tag) (it : Command) (name : List ℕ) (work : Work)
+      → connection.stage ≡ Asked tag (awaited_of work) → frames ≡ passed ++ Whole bytes ∷ connection.waiting → connection.session ≡ session → AreAnswered passed told
+      → request_of bytes ≡ a_command tag it → need_of setting session it ≡ Mailbox name work → FaultsLast connection.waiting held
+      → OnItsWay links conn front home connection tag name work told said → Stands setting front home conn frames held connection links told said session
+  faulted : connection.stage ≡ Ended → held ≡ None → length (requests_of frames) ≡ length told → said ≡ told
+      → AreOnWay links conn front home [] [] → Stands setting front home conn frames held connection links told said session
+
+-- one whose client closed it: nothing is on its way, or what was on its way is
+pub data IsLeft (setting : Setting) (front home : List ℕ) (conn : ℕ) (requests : List Request) (connection : Connection) (links : Links) (told said : List Answer) (session : Sess) : Type 0 where
+  nothing : (rest : List Answer) → said ≡ told ++ rest → length rest ≤ 1 → AreOnWay links conn front home [] [] → IsLeft setting front home conn requests connection links told said session
+  its_ask : (tag : Tag) (it : Command) (name : List ℕ) (work : Work) → said ≡ told → numbered requests (length told + 1) ≡ Some (a_command tag it)
+      → need_of setting session it ≡ Mailbox name work → connection.session ≡ session → AreOnWay links conn front home (ask_for conn connection name work ∷ []) []
+      → IsLeft setting front home conn requests connection links told said session
+  its_answer : (rest : List Answer) (answer : BackAnswer) → said ≡ told ++ rest → length rest ≤ 1 → AreOnWay links conn front home [] (answer ∷ [])
+      → IsLeft setting front home conn requests connection links told said session
+
+-- a connection in the middle of a step, in which it reads
+pub record IsReading (front home : List ℕ) (conn : ℕ) (frames : List Frame) (connection : Connection) (world : World) (story : Story) : Type 0 where
+  pub stage_is : connection.stage ≡ Reading
+  pub waiting_is : connection.waiting ≡ []
+  pub session_is : connection.session ≡ story.course.sessions conn
+  pub count : connection.answered ≡ length (story.told conn)
+  pub answered : AreAnswered frames (story.told conn)
+  pub said : story.talk.answers conn ≡ story.told conn
+  pub client : client_at world conn ≡ Some (client_with front frames (story.told conn))
+  pub way : AreOnWay world.links conn front home [] []
+
+-- and whatever it is at
+pub record IsStanding (setting : Setting) (front home : List ℕ) (conn : ℕ) (frames : List Frame) (held : Option (List ℕ)) (connection : Connection) (world : World) (story : Story) : Type 0 where
+  pub count : connection.answered ≡ length (story.told conn)
+  pub client : client_at world conn ≡ Some (client_with front frames (story.told conn))
+  pub stands : Stands setting front home conn frames held connection world.links (story.told conn) (story.talk.answers conn) (story.course.sessions conn)
+
+-- a world and a story that a step of one connection made of another
+pub record IsMade (setting : Setting) (backend : Backend) (conn : ℕ) (before : World) (told : Story) (world : World) (story : Story) : Type 0 where
+  pub others : KeepsOthers conn before world
+  pub goes_on : GoesOnAt conn told story
+  pub is_told : IsTold setting world.steps world.marks backend story.talk story.course
+
+pub record ReadsOn (setting : Setting) (front home : List ℕ) (backend : Backend) (conn : ℕ) (frames : List Frame) (connection : Connection) (before : World) (told : Story) (world : World) : Type 0 where
+  pub story : Story
+  pub made : IsMade setting backend conn before told world story
+  pub reading : IsReading front home conn frames connection world story
+
+pub record StandsOn (setting : Setting) (front home : List ℕ) (backend : Backend) (conn : ℕ) (frames : List Frame) (held : Option (List ℕ)) (connection : Connection) (before : World) (told : Story) (world : World) : Type 0 where
+  pub story : Story
+  pub made : IsMade setting backend conn before told world story
+  pub standing : IsStanding setting front home conn frames held connection world story
+
+pub session_at : (sessions : ℕ → Sess) (conn : ℕ) (session : Sess) → with_session sessions conn session conn ≡ session
+unfolding with_session
+session_at sessions conn session = let same : nat_eq conn conn ≡ true = grind (arith, nat_tests) in rw same refl
+
+pub session_of_other : (sessions : ℕ → Sess) (conn : ℕ) (session : Sess) (other : ℕ) → other ≢ conn → with_session sessions conn session other ≡ sessions other
+unfolding with_session
+session_of_other sessions conn session other ne = let apart : nat_eq other conn ≡ false = grind (arith, nat_tests) in rw apart refl

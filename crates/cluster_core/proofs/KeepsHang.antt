@@ -1,0 +1,157 @@
+-- A client that closes its connection keeps the law.
+use Rattle.std.proofs.Common.{◌≡◌, ◌≢◌, ◌⊎◌, ℕ, ◌+◌, ◌≤◌, Bool, true, false, nat_eq, List, [], ◌∷◌, ◌++◌, length, Option, None, Some, refl, sym, ◌∙◌, ap, subst, arith}
+use Rattle.std.specs.Ordering.{nat_cmp}
+use Rattle.std.specs.Cmp.Lexicographic.{slice_cmp}
+use Rattle.std.proofs.Math.Logic.{⊎_elim}
+use Rattle.std.proofs.lemmas.Bool.{cases_eq}
+use Rattle.std.proofs.lemmas.Bool.Decides.{nat_tests}
+use Rattle.std.proofs.lemmas.List.{append-nil}
+use Rattle.front_core.specs.declared.connection.Connection.{Connection}
+use Rattle.front_core.specs.declared.connection.Stage.TheVariants.{Ended}
+use Rattle.front_core.specs.declared.front.Front.{Front}
+use Rattle.front_core.specs.Front.{connection_at, hang, hang_at as front_hang_at, hung_up}
+use Rattle.imap_command.specs.Request.{request_of}
+use Rattle.imap_reply.proofs.TranscriptGrows.{AreAnswered}
+use Rattle.imap_wire.specs.declared.frame.Frame.{Frame}
+use Rattle.imap_wire.specs.declared.frame.Frame.TheVariants.{Whole}
+use Rattle.imap_wire.specs.Frames.{frames, begun}
+use Rattle.mur_base.specs.Map.{with_value}
+use Rattle.mur_config.specs.declared.config.Config.{Config}
+use Rattle.mur_model.specs.declared.command.Command.{Command}
+use Rattle.mur_model.specs.declared.command.Tag.{Tag}
+use Rattle.mur_model.specs.declared.request.Answer.{Answer}
+use Rattle.mur_model.specs.declared.request.Request.TheVariants.{Command as a_command}
+use Rattle.mur_model.specs.declared.session.Sess.{Sess}
+use Rattle.mur_model.specs.declared.setting.Setting.{Setting}
+use Rattle.mur_model.specs.History.{numbered}
+use Rattle.mur_model.proofs.HistoryGrows.{same_talk}
+use Rattle.schedule_text.specs.declared.event.Event.TheVariants.{Hang}
+use Rattle.cluster_core.specs.declared.world.World.{World}
+use Rattle.cluster_core.specs.Heard.{Heard, nobody, elsewhere, client, hears, frames_heard}
+use Rattle.cluster_core.specs.Links.{Links}
+use Rattle.cluster_core.specs.World.{client_at, front_at, home_of, setting_of, hang_at, hangs, carry_all}
+use Rattle.cluster_core.proofs.ConnectionLaw.{Story, told_of, client_with, keeps_all, same_story, OnItsWay, Stands, IsLeft, IsStanding, IsMade}
+use Rattle.cluster_core.proofs.ConnectionLaw.OnItsWay.{there, back}
+use Rattle.cluster_core.proofs.ConnectionLaw.Stands.{reads, waits, faulted}
+use Rattle.cluster_core.proofs.ConnectionLaw.IsLeft.{nothing, its_ask, its_answer}
+use Rattle.cluster_core.proofs.KeepsData.{looks_same}
+use Rattle.cluster_core.proofs.KeepsFront.{world_after, with_connection, front_keeps, is_at_after, gone_after}
+use Rattle.cluster_core.proofs.KeepsLaw.{ConnectionIs, IsAt, IsGone, KeepsLaw, KeepsOn, left_on}
+use Rattle.cluster_core.proofs.KeepsLaw.ConnectionIs.{is_nobody, is_elsewhere, is_open, is_closed}
+use Rattle.cluster_core.proofs.KeepsStill.{still_kept}
+use Rattle.cluster_core.proofs.RequestsOf.{requests_of, requests-append, answered_lengths, next_request}
+
+abbrev pub after_hang : Config → (ℕ → Heard) → ℕ → ℕ → Heard
+after_hang config heard conn other = hears config other (heard other) (Hang conn)
+
+other_heard : (config : Config) (conn other : ℕ) (heard : Heard) → other ≢ conn → hears config other heard (Hang conn) ≡ heard
+unfolding hears
+other_heard config conn other nobody ne = refl
+other_heard config conn other elsewhere ne = refl
+other_heard config conn other (client b true) ne = refl
+other_heard config conn other (client b false) ne = let apart : nat_eq other conn ≡ false = grind (arith, nat_tests) in rw apart refl
+
+heard_closed : (config : Config) (conn : ℕ) (bytes : List ℕ) (heard : Heard) → heard ≡ client bytes false → hears config conn heard (Hang conn) ≡ client bytes true
+unfolding hears
+heard_closed config conn bytes heard e = let same : nat_eq conn conn ≡ true = grind (arith, nat_tests) in rw (e, same) refl
+
+-- what is left of a connection, whatever it was at
+left_by : (setting : Setting) (node home : List ℕ) (conn : ℕ) (all : List Frame) (held : Option (List ℕ)) (connection : Connection) (links : Links) (told said : List Answer) (session : Sess)
+    → Stands setting node home conn all held connection links told said session → IsLeft setting node home conn (requests_of all) (hung_up connection) links told said session
+unfolding requests_of
+left_by setting node home conn all held connection links told said session (reads stage waiting s answered same way) =
+    nothing [] (same ∙ sym (append-nil told)) (omega arith) way
+left_by setting node home conn all held connection links told said session (waits passed bytes tag it name work stage parts s answered is need last (there same way)) =
+    its_ask tag it name work same
+    (subst (λ r. numbered r (length told + 1) ≡ Some (a_command tag it)) (sym (ap requests_of parts ∙ requests-append passed (Whole bytes ∷ connection.waiting) ∙ ap (λ r. requests_of passed ++ r ∷ requests_of connection.waiting) is))
+    (next_request (requests_of passed) (requests_of connection.waiting) (a_command tag it) (length told) (answered_lengths passed told answered))) need s way
+left_by setting node home conn all held connection links told said session (waits passed bytes tag it name work stage parts s answered is need last (back body reply same shown way)) =
+    its_answer _ _ same (omega arith) way
+left_by setting node home conn all held connection links told said session (faulted stage none lengths same way) =
+    nothing [] (same ∙ sym (append-nil told)) (omega arith) way
+
+-- closing again changes nothing of what is left
+left_again : (setting : Setting) (node home : List ℕ) (conn : ℕ) (requests : _) (connection : Connection) (links : Links) (told said : List Answer) (session : Sess)
+    → IsLeft setting node home conn requests connection links told said session → IsLeft setting node home conn requests (hung_up connection) links told said session
+left_again setting node home conn requests connection links told said session (nothing rest a b way) = nothing rest a b way
+left_again setting node home conn requests connection links told said session (its_ask tag it name work a b c d way) = its_ask tag it name work a b c d way
+left_again setting node home conn requests connection links told said session (its_answer rest answer a b way) = its_answer rest answer a b way
+
+hangs_at : (world : World) (conn : ℕ) (node : List ℕ) (front : Front) (connection : Connection) (given : List ℕ) → client_at world conn ≡ Some (record { at = node; given = given })
+    → IsAt world conn node front connection → hangs world conn (client_at world conn) ≡ world_after world node front conn (hung_up connection) []
+unfolding hangs hang_at hang front_hang_at carry_all
+hangs_at world conn node front connection given at is = ap (hangs world conn) at ∙ ap (hang_at world conn node) is.at
+    ∙ ap (λ f. record world { fronts = with_value (slice_cmp nat_cmp) world.fronts node (front_hang_at front conn f) }) is.has
+
+-- a connection at its frontend is closed
+closes : (config : Config) (heard : ℕ → Heard) (world : World) (conn : ℕ) (law : KeepsLaw config heard world) (bytes node : List ℕ) (front : Front) (connection : Connection) → IsAt world conn node front connection
+    → law.story.talk.requests conn ≡ requests_of (frames bytes) → after_hang config heard conn conn ≡ client bytes true
+    → IsGone (setting_of config) node (home_of config) conn (frames bytes) (hung_up connection) world law.story
+    → KeepsOn config (told_of law.story) (after_hang config heard conn) (world_after world node front conn (hung_up connection) [])
+unfolding carry_all frames_heard
+closes config heard world conn law bytes node front connection at asked now gone =
+    front_keeps config heard (after_hang config heard conn) world law world.links conn node front connection (hung_up connection) [] law.story law.story (λ other ne f h asks answers way. way) at.at at.has (same_talk (told_of law.story)) refl refl refl
+    (λ other. ⊎_elim
+    (λ (same : other ≡ conn). subst (λ c. law.story.talk.requests c ≡ requests_of (frames_heard (after_hang config heard conn c))) (sym same) (asked ∙ sym (ap (λ h. requests_of (frames_heard h)) now)))
+    (λ (ne : other ≢ conn). law.requests other ∙ ap (λ h. requests_of (frames_heard h)) (sym (other_heard config conn other (heard other) ne)))
+    (cases_eq other conn))
+    (λ other ne. other_heard config conn other (heard other) ne)
+    (record { others = keeps_all conn world; goes_on = same_story conn law.story; is_told = law.is_told })
+    (subst (λ h. ConnectionIs (setting_of config) (home_of config) conn (world_after world node front conn (hung_up connection) []) law.story h) (sym now)
+    (is_closed bytes node (with_connection front conn (hung_up connection)) (hung_up connection) (is_at_after world node front conn connection (hung_up connection) [] at.at at.has)
+    (gone_after world node front conn (hung_up connection) (setting_of config) (home_of config) (frames bytes) law.story gone)))
+
+still_heard : (config : Config) (heard : ℕ → Heard) (world : World) (conn : ℕ) (law : KeepsLaw config heard world) → after_hang config heard conn conn ≡ heard conn
+    → KeepsOn config (told_of law.story) (after_hang config heard conn) world
+still_heard config heard world conn law same =
+    still_kept config heard (after_hang config heard conn) world world (looks_same world)
+    (λ other. ⊎_elim
+    (λ (e : other ≡ conn). subst (λ c. after_hang config heard conn c ≡ heard c) (sym e) same)
+    (λ (ne : other ≢ conn). other_heard config conn other (heard other) ne)
+    (cases_eq other conn)) law
+
+nothing_heard : (config : Config) (conn : ℕ) → hears config conn nobody (Hang conn) ≡ nobody
+unfolding hears
+nothing_heard config conn = refl
+
+elsewhere_heard : (config : Config) (conn : ℕ) → hears config conn elsewhere (Hang conn) ≡ elsewhere
+unfolding hears
+elsewhere_heard config conn = refl
+
+closed_heard : (config : Config) (conn : ℕ) (bytes : List ℕ) → hears config conn (client bytes true) (Hang conn) ≡ client bytes true
+unfolding hears
+closed_heard config conn bytes = refl
+
+hang_by : (config : Config) (heard : ℕ → Heard) (world : World) (conn : ℕ) (law : KeepsLaw config heard world) (was : Heard) → heard conn ≡ was
+    → ConnectionIs (setting_of config) (home_of config) conn world law.story was → KeepsOn config (told_of law.story) (after_hang config heard conn) (hangs world conn (client_at world conn))
+unfolding hangs hang_at frames_heard
+hang_by config heard world conn law was e (is_nobody none fronts untold) =
+    subst (λ c. KeepsOn config (told_of law.story) (after_hang config heard conn) (hangs world conn c)) (sym none)
+    (still_heard config heard world conn law (ap (λ h. hears config conn h (Hang conn)) e ∙ nothing_heard config conn ∙ sym e))
+hang_by config heard world conn law was e (is_elsewhere node at none untold) =
+    subst (λ c. KeepsOn config (told_of law.story) (after_hang config heard conn) (hangs world conn c)) (sym at)
+    (subst (λ f. KeepsOn config (told_of law.story) (after_hang config heard conn) (hang_at world conn node f)) (sym none)
+    (still_heard config heard world conn law (ap (λ h. hears config conn h (Hang conn)) e ∙ elsewhere_heard config conn ∙ sym e)))
+hang_by config heard world conn law was e (is_open bytes node front connection at reader standing) =
+    subst (λ w. KeepsOn config (told_of law.story) (after_hang config heard conn) w) (sym (hangs_at world conn node front connection _ standing.client at))
+    (closes config heard world conn law bytes node front connection at (law.requests conn ∙ ap (λ h. requests_of (frames_heard h)) e) (heard_closed config conn bytes (heard conn) e)
+    (record {
+      stage_is = refl;
+      count = standing.count;
+      client = standing.client;
+      left = left_by (setting_of config) node (home_of config) conn (frames bytes) (begun bytes) connection world.links (law.story.told conn) (law.story.talk.answers conn) (law.story.course.sessions conn) standing.stands;
+    }))
+hang_by config heard world conn law was e (is_closed bytes node front connection at gone) =
+    subst (λ w. KeepsOn config (told_of law.story) (after_hang config heard conn) w) (sym (hangs_at world conn node front connection _ gone.client at))
+    (closes config heard world conn law bytes node front connection at (law.requests conn ∙ ap (λ h. requests_of (frames_heard h)) e)
+    (ap (λ h. hears config conn h (Hang conn)) e ∙ closed_heard config conn bytes)
+    (record {
+      stage_is = refl;
+      count = gone.count;
+      client = gone.client;
+      left = left_again (setting_of config) node (home_of config) conn (requests_of (frames bytes)) connection world.links (law.story.told conn) (law.story.talk.answers conn) (law.story.course.sessions conn) gone.left;
+    }))
+
+pub hang_keeps : (config : Config) (heard : ℕ → Heard) (world : World) (conn : ℕ) (law : KeepsLaw config heard world)
+    → KeepsOn config (told_of law.story) (after_hang config heard conn) (hangs world conn (client_at world conn))
+hang_keeps config heard world conn law = hang_by config heard world conn law (heard conn) refl (law.connections conn)

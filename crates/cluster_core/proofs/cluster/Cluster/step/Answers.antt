@@ -1,0 +1,6 @@
+use Rattle.cluster_core.specs.Flow.{steps_of_event}
+use Rattle.cluster_core.proofs.OneNodeLaw.{one_node_each}
+use Rattle.cluster_core.proofs.cluster.Cluster.step.Goals as goal
+
+pub returns-clause-one_node : goal.returns-clause-one_node
+returns-clause-one_node c = one_node_each c.args.self.now (steps_of_event c.args.self.now c.args.event)

@@ -1,0 +1,12 @@
+use Rattle.std.proofs.Common.{arith}
+use Rattle.cluster_core.proofs.RoomLaw.{step_fits}
+use Rattle.cluster_core.proofs.happens.happens.Goals as goal
+
+pub open-requires : goal.open-requires
+open-requires c = step_fits c.args.world.now _ c.requires
+
+pub hang-requires : goal.hang-requires
+hang-requires c = step_fits c.args.world.now _ c.requires
+
+pub overflow_add-world : goal.overflow_add-world
+overflow_add-world c = omega (arith, step_fits c.args.world.now _ c.requires)

@@ -1,0 +1,43 @@
+-- What is on its way between the nodes: each link is a queue in each direction.
+use Rattle.std.specs.Prelude.{ℕ, List, [], ◌∷◌, ◌++◌, drop, Option, None, Some}
+use Rattle.std.specs.Ordering.{nat_cmp}
+use Rattle.std.specs.Cmp.Lexicographic.{slice_cmp}
+use Rattle.link_msg.specs.declared.message.LinkMsg.{LinkMsg}
+use Rattle.mur_base.specs.Map.{value_at, with_entry}
+
+-- from each node, to each node
+abbrev pub Ways : Type 0
+Ways = List (List ℕ × List LinkMsg)
+
+abbrev pub Links : Type 0
+Links = List (List ℕ × Ways)
+
+abbrev pub ways_or_none : Option Ways → Ways
+ways_or_none None = []
+ways_or_none (Some ways) = ways
+
+abbrev pub queue_or_none : Option (List LinkMsg) → List LinkMsg
+queue_or_none None = []
+queue_or_none (Some queue) = queue
+
+abbrev pub ways_from : Links → List ℕ → Ways
+ways_from links from = ways_or_none (value_at (slice_cmp nat_cmp) links from)
+
+abbrev pub queue_to : Ways → List ℕ → List LinkMsg
+queue_to ways to = queue_or_none (value_at (slice_cmp nat_cmp) ways to)
+
+-- the messages on their way from one node to another, the first one sent first
+unfoldable pub on_link : Links → List ℕ → List ℕ → List LinkMsg
+on_link links from to = queue_to (ways_from links from) to
+
+abbrev pub with_queue : Links → List ℕ → List ℕ → List LinkMsg → Links
+with_queue links from to queue =
+    with_entry (slice_cmp nat_cmp) links from (with_entry (slice_cmp nat_cmp) (ways_from links from) to queue)
+
+-- a message is sent
+unfoldable pub sent : Links → List ℕ → List ℕ → LinkMsg → Links
+sent links from to message = with_queue links from to (on_link links from to ++ message ∷ [])
+
+-- the first message is taken
+unfoldable pub without_first : Links → List ℕ → List ℕ → Links
+without_first links from to = with_queue links from to (drop 1 (on_link links from to))

@@ -1,0 +1,70 @@
+// A flow: deliveries in rounds over the links.
+ghost use Rattle.std.specs.Prelude.{◌≡◌, [], IfOk, OnOk};
+ghost use Rattle.schedule_text.specs.declared.event.Event.TheVariants.{Flow};
+ghost use Rattle.cluster_core.specs.Room.{HasRoom};
+ghost use Rattle.cluster_core.specs.Flow.{flow, round, turn_of};
+
+use crate::happens::deliver;
+use crate::links::is_empty;
+use crate::world::World;
+use mur_base::{Copied, Items, Memory};
+use mur_config::{Link, Links};
+use std::alloc::Global;
+
+/// Makes so many deliveries, or fewer where nothing is on its way any more. For want of memory the world is spent.
+#[tactic(auto, unfolding(crate::specs::Flow::flow))]
+pub fn flow(alloc: Global, world: &mut World, count: u64) -> Result<(), Memory>
+    requires { HasRoom world.old (Flow count) }
+    ensures { OnOk result (world.new ≡ (flow world.old count).world) }
+{
+    let pairs = copied_links(alloc, &world.pairs)?;
+    let mut left = count;
+    for _round in 0..count {
+        let before = left;
+        round(alloc, world, pairs.as_slice(), &mut left)?;
+        if left == before {
+            return Ok(());
+        }
+    }
+    Ok(())
+}
+
+fn copied_links(alloc: Global, links: &Links) -> Result<Links, Memory>
+    ensures { IfOk result (λ copy. copy ≡ links.now) }
+{
+    let mut list = Items::new(alloc);
+    for link in links.as_slice() {
+        list.push(Link {
+            from: link.from.copy(alloc)?,
+            to: link.to.copy(alloc)?,
+        })?;
+    }
+    Ok(list)
+}
+
+#[tactic(auto, unfolding(crate::specs::Flow::round))]
+fn round(alloc: Global, world: &mut World, links: &[Link], left: &mut u64) -> Result<(), Memory>
+    requires { HasRoom world.old (Flow left.old) }
+    ensures world { OnOk result ((round (record { world = world.old; made = []; left = left.old }) links.now).world ≡ world.new) }
+    ensures left { OnOk result ((round (record { world = world.old; made = []; left = left.old }) links.now).left ≡ left.new) }
+    ensures room { OnOk result (HasRoom world.new (Flow left.new)) }
+{
+    for link in links {
+        turn(alloc, world, link, left)?;
+    }
+    Ok(())
+}
+
+#[tactic(auto, unfolding(crate::specs::Flow::turn_of, crate::specs::Flow::turn_by))]
+fn turn(alloc: Global, world: &mut World, link: &Link, left: &mut u64) -> Result<(), Memory>
+    requires { HasRoom world.old (Flow left.old) }
+    ensures world { OnOk result ((turn_of (record { world = world.old; made = []; left = left.old }) link.now).world ≡ world.new) }
+    ensures left { OnOk result ((turn_of (record { world = world.old; made = []; left = left.old }) link.now).left ≡ left.new) }
+    ensures room { OnOk result (HasRoom world.new (Flow left.new)) }
+{
+    if *left == 0 || is_empty(&world.links, &link.from, &link.to) {
+        return Ok(());
+    }
+    *left -= 1;
+    deliver(alloc, world, &link.from, &link.to)
+}

@@ -1,0 +1,80 @@
+-- How many commands a connection may have, behind frames and answers.
+use Rattle.std.proofs.Common.{◌≡◌, ℕ, ◌+◌, ◌≤◌, Bool, true, false, List, [], ◌∷◌, length, Option, None, Some, refl, ap, arith, length-append}
+use Rattle.std.specs.Prelude.{◌==◌}
+use Rattle.imap_command.specs.Request.{request_of, too_big_request}
+use Rattle.imap_wire.specs.declared.frame.Frame.{Frame}
+use Rattle.imap_wire.specs.declared.frame.Frame.TheVariants.{Whole, NeedLiteral, TooBig, Fault}
+use Rattle.link_msg.specs.declared.answer.BackAnswer.{BackAnswer}
+use Rattle.mur_model.specs.declared.command.Tag.{Tag}
+use Rattle.mur_model.specs.declared.need.Need.{Need}
+use Rattle.mur_model.specs.declared.need.Need.TheVariants.{Refusal, Login, Mailbox}
+use Rattle.mur_model.specs.declared.reply.Reply.{Reply}
+use Rattle.mur_model.specs.declared.request.Request.{Request}
+use Rattle.mur_model.specs.declared.request.Request.TheVariants.{Command as a_command, Unknown as unknown, TooBig as too_big}
+use Rattle.mur_model.specs.declared.setting.Setting.{Setting}
+use Rattle.mur_model.specs.Act.{need_of}
+use Rattle.front_core.specs.declared.connection.Awaited.{Awaited}
+use Rattle.front_core.specs.declared.connection.Connection.{Connection}
+use Rattle.front_core.specs.declared.connection.Stage.{Stage}
+use Rattle.front_core.specs.declared.connection.Stage.TheVariants.{Reading, Asked, Ended}
+use Rattle.front_core.specs.Answered.{answer_comes, answer_by, replied, reading_again}
+use Rattle.front_core.specs.Awaited.{reply_shown}
+use Rattle.front_core.specs.Front.{is_asked}
+use Rattle.front_core.specs.Room.{commands_of}
+use Rattle.front_core.specs.Taken.{answers, asks, need_in, request_in, frame_in, comes_at, frame_comes, frames_come}
+
+module _ (setting : Setting) (home : List ℕ) (conn : ℕ) where
+  need_counts : (c : Connection) (tag : Tag) (need : Need) → commands_of (need_in home conn c tag need).connection ≤ commands_of c + 1
+  unfolding need_in answers asks is_asked
+  need_counts c tag (Refusal verdict) = omega arith
+  need_counts c tag (Login user) = omega arith
+  need_counts c tag (Mailbox name work) = omega arith
+
+  request_counts : (c : Connection) (request : Request) → commands_of (request_in setting home conn c request).connection ≤ commands_of c + 1
+  unfolding request_in answers
+  request_counts c (a_command tag it) = need_counts c tag (need_of setting c.session it)
+  request_counts c (unknown tag) = omega arith
+  request_counts c (too_big tag) = omega arith
+
+  pub frame_in_counts : (c : Connection) (frame : Frame) → commands_of (frame_in setting home conn c frame).connection ≤ commands_of c + 1
+  unfolding frame_in is_asked
+  frame_in_counts c (Whole bytes) = request_counts c (request_of bytes)
+  frame_in_counts c (TooBig bytes) = request_counts c (too_big_request bytes)
+  frame_in_counts c (NeedLiteral size) = omega arith
+  frame_in_counts c (Fault fault) = omega arith
+
+  comes_counts : (c : Connection) (frame : Frame) (stage : Stage) → commands_of (comes_at setting home conn c frame stage).connection ≤ commands_of c + 1
+  unfolding comes_at
+  comes_counts c frame Reading = frame_in_counts c frame
+  comes_counts c frame (Asked tag awaited) = omega (arith, length-append c.waiting (frame ∷ []))
+  comes_counts c frame Ended = omega arith
+
+  -- a frame is at most one command more
+  pub frame_counts : (c : Connection) (frame : Frame) → commands_of (frame_comes setting home conn c frame).connection ≤ commands_of c + 1
+  unfolding frame_comes
+  frame_counts c frame = comes_counts c frame c.stage
+
+  pub frames_count : (c : Connection) (frames : List Frame) → commands_of (frames_come setting home conn c frames).connection ≤ commands_of c + length frames
+  unfolding frames_come
+  frames_count c [] = omega arith
+  frames_count c (frame ∷ frames) =
+      omega (arith, frame_counts c frame, frames_count (frame_comes setting home conn c frame).connection frames)
+
+  replied_counts : (c : Connection) (tag : Tag) (awaited : Awaited) (reply : Option Reply) → c.stage ≡ Asked tag awaited
+      → commands_of (replied setting home conn c tag reply).connection ≤ commands_of c
+  unfolding replied is_asked
+  replied_counts c tag awaited None is = omega arith
+  replied_counts c tag awaited (Some reply) is = omega (arith, frames_count (reading_again c) c.waiting, ap is_asked is)
+
+  answer_counts_by : (c : Connection) (answer : BackAnswer) (fits : Bool) (stage : Stage) → c.stage ≡ stage
+      → commands_of (answer_by setting home conn c answer fits stage).connection ≤ commands_of c
+  unfolding answer_by
+  answer_counts_by c answer true (Asked tag awaited) is = replied_counts c tag awaited (reply_shown awaited answer.body) is
+  answer_counts_by c answer true Reading is = omega arith
+  answer_counts_by c answer true Ended is = omega arith
+  answer_counts_by c answer false stage is = omega arith
+
+  -- the command that is answered was counted before, and so were the frames that waited
+  pub answer_counts : (c : Connection) (answer : BackAnswer) → commands_of (answer_comes setting home conn c answer).connection ≤ commands_of c
+  unfolding answer_comes
+  answer_counts c answer = answer_counts_by c answer ((answer.id).command == c.answered + 1) c.stage refl

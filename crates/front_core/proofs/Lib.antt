@@ -1,0 +1,9 @@
+pub mod ReaderLaws
+pub mod NeedLaw
+pub mod FrameLaws
+pub mod FramesLaws
+pub mod CommandLaws
+pub mod PieceLaws
+pub mod WaitingLaws
+pub mod EndedLaw
+pub mod Counts

@@ -1,0 +1,44 @@
+-- What a command needs fits the session that it is given in.
+use Rattle.std.proofs.Common.{Bool, true, false, List, ℕ, Option, None, Some}
+use Rattle.mur_base.specs.declared.user.User.{User}
+use Rattle.mur_model.specs.declared.command.Command.{Command}
+use Rattle.mur_model.specs.declared.command.Command.TheVariants.{Login as login_of, Create as create_of, Append as append_of, Status as status_of}
+use Rattle.mur_model.specs.declared.need.Need.{Need}
+use Rattle.mur_model.specs.declared.need.Need.TheVariants.{Refusal, Login, Mailbox}
+use Rattle.mur_model.specs.declared.session.Sess.{Sess}
+use Rattle.mur_model.specs.declared.session.Sess.TheVariants.{Off, In, Ended}
+use Rattle.mur_model.specs.declared.setting.Setting.{Setting}
+use Rattle.mur_model.specs.Act.{need_of, need_off, need_in}
+use Rattle.mur_model.specs.Login.{login, login_as, login_by}
+use Rattle.mur_model.specs.Rights.{user_named}
+use Rattle.std.specs.Str.{bytes_eq}
+use Rattle.front_core.specs.Begun.{MayNeed, HasBegun}
+
+in_any : (user : List ℕ) (need : Need) → MayNeed (In user) need
+unfolding MayNeed HasBegun
+in_any user (Refusal verdict) = tt
+in_any user (Login other) = tt
+in_any user (Mailbox name work) = tt
+
+login_by-needs : (user : List ℕ) (same : Bool) → MayNeed Off (login_by user same)
+unfolding MayNeed login_by
+login_by-needs user true = tt
+login_by-needs user false = tt
+
+login-needs : (found : Option User) (password : List ℕ) → MayNeed Off (login_as found password)
+unfolding MayNeed login_as
+login-needs None password = tt
+login-needs (Some user) password = login_by-needs user.name (bytes_eq user.password password)
+
+off-needs : (setting : Setting) (it : Command) → MayNeed Off (need_off setting it)
+unfolding MayNeed need_off login
+off-needs setting (login_of user password) = login-needs (user_named setting.users user) password
+off-needs setting (create_of text) = tt
+off-needs setting (append_of text body) = tt
+off-needs setting (status_of text items) = tt
+
+pub may_need : (setting : Setting) (session : Sess) (it : Command) → MayNeed session (need_of setting session it)
+unfolding MayNeed need_of
+may_need setting Off it = off-needs setting it
+may_need setting (In user) it = in_any user (need_in setting user it)
+may_need setting Ended it = tt

@@ -1,0 +1,36 @@
+use Rattle.std.proofs.Common.{sym, ◌∙◌, arith}
+use Rattle.front_core.proofs.PieceLaws.{rest_on, rest_some, still_read, piece_over, reader_over, next_counts}
+use Rattle.front_core.proofs.piece.piece_comes.Goals as goal
+
+pub returns-else-not-ended : goal.returns-else-not-ended
+returns-else-not-ended c =
+    reader_over c.args.setting.now c.args.home.now c.args.conn c.loop-taken.outs c.loop-taken.connection _ (sym c.if-not-ended.ensures)
+    ∙ c.loop-taken.invariant.turned
+
+pub returns-after-loop-taken : goal.returns-after-loop-taken
+returns-after-loop-taken c =
+    piece_over c.args.setting.now c.args.home.now c.args.conn c.loop-taken.outs c.loop-taken.connection c.args.piece.now
+    c.loop-taken.taken c.loop-taken-test.false
+    ∙ c.loop-taken.invariant.turned
+
+pub loop-taken-preserved : goal.loop-taken-preserved
+loop-taken-preserved c =
+    let some =
+    c.in_ok-frame.ensures.some (still_read c.loop-taken.connection.reader c.if-not-ended.ensures)
+    (rest_some c.args.piece.now c.loop-taken.taken c.loop-taken-test.true) in
+    record {
+      within = omega (arith, c.in_ok-frame.ensures.within);
+      turned =
+          rest_on c.args.setting.now c.args.home.now c.args.conn c.loop-taken.outs c.next_comes.new.outs c.loop-taken.connection c.next_comes.new.connection _
+          c.args.piece.now c.loop-taken.taken c.in_ok-frame.more c.in_ok-frame.frame
+          c.in_ok-frame.ensures.frames c.in_ok-frame.ensures.rest c.in_ok-next_comes.ensures
+          ∙ c.loop-taken.invariant.turned;
+      commands =
+          omega (
+            arith,
+            some,
+            next_counts c.args.setting.now c.args.home.now c.args.conn c.loop-taken.outs c.next_comes.new.outs _ c.next_comes.new.connection c.in_ok-frame.frame
+                c.in_ok-next_comes.ensures,
+            c.loop-taken.invariant.commands,
+          );
+    }

@@ -1,0 +1,15 @@
+use Rattle.std.proofs.Common.{◌≡◌, ◌+◌, ◌-◌, ◌≤◌, length, drop}
+use Rattle.front_core.specs.Room.{commands_of}
+use Rattle.front_core.proofs.PieceLaws.{rest_comes}
+use Rattle.front_core.proofs.piece.piece_comes.Given as goal
+
+abbrev pub invariant-loop-taken : goal.invariant-loop-taken
+invariant-loop-taken l = record {
+  within : l.taken ≤ length l.piece;
+  turned : rest_comes l.setting l.home l.conn l.outs l.connection (drop l.taken l.piece)
+      ≡ rest_comes l.setting l.home l.conn l.initial.outs l.initial.connection l.piece;
+  commands : commands_of l.connection ≤ commands_of l.initial.connection + l.taken;
+}
+
+abbrev pub decreases-loop-taken : goal.decreases-loop-taken
+decreases-loop-taken l = length l.piece - l.taken

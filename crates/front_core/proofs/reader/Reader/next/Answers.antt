@@ -1,0 +1,23 @@
+use Rattle.std.proofs.Common.{◌≡◌, ℕ, Option, None, Result, Ok, sym, ◌∙◌, ap}
+use Rattle.imap_wire.specs.declared.frame.Frame.{Frame}
+use Rattle.imap_wire.specs.More.{frames_of_more, begun_by_more}
+use Rattle.mur_base.specs.declared.memory.Memory.{Memory}
+use Rattle.front_core.proofs.ReaderLaws.{next_frames, next_begun}
+use Rattle.front_core.proofs.reader.Reader.next.Goals as goal
+
+no_frame : (frame : Option Frame) (taken : ℕ) → (let r : Result (Option Frame × ℕ) Memory = Ok (frame, taken) in r ≡ Ok (None, 0)) → frame ≡ None
+no_frame frame taken h =
+    let pair : ◌≡◌ {A = Option Frame × ℕ} (frame, taken) (None, 0) = cc in ap (λ (x : Option Frame × ℕ). x.0) pair
+
+pub returns-clause-frames : goal.returns-clause-frames
+returns-clause-frames c =
+    ap (λ held. frames_of_more held c.args.piece.now) (sym c.self.view_is)
+    ∙ next_frames c.self.inside.framer.begun c.feed.new.self.begun c.args.piece.now c.in_ok-frame.frame c.in_ok-frame.taken
+    c.in_ok-frame.ensures.frame c.in_ok-frame.ensures.after c.in_ok-frame.ensures.own
+    (λ none. let is = c.in_ok-frame.ensures.spent none in (no_frame c.in_ok-frame.frame c.in_ok-frame.taken is.0, is.1))
+
+pub returns-clause-rest : goal.returns-clause-rest
+returns-clause-rest c =
+    ap (λ held. begun_by_more held c.args.piece.now) (sym c.self.view_is)
+    ∙ next_begun c.self.inside.framer.begun c.feed.new.self.begun c.args.piece.now c.in_ok-frame.taken
+    c.in_ok-frame.ensures.after c.in_ok-frame.ensures.own (λ none. (c.in_ok-frame.ensures.spent none).1)

@@ -1,0 +1,44 @@
+use Rattle.std.proofs.Common.{sym, ◌∙◌, arith}
+use Rattle.front_core.proofs.WaitingLaws.{waiting_on, waiting_over, waiting_dropped, waiting_stays, taken_counts, taken_shortens}
+use Rattle.front_core.proofs.waiting.waiting_come.Goals as goal
+
+pub returns-in_default : goal.returns-in_default
+returns-in_default c =
+    waiting_over c.args.setting.now c.args.home.now c.args.conn c.loop-alloc.outs c.loop-alloc.connection c.pop.new.self
+    c.in_default.ensures.empty.0 c.in_default.ensures.empty.1
+    ∙ c.loop-alloc.invariant.turned
+
+pub returns-then-has_ended : goal.returns-then-has_ended
+returns-then-has_ended c =
+    waiting_dropped c.args.setting.now c.args.home.now c.args.conn c.loop-alloc.outs c.loop-alloc.connection c.clear.new.self
+    (sym c.if-has_ended.ensures) c.clear.ensures
+    ∙ c.loop-alloc.invariant.turned
+
+pub returns-else-has_ended : goal.returns-else-has_ended
+returns-else-has_ended c =
+    waiting_stays c.args.setting.now c.args.home.now c.args.conn c.loop-alloc.outs c.loop-alloc.connection
+    (sym c.loop-alloc-test.ensures) (sym c.if-has_ended.ensures)
+    ∙ c.loop-alloc.invariant.turned
+
+pub loop-alloc-smaller : goal.loop-alloc-smaller
+loop-alloc-smaller c =
+    omega (
+      arith,
+      taken_shortens c.args.setting.now c.args.home.now c.args.conn c.loop-alloc.outs c.frame_in.new.outs c.loop-alloc.connection c.frame_in.new.connection
+          c.in-Some.frame c.pop.new.self c.in-Some.ensures.first c.in_ok-frame_in.ensures,
+    )
+
+pub loop-alloc-preserved : goal.loop-alloc-preserved
+loop-alloc-preserved c = record {
+  turned =
+      waiting_on c.args.setting.now c.args.home.now c.args.conn c.loop-alloc.outs c.frame_in.new.outs c.loop-alloc.connection c.frame_in.new.connection
+      c.in-Some.frame c.pop.new.self (sym c.loop-alloc-test.ensures) c.in-Some.ensures.first c.in_ok-frame_in.ensures
+      ∙ c.loop-alloc.invariant.turned;
+  commands =
+      omega (
+        arith,
+        taken_counts c.args.setting.now c.args.home.now c.args.conn c.loop-alloc.outs c.frame_in.new.outs c.loop-alloc.connection c.frame_in.new.connection
+            c.in-Some.frame c.pop.new.self c.in-Some.ensures.first c.in_ok-frame_in.ensures,
+        c.loop-alloc.invariant.commands,
+      );
+}

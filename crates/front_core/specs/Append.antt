@@ -1,0 +1,27 @@
+-- APPEND as a frontend has it: what it replies to the home's answer. A home that hasn't the mailbox makes it a missing one.
+use Rattle.std.specs.Prelude.{ℕ, List, [], ◌∷◌, Option, None, Some}
+use Rattle.link_msg.specs.declared.answer.AnswerBody.{AnswerBody}
+use Rattle.link_msg.specs.declared.answer.AnswerBody.TheVariants.{Done, NotNow}
+use Rattle.link_msg.specs.declared.outcome.Outcome.{Outcome}
+use Rattle.link_msg.specs.declared.outcome.Outcome.TheVariants.{Uids, Limit as full}
+use Rattle.mail_message.specs.declared.message.Snapshot.{Snapshot}
+use Rattle.mur_model.specs.declared.reply.NoText.TheVariants.{TryCreate, Limit}
+use Rattle.mur_model.specs.declared.reply.Reply.{Reply}
+use Rattle.mur_model.specs.Append.{append_reply as reply_with_uid}
+use Rattle.mur_model.specs.Reply.{refused}
+
+-- one message got one UID
+unfoldable pub reply_to_uids : ℕ → List ℕ → Option Reply
+reply_to_uids serial [] = None
+reply_to_uids serial (uid ∷ []) = Some (reply_with_uid serial uid)
+reply_to_uids serial (uid ∷ other ∷ uids) = None
+
+unfoldable pub reply_to_done : Outcome → Snapshot → Option Reply
+reply_to_done (Uids uids) seen = reply_to_uids seen.serial uids
+reply_to_done full seen = Some (refused Limit)
+reply_to_done outcome seen = None
+
+unfoldable pub append_reply : AnswerBody → Option Reply
+append_reply (Done outcome seen) = reply_to_done outcome seen
+append_reply NotNow = Some (refused TryCreate)
+append_reply body = None

@@ -1,0 +1,20 @@
+-- CREATE as a frontend has it: what it asks of the home, and what it replies to the answer.
+use Rattle.std.specs.Prelude.{Option, None, Some, codes}
+use Rattle.link_msg.specs.declared.answer.AnswerBody.{AnswerBody}
+use Rattle.link_msg.specs.declared.answer.AnswerBody.TheVariants.{Done}
+use Rattle.link_msg.specs.declared.outcome.Outcome.{Outcome}
+use Rattle.link_msg.specs.declared.outcome.Outcome.TheVariants.{None as nothing, Exists, Limit as full}
+use Rattle.mur_model.specs.declared.reply.NoText.TheVariants.{AlreadyExists, Limit}
+use Rattle.mur_model.specs.declared.reply.Reply.{Reply}
+use Rattle.mur_model.specs.Reply.{completed, refused}
+
+unfoldable pub reply_to_done : Outcome → Option Reply
+reply_to_done nothing = Some (completed (codes "CREATE"))
+reply_to_done Exists = Some (refused AlreadyExists)
+reply_to_done full = Some (refused Limit)
+reply_to_done outcome = None
+
+-- no reply is made of an answer that a CREATE can't have
+unfoldable pub create_reply : AnswerBody → Option Reply
+create_reply (Done outcome seen) = reply_to_done outcome
+create_reply body = None

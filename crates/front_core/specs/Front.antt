@@ -1,0 +1,102 @@
+-- A frontend: what it does with what comes from clients and on links. Calls on a connection that isn't there change nothing.
+use Rattle.std.specs.Prelude.{ℕ, List, [], ◌∷◌, Option, None, Some}
+use Rattle.std.specs.Ordering.{nat_cmp}
+use Rattle.imap_reply.specs.Greeting.{greeting}
+use Rattle.imap_wire.specs.Frames.{begun}
+use Rattle.imap_wire.specs.More.{frames_of_more, begun_by_more}
+use Rattle.link_msg.specs.declared.answer.BackAnswer.{BackAnswer}
+use Rattle.link_msg.specs.declared.message.LinkMsg.{LinkMsg}
+use Rattle.link_msg.specs.declared.message.LinkMsg.TheVariants.{Answer}
+use Rattle.link_msg.specs.declared.out.Out.{Out}
+use Rattle.link_msg.specs.declared.out.Out.TheVariants.{Client}
+use Rattle.mur_base.specs.Map.{value_at, with_entry, with_value}
+use Rattle.mur_model.specs.declared.session.Sess.TheVariants.{Off}
+use Rattle.mur_model.specs.declared.setting.Setting.{Setting}
+use Rattle.front_core.specs.declared.connection.Connection.{Connection}
+use Rattle.front_core.specs.declared.connection.Stage.{Stage}
+use Rattle.front_core.specs.declared.connection.Stage.TheVariants.{Reading, Asked, Ended}
+use Rattle.front_core.specs.declared.front.Front.{Front}
+use Rattle.front_core.specs.Answered.{answer_comes}
+use Rattle.front_core.specs.Taken.{Turned, frames_come}
+
+-- a frontend without a connection
+unfoldable pub new_front : List ℕ → List ℕ → Setting → Front
+new_front me home setting = record { me = me; home = home; setting = setting; connections = [] }
+
+-- a frontend, and what it let out
+pub record Stepped : Type 0 where
+  pub front : Front
+  pub outs : List Out
+
+abbrev pub still : Front → Stepped
+still front = record { front = front; outs = [] }
+
+abbrev pub connection_at : Front → ℕ → Option Connection
+connection_at front conn = value_at nat_cmp front.connections conn
+
+unfoldable pub new_connection : Connection
+new_connection = record { reader = begun []; waiting = []; session = Off; stage = Reading; answered = 0 }
+
+-- a client that connects is given the greeting (RFC 9051, 7.1.5)
+unfoldable pub connect_at : Front → ℕ → Option Connection → Stepped
+connect_at front conn (Some there) = still front
+connect_at front conn None = record {
+  front = record front { connections = with_entry nat_cmp front.connections conn new_connection };
+  outs = Client conn greeting ∷ [];
+}
+
+unfoldable pub connect : Front → ℕ → Stepped
+connect front conn = connect_at front conn (connection_at front conn)
+
+-- the frontend with what became of one connection
+abbrev pub with_turned : Front → ℕ → Turned → Stepped
+with_turned front conn turned = record {
+  front = record front { connections = with_value nat_cmp front.connections conn turned.connection };
+  outs = turned.outs;
+}
+
+-- the connection with bytes more in its reader
+abbrev pub having_read : Connection → List ℕ → Connection
+having_read connection bytes = record connection { reader = begun_by_more connection.reader bytes }
+
+-- bytes of a connection that has ended are dropped
+unfoldable pub bytes_by : Front → ℕ → List ℕ → Connection → Stage → Stepped
+bytes_by front conn bytes connection Ended = still front
+bytes_by front conn bytes connection Reading = with_turned front conn
+    (frames_come front.setting front.home conn (having_read connection bytes) (frames_of_more connection.reader bytes))
+bytes_by front conn bytes connection (Asked tag awaited) = with_turned front conn
+    (frames_come front.setting front.home conn (having_read connection bytes) (frames_of_more connection.reader bytes))
+
+unfoldable pub bytes_at : Front → ℕ → List ℕ → Option Connection → Stepped
+bytes_at front conn bytes None = still front
+bytes_at front conn bytes (Some connection) = bytes_by front conn bytes connection connection.stage
+
+unfoldable pub bytes_in : Front → ℕ → List ℕ → Stepped
+bytes_in front conn bytes = bytes_at front conn bytes (connection_at front conn)
+
+-- the client of a connection closes it
+abbrev pub hung_up : Connection → Connection
+hung_up connection = record connection { waiting = []; stage = Ended }
+
+unfoldable pub hang_at : Front → ℕ → Option Connection → Front
+hang_at front conn None = front
+hang_at front conn (Some connection) = record front { connections = with_value nat_cmp front.connections conn (hung_up connection) }
+
+unfoldable pub hang : Front → ℕ → Front
+hang front conn = hang_at front conn (connection_at front conn)
+
+unfoldable pub answer_at : Front → BackAnswer → Option Connection → Stepped
+answer_at front answer None = still front
+answer_at front answer (Some connection) =
+    with_turned front (answer.id).conn (answer_comes front.setting front.home (answer.id).conn connection answer)
+
+-- a message on a link: only answers have a meaning for it
+unfoldable pub deliver : Front → LinkMsg → Stepped
+deliver front (Answer answer) = answer_at front answer (connection_at front (answer.id).conn)
+deliver front message = still front
+
+-- the counts of a frontend's commands are at most so many behind all frames that wait, and that waits itself
+unfoldable pub is_asked : Stage → ℕ
+is_asked Reading = 0
+is_asked (Asked tag awaited) = 1
+is_asked Ended = 0

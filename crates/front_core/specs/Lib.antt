@@ -1,0 +1,10 @@
+pub mod Create
+pub mod Append
+pub mod Status
+pub mod Awaited
+pub mod Taken
+pub mod Answered
+pub mod Front
+pub mod Room
+pub mod Begun
+pub mod Stages

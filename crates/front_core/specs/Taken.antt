@@ -1,0 +1,105 @@
+-- A connection: what a frame of its client makes of it, and what it lets out. One command at a time: frames that come behind
+-- a command which waits for a home wait with it (RFC 9051, 5.5).
+use Rattle.std.specs.Prelude.{ℕ, ◌+◌, List, [], ◌∷◌, ◌++◌, codes}
+use Rattle.imap_command.specs.Request.{request_of, too_big_request}
+use Rattle.imap_reply.specs.ByeLine.{bye_line, bye_of}
+use Rattle.imap_reply.specs.Continuation.{ready}
+use Rattle.imap_reply.specs.ReplyText.{reply_text}
+use Rattle.imap_wire.specs.declared.frame.Frame.{Frame}
+use Rattle.imap_wire.specs.declared.frame.Frame.TheVariants.{Whole, NeedLiteral, TooBig, Fault}
+use Rattle.link_msg.specs.declared.ask.FrontAsk.{FrontAsk}
+use Rattle.link_msg.specs.declared.message.LinkMsg.TheVariants.{Ask}
+use Rattle.link_msg.specs.declared.counts.Counts.TheVariants.{Always}
+use Rattle.link_msg.specs.declared.out.Out.{Out}
+use Rattle.link_msg.specs.declared.out.Out.TheVariants.{Client, Close, Link, Mark}
+use Rattle.mur_model.specs.declared.command.Tag.{Tag}
+use Rattle.mur_model.specs.declared.need.Need.{Need}
+use Rattle.mur_model.specs.declared.need.Need.TheVariants.{Refusal, Login, Mailbox}
+use Rattle.mur_model.specs.declared.need.Work.{Work}
+use Rattle.mur_model.specs.declared.reply.BadText.TheVariants.{Syntax}
+use Rattle.mur_model.specs.declared.reply.NoText.TheVariants.{Limit}
+use Rattle.mur_model.specs.declared.reply.Reply.{Reply}
+use Rattle.mur_model.specs.declared.reply.Verdict.TheVariants.{Bad as bad_reply}
+use Rattle.mur_model.specs.declared.request.Request.{Request}
+use Rattle.mur_model.specs.declared.request.Request.TheVariants.{Command as a_command, Unknown as unknown, TooBig as too_big}
+use Rattle.mur_model.specs.declared.session.Sess.{Sess}
+use Rattle.mur_model.specs.declared.session.Sess.TheVariants.{Off, In, Ended as session_ended}
+use Rattle.mur_model.specs.declared.setting.Setting.{Setting}
+use Rattle.mur_model.specs.Act.{need_of}
+use Rattle.mur_model.specs.Reply.{reply_of, completed, refused}
+use Rattle.front_core.specs.declared.connection.Connection.{Connection}
+use Rattle.front_core.specs.declared.connection.Stage.{Stage}
+use Rattle.front_core.specs.declared.connection.Stage.TheVariants.{Reading, Asked, Ended}
+use Rattle.front_core.specs.Awaited.{op_of, awaited_of}
+
+-- a connection, and what it let out
+pub record Turned : Type 0 where
+  pub connection : Connection
+  pub outs : List Out
+
+-- a command that is answered, and counts as carried out in this step
+unfoldable pub answers : ℕ → Connection → Sess → Tag → Reply → Turned
+answers conn connection session tag reply = record {
+  connection = record connection { session = session; answered = connection.answered + 1 };
+  outs = Client conn (reply_text tag reply) ∷ Mark (record { conn = conn; command = connection.answered + 1 }) Always ∷ [];
+}
+
+-- the user of a session that has begun
+unfoldable pub user_of : Sess → List ℕ
+user_of Off = []
+user_of (In user) = user
+user_of session_ended = []
+
+abbrev pub ask_for : ℕ → Connection → List ℕ → Work → FrontAsk
+ask_for conn connection name work = record {
+  id = record { conn = conn; command = connection.answered + 1 };
+  user = user_of connection.session;
+  name = name;
+  serial = 0;
+  op = op_of work;
+}
+
+-- a command that waits for the home of its mailbox
+unfoldable pub asks : List ℕ → ℕ → Connection → Tag → List ℕ → Work → Turned
+asks home conn connection tag name work = record {
+  connection = record connection { stage = Asked tag (awaited_of work) };
+  outs = Link home (Ask (ask_for conn connection name work)) ∷ [];
+}
+
+unfoldable pub need_in : List ℕ → ℕ → Connection → Tag → Need → Turned
+need_in home conn connection tag (Refusal verdict) = answers conn connection connection.session tag (reply_of verdict)
+need_in home conn connection tag (Login user) = answers conn connection (In user) tag (completed (codes "LOGIN"))
+need_in home conn connection tag (Mailbox name work) = asks home conn connection tag name work
+
+unfoldable pub request_in : Setting → List ℕ → ℕ → Connection → Request → Turned
+request_in setting home conn connection (a_command tag it) = need_in home conn connection tag (need_of setting connection.session it)
+request_in setting home conn connection (unknown tag) = answers conn connection connection.session tag (reply_of (bad_reply Syntax))
+request_in setting home conn connection (too_big tag) = answers conn connection connection.session tag (refused Limit)
+
+-- a frame of a connection that is reading: a fault ends it
+unfoldable pub frame_in : Setting → List ℕ → ℕ → Connection → Frame → Turned
+frame_in setting home conn connection (Whole bytes) = request_in setting home conn connection (request_of bytes)
+frame_in setting home conn connection (TooBig bytes) = request_in setting home conn connection (too_big_request bytes)
+frame_in setting home conn connection (NeedLiteral size) = record { connection = connection; outs = Client conn ready ∷ [] }
+frame_in setting home conn connection (Fault fault) =
+    record { connection = record connection { stage = Ended }; outs = Client conn (bye_line (bye_of fault)) ∷ Close conn ∷ [] }
+
+-- a frame that comes, by what the connection is at
+unfoldable pub comes_at : Setting → List ℕ → ℕ → Connection → Frame → Stage → Turned
+comes_at setting home conn connection frame Reading = frame_in setting home conn connection frame
+comes_at setting home conn connection frame (Asked tag awaited) =
+    record { connection = record connection { waiting = connection.waiting ++ frame ∷ [] }; outs = [] }
+comes_at setting home conn connection frame Ended = record { connection = connection; outs = [] }
+
+unfoldable pub frame_comes : Setting → List ℕ → ℕ → Connection → Frame → Turned
+frame_comes setting home conn connection frame = comes_at setting home conn connection frame connection.stage
+
+-- what was let out before stands in front
+abbrev pub behind_outs : List Out → Turned → Turned
+behind_outs outs turned = record turned { outs = outs ++ turned.outs }
+
+unfoldable pub frames_come : Setting → List ℕ → ℕ → Connection → List Frame → Turned
+frames_come setting home conn connection [] = record { connection = connection; outs = [] }
+frames_come setting home conn connection (frame ∷ frames) =
+    let turned = frame_comes setting home conn connection frame in
+    behind_outs turned.outs (frames_come setting home conn turned.connection frames)

@@ -1,0 +1,54 @@
+// A command that waits for the home of its mailbox.
+ghost use Rattle.std.specs.Prelude.{◌≡◌, ◌+◌, ◌<◌, ◌^◌, IfOk, OnOk};
+ghost use Rattle.front_core.specs.Begun.{HasBegun};
+ghost use Rattle.front_core.specs.Taken.{asks, behind_outs, user_of};
+
+use crate::awaited::asked_for;
+use crate::connection::{Connection, Stage};
+use link_msg::{FrontAsk, LinkMsg, Out, Outs};
+use mur_base::{AskId, Copied, MailName, Memory, NodeName, UserName};
+use mur_model::{Sess, Tag, Work};
+use std::alloc::Global;
+
+/// Asks the home for some work, under the number that the command will have. For want of memory the connection is spent.
+#[tactic(auto, unfolding(crate::specs::Taken::asks))]
+pub fn asks(
+    alloc: Global,
+    home: &NodeName,
+    conn: u64,
+    connection: &mut Connection,
+    tag: Tag,
+    name: MailName,
+    work: Work,
+    outs: &mut Outs,
+) -> Result<(), Memory>
+    requires room { connection.old.answered + 1 < 2 ^ 64 }
+    requires begun { HasBegun connection.old.session }
+    ensures { OnOk result (record { connection = connection.new; outs = outs.new }
+        ≡ behind_outs outs.old (asks home.now conn connection.old tag name work)) }
+{
+    let (op, awaited) = asked_for(alloc, work)?;
+    let ask = FrontAsk {
+        id: AskId {
+            conn,
+            command: connection.answered + 1,
+        },
+        user: user_of(alloc, &connection.session)?,
+        name,
+        serial: 0,
+        op,
+    };
+    connection.stage = Stage::Asked(tag, awaited);
+    outs.push(Out::Link(home.copy(alloc)?, LinkMsg::Ask(ask)))
+}
+
+#[tactic(auto, unfolding(crate::specs::Taken::user_of, crate::specs::Begun::HasBegun))]
+fn user_of(alloc: Global, session: &Sess) -> Result<UserName, Memory>
+    requires { HasBegun session.now }
+    ensures { IfOk result (λ user. user ≡ user_of session.now) }
+{
+    match session {
+        Sess::In(user) => user.copy(alloc),
+        Sess::Off | Sess::Ended => unreachable!(),
+    }
+}

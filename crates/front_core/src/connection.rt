@@ -1,0 +1,67 @@
+// A connection of a mail client at a frontend.
+ghost use Rattle.std.specs.Prelude.{◌≡◌};
+ghost use Rattle.front_core.specs.Front.{hung_up};
+ghost use Rattle.front_core.specs.Stages.{is_reading, has_ended};
+
+use crate::reader::Reader;
+use imap_wire::Frame;
+use mur_base::{Bytes, Queue};
+use mur_model::{Sess, StatusItems, Tag};
+
+/// What the client of an ask waits for, and what its reply is made of besides the home's answer.
+#[derive(Drop)]
+pub enum Awaited {
+    Create,
+    Append,
+    /// Under this name, of these items.
+    Status(Bytes, StatusItems),
+}
+
+/// What a connection is at.
+#[derive(Drop)]
+pub enum Stage {
+    /// Its next frame is taken as it comes.
+    Reading,
+    /// A command under this tag waits for the answer of a home.
+    Asked(Tag, Awaited),
+    /// Nothing more is taken or given.
+    Ended,
+}
+
+/// A connection.
+#[derive(Drop)]
+pub struct Connection {
+    pub reader: Reader,
+    /// The frames that came behind a command that waits.
+    pub waiting: Queue<Frame>,
+    pub session: Sess,
+    pub stage: Stage,
+    /// How many commands were answered.
+    pub answered: u64,
+}
+
+impl Connection {
+    /// Whether the next frame is taken as it comes.
+    #[tactic(auto, unfolding(crate::specs::Stages::is_reading))]
+    pub fn is_reading(&self) -> bool
+        ensures { result ≡ is_reading self.now.stage }
+    {
+        matches!(self.stage, Stage::Reading)
+    }
+
+    /// Whether nothing more is taken or given.
+    #[tactic(auto, unfolding(crate::specs::Stages::has_ended))]
+    pub fn has_ended(&self) -> bool
+        ensures { result ≡ has_ended self.now.stage }
+    {
+        matches!(self.stage, Stage::Ended)
+    }
+
+    /// Ends the connection, whose client closes it. It takes no memory.
+    pub fn hang_up(&mut self)
+        ensures { self.new ≡ hung_up self.old }
+    {
+        self.waiting.clear();
+        self.stage = Stage::Ended;
+    }
+}

@@ -1,0 +1,137 @@
+// A frontend, which speaks to mail clients and asks the homes of their mailboxes.
+ghost use Rattle.std.specs.Prelude.{◌≡◌, length, IfOk};
+ghost use Rattle.front_core.specs.Front.{new_front, new_connection, connect, connection_at, bytes_in, hang, deliver, answer_at};
+ghost use Rattle.front_core.specs.Room.{HasRoomAt, HasRoomFor};
+
+use crate::answered::answer_comes;
+use crate::connection::{Connection, Stage};
+use crate::piece::piece_comes;
+use crate::reader::Reader;
+use imap_reply::put_greeting;
+use link_msg::{BackAnswer, LinkMsg, Out, Outs};
+use mur_base::{Bytes, Map, Memory, NodeName, Queue};
+use mur_model::{Sess, Setting};
+use std::alloc::Global;
+
+/// A frontend: its connections by their numbers.
+#[derive(Drop)]
+pub struct Front {
+    pub me: NodeName,
+    /// The backend that is asked for every mailbox.
+    pub home: NodeName,
+    pub setting: Setting,
+    pub connections: Map<u64, Connection>,
+}
+
+impl Front {
+    /// A frontend without a connection. It takes no memory.
+    #[tactic(auto, unfolding(crate::specs::Front::new_front))]
+    pub fn new(me: NodeName, home: NodeName, setting: Setting, alloc: Global) -> Front
+        ensures { result ≡ new_front me home setting }
+    {
+        Front {
+            me,
+            home,
+            setting,
+            connections: Map::new(alloc),
+        }
+    }
+
+    /// A client connects, and is given the greeting (RFC 9051, 7.1.5). For want of memory the frontend is spent.
+    #[tactic(auto, using(std::proofs::lemmas::Grind::common_steps), unfolding(crate::specs::Front::connect, crate::specs::Front::connect_at))]
+    pub fn connect(&mut self, alloc: Global, conn: u64) -> Result<Outs, Memory>
+        ensures { IfOk result (λ outs. record { front = self.new; outs = outs } ≡ connect self.old conn) }
+    {
+        let mut outs = Outs::new(alloc);
+        if self.connections.contains_key(&conn) {
+            return Ok(outs);
+        }
+        self.connections.insert(conn, new_connection(alloc))?;
+        let mut line = Bytes::new(alloc);
+        put_greeting(&mut line)?;
+        outs.push(Out::Client(conn, line))?;
+        Ok(outs)
+    }
+
+    /// Bytes of a client come. For want of memory the frontend is spent.
+    #[tactic(auto, unfolding(crate::specs::Front::bytes_in, crate::specs::Front::bytes_at, crate::specs::Front::bytes_by))]
+    pub fn bytes_in(&mut self, alloc: Global, conn: u64, piece: &[u8]) -> Result<Outs, Memory>
+        requires room { HasRoomAt self.old conn (length piece.now) }
+        ensures { IfOk result (λ outs. record { front = self.new; outs = outs } ≡ bytes_in self.old conn piece.now) }
+    {
+        let Some(connection) = self.connections.get_mut(&conn) else {
+            return Ok(Outs::new(alloc));
+        };
+        match connection.stage {
+            Stage::Ended => Ok(Outs::new(alloc)),
+            Stage::Reading | Stage::Asked(_, _) => {
+                let mut outs = Outs::new(alloc);
+                piece_comes(
+                    alloc,
+                    &self.setting,
+                    &self.home,
+                    conn,
+                    connection,
+                    piece,
+                    &mut outs,
+                )?;
+                Ok(outs)
+            }
+        }
+    }
+
+    /// The client of a connection closes it. It takes no memory.
+    #[tactic(auto, unfolding(crate::specs::Front::hang, crate::specs::Front::hang_at))]
+    pub fn hang(&mut self, conn: u64)
+        ensures { self.new ≡ hang self.old conn }
+    {
+        if let Some(connection) = self.connections.get_mut(&conn) {
+            connection.hang_up();
+        }
+    }
+
+    /// A message comes on a link: only answers have a meaning here. For want of memory the frontend is spent.
+    #[tactic(auto, unfolding(crate::specs::Front::deliver, crate::specs::Room::HasRoomFor))]
+    pub fn deliver(&mut self, alloc: Global, message: LinkMsg) -> Result<Outs, Memory>
+        requires room { HasRoomFor self.old message }
+        ensures { IfOk result (λ outs. record { front = self.new; outs = outs } ≡ deliver self.old message) }
+    {
+        match message {
+            LinkMsg::Answer(answer) => self.answer(alloc, answer),
+            _ => Ok(Outs::new(alloc)),
+        }
+    }
+
+    #[tactic(auto, unfolding(crate::specs::Front::answer_at))]
+    fn answer(&mut self, alloc: Global, answer: BackAnswer) -> Result<Outs, Memory>
+        requires room { HasRoomAt self.old (answer.id).conn 0 }
+        ensures { IfOk result (λ outs. record { front = self.new; outs = outs }
+            ≡ answer_at self.old answer (connection_at self.old (answer.id).conn)) }
+    {
+        let conn = answer.id.conn;
+        match self.connections.get_mut(&conn) {
+            Some(connection) => answer_comes(
+                alloc,
+                &self.setting,
+                &self.home,
+                conn,
+                connection,
+                answer,
+            ),
+            None => Ok(Outs::new(alloc)),
+        }
+    }
+}
+
+#[tactic(auto, unfolding(crate::specs::Front::new_connection))]
+fn new_connection(alloc: Global) -> Connection
+    ensures { result ≡ new_connection }
+{
+    Connection {
+        reader: Reader::new(alloc),
+        waiting: Queue::new(alloc),
+        session: Sess::Off,
+        stage: Stage::Reading,
+        answered: 0,
+    }
+}

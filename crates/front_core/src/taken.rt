@@ -1,0 +1,206 @@
+// What a frame makes of a connection, and what is let out. One command at a time: frames that come behind a command which
+// waits for a home wait with it (RFC 9051, 5.5).
+ghost use Rattle.std.specs.Prelude.{◌≡◌, ◌+◌, ◌<◌, ◌^◌, IfOk, OnOk};
+ghost use Rattle.imap_reply.specs.ByeLine.{bye_of, bye_line};
+ghost use Rattle.imap_reply.specs.Continuation.{ready};
+ghost use Rattle.imap_reply.specs.ReplyText.{reply_text};
+ghost use Rattle.mur_model.specs.Reply.{reply_of};
+ghost use Rattle.front_core.specs.Begun.{MayNeed};
+ghost use Rattle.front_core.specs.Taken.{frame_comes, frame_in, request_in, need_in, answers, behind_outs};
+
+use crate::asks::asks;
+use crate::connection::{Connection, Stage};
+use imap_command::{read_request, too_big};
+use imap_reply::{put_bye, put_ready, write};
+use imap_wire::{Frame, FrameFault};
+use link_msg::{Counts, Out, Outs};
+use mur_base::{AskId, Bytes, Memory, NodeName};
+use mur_model::{
+    BadText, Bye, Need, NoText, Reply, ReplyLines, Request, Sess, Setting, Tag, Verdict, begin,
+    completed, refused,
+};
+use std::alloc::Global;
+
+/// Takes a frame of a client, and puts what is let out behind the outputs. For want of memory the connection is spent.
+#[tactic(auto, unfolding(crate::specs::Taken::frame_comes, crate::specs::Taken::comes_at))]
+pub fn frame_comes(
+    alloc: Global,
+    setting: &Setting,
+    home: &NodeName,
+    conn: u64,
+    connection: &mut Connection,
+    frame: Frame,
+    outs: &mut Outs,
+) -> Result<(), Memory>
+    requires room { connection.old.answered + 1 < 2 ^ 64 }
+    ensures { OnOk result (record { connection = connection.new; outs = outs.new }
+        ≡ behind_outs outs.old (frame_comes setting.now home.now conn connection.old frame)) }
+{
+    match connection.stage {
+        Stage::Reading => frame_in(alloc, setting, home, conn, connection, frame, outs),
+        Stage::Asked(_, _) => connection.waiting.push(frame),
+        Stage::Ended => Ok(()),
+    }
+}
+
+/// Takes a frame of a connection that is reading.
+#[tactic(auto, unfolding(crate::specs::Taken::frame_in))]
+pub fn frame_in(
+    alloc: Global,
+    setting: &Setting,
+    home: &NodeName,
+    conn: u64,
+    connection: &mut Connection,
+    frame: Frame,
+    outs: &mut Outs,
+) -> Result<(), Memory>
+    requires room { connection.old.answered + 1 < 2 ^ 64 }
+    ensures { OnOk result (record { connection = connection.new; outs = outs.new }
+        ≡ behind_outs outs.old (frame_in setting.now home.now conn connection.old frame)) }
+{
+    match frame {
+        Frame::Whole(bytes) => {
+            let request = read_request(alloc, bytes.as_slice())?;
+            request_in(alloc, setting, home, conn, connection, request, outs)
+        }
+        Frame::TooBig(bytes) => {
+            let request = too_big(alloc, bytes.as_slice())?;
+            request_in(alloc, setting, home, conn, connection, request, outs)
+        }
+        Frame::NeedLiteral(_) => outs.push(Out::Client(conn, ready(alloc)?)),
+        Frame::Fault(fault) => {
+            connection.stage = Stage::Ended;
+            outs.push(Out::Client(conn, bye_line(alloc, fault)?))?;
+            outs.push(Out::Close(conn))
+        }
+    }
+}
+
+fn ready(alloc: Global) -> Result<Bytes, Memory>
+    ensures { IfOk result (λ line. line ≡ ready) }
+{
+    let mut line = Bytes::new(alloc);
+    put_ready(&mut line)?;
+    Ok(line)
+}
+
+fn bye_line(alloc: Global, fault: FrameFault) -> Result<Bytes, Memory>
+    ensures { IfOk result (λ line. line ≡ bye_line (bye_of fault)) }
+{
+    let mut line = Bytes::new(alloc);
+    put_bye(bye_of(fault), &mut line)?;
+    Ok(line)
+}
+
+#[tactic(auto, unfolding(imap_reply::specs::ByeLine::bye_of))]
+fn bye_of(fault: FrameFault) -> Bye
+    ensures { result ≡ bye_of fault }
+{
+    match fault {
+        FrameFault::LineTooLong => Bye::LineTooLong,
+        FrameFault::PlusTooLong => Bye::LiteralTooLong,
+    }
+}
+
+#[tactic(auto, unfolding(crate::specs::Taken::request_in), using(crate::proofs::NeedLaw::may_need))]
+fn request_in(
+    alloc: Global,
+    setting: &Setting,
+    home: &NodeName,
+    conn: u64,
+    connection: &mut Connection,
+    request: Request,
+    outs: &mut Outs,
+) -> Result<(), Memory>
+    requires room { connection.old.answered + 1 < 2 ^ 64 }
+    ensures { OnOk result (record { connection = connection.new; outs = outs.new }
+        ≡ behind_outs outs.old (request_in setting.now home.now conn connection.old request)) }
+{
+    match request {
+        Request::Command(tag, command) => {
+            let need = begin(alloc, setting, &connection.session, command)?;
+            need_in(alloc, home, conn, connection, tag, need, outs)
+        }
+        Request::Unknown(tag) => {
+            let reply = reply_of(alloc, Verdict::Bad(BadText::Syntax));
+            answers(alloc, conn, connection, &tag, &reply, outs)
+        }
+        Request::TooBig(tag) => {
+            let reply = refused(alloc, NoText::Limit);
+            answers(alloc, conn, connection, &tag, &reply, outs)
+        }
+    }
+}
+
+#[tactic(auto, unfolding(crate::specs::Taken::need_in, crate::specs::Taken::answers, crate::specs::Begun::MayNeed))]
+fn need_in(
+    alloc: Global,
+    home: &NodeName,
+    conn: u64,
+    connection: &mut Connection,
+    tag: Tag,
+    need: Need,
+    outs: &mut Outs,
+) -> Result<(), Memory>
+    requires room { connection.old.answered + 1 < 2 ^ 64 }
+    requires fits { MayNeed connection.old.session need }
+    ensures { OnOk result (record { connection = connection.new; outs = outs.new }
+        ≡ behind_outs outs.old (need_in home.now conn connection.old tag need)) }
+{
+    match need {
+        Need::Refusal(verdict) => {
+            let reply = reply_of(alloc, verdict);
+            answers(alloc, conn, connection, &tag, &reply, outs)
+        }
+        Need::Login(user) => {
+            connection.session = Sess::In(user);
+            let reply = completed(alloc, b"LOGIN")?;
+            answers(alloc, conn, connection, &tag, &reply, outs)
+        }
+        Need::Mailbox(name, work) => asks(alloc, home, conn, connection, tag, name, work, outs),
+    }
+}
+
+fn reply_of(alloc: Global, verdict: Verdict) -> Reply
+    ensures { result ≡ reply_of verdict }
+{
+    Reply {
+        lines: ReplyLines::new(alloc),
+        verdict,
+    }
+}
+
+// A command that is answered, and counts as carried out in this step.
+#[tactic(auto, using(std::proofs::lemmas::Grind::common_steps), unfolding(crate::specs::Taken::answers))]
+fn answers(
+    alloc: Global,
+    conn: u64,
+    connection: &mut Connection,
+    tag: &Tag,
+    reply: &Reply,
+    outs: &mut Outs,
+) -> Result<(), Memory>
+    requires room { connection.old.answered + 1 < 2 ^ 64 }
+    ensures { OnOk result (record { connection = connection.new; outs = outs.new }
+        ≡ behind_outs outs.old (answers conn connection.old connection.old.session tag.now reply.now)) }
+{
+    connection.answered += 1;
+    let id = AskId {
+        conn,
+        command: connection.answered,
+    };
+    outs.push(Out::Client(conn, reply_bytes(alloc, tag, reply)?))?;
+    outs.push(Out::Mark(id, Counts::Always))
+}
+
+/// Bytes that most replies have room in, so that they are written without growing.
+const REPLY_ROOM: usize = 64;
+
+/// The bytes of a reply.
+pub fn reply_bytes(alloc: Global, tag: &Tag, reply: &Reply) -> Result<Bytes, Memory>
+    ensures { IfOk result (λ bytes. bytes ≡ reply_text tag.now reply.now) }
+{
+    let mut bytes = Bytes::from_vec(Vec::with_capacity(alloc, REPLY_ROOM)?);
+    write(tag, reply, &mut bytes)?;
+    Ok(bytes)
+}

@@ -1,0 +1,48 @@
+-- APPEND (RFC 9051, 6.3.12): the message gets the next UID of its mailbox, which is told with the UIDVALIDITY.
+use Rattle.std.specs.Prelude.{ℕ, Bool, true, false, List, [], ◌∷◌, Option, None, Some, codes}
+use Rattle.mail_message.specs.Boxes.{Content}
+use Rattle.mail_message.specs.FlagSets.{no_flags}
+use Rattle.mail_message.specs.declared.message.Message.{Message}
+use Rattle.mail_store.specs.Append.{appended, append_fault}
+use Rattle.mail_store.specs.declared.fault.StoreFault.{StoreFault}
+use Rattle.mur_base.specs.Inbox.{taken_name}
+use Rattle.mur_base.specs.Names.{mail_name_fault}
+use Rattle.mur_base.specs.declared.name.NameFault.{NameFault}
+use Rattle.mur_model.specs.declared.need.Need.{Need}
+use Rattle.mur_model.specs.declared.need.Need.TheVariants.{Refusal, Mailbox}
+use Rattle.mur_model.specs.declared.need.Work.TheVariants.{Append as append_work}
+use Rattle.mur_model.specs.declared.reply.Code.TheVariants.{AppendUid}
+use Rattle.mur_model.specs.declared.reply.NoText.TheVariants.{TryCreate, NoPerm, Limit}
+use Rattle.mur_model.specs.declared.reply.Reply.{Reply}
+use Rattle.mur_model.specs.declared.reply.Verdict.TheVariants.{Ok as ok_reply, No as no_reply}
+use Rattle.mur_model.specs.declared.setting.Setting.{Setting}
+use Rattle.mur_model.specs.Left.{Worked, kept, changed}
+use Rattle.mur_model.specs.Reply.{reply_of, refused}
+use Rattle.mur_model.specs.Rights.{has_rights}
+
+-- a message that comes without flags and without a date
+abbrev pub new_message : Setting → List ℕ → Message
+new_message setting body = record { uid = 0; flags = no_flags; date = setting.date; body = body }
+
+unfoldable pub append_by : Setting → List ℕ → List ℕ → Bool → Need
+append_by setting name body true = Mailbox name (append_work (new_message setting body))
+append_by setting name body false = Refusal (no_reply NoPerm)
+
+unfoldable pub append_as : Setting → List ℕ → List ℕ → List ℕ → Option NameFault → Need
+append_as setting user name body (Some fault) = Refusal (no_reply TryCreate)
+append_as setting user name body None = append_by setting name body (has_rights setting.users user name)
+
+unfoldable pub append : Setting → List ℕ → List ℕ → List ℕ → Need
+append setting user text body = append_as setting user (taken_name user text) body (mail_name_fault (taken_name user text))
+
+-- the reply to a message that got this UID of a mailbox with this UIDVALIDITY
+unfoldable pub append_reply : ℕ → ℕ → Reply
+append_reply serial uid = reply_of (ok_reply (AppendUid serial uid) (codes "APPEND"))
+
+unfoldable pub append_to : Message → Content → Option StoreFault → Worked
+append_to message box (Some fault) = record { left = kept; reply = refused Limit }
+append_to message box None = record { left = changed (appended box (message ∷ [])); reply = append_reply box.serial box.next }
+
+unfoldable pub append_on : Message → Option Content → Worked
+append_on message None = record { left = kept; reply = refused TryCreate }
+append_on message (Some box) = append_to message box (append_fault box (message ∷ []))

@@ -1,0 +1,28 @@
+-- What a command leaves of its mailbox.
+use Rattle.std.specs.Prelude.{ℕ, List}
+use Rattle.mail_message.specs.Boxes.{Content}
+use Rattle.mur_model.specs.declared.reply.Reply.{Reply}
+use Rattle.mur_model.specs.declared.store.Store.{Store}
+use Rattle.mur_model.specs.Store.{with_new_box, with_box}
+
+-- the mailbox is as it was, it is made, or it has another content
+pub data Left : Type 0 where
+  kept : Left
+  made : Content → Left
+  changed : Content → Left
+
+-- what is left of a mailbox, and the reply
+pub record Worked : Type 0 where
+  pub left : Left
+  pub reply : Reply
+
+-- the content of a mailbox that was there
+unfoldable pub box_after : Content → Left → Content
+box_after box kept = box
+box_after box (made content) = content
+box_after box (changed content) = content
+
+unfoldable pub store_after : Store → List ℕ → Left → Store
+store_after store name kept = store
+store_after store name (made box) = with_new_box store name box
+store_after store name (changed box) = with_box store name box

@@ -1,0 +1,74 @@
+// The store as it can be run: one command at a time, on one store.
+ghost use Rattle.std.specs.Prelude.{◌≡◌, IfOk};
+ghost use Rattle.mur_model.specs.Act.{worked_at, act_by, act_of};
+ghost use Rattle.mur_model.specs.Left.{store_after};
+
+use crate::append::append_at;
+use crate::command::Command;
+use crate::create::make;
+use crate::need::{Need, Work, begin};
+use crate::reply::{Reply, ReplyLines, completed};
+use crate::session::Sess;
+use crate::setting::Setting;
+use crate::status::status_at;
+use crate::store::Store;
+use mur_base::{Copied, MailName, Memory};
+use std::alloc::Global;
+
+/// Carries out one command on the store and gives its reply (RFC 9051, 6). A mailbox that is made gets the serial as
+/// its UIDVALIDITY; a history is legal only where that was free. For want of memory nothing is said of the store.
+#[tactic(auto, unfolding(crate::specs::Act::act_of))]
+pub fn act(
+    alloc: Global,
+    with: &Setting,
+    store: &mut Store,
+    sess: &mut Sess,
+    command: &Command,
+    serial: u32,
+) -> Result<Reply, Memory>
+    ensures { IfOk result (λ reply. record { store = store.new; session = sess.new; reply = reply } ≡ act_of with.now store.old sess.old command.now serial) }
+{
+    let need = begin(alloc, with, sess, command.copy(alloc)?)?;
+    act_by(alloc, store, sess, need, serial)
+}
+
+#[tactic(auto, unfolding(crate::specs::Act::act_by))]
+fn act_by(
+    alloc: Global,
+    store: &mut Store,
+    sess: &mut Sess,
+    need: Need,
+    serial: u32,
+) -> Result<Reply, Memory>
+    ensures { IfOk result (λ reply. record { store = store.new; session = sess.new; reply = reply } ≡ act_by store.old sess.old serial need) }
+{
+    match need {
+        Need::Refusal(verdict) => Ok(Reply {
+            lines: ReplyLines::new(alloc),
+            verdict,
+        }),
+        Need::Login(user) => {
+            *sess = Sess::In(user);
+            completed(alloc, b"LOGIN")
+        }
+        Need::Mailbox(name, work) => work_at(alloc, store, name, work, serial),
+    }
+}
+
+#[tactic(auto, unfolding(crate::specs::Act::work_on))]
+fn work_at(
+    alloc: Global,
+    store: &mut Store,
+    name: MailName,
+    work: Work,
+    serial: u32,
+) -> Result<Reply, Memory>
+    ensures { IfOk result (λ reply. let worked = worked_at store.old name work serial in
+        (store.new ≡ store_after store.old name worked.left) × (reply ≡ worked.reply)) }
+{
+    match work {
+        Work::Make => make(alloc, store, name, serial),
+        Work::Append(message) => append_at(alloc, store, &name, message),
+        Work::Status(shown, items) => status_at(alloc, store, &name, shown, &items),
+    }
+}

@@ -1,0 +1,106 @@
+// APPEND (RFC 9051, 6.3.12).
+ghost use Rattle.std.specs.Prelude.{◌≡◌, ◌≢◌, IfOk, [], ◌∷◌};
+ghost use Rattle.mail_store.specs.Append.{append_fault};
+ghost use Rattle.mur_model.specs.Append.{append, append_by, append_on, append_to, append_reply};
+ghost use Rattle.mur_model.specs.Rights.{has_rights};
+ghost use Rattle.mur_model.specs.Left.{store_after, box_after};
+ghost use Rattle.mur_model.specs.Reply.{refused};
+ghost use Rattle.mur_model.specs.Store.{box_at};
+
+use crate::need::{Need, Work};
+use crate::reply::{Code, NoText, Reply, ReplyLines, Verdict, refused};
+use crate::rights::has_rights;
+use crate::setting::Setting;
+use crate::store::Store;
+use mail_message::{FlagSet, MailBox, Message, Messages};
+use mail_store::{StoreFault, append_all};
+use mur_base::{Bytes, MailName, Memory, NameFault, UserName, taken};
+use std::alloc::Global;
+
+/// What APPEND of a message to a mailbox needs: the mailbox, where the user has rights to it. The message isn't copied.
+#[tactic(auto, unfolding(crate::specs::Append::append, crate::specs::Append::append_as))]
+pub fn append(
+    alloc: Global,
+    with: &Setting,
+    user: &UserName,
+    text: &[u8],
+    body: Bytes,
+) -> Result<Need, Memory>
+    ensures { IfOk result (λ need. need ≡ append with.now user.now text.now body) }
+{
+    match taken(alloc, user, text) {
+        Ok(name) => Ok(append_by(alloc, with, user, name, body)),
+        Err(NameFault::Memory) => Err(Memory),
+        Err(_) => Ok(Need::Refusal(Verdict::No(NoText::TryCreate))),
+    }
+}
+
+#[tactic(auto, unfolding(crate::specs::Append::append_by))]
+fn append_by(alloc: Global, with: &Setting, user: &UserName, name: MailName, body: Bytes) -> Need
+    ensures { result ≡ append_by with.now name body (has_rights with.now.users user.now name) }
+{
+    if !has_rights(&with.users, user, &name) {
+        return Need::Refusal(Verdict::No(NoText::NoPerm));
+    }
+    let message = Message {
+        uid: 0,
+        flags: FlagSet::new(alloc),
+        date: with.date,
+        body,
+    };
+    Need::Mailbox(name, Work::Append(message))
+}
+
+/// The reply to a message that got this UID of a mailbox with this UIDVALIDITY.
+#[tactic(auto, unfolding(crate::specs::Append::append_reply))]
+pub fn append_reply(alloc: Global, serial: u32, uid: u32) -> Result<Reply, Memory>
+    ensures { IfOk result (λ reply. reply ≡ append_reply serial uid) }
+{
+    Ok(Reply {
+        lines: ReplyLines::new(alloc),
+        verdict: Verdict::Ok(
+            Code::AppendUid(serial, uid),
+            Bytes::from_slice(alloc, b"APPEND")?,
+        ),
+    })
+}
+
+/// Puts a message into a mailbox, if it is there and has room.
+#[tactic(auto, unfolding(crate::specs::Append::append_on, crate::specs::Left::store_after))]
+pub fn append_at(
+    alloc: Global,
+    store: &mut Store,
+    name: &MailName,
+    message: Message,
+) -> Result<Reply, Memory>
+    ensures { IfOk result (λ reply. let worked = append_on message (box_at store.old name.now) in
+        (store.new ≡ store_after store.old name.now worked.left) × (reply ≡ worked.reply)) }
+{
+    match store.boxes.get_mut(name) {
+        Some(mailbox) => append_to(alloc, mailbox, message),
+        None => Ok(refused(alloc, NoText::TryCreate)),
+    }
+}
+
+fn append_to(alloc: Global, mailbox: &mut MailBox, message: Message) -> Result<Reply, Memory>
+    ensures { IfOk result (λ reply. let worked = append_to message mailbox.old (append_fault mailbox.old (message ∷ [])) in
+        (mailbox.new ≡ box_after mailbox.old worked.left) × (reply ≡ worked.reply)) }
+{
+    let serial = mailbox.serial();
+    let uid = mailbox.next();
+    let mut list = Messages::new(alloc);
+    list.push(message)?;
+    if let Err(fault) = append_all(alloc, mailbox, list) {
+        return refused_for(alloc, fault);
+    }
+    append_reply(alloc, serial, uid)
+}
+
+fn refused_for(alloc: Global, fault: StoreFault) -> Result<Reply, Memory>
+    ensures { IfOk result (λ reply. (fault ≢ StoreFault.Memory) × (reply ≡ refused NoText.Limit)) }
+{
+    match fault {
+        StoreFault::Memory => Err(Memory),
+        _ => Ok(refused(alloc, NoText::Limit)),
+    }
+}

@@ -1,0 +1,111 @@
+// STATUS (RFC 9051, 6.3.11).
+ghost use Rattle.std.specs.Prelude.{◌≡◌, IfOk, map};
+ghost use Rattle.mur_model.specs.Left.{store_after};
+ghost use Rattle.mur_model.specs.Store.{box_at};
+ghost use Rattle.mur_model.specs.Rights.{has_rights};
+ghost use Rattle.mur_model.specs.Status.{status, status_by, count_of, status_reply, status_on};
+
+use crate::command::{StatusItem, StatusItems};
+use crate::need::{Need, Work};
+use crate::reply::{
+    Code, NoText, Reply, ReplyLine, ReplyLines, StatusCount, StatusCounts, Verdict, refused,
+};
+use crate::rights::has_rights;
+use crate::setting::Setting;
+use crate::store::Store;
+use mur_base::{Bytes, MailName, Memory, NameFault, UserName, shown, taken};
+use std::alloc::Global;
+
+/// What STATUS of a mailbox needs: the mailbox, where the user has rights to it.
+#[tactic(auto, unfolding(crate::specs::Status::status, crate::specs::Status::status_as))]
+pub fn status(
+    alloc: Global,
+    with: &Setting,
+    user: &UserName,
+    text: &[u8],
+    items: StatusItems,
+) -> Result<Need, Memory>
+    ensures { IfOk result (λ need. need ≡ status with.now user.now text.now items) }
+{
+    match taken(alloc, user, text) {
+        Ok(name) => status_by(alloc, with, user, name, items),
+        Err(NameFault::Memory) => Err(Memory),
+        Err(_) => Ok(Need::Refusal(Verdict::No(NoText::NonExistent))),
+    }
+}
+
+#[tactic(auto, unfolding(crate::specs::Status::status_by))]
+fn status_by(
+    alloc: Global,
+    with: &Setting,
+    user: &UserName,
+    name: MailName,
+    items: StatusItems,
+) -> Result<Need, Memory>
+    ensures { IfOk result (λ need. need ≡ status_by user.now name items (has_rights with.now.users user.now name)) }
+{
+    if !has_rights(&with.users, user, &name) {
+        return Ok(Need::Refusal(Verdict::No(NoText::NoPerm)));
+    }
+    let shown = shown(alloc, user, &name)?;
+    Ok(Need::Mailbox(name, Work::Status(shown, items)))
+}
+
+/// What is told of a mailbox with so many messages, under the name as it is shown.
+#[tactic(auto, unfolding(crate::specs::Status::status_reply))]
+pub fn status_reply(
+    alloc: Global,
+    shown: Bytes,
+    items: &StatusItems,
+    messages: u64,
+) -> Result<Reply, Memory>
+    ensures { IfOk result (λ reply. reply ≡ status_reply shown items.now messages) }
+{
+    let counts = counts_of(alloc, items, messages)?;
+    let mut lines = ReplyLines::new(alloc);
+    lines.push(ReplyLine::Status(shown, counts))?;
+    Ok(Reply {
+        lines,
+        verdict: Verdict::Ok(Code::None, Bytes::from_slice(alloc, b"STATUS")?),
+    })
+}
+
+fn counts_of(alloc: Global, items: &StatusItems, messages: u64) -> Result<StatusCounts, Memory>
+    ensures { IfOk result (λ counts. counts ≡ map (count_of messages) items.now) }
+{
+    let mut counts = StatusCounts::new(alloc);
+    for item in items.as_slice() {
+        counts.push(count_of(messages, *item))?;
+    }
+    Ok(counts)
+}
+
+#[tactic(auto, unfolding(crate::specs::Status::count_of))]
+fn count_of(messages: u64, item: StatusItem) -> StatusCount
+    ensures { result ≡ count_of messages item }
+{
+    match item {
+        StatusItem::Messages => StatusCount {
+            item,
+            count: messages,
+        },
+    }
+}
+
+/// Tells of a mailbox, if it is there.
+#[tactic(auto, unfolding(crate::specs::Status::status_on, crate::specs::Left::store_after))]
+pub fn status_at(
+    alloc: Global,
+    store: &Store,
+    name: &MailName,
+    shown: Bytes,
+    items: &StatusItems,
+) -> Result<Reply, Memory>
+    ensures reply { IfOk result (λ reply. reply ≡ (status_on shown items.now (box_at store.now name.now)).reply) }
+    ensures kept { store_after store.now name.now (status_on shown items.now (box_at store.now name.now)).left ≡ store.now }
+{
+    match store.boxes.get(name) {
+        Some(mailbox) => status_reply(alloc, shown, items, mailbox.len() as u64),
+        None => Ok(refused(alloc, NoText::NonExistent)),
+    }
+}
