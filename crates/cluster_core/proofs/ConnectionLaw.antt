@@ -57,7 +57,11 @@ pub record KeepsOthers (conn : ℕ) (world next : World) : Type 0 where
 
 pub keeps_all : (conn : ℕ) (world : World) → KeepsOthers conn world world
 keeps_all conn world = record {
-  fronts = refl; homes = refl; backends = refl; pairs = refl; steps = refl;
+  fronts = refl;
+  homes = refl;
+  backends = refl;
+  pairs = refl;
+  steps = refl;
   clients = λ other ne. refl;
   ways = λ other ne front home asks answers way. way;
 }

@@ -61,11 +61,11 @@ rounds_alike (suc n) links one other alike =
     let l = a.left ∙ sym b.left in
     let more = rounds_alike n links (round one links) (round other links) (record { world = w; left = l }) in
     let same : ((round one links).left == one.left) ≡ ((round other links).left == other.left) =
-        ap (λ (x : ℕ). x == one.left) l ∙ ap (λ (x : ℕ). (round other links).left == x) alike.left in
+    ap (λ (x : ℕ). x == one.left) l ∙ ap (λ (x : ℕ). (round other links).left == x) alike.left in
     subst (λ b. (rounds_by b (round one links) (rounds n links (round one links))).world
-        ≡ (rounds_by ((round other links).left == other.left) (round other links) (rounds n links (round other links))).world)
-        (sym same)
-        (by_alike ((round other links).left == other.left) (round one links) (round other links) (rounds n links (round one links)) (rounds n links (round other links)) w more)
+    ≡ (rounds_by ((round other links).left == other.left) (round other links) (rounds n links (round other links))).world)
+    (sym same)
+    (by_alike ((round other links).left == other.left) (round one links) (round other links) (rounds n links (round one links)) (rounds n links (round other links)) w more)
 
 -- behind the turn of the first link
 pub turned : (link : Link) (links : List Link) (world next : World) (left later : ℕ)
@@ -120,7 +120,7 @@ pub flow_over : (count r : ℕ) (pairs used : List Link) (world next end : World
 flow_over count r pairs used world next end left later h u w l apart flows =
     let to_end = subst (λ n. (rounds n pairs (begun world left)).world ≡ end) (one_more count r h) flows in
     sym (flow_goes_on (count - (r + 1)) pairs world next left later (subst (λ x. (round (begun world left) x).world ≡ next) u w)
-        (subst (λ x. (round (begun world left) x).left ≡ later) u l) (equal_or later left _ refl apart)) ∙ to_end
+    (subst (λ x. (round (begun world left) x).left ≡ later) u l) (equal_or later left _ refl apart)) ∙ to_end
 
 pub flow_over_now : (count r : ℕ) (pairs used : List Link) (world next end : World) (left later : ℕ) → r < count → used ≡ pairs
     → (round (begun world left) used).world ≡ next → (round (begun world left) used).left ≡ later → later ≡ left
@@ -128,7 +128,7 @@ pub flow_over_now : (count r : ℕ) (pairs used : List Link) (world next end : W
 flow_over_now count r pairs used world next end left later h u w l same flows =
     let to_end = subst (λ n. (rounds n pairs (begun world left)).world ≡ end) (one_more count r h) flows in
     sym (flow_stops (count - (r + 1)) pairs world next left later (subst (λ x. (round (begun world left) x).world ≡ next) u w)
-        (subst (λ x. (round (begun world left) x).left ≡ later) u l) (equal_by later left _ refl same)) ∙ to_end
+    (subst (λ x. (round (begun world left) x).left ≡ later) u l) (equal_by later left _ refl same)) ∙ to_end
 
 none_left : (pairs : List Link) (world : World) (left : ℕ) → (rounds zero pairs (begun world left)).world ≡ world
 unfolding rounds

@@ -92,14 +92,22 @@ end_carried node world conn client text at = given_there world conn client text 
 
 pub given_keeps : (world : World) (conn : ℕ) (client : Client) (text : List ℕ) → KeepsOthers conn world (given_world world conn client text)
 given_keeps world conn client text = record {
-  fronts = refl; homes = refl; backends = refl; pairs = refl; steps = refl;
+  fronts = refl;
+  homes = refl;
+  backends = refl;
+  pairs = refl;
+  steps = refl;
   clients = λ other ne. value_at-with_value-other nat_cmp numbers_apart world.clients conn other (record client { given = client.given ++ text }) ne;
   ways = λ other ne front home asks answers way. way;
 }
 
 marked_keeps : (conn : ℕ) (world : World) (ask : AskId) → KeepsOthers conn world (marked_world world ask)
 marked_keeps conn world ask = record {
-  fronts = refl; homes = refl; backends = refl; pairs = refl; steps = refl;
+  fronts = refl;
+  homes = refl;
+  backends = refl;
+  pairs = refl;
+  steps = refl;
   clients = λ other ne. refl;
   ways = λ other ne front home asks answers way. way;
 }
@@ -250,7 +258,11 @@ asked_here setting front home backend conn frames waiting held connection before
       story = story;
       made = record {
         others = keeps_on conn before world next was.made.others (record {
-          fronts = refl; homes = refl; backends = refl; pairs = refl; steps = refl;
+          fronts = refl;
+          homes = refl;
+          backends = refl;
+          pairs = refl;
+          steps = refl;
           clients = λ other ne. refl;
           ways = λ other ne f h asks answers way. sent_for_another world.links other f h front home (Ask ask) asks answers (ask_of_another other ask (λ e. ne (sym e))) way;
         });

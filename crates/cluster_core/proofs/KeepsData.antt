@@ -59,7 +59,13 @@ use Rattle.cluster_core.proofs.Told.{IsTold, told_asked}
 -- every look-up finds what it found in the same world
 pub looks_same : (world : World) → LooksAlike world world
 looks_same world = record {
-  fronts = λ any. refl; homes = λ any. refl; clients = λ any. refl; ways = λ c front home asks answers way. way; backends = refl; marks = refl; steps = omega arith;
+  fronts = λ any. refl;
+  homes = λ any. refl;
+  clients = λ any. refl;
+  ways = λ c front home asks answers way. way;
+  backends = refl;
+  marks = refl;
+  steps = omega arith;
 }
 
 -- a frontend put in its own place
@@ -67,7 +73,12 @@ pub looks_put : (world : World) (node : List ℕ) (front : Front) → front_at w
 unfolding carry_all
 looks_put world node front at = record {
   fronts = same_put (slice_cmp nat_cmp) names_apart world.fronts node front at;
-  homes = λ any. refl; clients = λ any. refl; ways = λ c f home asks answers way. way; backends = refl; marks = refl; steps = omega arith;
+  homes = λ any. refl;
+  clients = λ any. refl;
+  ways = λ c f home asks answers way. way;
+  backends = refl;
+  marks = refl;
+  steps = omega arith;
 }
 
 pub frames_keep_reader : (setting : Setting) (home : List ℕ) (conn : ℕ) (connection : Connection) (new : List Frame) → (frames_come setting home conn connection new).connection.reader ≡ connection.reader
@@ -320,7 +331,14 @@ stands_more config heard world law conn bytes more node front connection e at re
     subst (λ s. KeepsOn config (told_of law.story) (after_data config heard conn more) (with_front world node s)) (sym (at_reading front conn more connection at.has stage))
     (taken_more config heard world law conn bytes more node front connection e at reader
     (reading_behind config heard world law conn bytes more node connection e reader (record {
-      stage_is = stage; waiting_is = waiting; session_is = session; count = standing.count; answered = all; said = said; client = standing.client; way = way;
+      stage_is = stage;
+      waiting_is = waiting;
+      session_is = session;
+      count = standing.count;
+      answered = all;
+      said = said;
+      client = standing.client;
+      way = way;
     })))
 stands_more config heard world law conn bytes more node front connection e at reader standing (waits passed asking tag it name work stage parts session all is need last way) =
     subst (λ s. KeepsOn config (told_of law.story) (after_data config heard conn more) (with_front world node s)) (sym (at_asked front conn more connection tag (awaited_of work) at.has stage))

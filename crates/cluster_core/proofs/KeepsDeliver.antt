@@ -58,9 +58,13 @@ use Rattle.cluster_core.proofs.Ways.{AreOnWay, IsOfAnother, ask_of_another, answ
 -- a message that is neither an ask nor an answer changes nothing that can be looked up
 alike_taken : (world : World) (from to : List ℕ) (message : LinkMsg) (rest : List LinkMsg) → on_link world.links from to ≡ message ∷ rest → ((conn : ℕ) → IsOfAnother conn message) → LooksAlike world (taken world from to)
 alike_taken world from to message rest first other = record {
-  fronts = λ any. refl; homes = λ any. refl; clients = λ any. refl;
+  fronts = λ any. refl;
+  homes = λ any. refl;
+  clients = λ any. refl;
   ways = λ conn front home asks answers way. taken_for_another world.links conn front home from to message rest asks answers first (other conn) way;
-  backends = refl; marks = refl; steps = omega arith;
+  backends = refl;
+  marks = refl;
+  steps = omega arith;
 }
 
 alike_on : (one two three : World) → LooksAlike one two → LooksAlike two three → LooksAlike one three
@@ -79,12 +83,22 @@ unfolding carry_all
 home_put world node home at = record {
   fronts = λ any. refl;
   homes = same_put (slice_cmp nat_cmp) names_apart world.homes node home at;
-  clients = λ any. refl; ways = λ c f h asks answers way. way; backends = refl; marks = refl; steps = omega arith;
+  clients = λ any. refl;
+  ways = λ c f h asks answers way. way;
+  backends = refl;
+  marks = refl;
+  steps = omega arith;
 }
 
 looks_same : (world : World) → LooksAlike world world
 looks_same world = record {
-  fronts = λ any. refl; homes = λ any. refl; clients = λ any. refl; ways = λ c front home asks answers way. way; backends = refl; marks = refl; steps = omega arith;
+  fronts = λ any. refl;
+  homes = λ any. refl;
+  clients = λ any. refl;
+  ways = λ c front home asks answers way. way;
+  backends = refl;
+  marks = refl;
+  steps = omega arith;
 }
 
 -- messages without a meaning yet

@@ -210,7 +210,13 @@ open_keeps config heard world node conn None at law =
 open_keeps config heard world node conn (Some there) at law =
     still_kept config heard (after_open config heard node conn) world world
     (record {
-      fronts = λ any. refl; homes = λ any. refl; clients = λ any. refl; ways = λ c front home asks answers way. way; backends = refl; marks = refl; steps = omega arith;
+      fronts = λ any. refl;
+      homes = λ any. refl;
+      clients = λ any. refl;
+      ways = λ c front home asks answers way. way;
+      backends = refl;
+      marks = refl;
+      steps = omega arith;
     })
     (λ other. heard_before config other (heard other) node conn (λ e. λ same. has_client (setting_of config) (home_of config) conn world law.story (heard conn) there at (law.connections conn)
     (sym (ap heard same) ∙ e))) law

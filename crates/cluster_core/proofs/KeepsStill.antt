@@ -99,6 +99,7 @@ nodes_with_front config world next backend node front later at fronts homes back
   where
     some_none : (f : Front) → Some f ≡ None → ⊥
     some_none f h = cc
+
     just : {one other : Front} → Some one ≡ Some other → one ≡ other
     just h = cc
 

@@ -28,6 +28,7 @@ pub mod OneStoreLaw
 pub mod InTime
 pub mod HomesLaw
 pub mod ToldSoFar
+pub mod AtRestLaw
 pub mod OneNodeLaw
 pub mod OneHome
 pub mod HeadlineLaw

@@ -261,6 +261,10 @@ pub losing_points : (world : World) (conn number : ℕ) (marks : List Mark)
     → count_by (is_about loses conn number) (points_of_all world marks) ≤ count_by (is_mark conn number) marks
 unfolding points_of_all points_of
 losing_points world conn number [] = omega arith
-losing_points world conn number (mark ∷ marks) = omega (arith, losing_points world conn number marks,
-    count_both (is_about loses conn number) (points_of world mark) (points_of_all world marks), count_cons (is_mark conn number) mark marks,
-    losses_by conn number mark (nat_le (command_of mark) (answered_of world (conn_of mark))) mark.counts (nat_eq (conn_of mark) conn) refl (nat_eq (command_of mark) number) refl)
+losing_points world conn number (mark ∷ marks) = omega (
+  arith,
+  losing_points world conn number marks,
+  count_both (is_about loses conn number) (points_of world mark) (points_of_all world marks),
+  count_cons (is_mark conn number) mark marks,
+  losses_by conn number mark (nat_le (command_of mark) (answered_of world (conn_of mark))) mark.counts (nat_eq (conn_of mark) conn) refl (nat_eq (command_of mark) number) refl,
+)

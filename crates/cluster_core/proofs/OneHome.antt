@@ -57,12 +57,14 @@ rows_count : (config : Config) (world : World) (law : AreNodes config.nodes) (ba
     → count_by (is_writable_home name) (rows_of_all world names) ≤ count_by (is_name name) names
 unfolding rows_of_all
 rows_count config world are backend nodes name [] = omega arith
-rows_count config world are backend nodes name (other ∷ names) = omega (arith,
-    count_both (is_writable_home name) (rows_of world other world.backends) (rows_of_all world names),
-    ap (count_by (is_writable_home name)) (rows_here config world backend other are nodes),
-    row_counts name other (home_of config) (value_at (slice_cmp nat_cmp) backend.held other),
-    names_cons (is_name name) other names,
-    rows_count config world are backend nodes name names)
+rows_count config world are backend nodes name (other ∷ names) = omega (
+  arith,
+  count_both (is_writable_home name) (rows_of world other world.backends) (rows_of_all world names),
+  ap (count_by (is_writable_home name)) (rows_here config world backend other are nodes),
+  row_counts name other (home_of config) (value_at (slice_cmp nat_cmp) backend.held other),
+  names_cons (is_name name) other names,
+  rows_count config world are backend nodes name names,
+)
 
 -- texts that compare equal are the same
 same_bytes : (xs ys : List ℕ) → pointwise nat_eq xs ys ≡ true → xs ≡ ys
@@ -108,9 +110,12 @@ by_recursion P (name ∷ names) all = (All-head P name names all, by_recursion P
 insert_by : (key first : List ℕ) (names : List (List ℕ)) → IsStrictlySortedBy (slice_cmp nat_cmp) (first ∷ names) → IsStrictlySortedBy (slice_cmp nat_cmp) (insert_key (slice_cmp nat_cmp) names key)
     → (o : Ordering) → slice_cmp nat_cmp key first ≡ o → IsStrictlySortedBy (slice_cmp nat_cmp) (match_ordering o (key ∷ first ∷ names) (first ∷ names) (first ∷ insert_key (slice_cmp nat_cmp) names key))
 unfolding IsStrictlySortedBy
-insert_by key first names sorted later Less h = (by_recursion (λ q. slice_cmp nat_cmp key q ≡ Less) (first ∷ names)
-    (All-cons (λ q. slice_cmp nat_cmp key q ≡ Less) first names h
-    (All-weaker (λ q. slice_cmp nat_cmp first q ≡ Less) (λ q. slice_cmp nat_cmp key q ≡ Less) (λ q l. nat_list_cmp_total.trans key first q h l) names (All-after_first (slice_cmp nat_cmp) first names sorted))), sorted)
+insert_by key first names sorted later Less h = (
+  by_recursion (λ q. slice_cmp nat_cmp key q ≡ Less) (first ∷ names)
+      (All-cons (λ q. slice_cmp nat_cmp key q ≡ Less) first names h
+      (All-weaker (λ q. slice_cmp nat_cmp first q ≡ Less) (λ q. slice_cmp nat_cmp key q ≡ Less) (λ q l. nat_list_cmp_total.trans key first q h l) names (All-after_first (slice_cmp nat_cmp) first names sorted))),
+  sorted,
+)
 insert_by key first names sorted later Equal h = sorted
 insert_by key first names sorted later Greater h = (
   by_recursion (λ q. slice_cmp nat_cmp first q ≡ Less) (insert_key (slice_cmp nat_cmp) names key)
@@ -140,8 +145,11 @@ nothing_rises = tt
 
 one_home : (config : Config) (world : World) (backend : Backend) → AreNodes config.nodes → AreNodesOf config world backend → HasOneHomeEach world
 unfolding home_rows
-one_home config world backend are nodes = λ name. omega (arith, rows_count config world are backend nodes name (names_at world [] world.backends),
-    once_among name (names_at world [] world.backends) (names_rise world world.backends [] nothing_rises))
+one_home config world backend are nodes = λ name. omega (
+  arith,
+  rows_count config world are backend nodes name (names_at world [] world.backends),
+  once_among name (names_at world [] world.backends) (names_rise world world.backends [] nothing_rises),
+)
 
 -- the home law
 pub keeps_one_home_each : (config : Config) (events : List Event) → AreNodes config.nodes → KeepsOneHomeEach config events

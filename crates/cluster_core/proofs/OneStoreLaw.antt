@@ -146,8 +146,17 @@ no_more : (world : World) (story : Story) → ((conn : ℕ) → answered_of worl
     → loses one.what ≡ true → one.ask.conn ≡ other.ask.conn → ⊥
 no_more world story counts so earlier later one other behind bound is at loss same =
     let e = conns_same world earlier later one other is at same in
-    absurd (omega (arith, is.if_lost loss, counts (conn_of earlier), behind.0 e, bound, ap (λ c. length (story.talk.answers c)) e, ap length (so (conn_of earlier)).parts,
-        length-append (story.told (conn_of earlier)) (so (conn_of earlier)).rest, (so (conn_of earlier)).few))
+    absurd (omega (
+      arith,
+      is.if_lost loss,
+      counts (conn_of earlier),
+      behind.0 e,
+      bound,
+      ap (λ c. length (story.talk.answers c)) e,
+      ap length (so (conn_of earlier)).parts,
+      length-append (story.told (conn_of earlier)) (so (conn_of earlier)).rest,
+      (so (conn_of earlier)).few,
+    ))
 
 no_read : (world : World) (mark : Mark) (point : Point) → IsOf world mark point → reads point.what ≡ false
 unfolding reads

@@ -61,7 +61,7 @@ flow_counts : (world : World) (count most total : ℕ) → HasCounts world most 
 unfolding flow
 flow_counts world count most total has =
     let within = rounds_within most (total + count) count world.pairs (record { world = world; made = []; left = count })
-        (record { commands = has.commands; steps = omega (arith, has.steps) }) in
+    (record { commands = has.commands; steps = omega (arith, has.steps) }) in
     record { commands = within.commands; steps = omega (arith, within.steps) }
 
 step_counts : (world : World) (event : Event) (most total : ℕ) → HasCounts world most total → HasCounts (steps_by world event) (most + bytes_of event) (total + steps_of event)
@@ -91,7 +91,11 @@ pub record IsOnTheWay (config : Config) (events : List Event) (world : World) (l
 pub way_begins : (config : Config) (events : List Event) (world : World) (left : List Event) → world ≡ start config → left ≡ events → IsOnTheWay config events world left
 way_begins config events world left w l =
     rw (w, l) (record {
-      taken = 0; done = 0; bytes = omega arith; steps = omega arith; ends = refl;
+      taken = 0;
+      done = 0;
+      bytes = omega arith;
+      steps = omega arith;
+      ends = refl;
       counts = record { commands = start_commands config; steps = omega (arith, start_steps config) };
     })
 

@@ -58,7 +58,11 @@ fresh_node home setting world node Frontend fresh = record {
       ∙ ap (λ n. value_at (slice_cmp nat_cmp) (with_entry (slice_cmp nat_cmp) world.fronts node.name (new_front node.name home setting)) n) (sym e) ∙ at)) ∙ ap (λ n. new_front n home setting) (sym e))
       (λ (ne : any ≢ node.name). fresh.fronts any front (sym (value_at-with_entry-other (slice_cmp nat_cmp) names_apart world.fronts node.name any (new_front node.name home setting) ne) ∙ at))
       (same_or_other (slice_cmp nat_cmp) names_apart any node.name);
-  homes = fresh.homes; clients = fresh.clients; links = fresh.links; marks = fresh.marks; steps = fresh.steps;
+  homes = fresh.homes;
+  clients = fresh.clients;
+  links = fresh.links;
+  marks = fresh.marks;
+  steps = fresh.steps;
 }
 fresh_node home setting world node backend_kind fresh =
     let new : Backend = booted (record { server = node.name; partition = node.partition }) in
@@ -70,7 +74,10 @@ fresh_node home setting world node backend_kind fresh =
           (ap (λ (b : Backend). b.held) (sym is), ap (λ (b : Backend). b.last_serial) (sym is)))
           (λ (ne : any ≢ node.name). fresh.homes any backend (sym (value_at-with_entry-other (slice_cmp nat_cmp) names_apart world.homes node.name any new ne) ∙ at))
           (same_or_other (slice_cmp nat_cmp) names_apart any node.name);
-      clients = fresh.clients; links = fresh.links; marks = fresh.marks; steps = fresh.steps;
+      clients = fresh.clients;
+      links = fresh.links;
+      marks = fresh.marks;
+      steps = fresh.steps;
     }
 
 fresh_nodes : (home : List ℕ) (setting : Setting) (world : World) (nodes : List Node) → IsFresh home setting world → IsFresh home setting (with_nodes home setting world nodes)
@@ -267,8 +274,10 @@ start_keeps config are =
       nodes = record {
         home_no_front = front_none (home_of config) (setting_of config) origin config.nodes (home_of config) (no_frontends config.nodes first.rest (home_of config) are.names first.is) refl;
         home_is = has.at;
-        fronts = λ node front at. (ap (λ (f : Front). f.home) (fresh.fronts node front at) ∙ home_new_front node (home_of config) (setting_of config),
-            ap (λ (f : Front). f.setting) (fresh.fronts node front at) ∙ setting_new_front node (home_of config) (setting_of config));
+        fronts = λ node front at. (
+          ap (λ (f : Front). f.home) (fresh.fronts node front at) ∙ home_new_front node (home_of config) (setting_of config),
+          ap (λ (f : Front). f.setting) (fresh.fronts node front at) ∙ setting_new_front node (home_of config) (setting_of config),
+        );
         frontends = λ node. refl;
         other_homes = λ node other ne at. (fresh.homes node other at).0;
         backends = refl;

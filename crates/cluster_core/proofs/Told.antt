@@ -77,7 +77,9 @@ told_push setting now marks home later_home talk course conn request serial coun
       once = marked_once_push (λ c. length (talk.answers c)) (λ c. length (longer.answers c)) marks mark refl (length_with_item talk.answers conn answer)
           (λ other ne. ap length (with_item-other talk.answers conn answer other ne)) told.once;
       later = marks_push Later marks mark told.later (λ k d h. (
-        λ e. omega (arith, told.numbers k d h, ap (λ c. length (talk.answers c)) e), told.timely k d h));
+        λ e. omega (arith, told.numbers k d h, ap (λ c. length (talk.answers c)) e),
+        told.timely k d h,
+      ));
       numbers = All-push (λ (m : Mark). command_of m ≤ length (longer.answers (conn_of m))) marks mark
           (All-weaker (λ (m : Mark). command_of m ≤ length (talk.answers (conn_of m))) (λ (m : Mark). command_of m ≤ length (longer.answers (conn_of m)))
           (λ m h. omega (arith, h, with_item-longer talk.answers conn answer (conn_of m))) marks told.numbers)

@@ -98,9 +98,13 @@ stands_in_time setting now later story whole home last_home told all behind so =
           (All-append (λ (m : Mark). command_of m ≤ length (story.told (conn_of m)) → m.step ≤ now.steps) now.marks behind.rest
           (All-weaker (λ (m : Mark). m.step ≤ now.steps) (λ (m : Mark). command_of m ≤ length (story.told (conn_of m)) → m.step ≤ now.steps) (λ m h. λ low. h) now.marks told.timely)
           (All-weaker (λ (m : Mark). 1 ≤ count_by (is_mark (conn_of m) (command_of m)) behind.rest) (λ (m : Mark). command_of m ≤ length (story.told (conn_of m)) → m.step ≤ now.steps)
-          (λ m h. λ low. absurd (omega (arith, low, told_within (conn_of m),
-          no_other (length (story.talk.answers (conn_of m))) (length (whole.talk.answers (conn_of m))) 0 (command_of m) _ _ _ (all.once (conn_of m) (command_of m)) (told.once (conn_of m) (command_of m))
-          (ap (count_by (is_mark (conn_of m) (command_of m))) behind.parts ∙ count_both (is_mark (conn_of m) (command_of m)) now.marks behind.rest) h))) behind.rest (counted behind.rest))));
+          (λ m h. λ low. absurd (omega (
+            arith,
+            low,
+            told_within (conn_of m),
+            no_other (length (story.talk.answers (conn_of m))) (length (whole.talk.answers (conn_of m))) 0 (command_of m) _ _ _ (all.once (conn_of m) (command_of m)) (told.once (conn_of m) (command_of m))
+                (ap (count_by (is_mark (conn_of m) (command_of m))) behind.parts ∙ count_both (is_mark (conn_of m) (command_of m)) now.marks behind.rest) h,
+          ))) behind.rest (counted behind.rest))));
     }
   where
     told_within : (conn : ℕ) → length (story.told conn) ≤ length (story.talk.answers conn)

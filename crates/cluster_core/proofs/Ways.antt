@@ -211,15 +211,19 @@ ask_taken links conn front home f t ask rest mine answers e own way =
     let first = first_ask conn (on_link links f t) rest ask (mine ∷ []) (same_link f t front home) e own (way.asks_are f t) in
     let is = same_names f t front home first.0 in
     let none : asks_in conn rest ≡ [] = (let k = first.1 in cc) in
-    let only : mine ≡ ask = (let k = first.1 in cc) in
-    (is.0, is.1, only, record {
-      asks_are = λ a b. ap (asks_in conn) (on_link-taken links f t a b)
-          ∙ rest_of_own links conn a b f t rest mine (same_link a b f t) refl (e ∙ ap (λ x. Ask x ∷ rest) (sym only)) none
-          (way.asks_are a b ∙ ap (λ x. cond (same_link a b x home) (mine ∷ []) []) (sym is.0) ∙ ap (λ x. cond (same_link a b f x) (mine ∷ []) []) (sym is.1))
-          ∙ sym (alike (same_link a b front home) []);
-      answers_are = λ a b. ap (answers_in conn) (on_link-taken links f t a b)
-          ∙ taken_answers conn links f t a b rest (Ask ask) (same_link a b f t) refl e (no_answer_in conn ask) ∙ way.answers_are a b;
-    })
+    let only : mine ≡ ask = (let k = first.1 in cc) in (
+      is.0,
+      is.1,
+      only,
+      record {
+        asks_are = λ a b. ap (asks_in conn) (on_link-taken links f t a b)
+            ∙ rest_of_own links conn a b f t rest mine (same_link a b f t) refl (e ∙ ap (λ x. Ask x ∷ rest) (sym only)) none
+            (way.asks_are a b ∙ ap (λ x. cond (same_link a b x home) (mine ∷ []) []) (sym is.0) ∙ ap (λ x. cond (same_link a b f x) (mine ∷ []) []) (sym is.1))
+            ∙ sym (alike (same_link a b front home) []);
+        answers_are = λ a b. ap (answers_in conn) (on_link-taken links f t a b)
+            ∙ taken_answers conn links f t a b rest (Ask ask) (same_link a b f t) refl e (no_answer_in conn ask) ∙ way.answers_are a b;
+      },
+    )
 
 -- and so is the answer
 pub answer_taken : (links : Links) (conn : ℕ) (front home f t : List ℕ) (answer : BackAnswer) (rest : List LinkMsg) (asks : List FrontAsk) (mine : BackAnswer)
@@ -229,15 +233,19 @@ answer_taken links conn front home f t answer rest asks mine e own way =
     let first = first_answer conn (on_link links f t) rest answer (mine ∷ []) (same_link f t home front) e own (way.answers_are f t) in
     let is = same_names f t home front first.0 in
     let none : answers_in conn rest ≡ [] = (let k = first.1 in cc) in
-    let only : mine ≡ answer = (let k = first.1 in cc) in
-    (is.0, is.1, only, record {
-      asks_are = λ a b. ap (asks_in conn) (on_link-taken links f t a b)
-          ∙ taken_asks conn links f t a b rest (Answer answer) (same_link a b f t) refl e (no_ask_in conn answer) ∙ way.asks_are a b;
-      answers_are = λ a b. ap (answers_in conn) (on_link-taken links f t a b)
-          ∙ rest_of_own_answer links conn a b f t rest mine (same_link a b f t) refl (e ∙ ap (λ x. Answer x ∷ rest) (sym only)) none
-          (way.answers_are a b ∙ ap (λ x. cond (same_link a b x front) (mine ∷ []) []) (sym is.0) ∙ ap (λ x. cond (same_link a b f x) (mine ∷ []) []) (sym is.1))
-          ∙ sym (alike (same_link a b home front) []);
-    })
+    let only : mine ≡ answer = (let k = first.1 in cc) in (
+      is.0,
+      is.1,
+      only,
+      record {
+        asks_are = λ a b. ap (asks_in conn) (on_link-taken links f t a b)
+            ∙ taken_asks conn links f t a b rest (Answer answer) (same_link a b f t) refl e (no_ask_in conn answer) ∙ way.asks_are a b;
+        answers_are = λ a b. ap (answers_in conn) (on_link-taken links f t a b)
+            ∙ rest_of_own_answer links conn a b f t rest mine (same_link a b f t) refl (e ∙ ap (λ x. Answer x ∷ rest) (sym only)) none
+            (way.answers_are a b ∙ ap (λ x. cond (same_link a b x front) (mine ∷ []) []) (sym is.0) ∙ ap (λ x. cond (same_link a b f x) (mine ∷ []) []) (sym is.1))
+            ∙ sym (alike (same_link a b home front) []);
+      },
+    )
 
 -- no ask of a connection of which none is on the way
 pub no_ask_first : (links : Links) (conn : ℕ) (front home f t : List ℕ) (ask : FrontAsk) (rest : List LinkMsg) (answers : List BackAnswer)

@@ -16,10 +16,10 @@ same_link from to other another = is_eq (slice_cmp nat_cmp from other) && is_eq 
 way_by : (ways : Ways) (t b : List ℕ) (queue : List LinkMsg) → queue_to (with_entry (slice_cmp nat_cmp) ways t queue) b ≡ cond (is_eq (slice_cmp nat_cmp b t)) queue (queue_to ways b)
 way_by ways t b queue = ⊎_elim
     (λ (e : b ≡ t). let same : is_eq (slice_cmp nat_cmp b t) ≡ true = subst (λ x. is_eq (slice_cmp nat_cmp b x) ≡ true) e (names_apart.itself b) in
-        ap queue_or_none (subst (λ x. value_at (slice_cmp nat_cmp) (with_entry (slice_cmp nat_cmp) ways t queue) x ≡ Some queue) (sym e)
-        (value_at-with_entry (slice_cmp nat_cmp) names_apart ways t queue)) ∙ sym (ap (λ c. cond c queue (queue_to ways b)) same))
+    ap queue_or_none (subst (λ x. value_at (slice_cmp nat_cmp) (with_entry (slice_cmp nat_cmp) ways t queue) x ≡ Some queue) (sym e)
+    (value_at-with_entry (slice_cmp nat_cmp) names_apart ways t queue)) ∙ sym (ap (λ c. cond c queue (queue_to ways b)) same))
     (λ (ne : b ≢ t). ap queue_or_none (value_at-with_entry-other (slice_cmp nat_cmp) names_apart ways t b queue ne)
-        ∙ sym (ap (λ c. cond c queue (queue_to ways b)) (not_equal (slice_cmp nat_cmp) names_apart b t ne)))
+    ∙ sym (ap (λ c. cond c queue (queue_to ways b)) (not_equal (slice_cmp nat_cmp) names_apart b t ne)))
     (same_or_other (slice_cmp nat_cmp) names_apart b t)
 
 pub link_with_queue : (links : Links) (f t a b : List ℕ) (queue : List LinkMsg)
@@ -27,14 +27,14 @@ pub link_with_queue : (links : Links) (f t a b : List ℕ) (queue : List LinkMsg
 unfolding on_link
 link_with_queue links f t a b queue = ⊎_elim
     (λ (e : a ≡ f). let same : is_eq (slice_cmp nat_cmp a f) ≡ true = subst (λ x. is_eq (slice_cmp nat_cmp a x) ≡ true) e (names_apart.itself a) in
-        ap (λ w. queue_to (ways_or_none w) b) (subst (λ x. value_at (slice_cmp nat_cmp) (with_queue links f t queue) x ≡ Some (with_entry (slice_cmp nat_cmp) (ways_from links f) t queue)) (sym e)
-        (value_at-with_entry (slice_cmp nat_cmp) names_apart links f (with_entry (slice_cmp nat_cmp) (ways_from links f) t queue)))
-        ∙ way_by (ways_from links f) t b queue
-        ∙ ap (λ x. cond (is_eq (slice_cmp nat_cmp b t)) queue (queue_to (ways_from links x) b)) (sym e)
-        ∙ sym (ap (λ c. cond (c && is_eq (slice_cmp nat_cmp b t)) queue (queue_to (ways_from links a) b)) same))
+    ap (λ w. queue_to (ways_or_none w) b) (subst (λ x. value_at (slice_cmp nat_cmp) (with_queue links f t queue) x ≡ Some (with_entry (slice_cmp nat_cmp) (ways_from links f) t queue)) (sym e)
+    (value_at-with_entry (slice_cmp nat_cmp) names_apart links f (with_entry (slice_cmp nat_cmp) (ways_from links f) t queue)))
+    ∙ way_by (ways_from links f) t b queue
+    ∙ ap (λ x. cond (is_eq (slice_cmp nat_cmp b t)) queue (queue_to (ways_from links x) b)) (sym e)
+    ∙ sym (ap (λ c. cond (c && is_eq (slice_cmp nat_cmp b t)) queue (queue_to (ways_from links a) b)) same))
     (λ (ne : a ≢ f). ap (λ w. queue_to (ways_or_none w) b)
-        (value_at-with_entry-other (slice_cmp nat_cmp) names_apart links f a (with_entry (slice_cmp nat_cmp) (ways_from links f) t queue) ne)
-        ∙ sym (ap (λ c. cond (c && is_eq (slice_cmp nat_cmp b t)) queue (queue_to (ways_from links a) b)) (not_equal (slice_cmp nat_cmp) names_apart a f ne)))
+    (value_at-with_entry-other (slice_cmp nat_cmp) names_apart links f a (with_entry (slice_cmp nat_cmp) (ways_from links f) t queue) ne)
+    ∙ sym (ap (λ c. cond (c && is_eq (slice_cmp nat_cmp b t)) queue (queue_to (ways_from links a) b)) (not_equal (slice_cmp nat_cmp) names_apart a f ne)))
     (same_or_other (slice_cmp nat_cmp) names_apart a f)
 
 pub same_names : (a b f t : List ℕ) → same_link a b f t ≡ true → (a ≡ f) × (b ≡ t)

@@ -4,6 +4,7 @@ ghost use Rattle.mur_config.specs.declared.config.Config.{Config};
 ghost use Rattle.mur_config.specs.Nodes.{AreNodes};
 ghost use Rattle.schedule_text.specs.declared.event.Event.{Event};
 ghost use Rattle.schedule_text.specs.Brings.{steps_of_all, bytes_of_all};
+ghost use Rattle.cluster_core.specs.AtRest.{NothingWaitsBehind};
 ghost use Rattle.cluster_core.specs.Flow.{happens, run, run_steps, steps_of_event};
 ghost use Rattle.cluster_core.specs.Headline.{IsOneServer};
 ghost use Rattle.cluster_core.specs.History.{history_of};
@@ -77,6 +78,7 @@ impl Cluster {
         ensures event { OnOk result (self.new ≡ happens self.old event) }
         ensures steps { OnOk result (self.new ≡ run_steps self.old (steps_of_event self.old event)) }
         ensures one_node { OneNodeWorksEach self.old (steps_of_event self.old event) }
+        ensures at_rest { NothingWaitsBehind self.old event }
     {
         happens(self.alloc, &mut self.world, event)
     }

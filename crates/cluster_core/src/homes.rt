@@ -57,7 +57,12 @@ fn put_names(alloc: Global, home: &Backend, names: &mut MailNames) -> Result<(),
 
 // Puts the rows of a mailbox at the end; for want of memory the rows are spent.
 #[tactic(auto, unfolding(crate::specs::Shown::rows_of))]
-fn put_rows(alloc: Global, world: &World, name: &MailName, rows: &mut HomeRows) -> Result<(), Memory>
+fn put_rows(
+    alloc: Global,
+    world: &World,
+    name: &MailName,
+    rows: &mut HomeRows,
+) -> Result<(), Memory>
     ensures { OnOk result (rows.new ≡ rows.old ++ rows_of world.now name.now world.now.backends) }
 {
     for node in world.backends.as_slice() {

@@ -64,7 +64,12 @@ fn prints_each_kind_of_line(rt: HostRuntime) -> Result<(), Fail> {
     rows.push(row(alloc, b"user.c", Phase::Closing, 1)?)?;
     rows.push(row(alloc, b"user.d", Phase::Receiving, 1)?)?;
     rows.push(row(alloc, b"user.e", Phase::Ready, 1)?)?;
-    rows.push(row(alloc, b"user.f", Phase::Pointer(node_name(alloc, b"b2")?), 1)?)?;
+    rows.push(row(
+        alloc,
+        b"user.f",
+        Phase::Pointer(node_name(alloc, b"b2")?),
+        1,
+    )?)?;
     let mut sink = mem_sink(alloc, Items::new(alloc))?;
     write_output(alloc, &world(alloc)?, &points, &rows, &mut sink)?;
     let want = b"to 2 * OK\\r\\n\nto 2 \\r\\n\nto 10 last\\r\\n\nto 10 \\\\ and a rest\n\

@@ -1,0 +1,32 @@
+-- Nothing waits on empty links: where no message is on its way, each whole command was answered.
+use Rattle.std.specs.Prelude.{◌≡◌, ℕ, false, List, ◌++◌, length}
+use Rattle.imap_reply.specs.Transcript.{transcript_of}
+use Rattle.mur_config.specs.declared.config.Config.{Config}
+use Rattle.mur_config.specs.Nodes.{AreNodes}
+use Rattle.mur_model.specs.declared.request.Request.{Request}
+use Rattle.mur_model.specs.declared.request.Answer.{Answer}
+use Rattle.schedule_text.specs.declared.event.Event.{Event}
+use Rattle.cluster_core.specs.declared.world.World.{World}
+use Rattle.cluster_core.specs.Flow.{run_steps, steps_of_event}
+use Rattle.cluster_core.specs.Heard.{heard, bytes_heard, frames_heard, has_closed}
+use Rattle.cluster_core.specs.OneStore.{AreEmpty}
+use Rattle.cluster_core.specs.Requests.{AskFor}
+use Rattle.cluster_core.specs.Shown.{given_to}
+use Rattle.cluster_core.specs.World.{start}
+
+-- behind these steps the client was given an answer to each whole command that it sent
+pub record IsAnswered (config : Config) (conn : ℕ) (steps : List Event) (world : World) : Type 0 where
+  pub requests : List Request
+  pub answers : List Answer
+  pub asked : AskFor (frames_heard (heard config conn steps)) requests
+  pub given : given_to world conn ≡ transcript_of (bytes_heard (heard config conn steps)) answers
+  pub each : length answers ≡ length requests
+
+-- of each client that hasn't closed its connection
+abbrev pub NothingWaits : Config → List Event → World → Type 0
+NothingWaits config steps world = AreEmpty world → (conn : ℕ) → has_closed (heard config conn steps) ≡ false → IsAnswered config conn steps world
+
+-- whatever steps led here, in whatever configuration: nothing waits behind this event
+abbrev pub NothingWaitsBehind : World → Event → Type 0
+NothingWaitsBehind world event = (config : Config) (steps : List Event) → AreNodes config.nodes → world ≡ run_steps (start config) steps
+    → NothingWaits config (steps ++ steps_of_event world event) (run_steps world (steps_of_event world event))
