@@ -34,14 +34,16 @@ unfolding open_box
 opened held content e = rw e refl
 
 -- another content at home and in the store
-changed_alike : (store : Store) (home : Backend) (name : List ℕ) (held : Held) (content : Content) → held_at home name ≡ Some held → held.phase ≡ open_here → IsStoreOf store home
+changed_alike : (store : Store) (home : Backend) (name : List ℕ) (held : Held) (content : Content) → held_at home name ≡ Some held → held.phase ≡ open_here
+    → IsStoreOf store home
     → IsStoreOf (with_box store name content) (with_content home name held content)
 changed_alike store home name held content at e same =
     let now : Held = record held { content = content } in
     let there : box_at store name ≡ Some held.content = same.boxes name ∙ ap open_content at ∙ opened held held.content e in
     record {
       boxes = λ other. ⊎_elim
-          (λ (s : other ≡ name). subst (λ q. value_at (slice_cmp nat_cmp) (with_value (slice_cmp nat_cmp) store.boxes name content) q ≡ open_content (value_at (slice_cmp nat_cmp) (with_value (slice_cmp nat_cmp) home.held name now) q)) (sym s)
+          (λ (s : other ≡ name). subst (λ q. value_at (slice_cmp nat_cmp) (with_value (slice_cmp nat_cmp) store.boxes name content) q ≡ open_content
+          (value_at (slice_cmp nat_cmp) (with_value (slice_cmp nat_cmp) home.held name now) q)) (sym s)
           (value_at-with_value (slice_cmp nat_cmp) names_apart store.boxes name content held.content there ∙ sym (opened held content e)
           ∙ ap open_content (sym (value_at-with_value (slice_cmp nat_cmp) names_apart home.held name now held at))))
           (λ (ne : other ≢ name). value_at-with_value-other (slice_cmp nat_cmp) names_apart store.boxes name other content ne ∙ same.boxes other
@@ -67,9 +69,11 @@ kept_alike store home name held at same = record {
   spent = same.spent;
 }
   where
-    still : (other : List ℕ) → value_at (slice_cmp nat_cmp) (with_value (slice_cmp nat_cmp) home.held name (record held { content = held.content })) other ≡ held_at home other
+    still : (other : List ℕ) → value_at (slice_cmp nat_cmp)
+        (with_value (slice_cmp nat_cmp) home.held name (record held { content = held.content })) other ≡ held_at home other
     still other = ⊎_elim
-        (λ (s : other ≡ name). subst (λ q. value_at (slice_cmp nat_cmp) (with_value (slice_cmp nat_cmp) home.held name (record held { content = held.content })) q ≡ held_at home q) (sym s)
+        (λ (s : other ≡ name). subst (λ q. value_at (slice_cmp nat_cmp)
+        (with_value (slice_cmp nat_cmp) home.held name (record held { content = held.content })) q ≡ held_at home q) (sym s)
         (value_at-with_value (slice_cmp nat_cmp) names_apart home.held name (record held { content = held.content }) held at ∙ sym at))
         (λ (ne : other ≢ name). value_at-with_value-other (slice_cmp nat_cmp) names_apart home.held name other (record held { content = held.content }) ne)
         (same_or_other (slice_cmp nat_cmp) names_apart other name)
@@ -81,9 +85,15 @@ AppendsAlike store home name message found =
 apart : Always ≡ IfAnswered → ⊥
 apart h = cc
 
-fault_by : (store : Store) (home : Backend) (name : List ℕ) (message : Message) (held : Held) (fault : Option StoreFault) → held_at home name ≡ Some held → held.phase ≡ open_here → IsStoreOf store home
+fault_by : (store : Store) (home : Backend) (name : List ℕ) (message : Message) (held : Held) (fault : Option StoreFault) → held_at home name ≡ Some held
+    → held.phase ≡ open_here → IsStoreOf store home
     → ServesAlike store home name (append_work message) (append_to_box message held.content fault)
-    (record { home = with_content home name held (append_to held.content (message ∷ []) fault).content; body = Some (append_to held.content (message ∷ []) fault).response.body; counts = (append_to held.content (message ∷ []) fault).response.counts })
+    (record {
+      home = with_content home name held (append_to held.content (message ∷ []) fault).content;
+      body =
+          Some (append_to held.content (message ∷ []) fault).response.body;
+      counts = (append_to held.content (message ∷ []) fault).response.counts;
+    })
 unfolding append_to append_to_box store_after awaited_of reply_shown append_reply reply_to_done reply_to_uids MayWork
 fault_by store home name message held (Some fault) at e same = record {
   free = tt;
@@ -107,15 +117,19 @@ pub not_refused : (held : Held) → held.phase ≡ open_here → refusal 0 held 
 unfolding refusal refusal_in is_other
 not_refused held e = rw e refl
 
-there_by : (store : Store) (home : Backend) (name : List ℕ) (message : Message) (held : Held) → held_at home name ≡ Some held → held.phase ≡ open_here → IsStoreOf store home
+there_by : (store : Store) (home : Backend) (name : List ℕ) (message : Message) (held : Held) → held_at home name ≡ Some held → held.phase ≡ open_here
+    → IsStoreOf store home
     → AppendsAlike store home name message (Some held)
 unfolding append_step append_unless append_on
 there_by store home name message held at e same =
-    subst (λ r. ServesAlike store home name (append_work message) (append_on message (open_content (Some held))) (append_unless home name held (message ∷ []) r)) (sym (not_refused held e))
-    (subst (λ b. ServesAlike store home name (append_work message) (append_on message b) (append_unless home name held (message ∷ []) None)) (sym (opened held held.content e))
+    subst (λ r. ServesAlike store home name (append_work message) (append_on message (open_content (Some held)))
+    (append_unless home name held (message ∷ []) r)) (sym (not_refused held e))
+    (subst (λ b. ServesAlike store home name (append_work message) (append_on message b) (append_unless home name held (message ∷ []) None))
+    (sym (opened held held.content e))
     (fault_by store home name message held (append_fault held.content (message ∷ [])) at e same))
 
-pub appends_alike : (store : Store) (home : Backend) (name : List ℕ) (message : Message) (found : Option Held) → held_at home name ≡ found → IsStoreOf store home
+pub appends_alike : (store : Store) (home : Backend) (name : List ℕ) (message : Message) (found : Option Held) → held_at home name ≡ found
+    → IsStoreOf store home
     → AppendsAlike store home name message found
 unfolding append_step append_on store_after awaited_of reply_shown append_reply MayWork
 appends_alike store home name message None at same = record {

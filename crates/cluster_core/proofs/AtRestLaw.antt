@@ -16,7 +16,8 @@ use Rattle.cluster_core.proofs.RequestsOf.{requests_of, asks_all}
 use Rattle.cluster_core.proofs.StartLaw.{start_keeps}
 use Rattle.cluster_core.proofs.Unrolled.{run_steps-append}
 
-at_rest : (config : Config) (steps : List Event) (world : World) → KeepsLaw config (λ conn. heard_from config conn nobody steps) world → NothingWaits config steps world
+at_rest : (config : Config) (steps : List Event) (world : World) → KeepsLaw config (λ conn. heard_from config conn nobody steps) world
+    → NothingWaits config steps world
 at_rest config steps world law = λ empty conn stays.
     let heard = heard_from config conn nobody steps in
     let says = says_of (setting_of config) (home_of config) conn world law.story heard (law.connections conn) in
@@ -36,5 +37,6 @@ behind_steps config steps are =
 pub nothing_waits : (world : World) (event : Event) → NothingWaitsBehind world event
 nothing_waits world event = λ config steps are e.
     let more = steps_of_event world event in
-    let there : run_steps (start config) (steps ++ more) ≡ run_steps world more = run_steps-append (start config) steps more ∙ ap (λ w. run_steps w more) (sym e) in
+    let there : run_steps (start config) (steps ++ more) ≡ run_steps world more = run_steps-append (start config) steps more
+    ∙ ap (λ w. run_steps w more) (sym e) in
     subst (λ w. NothingWaits config (steps ++ more) w) there (behind_steps config (steps ++ more) are)

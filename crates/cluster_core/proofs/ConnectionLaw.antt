@@ -1,6 +1,7 @@
 -- What holds of a connection: what its client was told is a front of what the one store replied, and at most one command waits,
 -- whose ask or answer is on the way.
-use Rattle.std.proofs.Common.{◌≡◌, ◌≢◌, ◌⊎◌, ℕ, ◌+◌, ◌<◌, ◌≤◌, Bool, true, false, nat_eq, List, [], ◌∷◌, ◌++◌, length, Option, None, Some, refl, sym, ◌∙◌, ap, subst, arith}
+use Rattle.std.proofs.Common.{◌≡◌, ◌≢◌, ◌⊎◌, ℕ, ◌+◌, ◌<◌, ◌≤◌, Bool, true, false, nat_eq, List, [], ◌∷◌, ◌++◌, length, Option, None, Some, refl, sym, ◌∙◌, ap}
+use Rattle.std.proofs.Common.{subst, arith}
 use Rattle.std.proofs.lemmas.Bool.Decides.{nat_tests}
 use Rattle.backend_core.specs.declared.backend.Backend.{Backend}
 use Rattle.front_core.specs.declared.connection.Connection.{Connection}
@@ -110,28 +111,35 @@ abbrev pub client_with : List ℕ → List Frame → List Answer → Client
 client_with front frames told = record { at = front; given = greeting ++ replies_to frames told }
 
 -- the ask of a command is on the way, or the home's answer, of which the reply is made
-pub data OnItsWay (links : Links) (conn : ℕ) (front home : List ℕ) (connection : Connection) (tag : Tag) (name : List ℕ) (work : Work) (told said : List Answer) : Type 0 where
-  there : said ≡ told → AreOnWay links conn front home (ask_for conn connection name work ∷ []) [] → OnItsWay links conn front home connection tag name work told said
+pub data OnItsWay (links : Links) (conn : ℕ) (front home : List ℕ) (connection : Connection) (tag : Tag) (name : List ℕ) (work : Work)
+    (told said : List Answer) : Type 0 where
+  there : said ≡ told → AreOnWay links conn front home (ask_for conn connection name work ∷ []) []
+      → OnItsWay links conn front home connection tag name work told said
   back : (body : AnswerBody) (reply : Reply) → said ≡ told ++ (record { tag = tag; reply = reply }) ∷ [] → reply_shown (awaited_of work) body ≡ Some reply
       → AreOnWay links conn front home [] ((record { id = record { conn = conn; command = connection.answered + 1 }; body = body }) ∷ [])
       → OnItsWay links conn front home connection tag name work told said
 
 -- a connection of a client that hasn't closed it: it reads, a command waits, or a fault ended it
-pub data Stands (setting : Setting) (front home : List ℕ) (conn : ℕ) (frames : List Frame) (held : Option (List ℕ)) (connection : Connection) (links : Links) (told said : List Answer) (session : Sess) : Type 0 where
+pub data Stands (setting : Setting) (front home : List ℕ) (conn : ℕ) (frames : List Frame) (held : Option (List ℕ)) (connection : Connection) (links : Links)
+    (told said : List Answer) (session : Sess) : Type 0 where
   reads : connection.stage ≡ Reading → connection.waiting ≡ [] → connection.session ≡ session → AreAnswered frames told → said ≡ told
       → AreOnWay links conn front home [] [] → Stands setting front home conn frames held connection links told said session
   waits : (passed : List Frame) (bytes : List ℕ) (tag : Tag) (it : Command) (name : List ℕ) (work : Work)
-      → connection.stage ≡ Asked tag (awaited_of work) → frames ≡ passed ++ Whole bytes ∷ connection.waiting → connection.session ≡ session → AreAnswered passed told
+      → connection.stage ≡ Asked tag (awaited_of work) → frames ≡ passed ++ Whole bytes ∷ connection.waiting → connection.session ≡ session
+      → AreAnswered passed told
       → request_of bytes ≡ a_command tag it → need_of setting session it ≡ Mailbox name work → FaultsLast connection.waiting held
       → OnItsWay links conn front home connection tag name work told said → Stands setting front home conn frames held connection links told said session
   faulted : connection.stage ≡ Ended → held ≡ None → length (requests_of frames) ≡ length told → said ≡ told
       → AreOnWay links conn front home [] [] → Stands setting front home conn frames held connection links told said session
 
 -- one whose client closed it: nothing is on its way, or what was on its way is
-pub data IsLeft (setting : Setting) (front home : List ℕ) (conn : ℕ) (requests : List Request) (connection : Connection) (links : Links) (told said : List Answer) (session : Sess) : Type 0 where
-  nothing : (rest : List Answer) → said ≡ told ++ rest → length rest ≤ 1 → AreOnWay links conn front home [] [] → IsLeft setting front home conn requests connection links told said session
+pub data IsLeft (setting : Setting) (front home : List ℕ) (conn : ℕ) (requests : List Request) (connection : Connection) (links : Links)
+    (told said : List Answer) (session : Sess) : Type 0 where
+  nothing : (rest : List Answer) → said ≡ told ++ rest → length rest ≤ 1 → AreOnWay links conn front home [] []
+      → IsLeft setting front home conn requests connection links told said session
   its_ask : (tag : Tag) (it : Command) (name : List ℕ) (work : Work) → said ≡ told → numbered requests (length told + 1) ≡ Some (a_command tag it)
-      → need_of setting session it ≡ Mailbox name work → connection.session ≡ session → AreOnWay links conn front home (ask_for conn connection name work ∷ []) []
+      → need_of setting session it ≡ Mailbox name work → connection.session ≡ session
+      → AreOnWay links conn front home (ask_for conn connection name work ∷ []) []
       → IsLeft setting front home conn requests connection links told said session
   its_answer : (rest : List Answer) (answer : BackAnswer) → said ≡ told ++ rest → length rest ≤ 1 → AreOnWay links conn front home [] (answer ∷ [])
       → IsLeft setting front home conn requests connection links told said session
@@ -148,7 +156,8 @@ pub record IsReading (front home : List ℕ) (conn : ℕ) (frames : List Frame) 
   pub way : AreOnWay world.links conn front home [] []
 
 -- and whatever it is at
-pub record IsStanding (setting : Setting) (front home : List ℕ) (conn : ℕ) (frames : List Frame) (held : Option (List ℕ)) (connection : Connection) (world : World) (story : Story) : Type 0 where
+pub record IsStanding (setting : Setting) (front home : List ℕ) (conn : ℕ) (frames : List Frame) (held : Option (List ℕ)) (connection : Connection)
+    (world : World) (story : Story) : Type 0 where
   pub count : connection.answered ≡ length (story.told conn)
   pub client : client_at world conn ≡ Some (client_with front frames (story.told conn))
   pub stands : Stands setting front home conn frames held connection world.links (story.told conn) (story.talk.answers conn) (story.course.sessions conn)
@@ -159,12 +168,14 @@ pub record IsMade (setting : Setting) (backend : Backend) (conn : ℕ) (before :
   pub goes_on : GoesOnAt conn told story
   pub is_told : IsTold setting world.steps world.marks backend story.talk story.course
 
-pub record ReadsOn (setting : Setting) (front home : List ℕ) (backend : Backend) (conn : ℕ) (frames : List Frame) (connection : Connection) (before : World) (told : Story) (world : World) : Type 0 where
+pub record ReadsOn (setting : Setting) (front home : List ℕ) (backend : Backend) (conn : ℕ) (frames : List Frame) (connection : Connection) (before : World)
+    (told : Story) (world : World) : Type 0 where
   pub story : Story
   pub made : IsMade setting backend conn before told world story
   pub reading : IsReading front home conn frames connection world story
 
-pub record StandsOn (setting : Setting) (front home : List ℕ) (backend : Backend) (conn : ℕ) (frames : List Frame) (held : Option (List ℕ)) (connection : Connection) (before : World) (told : Story) (world : World) : Type 0 where
+pub record StandsOn (setting : Setting) (front home : List ℕ) (backend : Backend) (conn : ℕ) (frames : List Frame) (held : Option (List ℕ))
+    (connection : Connection) (before : World) (told : Story) (world : World) : Type 0 where
   pub story : Story
   pub made : IsMade setting backend conn before told world story
   pub standing : IsStanding setting front home conn frames held connection world story

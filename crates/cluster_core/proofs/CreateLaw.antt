@@ -1,5 +1,6 @@
 -- A CREATE at the home is one at the store, where the mailbox that is made gets the serial behind the home's last.
-use Rattle.std.proofs.Common.{◌≡◌, ◌≢◌, ℕ, ◌+◌, ◌-◌, ◌^◌, ◌<◌, ◌≤◌, ◌||◌, Bool, true, false, nat_eq, List, [], ◌∷◌, ◌++◌, Option, None, Some, refl, sym, ◌∙◌, ap, subst, arith}
+use Rattle.std.proofs.Common.{◌≡◌, ◌≢◌, ℕ, ◌+◌, ◌-◌, ◌^◌, ◌<◌, ◌≤◌, ◌||◌, Bool, true, false, nat_eq, List, [], ◌∷◌, ◌++◌, Option, None, Some, refl, sym, ◌∙◌}
+use Rattle.std.proofs.Common.{ap, subst, arith}
 use Rattle.std.specs.List.{list_any}
 use Rattle.std.specs.Prelude.{All}
 use Rattle.std.specs.Ordering.{nat_cmp}
@@ -34,7 +35,8 @@ use Rattle.cluster_core.proofs.ServedAlike.{IsStoreOf, ServesAlike}
 next_is_free : (store : Store) (home : Backend) (name : List ℕ) → IsStoreOf store home → IsFree store name (home.last_serial + 1)
 next_is_free store home name same = record {
   positive = omega arith;
-  unused = All-weaker (λ (pair : Pair). pair.serial ≤ home.last_serial) (λ (pair : Pair). pair.serial ≢ home.last_serial + 1) (λ pair h. λ e. absurd (omega arith)) store.given same.serials;
+  unused = All-weaker (λ (pair : Pair). pair.serial ≤ home.last_serial) (λ (pair : Pair). pair.serial ≢ home.last_serial + 1)
+      (λ pair h. λ e. absurd (omega arith)) store.given same.serials;
   rises = All-weaker (λ (pair : Pair). pair.serial ≤ home.last_serial) (λ (pair : Pair). pair.name ≡ name → pair.serial < home.last_serial + 1)
       (λ pair h. λ e. omega arith) store.given same.serials;
 }
@@ -43,7 +45,8 @@ opens : (serial : ℕ) (name : List ℕ) → open_content (Some (new_held serial
 unfolding open_box
 opens serial name = refl
 
-no_more : (given : List Pair) (pair : Pair) (last : ℕ) → pair.serial ≡ last + 1 → is_spent given ≡ false → is_spent (given ++ pair ∷ []) ≡ nat_eq (last + 1) (2 ^ 32 - 1)
+no_more : (given : List Pair) (pair : Pair) (last : ℕ) → pair.serial ≡ last + 1 → is_spent given ≡ false
+    → is_spent (given ++ pair ∷ []) ≡ nat_eq (last + 1) (2 ^ 32 - 1)
 unfolding is_spent
 no_more given pair last e none =
     list_any-append (λ (p : Pair). nat_eq p.serial (2 ^ 32 - 1)) given (pair ∷ [])
@@ -60,7 +63,8 @@ made_alike store home name left same =
     let held : Held = new_held (home.last_serial + 1) name in
     record {
       boxes = λ other. ⊎_elim
-          (λ (e : other ≡ name). subst (λ q. value_at (slice_cmp nat_cmp) (with_entry (slice_cmp nat_cmp) store.boxes name box) q ≡ open_content (value_at (slice_cmp nat_cmp) (with_entry (slice_cmp nat_cmp) home.held name held) q)) (sym e)
+          (λ (e : other ≡ name). subst (λ q. value_at (slice_cmp nat_cmp) (with_entry (slice_cmp nat_cmp) store.boxes name box) q ≡ open_content
+          (value_at (slice_cmp nat_cmp) (with_entry (slice_cmp nat_cmp) home.held name held) q)) (sym e)
           (value_at-with_entry (slice_cmp nat_cmp) names_apart store.boxes name box ∙ sym (opens (home.last_serial + 1) name)
           ∙ ap open_content (sym (value_at-with_entry (slice_cmp nat_cmp) names_apart home.held name held))))
           (λ (ne : other ≢ name). value_at-with_entry-other (slice_cmp nat_cmp) names_apart store.boxes name other box ne ∙ same.boxes other
@@ -73,7 +77,8 @@ made_alike store home name left same =
           (λ (ne : other ≢ name). same.all_open other there (sym (value_at-with_entry-other (slice_cmp nat_cmp) names_apart home.held name other held ne) ∙ at))
           (same_or_other (slice_cmp nat_cmp) names_apart other name);
       serials = All-push (λ (pair : Pair). pair.serial ≤ home.last_serial + 1) store.given (record { name = name; serial = home.last_serial + 1 })
-          (All-weaker (λ (pair : Pair). pair.serial ≤ home.last_serial) (λ (pair : Pair). pair.serial ≤ home.last_serial + 1) (λ pair h. omega arith) store.given same.serials)
+          (All-weaker (λ (pair : Pair). pair.serial ≤ home.last_serial) (λ (pair : Pair). pair.serial ≤ home.last_serial + 1)
+          (λ pair h. omega arith) store.given same.serials)
           (omega arith);
       spent = no_more store.given (record { name = name; serial = home.last_serial + 1 }) home.last_serial refl left;
     }
@@ -105,7 +110,8 @@ make_by store home name false e same = record {
     apart : Always ≡ IfAnswered → ⊥
     apart h = cc
 
-there_by : (store : Store) (home : Backend) (name : List ℕ) (held : Held) (phase : Phase) → held.phase ≡ phase → phase ≡ open_here → IsStoreOf store home → CreatesAlike store home name (Some held)
+there_by : (store : Store) (home : Backend) (name : List ℕ) (held : Held) (phase : Phase) → held.phase ≡ phase → phase ≡ open_here → IsStoreOf store home
+    → CreatesAlike store home name (Some held)
 unfolding create_step created_in create_on store_after awaited_of reply_shown create_reply reply_to_done MayWork open_box
 there_by store home name held open_here e o same = rw e (record {
   free = λ _. λ _. next_is_free store home name same;
@@ -117,9 +123,11 @@ there_by store home name held open_here e o same = rw e (record {
 })
 there_by store home name held phase e o same = cc
 
-pub creates_alike : (store : Store) (home : Backend) (name : List ℕ) (found : Option Held) → held_at home name ≡ found → IsStoreOf store home → CreatesAlike store home name found
+pub creates_alike : (store : Store) (home : Backend) (name : List ℕ) (found : Option Held) → held_at home name ≡ found → IsStoreOf store home
+    → CreatesAlike store home name found
 unfolding create_step create_on
 creates_alike store home name None at same =
-    subst (λ s. ServesAlike store home name Make (make_box name (home.last_serial + 1) s) (make home name (nat_eq home.last_serial (2 ^ 32 - 1)))) (sym same.spent)
+    subst (λ s. ServesAlike store home name Make (make_box name (home.last_serial + 1) s) (make home name (nat_eq home.last_serial (2 ^ 32 - 1))))
+    (sym same.spent)
     (make_by store home name (nat_eq home.last_serial (2 ^ 32 - 1)) refl same)
 creates_alike store home name (Some held) at same = there_by store home name held held.phase refl (same.all_open name held at) same

@@ -25,7 +25,8 @@ module _ {K X : Type 0} (cmp : K → K → Ordering) (order : IsTotalOrder cmp) 
       → (o : Ordering) → cmp k e.0 ≡ o → cond (is_eq o) (Some e.1) (value_at cmp es k) ≡ Some old
       → match_ordering o ((k, v) ∷ e ∷ es) ((e.0, v) ∷ es) (e ∷ insert_entry cmp es k v) ≡ cond (is_eq o) ((e.0, v) ∷ es) (e ∷ with_value cmp es k v)
   entered_by e es k v old sorted ih Less h there =
-      let none = none_below es k (All-weaker (λ q. cmp e.0 q ≡ Less) (λ q. cmp k q ≡ Less) (λ q l. order.trans k e.0 q h l) (keys_of es) (All-after_first cmp e.0 (keys_of es) sorted)) in
+      let none = none_below es k (All-weaker (λ q. cmp e.0 q ≡ Less) (λ q. cmp k q ≡ Less) (λ q l. order.trans k e.0 q h l) (keys_of es)
+      (All-after_first cmp e.0 (keys_of es) sorted)) in
       let no : None ≡ Some old = sym none ∙ there in cc
   entered_by e es k v old sorted ih Equal h there = refl
   entered_by e es k v old sorted ih Greater h there = ap (λ more. e ∷ more) (ih there)
@@ -36,6 +37,7 @@ module _ {K X : Type 0} (cmp : K → K → Ordering) (order : IsTotalOrder cmp) 
   entered (e ∷ es) k v old sorted there =
       entered_by e es k v old sorted (λ found. entered es k v old sorted.1 found) (cmp k e.0) refl there
 
-pub entered_name : {X : Type 0} (es : List (List ℕ × X)) (k : List ℕ) (v old : X) → IsInOrder (slice_cmp nat_cmp) es → value_at (slice_cmp nat_cmp) es k ≡ Some old
+pub entered_name : {X : Type 0} (es : List (List ℕ × X)) (k : List ℕ) (v old : X) → IsInOrder (slice_cmp nat_cmp) es
+    → value_at (slice_cmp nat_cmp) es k ≡ Some old
     → with_value (slice_cmp nat_cmp) es k v ≡ with_entry (slice_cmp nat_cmp) es k v
 entered_name es k v old sorted there = sym (entered (slice_cmp nat_cmp) nat_list_cmp_total es k v old sorted there)

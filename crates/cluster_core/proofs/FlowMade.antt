@@ -1,5 +1,6 @@
 -- What a flow does is the same whatever deliveries were made before.
-use Rattle.std.proofs.Common.{◌≡◌, ℕ, zero, suc, ◌==◌, Bool, true, false, List, [], ◌∷◌, ◌++◌, refl, sym, ◌∙◌, ap, subst, drop, arith, ◌-◌, ◌≢◌, length, get_or, ◌<◌, ◌+◌}
+use Rattle.std.proofs.Common.{◌≡◌, ℕ, zero, suc, ◌==◌, Bool, true, false, List, [], ◌∷◌, ◌++◌, refl, sym, ◌∙◌, ap, subst, drop, arith, ◌-◌, ◌≢◌, length, get_or}
+use Rattle.std.proofs.Common.{◌<◌, ◌+◌}
 use Rattle.std.proofs.lemmas.Bool.{eqb-true, eq-eqb}
 use Rattle.std.proofs.lemmas.List.{at_drop_more}
 use Rattle.link_msg.specs.declared.message.LinkMsg.{LinkMsg}
@@ -65,7 +66,8 @@ rounds_alike (suc n) links one other alike =
     subst (λ b. (rounds_by b (round one links) (rounds n links (round one links))).world
     ≡ (rounds_by ((round other links).left == other.left) (round other links) (rounds n links (round other links))).world)
     (sym same)
-    (by_alike ((round other links).left == other.left) (round one links) (round other links) (rounds n links (round one links)) (rounds n links (round other links)) w more)
+    (by_alike ((round other links).left == other.left) (round one links) (round other links) (rounds n links (round one links))
+    (rounds n links (round other links)) w more)
 
 -- behind the turn of the first link
 pub turned : (link : Link) (links : List Link) (world next : World) (left later : ℕ)

@@ -1,6 +1,7 @@
 -- The frames of one connection keep the law: each request gets its answer or is asked of the home, a literal its continuation, a
 -- fault its line.
-use Rattle.std.proofs.Common.{◌≡◌, ◌≢◌, ℕ, ◌+◌, ◌<◌, ◌≤◌, List, [], ◌∷◌, ◌++◌, length, Option, None, Some, refl, sym, ◌∙◌, ap, subst, arith, append_assoc, length-append}
+use Rattle.std.proofs.Common.{◌≡◌, ◌≢◌, ℕ, ◌+◌, ◌<◌, ◌≤◌, List, [], ◌∷◌, ◌++◌, length, Option, None, Some, refl, sym, ◌∙◌, ap, subst, arith, append_assoc}
+use Rattle.std.proofs.Common.{length-append}
 use Rattle.std.specs.Ordering.{nat_cmp}
 use Rattle.std.proofs.lemmas.List.{append-nil}
 use Rattle.backend_core.specs.declared.backend.Backend.{Backend}
@@ -49,7 +50,8 @@ use Rattle.cluster_core.specs.declared.world.Mark.{Mark}
 use Rattle.cluster_core.specs.declared.world.World.{World}
 use Rattle.cluster_core.specs.Links.{sent}
 use Rattle.cluster_core.specs.World.{client_at, given_more, carry, carry_all}
-use Rattle.cluster_core.proofs.ConnectionLaw.{Story, KeepsOthers, keeps_all, keeps_on, told_of, GoesOnAt, same_story, stories_follow, client_with, Stands, IsReading, IsStanding, IsMade, ReadsOn, StandsOn, session_at, session_of_other}
+use Rattle.cluster_core.proofs.ConnectionLaw.{Story, KeepsOthers, keeps_all, keeps_on, told_of, GoesOnAt, same_story, stories_follow, client_with, Stands}
+use Rattle.cluster_core.proofs.ConnectionLaw.{IsReading, IsStanding, IsMade, ReadsOn, StandsOn, session_at, session_of_other}
 use Rattle.cluster_core.proofs.ConnectionLaw.OnItsWay.{there, back}
 use Rattle.cluster_core.proofs.ConnectionLaw.Stands.{reads, waits, faulted}
 use Rattle.cluster_core.proofs.FrontAnswers.{IsTaken, request_taken}
@@ -68,7 +70,8 @@ carry_all-append node world (out ∷ one) two = carry_all-append node (carry nod
 abbrev pub given_world : World → ℕ → Client → List ℕ → World
 given_world world conn client text = record world { clients = with_value nat_cmp world.clients conn (record client { given = client.given ++ text }) }
 
-given_there : (world : World) (conn : ℕ) (client : Client) (text : List ℕ) → client_at world conn ≡ Some client → given_more world conn text (client_at world conn) ≡ given_world world conn client text
+given_there : (world : World) (conn : ℕ) (client : Client) (text : List ℕ) → client_at world conn ≡ Some client
+    → given_more world conn text (client_at world conn) ≡ given_world world conn client text
 unfolding given_more
 given_there world conn client text at = ap (given_more world conn text) at
 
@@ -119,7 +122,8 @@ said_story setting story conn request answer = record {
   course = next_course setting story.course conn request 0;
 }
 
-said_goes_on : (setting : Setting) (story : Story) (conn : ℕ) (request : Request) (answer : Answer) → GoesOnAt conn story (said_story setting story conn request answer)
+said_goes_on : (setting : Setting) (story : Story) (conn : ℕ) (request : Request) (answer : Answer)
+    → GoesOnAt conn story (said_story setting story conn request answer)
 said_goes_on setting story conn request answer = record {
   requests = refl;
   said = λ other ne. with_item-other story.talk.answers conn _ other ne;
@@ -133,19 +137,23 @@ said_goes_on setting story conn request answer = record {
 }
 
 -- a request that the frontend answers by itself
-answered_here : (setting : Setting) (front home : List ℕ) (backend : Backend) (conn : ℕ) (frames next : List Frame) (connection : Connection) (before : World) (told : Story) (world : World)
+answered_here : (setting : Setting) (front home : List ℕ) (backend : Backend) (conn : ℕ) (frames next : List Frame) (connection : Connection) (before : World)
+    (told : Story) (world : World)
     (request : Request) (tag : Tag) (reply : Reply) (session : Sess) (was : ReadsOn setting front home backend conn frames connection before told world)
     → numbered (was.story.talk.requests conn) (length (was.story.told conn) + 1) ≡ Some request
-    → ((store : Store) → answer_of setting store (was.story.course.sessions conn) request 0 ≡ record { store = store; session = session; answer = record { tag = tag; reply = reply } })
+    → ((store : Store) → answer_of setting store
+    (was.story.course.sessions conn) request 0 ≡ record { store = store; session = session; answer = record { tag = tag; reply = reply } })
     → ((store : Store) → MayTake setting store (was.story.course.sessions conn) request 0)
     → ((answer : Answer) → Grows frames next (was.story.told conn) (was.story.told conn ++ answer ∷ []) (answer_text answer))
-    → ReadsOn setting front home backend conn next (answers conn connection session tag reply).connection before told (carry_all front world (answers conn connection session tag reply).outs)
+    → ReadsOn setting front home backend conn next (answers conn connection session tag reply).connection before told
+    (carry_all front world (answers conn connection session tag reply).outs)
 unfolding answers
 answered_here setting front home backend conn frames next connection before told world request tag reply session was number is free grows =
     let story = was.story in
     let course = story.course in
     let answer : Answer = record { tag = tag; reply = reply } in
-    let out : answer_of setting course.store (course.sessions conn) request 0 ≡ record { store = course.store; session = session; answer = answer } = is course.store in
+    let out : answer_of setting course.store (course.sessions conn) request 0 ≡ record { store = course.store; session = session; answer = answer } =
+    is course.store in
     let same_answer : (carried_out setting course conn request 0).answer ≡ answer = ap (λ (a : Answered). a.answer) out in
     let client : Client = client_with front frames (story.told conn) in
     let text : List ℕ = reply_text tag reply in
@@ -159,11 +167,15 @@ answered_here setting front home backend conn frames next connection before told
       story = now;
       made = record {
         others = keeps_on conn before world after_world was.made.others
-            (keeps_on conn world (given_world world conn client text) after_world (given_keeps world conn client text) (marked_keeps conn (given_world world conn client text) _));
+            (keeps_on conn world (given_world world conn client text) after_world (given_keeps world conn client text)
+            (marked_keeps conn (given_world world conn client text) _));
         goes_on = stories_follow conn told story now was.made.goes_on (said_goes_on setting story conn request answer);
-        is_told = subst (λ n. IsTold setting world.steps (world.marks ++ (record { step = world.steps; ask = record { conn = conn; command = n + 1 }; counts = Always }) ∷ []) backend now.talk now.course) lengths
+        is_told = subst (λ n. IsTold setting world.steps
+            (world.marks ++ (record { step = world.steps; ask = record { conn = conn; command = n + 1 }; counts = Always }) ∷ []) backend now.talk now.course)
+            lengths
             (told_push setting world.steps world.marks backend backend story.talk course conn request 0 Always
-            (subst (λ n. numbered (story.talk.requests conn) (n + 1) ≡ Some request) (sym (ap length was.reading.said)) number) (free course.store) (λ h. absurd (apart h))
+            (subst (λ n. numbered (story.talk.requests conn) (n + 1) ≡ Some request) (sym (ap length was.reading.said)) number) (free course.store)
+            (λ h. absurd (apart h))
             (subst (λ s. IsStoreOf s backend) (sym (ap (λ (a : Answered). a.store) out)) was.made.is_told.same) was.made.is_told);
       };
       reading = record {
@@ -176,7 +188,8 @@ answered_here setting front home backend conn frames next connection before told
             ∙ ap (λ a. story.told conn ++ a ∷ []) same_answer ∙ sym (with_item-same story.told conn answer);
         client = value_at-with_value nat_cmp numbers_apart world.clients conn (record client { given = client.given ++ text }) client was.reading.client
             ∙ ap (λ g. Some (record { at = front; given = g }))
-            (append_assoc greeting (replies_to frames (story.told conn)) text ∙ ap (λ t. greeting ++ t) (sym grown.text_is) ∙ ap (λ a. greeting ++ replies_to next a) (sym (with_item-same story.told conn answer)));
+            (append_assoc greeting (replies_to frames (story.told conn)) text ∙ ap (λ t. greeting ++ t) (sym grown.text_is)
+            ∙ ap (λ a. greeting ++ replies_to next a) (sym (with_item-same story.told conn answer)));
         way = was.reading.way;
       };
     })
@@ -185,7 +198,8 @@ answered_here setting front home backend conn frames next connection before told
     apart h = cc
 
 -- a literal is waited for
-awaited_here : (setting : Setting) (front home : List ℕ) (backend : Backend) (conn : ℕ) (frames : List Frame) (connection : Connection) (before : World) (told : Story) (world : World)
+awaited_here : (setting : Setting) (front home : List ℕ) (backend : Backend) (conn : ℕ) (frames : List Frame) (connection : Connection) (before : World)
+    (told : Story) (world : World)
     (size : ℕ) → ReadsOn setting front home backend conn frames connection before told world
     → ReadsOn setting front home backend conn (frames ++ NeedLiteral size ∷ []) connection before told (carry_all front world (to_client conn ready ∷ []))
 awaited_here setting front home backend conn frames connection before told world size was =
@@ -209,15 +223,18 @@ awaited_here setting front home backend conn frames connection before told world
         answered = grown.answered;
         said = was.reading.said;
         client = value_at-with_value nat_cmp numbers_apart world.clients conn (record client { given = client.given ++ ready }) client was.reading.client
-            ∙ ap (λ g. Some (record { at = front; given = g })) (append_assoc greeting (replies_to frames (story.told conn)) ready ∙ ap (λ t. greeting ++ t) (sym grown.text_is));
+            ∙ ap (λ g. Some (record { at = front; given = g }))
+            (append_assoc greeting (replies_to frames (story.told conn)) ready ∙ ap (λ t. greeting ++ t) (sym grown.text_is));
         way = was.reading.way;
       };
     })
 
 -- a fault ends the connection
-faulted_here : (setting : Setting) (front home : List ℕ) (backend : Backend) (conn : ℕ) (frames : List Frame) (held : Option (List ℕ)) (connection : Connection) (before : World) (told : Story) (world : World)
+faulted_here : (setting : Setting) (front home : List ℕ) (backend : Backend) (conn : ℕ) (frames : List Frame) (held : Option (List ℕ))
+    (connection : Connection) (before : World) (told : Story) (world : World)
     (fault : FrameFault) → held ≡ None → ReadsOn setting front home backend conn frames connection before told world
-    → StandsOn setting front home backend conn (frames ++ Fault fault ∷ []) held (record connection { stage = Ended }) before told (carry_all front world (to_client conn (bye_line (bye_of fault)) ∷ Close conn ∷ []))
+    → StandsOn setting front home backend conn (frames ++ Fault fault ∷ []) held (record connection { stage = Ended }) before told
+    (carry_all front world (to_client conn (bye_line (bye_of fault)) ∷ Close conn ∷ []))
 unfolding requests_of
 faulted_here setting front home backend conn frames held connection before told world fault none was =
     let story = was.story in
@@ -238,16 +255,20 @@ faulted_here setting front home backend conn frames held connection before told 
             ∙ ap (λ g. Some (record { at = front; given = g })) (append_assoc greeting (replies_to frames (story.told conn)) text
             ∙ ap (λ t. greeting ++ t) (sym (fault_told frames (story.told conn) fault was.reading.answered)));
         stands = faulted refl none
-            (ap length (requests-append frames (Fault fault ∷ []) ∙ append-nil (requests_of frames)) ∙ answered_lengths frames (story.told conn) was.reading.answered)
+            (ap length (requests-append frames (Fault fault ∷ []) ∙ append-nil (requests_of frames))
+            ∙ answered_lengths frames (story.told conn) was.reading.answered)
             was.reading.said was.reading.way;
       };
     })
 
 -- a request that is asked of the home; the frames behind it wait
-asked_here : (setting : Setting) (front home : List ℕ) (backend : Backend) (conn : ℕ) (frames waiting : List Frame) (held : Option (List ℕ)) (connection : Connection) (before : World) (told : Story) (world : World)
-    (bytes : List ℕ) (tag : Tag) (it : Command) (name : List ℕ) (work : Work) (was : ReadsOn setting front home backend conn frames connection before told world)
+asked_here : (setting : Setting) (front home : List ℕ) (backend : Backend) (conn : ℕ) (frames waiting : List Frame) (held : Option (List ℕ))
+    (connection : Connection) (before : World) (told : Story) (world : World)
+    (bytes : List ℕ) (tag : Tag) (it : Command) (name : List ℕ) (work : Work)
+    (was : ReadsOn setting front home backend conn frames connection before told world)
     → request_of bytes ≡ a_command tag it → need_of setting (was.story.course.sessions conn) it ≡ Mailbox name work → FaultsLast waiting held
-    → StandsOn setting front home backend conn (frames ++ Whole bytes ∷ waiting) held (record connection { waiting = waiting; stage = Asked tag (awaited_of work) }) before told
+    → StandsOn setting front home backend conn (frames ++ Whole bytes ∷ waiting) held
+    (record connection { waiting = waiting; stage = Asked tag (awaited_of work) }) before told
     (carry_all front world (to_node home (Ask (ask_for conn connection name work)) ∷ []))
 unfolding carry_all carry
 asked_here setting front home backend conn frames waiting held connection before told world bytes tag it name work was is need last =
@@ -264,26 +285,31 @@ asked_here setting front home backend conn frames waiting held connection before
           pairs = refl;
           steps = refl;
           clients = λ other ne. refl;
-          ways = λ other ne f h asks answers way. sent_for_another world.links other f h front home (Ask ask) asks answers (ask_of_another other ask (λ e. ne (sym e))) way;
+          ways = λ other ne f h asks answers way. sent_for_another world.links other f h front home (Ask ask) asks answers
+              (ask_of_another other ask (λ e. ne (sym e))) way;
         });
         goes_on = was.made.goes_on;
         is_told = was.made.is_told;
       };
       standing = record {
         count = was.reading.count;
-        client = was.reading.client ∙ ap (λ t. Some (record { at = front; given = greeting ++ t })) (replies_stop frames (story.told conn) bytes waiting was.reading.answered);
+        client = was.reading.client ∙ ap (λ t. Some (record { at = front; given = greeting ++ t }))
+            (replies_stop frames (story.told conn) bytes waiting was.reading.answered);
         stands = waits frames bytes tag it name work refl refl was.reading.session_is was.reading.answered is need last
             (there was.reading.said (ask_sent world.links conn front home ask refl was.reading.way));
       };
     }
 
 -- behind a command that waits every frame waits
-pub asked_waits : (setting : Setting) (home : List ℕ) (conn : ℕ) (connection : Connection) (frames : List Frame) (tag : Tag) (awaited : _) → connection.stage ≡ Asked tag awaited
+pub asked_waits : (setting : Setting) (home : List ℕ) (conn : ℕ) (connection : Connection) (frames : List Frame) (tag : Tag) (awaited : _)
+    → connection.stage ≡ Asked tag awaited
     → frames_come setting home conn connection frames ≡ record { connection = record connection { waiting = connection.waiting ++ frames }; outs = [] }
 unfolding frames_come frame_comes comes_at
-asked_waits setting home conn connection [] tag awaited e = ap (λ w. record { connection = record connection { waiting = w }; outs = [] }) (sym (append-nil connection.waiting))
+asked_waits setting home conn connection [] tag awaited e =
+    ap (λ w. record { connection = record connection { waiting = w }; outs = [] }) (sym (append-nil connection.waiting))
 asked_waits setting home conn connection (frame ∷ frames) tag awaited e =
-    ap (λ s. behind_outs (comes_at setting home conn connection frame s).outs (frames_come setting home conn (comes_at setting home conn connection frame s).connection frames)) e
+    ap (λ s. behind_outs (comes_at setting home conn connection frame s).outs
+    (frames_come setting home conn (comes_at setting home conn connection frame s).connection frames)) e
     ∙ asked_waits setting home conn (record connection { waiting = connection.waiting ++ frame ∷ [] }) frames tag awaited e
     ∙ ap (λ w. record { connection = record connection { waiting = w }; outs = [] }) (append_assoc connection.waiting (frame ∷ []) frames)
 
@@ -291,12 +317,16 @@ asked_turned : (setting : Setting) (home : List ℕ) (conn : ℕ) (connection : 
     → frames_come setting home conn (asks home conn connection tag name work).connection frames
     ≡ record { connection = record connection { waiting = connection.waiting ++ frames; stage = Asked tag (awaited_of work) }; outs = [] }
 unfolding asks
-asked_turned setting home conn connection tag name work frames = asked_waits setting home conn (record connection { stage = Asked tag (awaited_of work) }) frames tag (awaited_of work) refl
+asked_turned setting home conn connection tag name work frames =
+    asked_waits setting home conn (record connection { stage = Asked tag (awaited_of work) }) frames tag (awaited_of work) refl
 
-asked_kept : (setting : Setting) (front home : List ℕ) (backend : Backend) (conn : ℕ) (frames waiting : List Frame) (held : Option (List ℕ)) (connection : Connection) (before : World) (told : Story) (world : World)
-    (bytes : List ℕ) (tag : Tag) (it : Command) (name : List ℕ) (work : Work) (was : ReadsOn setting front home backend conn frames connection before told world)
+asked_kept : (setting : Setting) (front home : List ℕ) (backend : Backend) (conn : ℕ) (frames waiting : List Frame) (held : Option (List ℕ))
+    (connection : Connection) (before : World) (told : Story) (world : World)
+    (bytes : List ℕ) (tag : Tag) (it : Command) (name : List ℕ) (work : Work)
+    (was : ReadsOn setting front home backend conn frames connection before told world)
     → request_of bytes ≡ a_command tag it → need_of setting (was.story.course.sessions conn) it ≡ Mailbox name work → FaultsLast waiting held
-    → StandsOn setting front home backend conn (frames ++ Whole bytes ∷ waiting) held (record connection { waiting = waiting; stage = Asked tag (awaited_of work) }) before told
+    → StandsOn setting front home backend conn (frames ++ Whole bytes ∷ waiting) held
+    (record connection { waiting = waiting; stage = Asked tag (awaited_of work) }) before told
     (carry_all front (carry_all front world (asks home conn connection tag name work).outs) [])
 unfolding asks carry_all
 asked_kept setting front home backend conn frames waiting held connection before told world bytes tag it name work was is need last =
@@ -308,11 +338,13 @@ pub ended_drops : (setting : Setting) (home : List ℕ) (conn : ℕ) (connection
 unfolding frames_come frame_comes comes_at
 ended_drops setting home conn connection [] e = refl
 ended_drops setting home conn connection (frame ∷ frames) e =
-    ap (λ s. behind_outs (comes_at setting home conn connection frame s).outs (frames_come setting home conn (comes_at setting home conn connection frame s).connection frames)) e
+    ap (λ s. behind_outs (comes_at setting home conn connection frame s).outs
+    (frames_come setting home conn (comes_at setting home conn connection frame s).connection frames)) e
     ∙ ended_drops setting home conn connection frames e
 
 -- a step of a frame, and then the others
-pub came_on : (setting : Setting) (front home : List ℕ) (backend : Backend) (conn : ℕ) (all : List Frame) (held : Option (List ℕ)) (connection : Connection) (before : World) (told : Story) (world : World)
+pub came_on : (setting : Setting) (front home : List ℕ) (backend : Backend) (conn : ℕ) (all : List Frame) (held : Option (List ℕ)) (connection : Connection)
+    (before : World) (told : Story) (world : World)
     (frame : Frame) (frames : List Frame) (turned : Turned) → frame_comes setting home conn connection frame ≡ turned
     → StandsOn setting front home backend conn all held (frames_come setting home conn turned.connection frames).connection before told
     (carry_all front (carry_all front world turned.outs) (frames_come setting home conn turned.connection frames).outs)
@@ -330,21 +362,26 @@ reads_frame : (setting : Setting) (home : List ℕ) (conn : ℕ) (connection : C
 unfolding frame_comes comes_at
 reads_frame setting home conn connection frame e = ap (comes_at setting home conn connection frame) e
 
-fault_kept : (setting : Setting) (front home : List ℕ) (backend : Backend) (conn : ℕ) (frames new : List Frame) (held : Option (List ℕ)) (connection : Connection) (before : World) (told : Story) (world : World)
+fault_kept : (setting : Setting) (front home : List ℕ) (backend : Backend) (conn : ℕ) (frames new : List Frame) (held : Option (List ℕ))
+    (connection : Connection) (before : World) (told : Story) (world : World)
     (fault : FrameFault) → new ≡ [] → held ≡ None → ReadsOn setting front home backend conn frames connection before told world
-    → StandsOn setting front home backend conn (frames ++ Fault fault ∷ new) held (frames_come setting home conn connection (Fault fault ∷ new)).connection before told
+    → StandsOn setting front home backend conn (frames ++ Fault fault ∷ new) held
+    (frames_come setting home conn connection (Fault fault ∷ new)).connection before told
     (carry_all front world (frames_come setting home conn connection (Fault fault ∷ new)).outs)
 unfolding frame_in frames_come carry_all
 fault_kept setting front home backend conn frames new held connection before told world fault nil none was =
-    subst (λ n. StandsOn setting front home backend conn (frames ++ Fault fault ∷ n) held (frames_come setting home conn connection (Fault fault ∷ n)).connection before told
+    subst (λ n. StandsOn setting front home backend conn (frames ++ Fault fault ∷ n) held
+    (frames_come setting home conn connection (Fault fault ∷ n)).connection before told
     (carry_all front world (frames_come setting home conn connection (Fault fault ∷ n)).outs)) (sym nil)
     (came_on setting front home backend conn (frames ++ Fault fault ∷ []) held connection before told world (Fault fault) [] _
     (reads_frame setting home conn connection (Fault fault) was.reading.stage_is)
     (faulted_here setting front home backend conn frames held connection before told world fault none was))
 
 -- the frames of a piece that haven't ended stand so
-reads_stands : (setting : Setting) (front home : List ℕ) (backend : Backend) (conn : ℕ) (frames : List Frame) (held : Option (List ℕ)) (connection : Connection) (before : World) (told : Story) (world : World)
-    → ReadsOn setting front home backend conn frames connection before told world → StandsOn setting front home backend conn frames held connection before told world
+reads_stands : (setting : Setting) (front home : List ℕ) (backend : Backend) (conn : ℕ) (frames : List Frame) (held : Option (List ℕ))
+    (connection : Connection) (before : World) (told : Story) (world : World)
+    → ReadsOn setting front home backend conn frames connection before told world
+    → StandsOn setting front home backend conn frames held connection before told world
 reads_stands setting front home backend conn frames held connection before told world was = record {
   story = was.story;
   made = was.made;
@@ -356,21 +393,28 @@ reads_stands setting front home backend conn frames held connection before told 
 }
 
 -- the request of a frame is the next that has no answer
-next_of : (setting : Setting) (front home : List ℕ) (backend : Backend) (conn : ℕ) (frames rest : List Frame) (frame : Frame) (connection : Connection) (before : World) (told : Story) (world : World) (request : Request)
+next_of : (setting : Setting) (front home : List ℕ) (backend : Backend) (conn : ℕ) (frames rest : List Frame) (frame : Frame) (connection : Connection)
+    (before : World) (told : Story) (world : World) (request : Request)
     (was : ReadsOn setting front home backend conn frames connection before told world) → told.talk.requests conn ≡ requests_of (frames ++ frame ∷ rest)
     → requests_of (frame ∷ rest) ≡ request ∷ requests_of rest → numbered (was.story.talk.requests conn) (length (was.story.told conn) + 1) ≡ Some request
 next_of setting front home backend conn frames rest frame connection before told world request was all is =
-    subst (λ r. numbered r (length (was.story.told conn) + 1) ≡ Some request) (sym (ap (λ (r : ℕ → List Request). r conn) was.made.goes_on.requests ∙ all ∙ requests-append frames (frame ∷ rest) ∙ ap (λ r. requests_of frames ++ r) is))
-    (next_request (requests_of frames) (requests_of rest) request (length (was.story.told conn)) (answered_lengths frames (was.story.told conn) was.reading.answered))
+    subst (λ r. numbered r (length (was.story.told conn) + 1) ≡ Some request)
+    (sym (ap (λ (r : ℕ → List Request). r conn) was.made.goes_on.requests ∙ all ∙ requests-append frames (frame ∷ rest)
+    ∙ ap (λ r. requests_of frames ++ r) is))
+    (next_request (requests_of frames) (requests_of rest) request (length (was.story.told conn))
+    (answered_lengths frames (was.story.told conn) was.reading.answered))
 
 -- the frames that follow go on so, from wherever the connection reads
 abbrev pub Follow : Setting → List ℕ → List ℕ → Backend → ℕ → List Frame → Option (List ℕ) → World → Story → Type 0
-Follow setting front home backend conn new held before told = (frames : List Frame) (connection : Connection) (world : World) → told.talk.requests conn ≡ requests_of (frames ++ new)
+Follow setting front home backend conn new held before told = (frames : List Frame) (connection : Connection) (world : World)
+    → told.talk.requests conn ≡ requests_of (frames ++ new)
     → ReadsOn setting front home backend conn frames connection before told world
-    → StandsOn setting front home backend conn (frames ++ new) held (frames_come setting home conn connection new).connection before told (carry_all front world (frames_come setting home conn connection new).outs)
+    → StandsOn setting front home backend conn (frames ++ new) held (frames_come setting home conn connection new).connection before told
+    (carry_all front world (frames_come setting home conn connection new).outs)
 
 -- a frame behind which the connection reads on
-read_on : (setting : Setting) (front home : List ℕ) (backend : Backend) (conn : ℕ) (frames new : List Frame) (frame : Frame) (held : Option (List ℕ)) (connection : Connection) (before : World) (told : Story) (world : World)
+read_on : (setting : Setting) (front home : List ℕ) (backend : Backend) (conn : ℕ) (frames new : List Frame) (frame : Frame) (held : Option (List ℕ))
+    (connection : Connection) (before : World) (told : Story) (world : World)
     (turned : Turned) → frame_comes setting home conn connection frame ≡ turned → told.talk.requests conn ≡ requests_of (frames ++ frame ∷ new)
     → Follow setting front home backend conn new held before told
     → ReadsOn setting front home backend conn (frames ++ frame ∷ []) turned.connection before told (carry_all front world turned.outs)
@@ -380,12 +424,16 @@ read_on setting front home backend conn frames new frame held connection before 
     came_on setting front home backend conn (frames ++ frame ∷ new) held connection before told world frame new turned e
     (subst (λ f. StandsOn setting front home backend conn f held (frames_come setting home conn turned.connection new).connection before told
     (carry_all front (carry_all front world turned.outs) (frames_come setting home conn turned.connection new).outs)) (append_assoc frames (frame ∷ []) new)
-    (follow (frames ++ frame ∷ []) turned.connection (carry_all front world turned.outs) (all ∙ ap requests_of (sym (append_assoc frames (frame ∷ []) new))) reading))
+    (follow (frames ++ frame ∷ []) turned.connection (carry_all front world turned.outs)
+    (all ∙ ap requests_of (sym (append_assoc frames (frame ∷ []) new))) reading))
 
-request_kept : (setting : Setting) (front home : List ℕ) (backend : Backend) (conn : ℕ) (frames new : List Frame) (bytes : List ℕ) (held : Option (List ℕ)) (connection : Connection) (before : World) (told : Story) (world : World)
-    (was : ReadsOn setting front home backend conn frames connection before told world) → FaultsLast new held → told.talk.requests conn ≡ requests_of (frames ++ Whole bytes ∷ new)
+request_kept : (setting : Setting) (front home : List ℕ) (backend : Backend) (conn : ℕ) (frames new : List Frame) (bytes : List ℕ) (held : Option (List ℕ))
+    (connection : Connection) (before : World) (told : Story) (world : World)
+    (was : ReadsOn setting front home backend conn frames connection before told world) → FaultsLast new held
+    → told.talk.requests conn ≡ requests_of (frames ++ Whole bytes ∷ new)
     → Follow setting front home backend conn new held before told → IsTaken setting home conn (was.story.course.sessions conn) (request_of bytes)
-    → StandsOn setting front home backend conn (frames ++ Whole bytes ∷ new) held (frames_come setting home conn connection (Whole bytes ∷ new)).connection before told
+    → StandsOn setting front home backend conn (frames ++ Whole bytes ∷ new) held
+    (frames_come setting home conn connection (Whole bytes ∷ new)).connection before told
     (carry_all front world (frames_come setting home conn connection (Whole bytes ∷ new)).outs)
 unfolding frame_in requests_of
 request_kept setting front home backend conn frames new bytes held connection before told world was last all follow (here tag reply session is free form) =
@@ -396,29 +444,36 @@ request_kept setting front home backend conn frames new bytes held connection be
     (λ answer. whole_answered frames (was.story.told conn) bytes answer was.reading.answered))
 request_kept setting front home backend conn frames new bytes held connection before told world was last all follow (asked tag it name work is need form) =
     let turned : Turned = asks home conn connection tag name work in
-    let waits_all : frames_come setting home conn turned.connection new ≡ record { connection = record connection { waiting = new; stage = Asked tag (awaited_of work) }; outs = [] } =
-    asked_turned setting home conn connection tag name work new ∙ ap (λ w. record { connection = record connection { waiting = w ++ new; stage = Asked tag (awaited_of work) }; outs = [] }) was.reading.waiting_is in
+    let waits_all : frames_come setting home conn turned.connection new ≡
+    record { connection = record connection { waiting = new; stage = Asked tag (awaited_of work) }; outs = [] } =
+    asked_turned setting home conn connection tag name work new
+    ∙ ap (λ w. record { connection = record connection { waiting = w ++ new; stage = Asked tag (awaited_of work) }; outs = [] }) was.reading.waiting_is in
     came_on setting front home backend conn (frames ++ Whole bytes ∷ new) held connection before told world (Whole bytes) new turned
     (reads_frame setting home conn connection (Whole bytes) was.reading.stage_is ∙ form connection was.reading.session_is)
-    (subst (λ (t : Turned). StandsOn setting front home backend conn (frames ++ Whole bytes ∷ new) held t.connection before told (carry_all front (carry_all front world turned.outs) t.outs)) (sym waits_all)
+    (subst (λ (t : Turned). StandsOn setting front home backend conn (frames ++ Whole bytes ∷ new) held t.connection before told
+    (carry_all front (carry_all front world turned.outs) t.outs)) (sym waits_all)
     (asked_kept setting front home backend conn frames new held connection before told world bytes tag it name work was is need last))
 
-big_kept : (setting : Setting) (front home : List ℕ) (backend : Backend) (conn : ℕ) (frames new : List Frame) (bytes : List ℕ) (held : Option (List ℕ)) (connection : Connection) (before : World) (told : Story) (world : World)
+big_kept : (setting : Setting) (front home : List ℕ) (backend : Backend) (conn : ℕ) (frames new : List Frame) (bytes : List ℕ) (held : Option (List ℕ))
+    (connection : Connection) (before : World) (told : Story) (world : World)
     (was : ReadsOn setting front home backend conn frames connection before told world) → told.talk.requests conn ≡ requests_of (frames ++ TooBig bytes ∷ new)
     → Follow setting front home backend conn new held before told → IsTaken setting home conn (was.story.course.sessions conn) (too_big_request bytes)
-    → StandsOn setting front home backend conn (frames ++ TooBig bytes ∷ new) held (frames_come setting home conn connection (TooBig bytes ∷ new)).connection before told
+    → StandsOn setting front home backend conn (frames ++ TooBig bytes ∷ new) held
+    (frames_come setting home conn connection (TooBig bytes ∷ new)).connection before told
     (carry_all front world (frames_come setting home conn connection (TooBig bytes ∷ new)).outs)
 unfolding frame_in requests_of too_big_request
 big_kept setting front home backend conn frames new bytes held connection before told world was all follow (here tag reply session is free form) =
     read_on setting front home backend conn frames new (TooBig bytes) held connection before told world (answers conn connection session tag reply)
     (reads_frame setting home conn connection (TooBig bytes) was.reading.stage_is ∙ form connection was.reading.session_is) all follow
-    (answered_here setting front home backend conn frames (frames ++ TooBig bytes ∷ []) connection before told world (too_big_request bytes) tag reply session was
+    (answered_here setting front home backend conn frames (frames ++ TooBig bytes ∷ []) connection before told world
+    (too_big_request bytes) tag reply session was
     (next_of setting front home backend conn frames new (TooBig bytes) connection before told world (too_big_request bytes) was all refl) is free
     (λ answer. too_big_answered frames (was.story.told conn) bytes answer was.reading.answered))
 big_kept setting front home backend conn frames new bytes held connection before told world was all follow (asked tag it name work is need form) = cc
 
 -- all frames of a piece, or all that waited
-pub frames_kept : (setting : Setting) (front home : List ℕ) (backend : Backend) (conn : ℕ) (new : List Frame) (held : Option (List ℕ)) (before : World) (told : Story) → FaultsLast new held
+pub frames_kept : (setting : Setting) (front home : List ℕ) (backend : Backend) (conn : ℕ) (new : List Frame) (held : Option (List ℕ)) (before : World)
+    (told : Story) → FaultsLast new held
     → Follow setting front home backend conn new held before told
 unfolding frames_come FaultsLast frame_in carry_all
 frames_kept setting front home backend conn [] held before told last = λ frames connection world all was.
@@ -426,13 +481,17 @@ frames_kept setting front home backend conn [] held before told last = λ frames
     (reads_stands setting front home backend conn frames held connection before told world was)
 frames_kept setting front home backend conn (Whole bytes ∷ new) held before told last = λ frames connection world all was.
     request_kept setting front home backend conn frames new bytes held connection before told world was last all
-    (frames_kept setting front home backend conn new held before told last) (request_taken setting home conn (was.story.course.sessions conn) (request_of bytes))
+    (frames_kept setting front home backend conn new held before told last)
+    (request_taken setting home conn (was.story.course.sessions conn) (request_of bytes))
 frames_kept setting front home backend conn (TooBig bytes ∷ new) held before told last = λ frames connection world all was.
     big_kept setting front home backend conn frames new bytes held connection before told world was all
-    (frames_kept setting front home backend conn new held before told last) (request_taken setting home conn (was.story.course.sessions conn) (too_big_request bytes))
+    (frames_kept setting front home backend conn new held before told last)
+    (request_taken setting home conn (was.story.course.sessions conn) (too_big_request bytes))
 frames_kept setting front home backend conn (NeedLiteral size ∷ new) held before told last = λ frames connection world all was.
-    read_on setting front home backend conn frames new (NeedLiteral size) held connection before told world (record { connection = connection; outs = to_client conn ready ∷ [] })
-    (reads_frame setting home conn connection (NeedLiteral size) was.reading.stage_is) all (frames_kept setting front home backend conn new held before told last)
+    read_on setting front home backend conn frames new (NeedLiteral size) held connection before told world
+    (record { connection = connection; outs = to_client conn ready ∷ [] })
+    (reads_frame setting home conn connection (NeedLiteral size) was.reading.stage_is) all
+    (frames_kept setting front home backend conn new held before told last)
     (awaited_here setting front home backend conn frames connection before told world size was)
 frames_kept setting front home backend conn (Fault fault ∷ new) held before told last = λ frames connection world all was.
     fault_kept setting front home backend conn frames new held connection before told world fault last.0 last.1 was

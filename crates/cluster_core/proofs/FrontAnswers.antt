@@ -39,7 +39,8 @@ need_taken setting home conn session tag it (Refusal verdict) e =
     here tag (reply_of verdict) session
     (λ store. rw e refl)
     (λ store. rw e tt)
-    (λ connection s. ap (λ x. need_in home conn connection tag (need_of setting x it)) s ∙ ap (need_in home conn connection tag) e ∙ ap (λ x. answers conn connection x tag (reply_of verdict)) s)
+    (λ connection s. ap (λ x. need_in home conn connection tag (need_of setting x it)) s ∙ ap (need_in home conn connection tag) e
+    ∙ ap (λ x. answers conn connection x tag (reply_of verdict)) s)
 need_taken setting home conn session tag it (Login user) e =
     here tag (completed (codes "LOGIN")) (In user)
     (λ store. rw e refl)
@@ -53,6 +54,7 @@ pub request_taken : (setting : Setting) (home : List ℕ) (conn : ℕ) (session 
 unfolding answer_of MayTake request_in
 request_taken setting home conn session (a_command tag it) = need_taken setting home conn session tag it (need_of setting session it) refl
 request_taken setting home conn session (unknown tag) =
-    here tag (reply_of (bad_reply Syntax)) session (λ store. refl) (λ store. tt) (λ connection s. ap (λ x. answers conn connection x tag (reply_of (bad_reply Syntax))) s)
+    here tag (reply_of (bad_reply Syntax)) session (λ store. refl) (λ store. tt)
+    (λ connection s. ap (λ x. answers conn connection x tag (reply_of (bad_reply Syntax))) s)
 request_taken setting home conn session (too_big tag) =
     here tag (refused Limit) session (λ store. refl) (λ store. tt) (λ connection s. ap (λ x. answers conn connection x tag (refused Limit)) s)

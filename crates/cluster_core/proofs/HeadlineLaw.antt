@@ -27,7 +27,8 @@ anything world marks = λ k d h. refl
 
 refuses : (world : World) → RefusesForCause world
 unfolding history_of
-refuses world = all_points world (λ (mark : Mark). mark ≡ mark) (λ (point : Point). HasCause point.what) (λ mark point same is. has_cause world mark point is) world.marks (anything world world.marks)
+refuses world = all_points world (λ (mark : Mark). mark ≡ mark) (λ (point : Point). HasCause point.what)
+    (λ mark point same is. has_cause world mark point is) world.marks (anything world world.marks)
 
 pub one_server : (config : Config) (events : List Event) → AreNodes config.nodes → IsOneServer config events
 one_server config events are = record {

@@ -1,5 +1,6 @@
 -- Every point of a run stands behind its command, and before what follows its reply.
-use Rattle.std.proofs.Common.{◌≡◌, ◌≢◌, ◌⊎◌, ℕ, zero, suc, ◌+◌, ◌≤◌, ◌<◌, Bool, true, false, nat_eq, List, [], ◌∷◌, ◌++◌, length, Option, None, Some, refl, sym, ◌∙◌, ap, subst, arith, append_assoc, length-append}
+use Rattle.std.proofs.Common.{◌≡◌, ◌≢◌, ◌⊎◌, ℕ, zero, suc, ◌+◌, ◌≤◌, ◌<◌, Bool, true, false, nat_eq, List, [], ◌∷◌, ◌++◌, length, Option, None, Some, refl, sym}
+use Rattle.std.proofs.Common.{◌∙◌, ap, subst, arith, append_assoc, length-append}
 use Rattle.std.specs.Prelude.{All, AllPairs, count_by}
 use Rattle.std.proofs.lemmas.List.{append-nil}
 use Rattle.std.proofs.lemmas.List.Elements.{All-append, All-nil, All-push, All-weaker, All-head, All-tail}
@@ -18,7 +19,9 @@ use Rattle.cluster_core.specs.declared.world.Mark.{Mark}
 use Rattle.cluster_core.specs.declared.world.World.{World}
 use Rattle.cluster_core.specs.Flow.{run_steps}
 use Rattle.cluster_core.specs.Links.{on_link}
-use Rattle.cluster_core.specs.World.{client_at, front_at, home_at, given_more, carry, carry_all, with_front, with_home, with_client, open_at, opens, bytes_at, bytes_from, hang_at, hangs, input_of, home_takes, comes_to_home, comes_to, taken, deliver_first, delivers, takes, stepped, steps_by}
+use Rattle.cluster_core.specs.World.{client_at, front_at, home_at, given_more, carry, carry_all, with_front, with_home, with_client, open_at, opens, bytes_at}
+use Rattle.cluster_core.specs.World.{bytes_from, hang_at, hangs, input_of, home_takes, comes_to_home, comes_to, taken, deliver_first, delivers, takes, stepped}
+use Rattle.cluster_core.specs.World.{steps_by}
 
 -- marks of one step, put behind others; the step stays
 pub record Adds (before now : World) : Type 0 where
@@ -28,7 +31,13 @@ pub record Adds (before now : World) : Type 0 where
   pub same_step : now.steps ≡ before.steps
 
 adds_none : (before now : World) → now.marks ≡ before.marks → now.steps ≡ before.steps → Adds before now
-adds_none before now e s = record { rest = []; parts = e ∙ sym (append-nil before.marks); in_step = All-nil (λ (mark : Mark). mark.step ≡ before.steps); same_step = s }
+adds_none before now e s = record {
+  rest = [];
+  parts = e
+      ∙ sym (append-nil before.marks);
+  in_step = All-nil (λ (mark : Mark). mark.step ≡ before.steps);
+  same_step = s;
+}
 
 adds_more : (one two three : World) → Adds one two → Adds two three → Adds one three
 adds_more one two three first second = record {
@@ -51,7 +60,13 @@ carry_adds node world (Close conn) = adds_none world world refl refl
 carry_adds node world (to_node other message) = adds_none world _ refl refl
 carry_adds node world (mark_out ask counts) =
     let new : Mark = record { step = world.steps; ask = ask; counts = counts } in
-    record { rest = new ∷ []; parts = refl; in_step = All-push (λ (m : Mark). m.step ≡ world.steps) [] new (All-nil (λ (m : Mark). m.step ≡ world.steps)) refl; same_step = refl }
+    record {
+      rest = new ∷ [];
+      parts = refl;
+      in_step =
+          All-push (λ (m : Mark). m.step ≡ world.steps) [] new (All-nil (λ (m : Mark). m.step ≡ world.steps)) refl;
+      same_step = refl;
+    }
 
 carry_all_adds : (node : List ℕ) (world : World) (outs : List Out) → Adds world (carry_all node world outs)
 unfolding carry_all
@@ -64,7 +79,8 @@ front_adds world node step = adds_more world _ _ (adds_none world _ refl refl) (
 open_adds : (world : World) (node : List ℕ) (conn : ℕ) (found : Option Front) → Adds world (open_at world node conn found)
 unfolding open_at
 open_adds world node conn None = adds_none world _ refl refl
-open_adds world node conn (Some front) = adds_more world (with_client world node conn) _ (adds_none world _ refl refl) (front_adds (with_client world node conn) node _)
+open_adds world node conn (Some front) =
+    adds_more world (with_client world node conn) _ (adds_none world _ refl refl) (front_adds (with_client world node conn) node _)
 
 opens_add : (world : World) (node : List ℕ) (conn : ℕ) (found : Option Client) → Adds world (opens world node conn found)
 unfolding opens
@@ -109,7 +125,8 @@ comes_adds world from to message None = to_home_adds world from to message (home
 deliver_adds : (world : World) (from to : List ℕ) (queue : List LinkMsg) → Adds world (deliver_first world from to queue)
 unfolding deliver_first
 deliver_adds world from to [] = adds_none world world refl refl
-deliver_adds world from to (message ∷ rest) = adds_more world (taken world from to) _ (adds_none world _ refl refl) (comes_adds (taken world from to) from to message (front_at world to))
+deliver_adds world from to (message ∷ rest) =
+    adds_more world (taken world from to) _ (adds_none world _ refl refl) (comes_adds (taken world from to) from to message (front_at world to))
 
 takes_adds : (world : World) (event : Event) → Adds world (takes world event)
 unfolding takes
@@ -134,11 +151,18 @@ step_behind world later event rest =
       parts = rest.parts ∙ ap (λ m. m ++ rest.rest) adds.parts ∙ append_assoc world.marks adds.rest rest.rest;
       from_now = All-append (λ (mark : Mark). world.steps < mark.step) adds.rest rest.rest
           (All-weaker (λ (m : Mark). m.step ≡ world.steps + 1) (λ (m : Mark). world.steps < m.step) (λ m h. omega arith) adds.rest adds.in_step)
-          (All-weaker (λ (m : Mark). (steps_by world event).steps < m.step) (λ (m : Mark). world.steps < m.step) (λ m h. omega (arith, h, adds.same_step)) rest.rest rest.from_now);
+          (All-weaker (λ (m : Mark). (steps_by world event).steps < m.step) (λ (m : Mark). world.steps < m.step)
+          (λ m h. omega (arith, h, adds.same_step)) rest.rest rest.from_now);
       steps = omega (arith, adds.same_step, rest.steps);
     }
 
 pub run_behind : (world : World) (events : List Event) → StandsBehind world (run_steps world events)
 unfolding run_steps
-run_behind world [] = record { rest = []; parts = sym (append-nil world.marks); from_now = All-nil (λ (mark : Mark). world.steps < mark.step); steps = omega arith }
+run_behind world [] = record {
+  rest = [];
+  parts = sym (append-nil world.marks);
+  from_now = All-nil (λ (mark : Mark). world.steps < mark.step);
+  steps =
+      omega arith;
+}
 run_behind world (event ∷ events) = step_behind world _ event (run_behind (steps_by world event) events)

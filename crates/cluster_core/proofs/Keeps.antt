@@ -18,21 +18,34 @@ use Rattle.cluster_core.proofs.KeepsReply.{deliver_keeps}
 use Rattle.cluster_core.proofs.KeepsStill.{still_kept}
 
 -- an event that says nothing of a connection
-hears_nothing : (config : Config) (conn : ℕ) (heard : Heard) (event : Event) → at_first config conn event ≡ nobody → ((bytes : List ℕ) → of_client conn bytes event ≡ client bytes false) → hears config conn heard event ≡ heard
+hears_nothing : (config : Config) (conn : ℕ) (heard : Heard) (event : Event) → at_first config conn event ≡ nobody
+    → ((bytes : List ℕ) → of_client conn bytes event ≡ client bytes false) → hears config conn heard event ≡ heard
 unfolding hears
 hears_nothing config conn nobody event o a = o
 hears_nothing config conn elsewhere event o a = refl
 hears_nothing config conn (client bytes true) event o a = refl
 hears_nothing config conn (client bytes false) event o a = a bytes
 
-quiet_event : (config : Config) (heard : ℕ → Heard) (world : World) (event : Event) (law : KeepsLaw config heard world) → ((conn : ℕ) → at_first config conn event ≡ nobody)
-    → ((conn : ℕ) (bytes : List ℕ) → of_client conn bytes event ≡ client bytes false) → KeepsOn config (told_of law.story) (λ conn. hears config conn (heard conn) event) world
+quiet_event : (config : Config) (heard : ℕ → Heard) (world : World) (event : Event) (law : KeepsLaw config heard world)
+    → ((conn : ℕ) → at_first config conn event ≡ nobody)
+    → ((conn : ℕ) (bytes : List ℕ) → of_client conn bytes event ≡ client bytes false)
+    → KeepsOn config (told_of law.story) (λ conn. hears config conn (heard conn) event) world
 quiet_event config heard world event law o a =
     still_kept config heard _ world world
-    (record { fronts = λ any. refl; homes = λ any. refl; clients = λ any. refl; ways = λ c front home asks answers way. way; backends = refl; marks = refl; steps = omega arith })
+    (record {
+      fronts = λ any. refl;
+      homes = λ any. refl;
+      clients = λ any. refl;
+      ways = λ c front home asks answers way. way;
+      backends = refl;
+      marks =
+          refl;
+      steps = omega arith;
+    })
     (λ conn. hears_nothing config conn (heard conn) event (o conn) (a conn)) law
 
-takes_keeps : (config : Config) (heard : ℕ → Heard) (world : World) (event : Event) (law : KeepsLaw config heard world) → KeepsOn config (told_of law.story) (λ conn. hears config conn (heard conn) event) (takes world event)
+takes_keeps : (config : Config) (heard : ℕ → Heard) (world : World) (event : Event) (law : KeepsLaw config heard world)
+    → KeepsOn config (told_of law.story) (λ conn. hears config conn (heard conn) event) (takes world event)
 unfolding takes
 takes_keeps config heard world (Open node conn) law = open_keeps config heard world node conn (client_at world conn) refl law
 takes_keeps config heard world (Data conn bytes) law = data_keeps config heard world conn bytes law
@@ -47,10 +60,20 @@ takes_keeps config heard world (Start node) law = quiet_event config heard world
 takes_keeps config heard world (Flow count) law = quiet_event config heard world (Flow count) law (λ conn. refl) (λ conn bytes. refl)
 takes_keeps config heard world Heal law = quiet_event config heard world Heal law (λ conn. refl) (λ conn bytes. refl)
 
-pub step_keeps : (config : Config) (heard : ℕ → Heard) (world : World) (event : Event) (law : KeepsLaw config heard world) → KeepsOn config (told_of law.story) (λ conn. hears config conn (heard conn) event) (steps_by world event)
+pub step_keeps : (config : Config) (heard : ℕ → Heard) (world : World) (event : Event) (law : KeepsLaw config heard world)
+    → KeepsOn config (told_of law.story) (λ conn. hears config conn (heard conn) event) (steps_by world event)
 step_keeps config heard world event law =
     let begun = still_kept config heard heard world (stepped world)
-    (record { fronts = λ any. refl; homes = λ any. refl; clients = λ any. refl; ways = λ c front home asks answers way. way; backends = refl; marks = refl; steps = omega arith })
+    (record {
+      fronts = λ any. refl;
+      homes = λ any. refl;
+      clients = λ any. refl;
+      ways = λ c front home asks answers way. way;
+      backends = refl;
+      marks =
+          refl;
+      steps = omega arith;
+    })
     (λ conn. refl) law in
     let done = takes_keeps config heard (stepped world) event begun.law in
     record { law = done.law; more = talks_follow (told_of law.story) (told_of begun.law.story) (told_of done.law.story) begun.more done.more }
@@ -72,17 +95,22 @@ unfolding run_steps heard_from
 at_the_end config heard world law [] back e = record { law = law; more = same_talk (told_of law.story) }
 at_the_end config heard world law (event ∷ front) back e = cc
 
-at_an_event : (config : Config) (heard : ℕ → Heard) (world : World) (law : KeepsLaw config heard world) (event : Event) (events : List Event) (talk : Talk) → TalkGoesOn (told_of law.story) talk
-    → ((front back : List Event) → events ≡ front ++ back → IsKeptAt config talk (λ conn. heard_from config conn (hears config conn (heard conn) event) front) (run_steps (steps_by world event) front))
-    → (front back : List Event) → event ∷ events ≡ front ++ back → IsKeptAt config talk (λ conn. heard_from config conn (heard conn) front) (run_steps world front)
+at_an_event : (config : Config) (heard : ℕ → Heard) (world : World) (law : KeepsLaw config heard world) (event : Event) (events : List Event) (talk : Talk)
+    → TalkGoesOn (told_of law.story) talk
+    → ((front back : List Event) → events ≡ front ++ back
+    → IsKeptAt config talk (λ conn. heard_from config conn (hears config conn (heard conn) event) front) (run_steps (steps_by world event) front))
+    → (front back : List Event) → event ∷ events ≡ front ++ back
+    → IsKeptAt config talk (λ conn. heard_from config conn (heard conn) front) (run_steps world front)
 unfolding run_steps heard_from
 at_an_event config heard world law event events talk more later [] back e = record { law = law; more = more }
 at_an_event config heard world law event events talk more later (first ∷ front) back e =
     let same : event ≡ first = cc in
     let rest : events ≡ front ++ back = cc in
-    subst (λ (x : Event). IsKeptAt config talk (λ conn. heard_from config conn (hears config conn (heard conn) x) front) (run_steps (steps_by world x) front)) same (later front back rest)
+    subst (λ (x : Event). IsKeptAt config talk (λ conn. heard_from config conn (hears config conn (heard conn) x) front) (run_steps (steps_by world x) front))
+    same (later front back rest)
 
-pub run_keeps : (config : Config) (heard : ℕ → Heard) (world : World) (events : List Event) (law : KeepsLaw config heard world) → KeepsAll config (told_of law.story) heard world events
+pub run_keeps : (config : Config) (heard : ℕ → Heard) (world : World) (events : List Event) (law : KeepsLaw config heard world)
+    → KeepsAll config (told_of law.story) heard world events
 run_keeps config heard world [] law = record { talk = told_of law.story; more = same_talk (told_of law.story); at = at_the_end config heard world law }
 run_keeps config heard world (event ∷ events) law =
     let one = step_keeps config heard world event law in

@@ -1,5 +1,6 @@
 -- An answer that comes to the frontend keeps the law: the client is given its reply, and what waited behind the command is taken.
-use Rattle.std.proofs.Common.{◌≡◌, ◌≢◌, ◌⊎◌, ℕ, ◌+◌, ◌≤◌, Bool, true, false, nat_eq, List, [], ◌∷◌, ◌++◌, length, Option, None, Some, refl, sym, ◌∙◌, ap, subst, arith, append_assoc}
+use Rattle.std.proofs.Common.{◌≡◌, ◌≢◌, ◌⊎◌, ℕ, ◌+◌, ◌≤◌, Bool, true, false, nat_eq, List, [], ◌∷◌, ◌++◌, length, Option, None, Some, refl, sym, ◌∙◌, ap, subst}
+use Rattle.std.proofs.Common.{arith, append_assoc}
 use Rattle.std.specs.Ordering.{nat_cmp}
 use Rattle.std.specs.Cmp.Lexicographic.{slice_cmp}
 use Rattle.std.proofs.lemmas.Bool.Decides.{nat_tests}
@@ -61,11 +62,15 @@ told_goes_on story conn answer = record {
 }
 
 -- the connection reads again behind the reply
-replied_reads : (setting : Setting) (front home : List ℕ) (backend : Backend) (conn : ℕ) (all passed : List Frame) (bytes : List ℕ) (connection : Connection) (tag : Tag) (reply : Reply) (world : World) (story : Story)
-    → all ≡ passed ++ Whole bytes ∷ connection.waiting → connection.answered ≡ length (story.told conn) → client_at world conn ≡ Some (client_with front all (story.told conn))
-    → connection.session ≡ story.course.sessions conn → AreAnswered passed (story.told conn) → story.talk.answers conn ≡ story.told conn ++ (record { tag = tag; reply = reply }) ∷ []
+replied_reads : (setting : Setting) (front home : List ℕ) (backend : Backend) (conn : ℕ) (all passed : List Frame) (bytes : List ℕ) (connection : Connection)
+    (tag : Tag) (reply : Reply) (world : World) (story : Story)
+    → all ≡ passed ++ Whole bytes ∷ connection.waiting → connection.answered ≡ length (story.told conn)
+    → client_at world conn ≡ Some (client_with front all (story.told conn))
+    → connection.session ≡ story.course.sessions conn → AreAnswered passed (story.told conn)
+    → story.talk.answers conn ≡ story.told conn ++ (record { tag = tag; reply = reply }) ∷ []
     → AreOnWay world.links conn front home [] [] → IsTold setting world.steps world.marks backend story.talk story.course
-    → ReadsOn setting front home backend conn (passed ++ Whole bytes ∷ []) (reading_again connection) world story (carry_all front world (to_client conn (reply_text tag reply) ∷ []))
+    → ReadsOn setting front home backend conn (passed ++ Whole bytes ∷ []) (reading_again connection) world story
+    (carry_all front world (to_client conn (reply_text tag reply) ∷ []))
 replied_reads setting front home backend conn all passed bytes connection tag reply world story parts count at session answered said way told =
     let answer : AnswerOf = record { tag = tag; reply = reply } in
     let client : Client = client_with front all (story.told conn) in
@@ -74,7 +79,8 @@ replied_reads setting front home backend conn all passed bytes connection tag re
     let now : Story = told_more story conn answer in
     let stops : replies_to all (story.told conn) ≡ replies_to passed (story.told conn) =
     ap (λ f. replies_to f (story.told conn)) parts ∙ sym (replies_stop passed (story.told conn) bytes connection.waiting answered) in
-    subst (λ w. ReadsOn setting front home backend conn (passed ++ Whole bytes ∷ []) (reading_again connection) world story w) (sym (line_carried front world conn client text at))
+    subst (λ w. ReadsOn setting front home backend conn (passed ++ Whole bytes ∷ []) (reading_again connection) world story w)
+    (sym (line_carried front world conn client text at))
     (record {
       story = now;
       made = record {
@@ -92,7 +98,8 @@ replied_reads setting front home backend conn all passed bytes connection tag re
         client = value_at-with_value nat_cmp numbers_apart world.clients conn (record client { given = client.given ++ text }) client at
             ∙ ap (λ g. Some (record { at = front; given = g }))
             (append_assoc greeting (replies_to all (story.told conn)) text ∙ ap (λ t. greeting ++ (t ++ text)) stops
-            ∙ ap (λ t. greeting ++ t) (sym grown.text_is) ∙ ap (λ a. greeting ++ replies_to (passed ++ Whole bytes ∷ []) a) (sym (with_item-same story.told conn answer)));
+            ∙ ap (λ t. greeting ++ t) (sym grown.text_is)
+            ∙ ap (λ a. greeting ++ replies_to (passed ++ Whole bytes ∷ []) a) (sym (with_item-same story.told conn answer)));
         way = way;
       };
     })
@@ -102,33 +109,44 @@ replied_turn setting home conn connection tag reply =
     behind_outs (to_client conn (reply_text tag reply) ∷ []) (frames_come setting home conn (reading_again connection) connection.waiting)
 
 -- and what waited comes
-pub replied_stands : (setting : Setting) (front home : List ℕ) (backend : Backend) (conn : ℕ) (all passed : List Frame) (held : Option (List ℕ)) (bytes : List ℕ) (connection : Connection) (tag : Tag) (reply : Reply) (world : World) (story : Story)
-    → all ≡ passed ++ Whole bytes ∷ connection.waiting → connection.answered ≡ length (story.told conn) → client_at world conn ≡ Some (client_with front all (story.told conn))
-    → connection.session ≡ story.course.sessions conn → AreAnswered passed (story.told conn) → story.talk.answers conn ≡ story.told conn ++ (record { tag = tag; reply = reply }) ∷ []
+pub replied_stands : (setting : Setting) (front home : List ℕ) (backend : Backend) (conn : ℕ) (all passed : List Frame) (held : Option (List ℕ))
+    (bytes : List ℕ) (connection : Connection) (tag : Tag) (reply : Reply) (world : World) (story : Story)
+    → all ≡ passed ++ Whole bytes ∷ connection.waiting → connection.answered ≡ length (story.told conn)
+    → client_at world conn ≡ Some (client_with front all (story.told conn))
+    → connection.session ≡ story.course.sessions conn → AreAnswered passed (story.told conn)
+    → story.talk.answers conn ≡ story.told conn ++ (record { tag = tag; reply = reply }) ∷ []
     → AreOnWay world.links conn front home [] [] → IsTold setting world.steps world.marks backend story.talk story.course
     → FaultsLast connection.waiting held → story.talk.requests conn ≡ requests_of all
-    → StandsOn setting front home backend conn all held (replied_turn setting home conn connection tag reply).connection world story (carry_all front world (replied_turn setting home conn connection tag reply).outs)
+    → StandsOn setting front home backend conn all held (replied_turn setting home conn connection tag reply).connection world story
+    (carry_all front world (replied_turn setting home conn connection tag reply).outs)
 replied_stands setting front home backend conn all passed held bytes connection tag reply world story parts count at session answered said way told last asked =
     let turned : Turned = frames_come setting home conn (reading_again connection) connection.waiting in
     let whole : all ≡ (passed ++ Whole bytes ∷ []) ++ connection.waiting = parts ∙ sym (append_assoc passed (Whole bytes ∷ []) connection.waiting) in
-    subst (λ w. StandsOn setting front home backend conn all held turned.connection world story w) (sym (carry_all-append front world (to_client conn (reply_text tag reply) ∷ []) turned.outs))
-    (subst (λ f. StandsOn setting front home backend conn f held turned.connection world story (carry_all front (carry_all front world (to_client conn (reply_text tag reply) ∷ [])) turned.outs)) (sym whole)
-    (frames_kept setting front home backend conn connection.waiting held world story last (passed ++ Whole bytes ∷ []) (reading_again connection) (carry_all front world (to_client conn (reply_text tag reply) ∷ []))
+    subst (λ w. StandsOn setting front home backend conn all held turned.connection world story w)
+    (sym (carry_all-append front world (to_client conn (reply_text tag reply) ∷ []) turned.outs))
+    (subst (λ f. StandsOn setting front home backend conn f held turned.connection world story
+    (carry_all front (carry_all front world (to_client conn (reply_text tag reply) ∷ [])) turned.outs)) (sym whole)
+    (frames_kept setting front home backend conn connection.waiting held world story last (passed ++ Whole bytes ∷ []) (reading_again connection)
+    (carry_all front world (to_client conn (reply_text tag reply) ∷ []))
     (asked ∙ ap requests_of whole)
     (replied_reads setting front home backend conn all passed bytes connection tag reply world story parts count at session answered said way told)))
 
 -- the answer that fits is replied to
-pub fits : (setting : Setting) (home : List ℕ) (conn : ℕ) (connection : Connection) (tag : Tag) (work : Work) (body : AnswerBody) (reply : Reply) → connection.stage ≡ Asked tag (awaited_of work)
+pub fits : (setting : Setting) (home : List ℕ) (conn : ℕ) (connection : Connection) (tag : Tag) (work : Work) (body : AnswerBody) (reply : Reply)
+    → connection.stage ≡ Asked tag (awaited_of work)
     → reply_shown (awaited_of work) body ≡ Some reply
-    → answer_comes setting home conn connection (record { id = record { conn = conn; command = connection.answered + 1 }; body = body }) ≡ replied_turn setting home conn connection tag reply
+    → answer_comes setting home conn connection
+    (record { id = record { conn = conn; command = connection.answered + 1 }; body = body }) ≡ replied_turn setting home conn connection tag reply
 unfolding answer_comes answer_by replied
 fits setting home conn connection tag work body reply stage shown =
     let same : nat_eq (connection.answered + 1) (connection.answered + 1) ≡ true = grind (arith, nat_tests) in
-    ap (λ b. answer_by setting home conn connection (record { id = record { conn = conn; command = connection.answered + 1 }; body = body }) b connection.stage) same
+    ap (λ b. answer_by setting home conn connection
+    (record { id = record { conn = conn; command = connection.answered + 1 }; body = body }) b connection.stage) same
     ∙ ap (answer_by setting home conn connection (record { id = record { conn = conn; command = connection.answered + 1 }; body = body }) true) stage
     ∙ ap (replied setting home conn connection tag) shown
 
-ended_by : (setting : Setting) (home : List ℕ) (conn : ℕ) (connection : Connection) (answer : BackAnswer) (fits : Bool) → answer_by setting home conn connection answer fits Ended ≡ unchanged connection
+ended_by : (setting : Setting) (home : List ℕ) (conn : ℕ) (connection : Connection) (answer : BackAnswer) (fits : Bool)
+    → answer_by setting home conn connection answer fits Ended ≡ unchanged connection
 unfolding answer_by
 ended_by setting home conn connection answer true = refl
 ended_by setting home conn connection answer false = refl
@@ -138,4 +156,5 @@ pub ended_drops_answer : (setting : Setting) (home : List ℕ) (conn : ℕ) (con
     → answer_comes setting home conn connection answer ≡ unchanged connection
 unfolding answer_comes
 ended_drops_answer setting home conn connection answer stage =
-    ap (answer_by setting home conn connection answer (nat_eq (answer.id).command (connection.answered + 1))) stage ∙ ended_by setting home conn connection answer _
+    ap (answer_by setting home conn connection answer (nat_eq (answer.id).command (connection.answered + 1))) stage
+    ∙ ended_by setting home conn connection answer _

@@ -61,19 +61,28 @@ answered_world world front home backend ask body counts = record world {
 }
 
 pub answers_so : (world : World) (front home : List ℕ) (backend : Backend) (ask : FrontAsk) (body : AnswerBody) → (home_step backend ask).body ≡ Some body
-    → with_home (taken world front home) home (plan_of backend (FromFront front ask)) ≡ answered_world world front home (home_step backend ask).home ask body (home_step backend ask).counts
+    → with_home (taken world front home) home (plan_of backend (FromFront front ask)) ≡ answered_world world front home (home_step backend ask).home ask body
+    (home_step backend ask).counts
 unfolding plan_of answer_outs carry_all carry
 answers_so world front home backend ask body e =
-    ap (λ b. carry_all home (record (taken world front home) { homes = with_value (slice_cmp nat_cmp) world.homes home (home_step backend ask).home }) (answer_outs front ask.id (home_step backend ask).counts b)) e
+    ap (λ b. carry_all home (record (taken world front home) { homes = with_value (slice_cmp nat_cmp) world.homes home (home_step backend ask).home })
+    (answer_outs front ask.id (home_step backend ask).counts b)) e
 
 -- a command that asks for work at a mailbox, as the store carries it out
-carried_as : (setting : Setting) (course : Course) (conn : ℕ) (tag : Tag) (it : Command) (name : List ℕ) (work : Work) (serial : ℕ) → need_of setting (course.sessions conn) it ≡ Mailbox name work
+carried_as : (setting : Setting) (course : Course) (conn : ℕ) (tag : Tag) (it : Command) (name : List ℕ) (work : Work) (serial : ℕ)
+    → need_of setting (course.sessions conn) it ≡ Mailbox name work
     → carried_out setting course conn (a_command tag it) serial
-    ≡ record { store = store_after course.store name (worked_at course.store name work serial).left; session = course.sessions conn; answer = record { tag = tag; reply = (worked_at course.store name work serial).reply } }
+    ≡ record {
+      store = store_after course.store name (worked_at course.store name work serial).left;
+      session = course.sessions conn;
+      answer =
+          record { tag = tag; reply = (worked_at course.store name work serial).reply };
+    }
 unfolding answer_of act_of act_by
 carried_as setting course conn tag it name work serial need = rw need refl
 
-may_take : (setting : Setting) (course : Course) (conn : ℕ) (tag : Tag) (it : Command) (name : List ℕ) (work : Work) (serial : ℕ) → need_of setting (course.sessions conn) it ≡ Mailbox name work
+may_take : (setting : Setting) (course : Course) (conn : ℕ) (tag : Tag) (it : Command) (name : List ℕ) (work : Work) (serial : ℕ)
+    → need_of setting (course.sessions conn) it ≡ Mailbox name work
     → MayAct course.store serial (Mailbox name work) → MayTake setting course.store (course.sessions conn) (a_command tag it) serial
 unfolding MayTake
 may_take setting course conn tag it name work serial need free = subst (λ n. MayAct course.store serial n) (sym need) free
@@ -84,32 +93,38 @@ same_sessions sessions conn session e = fun_ext (λ other. ⊎_elim
     (λ (ne : other ≢ conn). session_of_other sessions conn session other ne)
     (cases_eq other conn))
 
-unchanged_course : (setting : Setting) (course : Course) (conn : ℕ) (tag : Tag) (it : Command) (name : List ℕ) (work : Work) (serial : ℕ) → need_of setting (course.sessions conn) it ≡ Mailbox name work
+unchanged_course : (setting : Setting) (course : Course) (conn : ℕ) (tag : Tag) (it : Command) (name : List ℕ) (work : Work) (serial : ℕ)
+    → need_of setting (course.sessions conn) it ≡ Mailbox name work
     → (worked_at course.store name work serial).left ≡ kept → next_course setting course conn (a_command tag it) serial ≡ course
 unfolding store_after
 unchanged_course setting course conn tag it name work serial need left =
     let out = carried_as setting course conn tag it name work serial need in
-    let store : (carried_out setting course conn (a_command tag it) serial).store ≡ course.store = ap (λ (a : Answered). a.store) out ∙ ap (store_after course.store name) left in
+    let store : (carried_out setting course conn (a_command tag it) serial).store ≡ course.store = ap (λ (a : Answered). a.store) out
+    ∙ ap (store_after course.store name) left in
     let sessions : with_session course.sessions conn (carried_out setting course conn (a_command tag it) serial).session ≡ course.sessions =
     same_sessions course.sessions conn _ (ap (λ (a : Answered). a.session) out) in
     λ i. record { store = store i; sessions = sessions i }
 
 -- what the home's step is
-pub record IsAnswered (config : Config) (heard : ℕ → Heard) (world : World) (law : KeepsLaw config heard world) (conn : ℕ) (front : List ℕ) (connection : Connection) (tag : Tag) (work : Work) (ask : FrontAsk) : Type 0 where
+pub record IsAnswered (config : Config) (heard : ℕ → Heard) (world : World) (law : KeepsLaw config heard world) (conn : ℕ) (front : List ℕ)
+    (connection : Connection) (tag : Tag) (work : Work) (ask : FrontAsk) : Type 0 where
   pub body : AnswerBody
   pub reply : AnswerOf
   pub serial : ℕ
   pub backend : Backend
   pub counts : Counts
   pub course : Course
-  pub world_is : with_home (taken world front (home_of config)) (home_of config) (plan_of law.backend (FromFront front ask)) ≡ answered_world world front (home_of config) backend ask body counts
-  pub is_told : IsTold (setting_of config) world.steps (world.marks ++ (record { step = world.steps; ask = ask.id; counts = counts }) ∷ []) backend (having_said law.story.talk conn reply serial) course
+  pub world_is : with_home (taken world front (home_of config)) (home_of config) (plan_of law.backend (FromFront front ask)) ≡ answered_world world front
+      (home_of config) backend ask body counts
+  pub is_told : IsTold (setting_of config) world.steps (world.marks ++ (record { step = world.steps; ask = ask.id; counts = counts }) ∷ []) backend
+      (having_said law.story.talk conn reply serial) course
   pub others : (other : ℕ) → other ≢ conn → course.sessions other ≡ law.story.course.sessions other
   pub mine : course.sessions conn ≡ law.story.course.sessions conn
   pub shown : reply_shown (awaited_of work) body ≡ Some reply.reply
   pub tagged : reply.tag ≡ tag
 
-pub answers_ask : (config : Config) (heard : ℕ → Heard) (world : World) (law : KeepsLaw config heard world) (conn : ℕ) (front : List ℕ) (connection : Connection) (tag : Tag) (it : Command) (name : List ℕ) (work : Work) (ask : FrontAsk)
+pub answers_ask : (config : Config) (heard : ℕ → Heard) (world : World) (law : KeepsLaw config heard world) (conn : ℕ) (front : List ℕ)
+    (connection : Connection) (tag : Tag) (it : Command) (name : List ℕ) (work : Work) (ask : FrontAsk)
     → ask ≡ ask_for conn connection name work → connection.answered ≡ length (law.story.talk.answers conn)
     → numbered (law.story.talk.requests conn) (length (law.story.talk.answers conn) + 1) ≡ Some (a_command tag it)
     → need_of (setting_of config) (law.story.course.sessions conn) it ≡ Mailbox name work
@@ -124,7 +139,8 @@ answers_ask config heard world law conn front connection tag it name work ask is
     let serves = subst (λ a. ServesAlike course.store backend name work (worked_at course.store name work serial) (home_step backend a)) (sym same_ask)
     (serves_alike course.store backend id (user_of connection.session) name work law.is_told.same) in
     let out = carried_as (setting_of config) course conn tag it name work serial need in
-    let mark_is : record { conn = conn; command = length (law.story.talk.answers conn) + 1 } ≡ ask.id = ap (λ n. record { conn = conn; command = n + 1 }) (sym count) ∙ sym (ap (λ (a : FrontAsk). a.id) is) in
+    let mark_is : record { conn = conn; command = length (law.story.talk.answers conn) + 1 } ≡ ask.id =
+    ap (λ n. record { conn = conn; command = n + 1 }) (sym count) ∙ sym (ap (λ (a : FrontAsk). a.id) is) in
     record {
       body = serves.body;
       reply = (carried_out (setting_of config) course conn (a_command tag it) serial).answer;
@@ -133,9 +149,12 @@ answers_ask config heard world law conn front connection tag it name work ask is
       counts = (home_step backend ask).counts;
       course = next_course (setting_of config) course conn (a_command tag it) serial;
       world_is = answers_so world front (home_of config) backend ask serves.body serves.is_body;
-      is_told = subst (λ a. IsTold (setting_of config) world.steps (world.marks ++ (record { step = world.steps; ask = a; counts = (home_step backend ask).counts }) ∷ []) (home_step backend ask).home
-          (having_said law.story.talk conn (carried_out (setting_of config) course conn (a_command tag it) serial).answer serial) (next_course (setting_of config) course conn (a_command tag it) serial)) mark_is
-          (told_push (setting_of config) world.steps world.marks backend (home_step backend ask).home law.story.talk course conn (a_command tag it) serial (home_step backend ask).counts
+      is_told = subst (λ a. IsTold (setting_of config) world.steps
+          (world.marks ++ (record { step = world.steps; ask = a; counts = (home_step backend ask).counts }) ∷ []) (home_step backend ask).home
+          (having_said law.story.talk conn (carried_out (setting_of config) course conn (a_command tag it) serial).answer serial)
+          (next_course (setting_of config) course conn (a_command tag it) serial)) mark_is
+          (told_push (setting_of config) world.steps world.marks backend (home_step backend ask).home law.story.talk course conn (a_command tag it) serial
+          (home_step backend ask).counts
           asked (may_take (setting_of config) course conn tag it name work serial need serves.free)
           (λ h. unchanged_course (setting_of config) course conn tag it name work serial need (serves.unless h))
           (subst (λ s. IsStoreOf s (home_step backend ask).home) (sym (ap (λ (a : Answered). a.store) out)) serves.still) law.is_told);
@@ -146,22 +165,26 @@ answers_ask config heard world law conn front connection tag it name work ask is
     }
 
 -- the nodes with another state of the home
-nodes_with_home : (config : Config) (world next : World) (backend later : Backend) → next.fronts ≡ world.fronts → next.homes ≡ with_value (slice_cmp nat_cmp) world.homes (home_of config) later → next.backends ≡ world.backends
+nodes_with_home : (config : Config) (world next : World) (backend later : Backend) → next.fronts ≡ world.fronts
+    → next.homes ≡ with_value (slice_cmp nat_cmp) world.homes (home_of config) later → next.backends ≡ world.backends
     → AreNodesOf config world backend → AreNodesOf config next later
 nodes_with_home config world next backend later fronts homes backends nodes =
     let here : (any : List ℕ) → front_at next any ≡ front_at world any = λ any. ap (λ f. value_at (slice_cmp nat_cmp) f any) fronts in
     record {
       home_no_front = here (home_of config) ∙ nodes.home_no_front;
-      home_is = ap (λ h. value_at (slice_cmp nat_cmp) h (home_of config)) homes ∙ value_at-with_value (slice_cmp nat_cmp) names_apart world.homes (home_of config) later backend nodes.home_is;
+      home_is = ap (λ h. value_at (slice_cmp nat_cmp) h (home_of config)) homes
+          ∙ value_at-with_value (slice_cmp nat_cmp) names_apart world.homes (home_of config) later backend nodes.home_is;
       fronts = λ node front at. nodes.fronts node front (sym (here node) ∙ at);
       frontends = λ node. ap is_some (here node) ∙ nodes.frontends node;
       other_homes = λ node other ne at. nodes.other_homes node other ne
-          (sym (value_at-with_value-other (slice_cmp nat_cmp) names_apart world.homes (home_of config) node later ne) ∙ sym (ap (λ h. value_at (slice_cmp nat_cmp) h node) homes) ∙ at);
+          (sym (value_at-with_value-other (slice_cmp nat_cmp) names_apart world.homes (home_of config) node later ne)
+          ∙ sym (ap (λ h. value_at (slice_cmp nat_cmp) h node) homes) ∙ at);
       backends = backends ∙ nodes.backends;
     }
 
 -- the home answers the ask of a connection, which is then so
-pub ask_kept : (config : Config) (heard after : ℕ → Heard) (world : World) (law : KeepsLaw config heard world) (conn : ℕ) (front : List ℕ) (connection : Connection) (tag : Tag) (work : Work) (ask : FrontAsk) (rest : List LinkMsg)
+pub ask_kept : (config : Config) (heard after : ℕ → Heard) (world : World) (law : KeepsLaw config heard world) (conn : ℕ) (front : List ℕ)
+    (connection : Connection) (tag : Tag) (work : Work) (ask : FrontAsk) (rest : List LinkMsg)
     (answered : IsAnswered config heard world law conn front connection tag work ask)
     → (ask.id).conn ≡ conn → on_link world.links front (home_of config) ≡ Ask ask ∷ rest → ((other : ℕ) → after other ≡ heard other)
     → ConnectionIs (setting_of config) (home_of config) conn (answered_world world front (home_of config) answered.backend ask answered.body answered.counts)
@@ -185,9 +208,11 @@ ask_kept config heard after world law conn front connection tag work ask rest an
               fronts = λ node. same_front other (front_at world node) (front_at next node) refl;
               client = refl;
               ways = λ f h asks answers way.
-                  sent_for_another (without_first world.links front (home_of config)) other f h (home_of config) front (Answer (record { id = ask.id; body = answered.body })) asks answers
+                  sent_for_another (without_first world.links front (home_of config)) other f h (home_of config) front
+                  (Answer (record { id = ask.id; body = answered.body })) asks answers
                   (answer_of_another other (record { id = ask.id; body = answered.body }) (λ e. ne (sym e ∙ own)))
-                  (taken_for_another world.links other f h front (home_of config) (Ask ask) rest asks answers first (ask_of_another other ask (λ e. ne (sym e ∙ own))) way);
+                  (taken_for_another world.links other f h front (home_of config) (Ask ask) rest asks answers first
+                  (ask_of_another other ask (λ e. ne (sym e ∙ own))) way);
               told = refl;
               said = with_item-other law.story.talk.answers conn answered.reply other ne;
               session = answered.others other ne;

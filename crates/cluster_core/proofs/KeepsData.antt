@@ -1,5 +1,6 @@
 -- Bytes of a client keep the law.
-use Rattle.std.proofs.Common.{◌≡◌, ◌≢◌, ◌⊎◌, ℕ, ◌+◌, ◌≤◌, Bool, true, false, nat_eq, List, [], ◌∷◌, ◌++◌, length, Option, None, Some, refl, sym, ◌∙◌, ap, subst, arith, append_assoc}
+use Rattle.std.proofs.Common.{◌≡◌, ◌≢◌, ◌⊎◌, ℕ, ◌+◌, ◌≤◌, Bool, true, false, nat_eq, List, [], ◌∷◌, ◌++◌, length, Option, None, Some, refl, sym, ◌∙◌, ap, subst}
+use Rattle.std.proofs.Common.{arith, append_assoc}
 use Rattle.std.specs.Ordering.{nat_cmp}
 use Rattle.std.specs.Cmp.Lexicographic.{slice_cmp}
 use Rattle.std.proofs.Math.Logic.{⊎_elim}
@@ -45,7 +46,8 @@ use Rattle.cluster_core.specs.declared.world.Client.{Client}
 use Rattle.cluster_core.specs.declared.world.World.{World}
 use Rattle.cluster_core.specs.Heard.{Heard, nobody, elsewhere, client, hears, frames_heard}
 use Rattle.cluster_core.specs.World.{client_at, front_at, home_of, setting_of, with_front, bytes_at, bytes_from, carry_all}
-use Rattle.cluster_core.proofs.ConnectionLaw.{Story, told_of, client_with, keeps_all, same_story, OnItsWay, Stands, IsReading, IsStanding, IsMade, ReadsOn, StandsOn}
+use Rattle.cluster_core.proofs.ConnectionLaw.{Story, told_of, client_with, keeps_all, same_story, OnItsWay, Stands, IsReading, IsStanding, IsMade, ReadsOn}
+use Rattle.cluster_core.proofs.ConnectionLaw.{StandsOn}
 use Rattle.cluster_core.proofs.ConnectionLaw.OnItsWay.{there, back}
 use Rattle.cluster_core.proofs.ConnectionLaw.Stands.{reads, waits, faulted}
 use Rattle.cluster_core.proofs.FrameLaw.{frames_kept, asked_waits}
@@ -81,7 +83,8 @@ looks_put world node front at = record {
   steps = omega arith;
 }
 
-pub frames_keep_reader : (setting : Setting) (home : List ℕ) (conn : ℕ) (connection : Connection) (new : List Frame) → (frames_come setting home conn connection new).connection.reader ≡ connection.reader
+pub frames_keep_reader : (setting : Setting) (home : List ℕ) (conn : ℕ) (connection : Connection) (new : List Frame)
+    → (frames_come setting home conn connection new).connection.reader ≡ connection.reader
 unfolding frames_come
 frames_keep_reader setting home conn connection [] = refl
 frames_keep_reader setting home conn connection (frame ∷ new) =
@@ -97,7 +100,8 @@ other_heard config conn other bytes elsewhere ne = refl
 other_heard config conn other bytes (client b true) ne = refl
 other_heard config conn other bytes (client b false) ne = let apart : nat_eq other conn ≡ false = grind (arith, nat_tests) in rw apart refl
 
-heard_more : (config : Config) (conn : ℕ) (bytes more : List ℕ) (heard : Heard) → heard ≡ client bytes false → hears config conn heard (Data conn more) ≡ client (bytes ++ more) false
+heard_more : (config : Config) (conn : ℕ) (bytes more : List ℕ) (heard : Heard) → heard ≡ client bytes false
+    → hears config conn heard (Data conn more) ≡ client (bytes ++ more) false
 unfolding hears
 heard_more config conn bytes more heard e = let same : nat_eq conn conn ≡ true = grind (arith, nat_tests) in rw (e, same) refl
 
@@ -116,16 +120,20 @@ record IsLonger (requests longer : List Request) : Type 0 where
   rest : List Request
   parts : longer ≡ requests ++ rest
 
-longer_here : (config : Config) (heard : ℕ → Heard) (conn : ℕ) (bytes more : List ℕ) (held : Option (List ℕ)) → heard conn ≡ client bytes false → begun bytes ≡ held
-    → (requests : List Request) → requests ≡ requests_of (frames_heard (heard conn)) → IsLonger requests (requests_of (frames_heard (hears config conn (heard conn) (Data conn more))))
+longer_here : (config : Config) (heard : ℕ → Heard) (conn : ℕ) (bytes more : List ℕ) (held : Option (List ℕ)) → heard conn ≡ client bytes false
+    → begun bytes ≡ held
+    → (requests : List Request) → requests ≡ requests_of (frames_heard (heard conn))
+    → IsLonger requests (requests_of (frames_heard (hears config conn (heard conn) (Data conn more))))
 unfolding frames_heard
 longer_here config heard conn bytes more held e is requests r = record {
   rest = requests_of (frames_of_more held more);
   parts = ap (λ h. requests_of (frames_heard h)) (heard_more config conn bytes more (heard conn) e) ∙ ap requests_of (frames_with_more bytes more held is)
-      ∙ requests-append (frames bytes) (frames_of_more held more) ∙ ap (λ q. q ++ requests_of (frames_of_more held more)) (ap (λ h. requests_of (frames_heard h)) (sym e) ∙ sym r);
+      ∙ requests-append (frames bytes) (frames_of_more held more)
+      ∙ ap (λ q. q ++ requests_of (frames_of_more held more)) (ap (λ h. requests_of (frames_heard h)) (sym e) ∙ sym r);
 }
 
-longer_other : (config : Config) (heard : ℕ → Heard) (conn other : ℕ) (more : List ℕ) → other ≢ conn → (requests : List Request) → requests ≡ requests_of (frames_heard (heard other))
+longer_other : (config : Config) (heard : ℕ → Heard) (conn other : ℕ) (more : List ℕ) → other ≢ conn → (requests : List Request)
+    → requests ≡ requests_of (frames_heard (heard other))
     → IsLonger requests (requests_of (frames_heard (hears config other (heard other) (Data conn more))))
 longer_other config heard conn other more ne requests r = record {
   rest = [];
@@ -134,12 +142,18 @@ longer_other config heard conn other more ne requests r = record {
 
 abbrev asked_talk : Config → (ℕ → Heard) → ℕ → List ℕ → Story → Story
 asked_talk config heard conn more story = record {
-  talk = record { requests = λ other. requests_of (frames_heard (hears config other (heard other) (Data conn more))); answers = story.talk.answers; serials = story.talk.serials };
+  talk = record {
+    requests = λ other. requests_of (frames_heard (hears config other (heard other) (Data conn more)));
+    answers = story.talk.answers;
+    serials =
+        story.talk.serials;
+  };
   told = story.told;
   course = story.course;
 }
 
-asked_more : (config : Config) (heard : ℕ → Heard) (conn : ℕ) (bytes more : List ℕ) (held : Option (List ℕ)) → heard conn ≡ client bytes false → begun bytes ≡ held
+asked_more : (config : Config) (heard : ℕ → Heard) (conn : ℕ) (bytes more : List ℕ) (held : Option (List ℕ)) → heard conn ≡ client bytes false
+    → begun bytes ≡ held
     → (requests : ℕ → List Request) → ((c : ℕ) → requests c ≡ requests_of (frames_heard (heard c)))
     → GoesOn requests (λ other. requests_of (frames_heard (hears config other (heard other) (Data conn more))))
 asked_more config heard conn bytes more held e is requests r = record {
@@ -154,7 +168,8 @@ asked_more config heard conn bytes more held e is requests r = record {
         (λ (ne : other ≢ conn). longer_other config heard conn other more ne (requests other) (r other))
         (cases_eq other conn)
 
-faults_behind : (front new : List Frame) (held later : Option (List ℕ)) → FaultsLast front held → FaultsLast new later → (held ≡ None → (new ≡ []) × (later ≡ None)) → FaultsLast (front ++ new) later
+faults_behind : (front new : List Frame) (held later : Option (List ℕ)) → FaultsLast front held → FaultsLast new later
+    → (held ≡ None → (new ≡ []) × (later ≡ None)) → FaultsLast (front ++ new) later
 unfolding FaultsLast
 faults_behind [] new held later one two none = two
 faults_behind (Whole bytes ∷ front) new held later one two none = faults_behind front new held later one two none
@@ -163,34 +178,43 @@ faults_behind (NeedLiteral size ∷ front) new held later one two none = faults_
 faults_behind (Fault fault ∷ front) new held later one two none =
     let is = none one.1 in (ap (λ f. f ++ new) one.0 ∙ is.0, is.1)
 
-abbrev Behind : (config : Config) (heard : ℕ → Heard) (world : World) (law : KeepsLaw config heard world) (conn : ℕ) (bytes more node : List ℕ) (connection : Connection) → Type 0
+abbrev Behind : (config : Config) (heard : ℕ → Heard) (world : World) (law : KeepsLaw config heard world) (conn : ℕ) (bytes more node : List ℕ)
+    (connection : Connection) → Type 0
 Behind config heard world law conn bytes more node connection =
     StandsOn (setting_of config) node (home_of config) law.backend conn (frames (bytes ++ more)) (begun (bytes ++ more))
-    (frames_come (setting_of config) (home_of config) conn (having_read connection more) (frames_of_more connection.reader more)).connection world (asked_talk config heard conn more law.story)
+    (frames_come (setting_of config) (home_of config) conn (having_read connection more) (frames_of_more connection.reader more)).connection world
+    (asked_talk config heard conn more law.story)
     (carry_all node world (frames_come (setting_of config) (home_of config) conn (having_read connection more) (frames_of_more connection.reader more)).outs)
 
-now_told : (config : Config) (heard : ℕ → Heard) (world : World) (law : KeepsLaw config heard world) (conn : ℕ) (bytes more : List ℕ) (held : Option (List ℕ)) → heard conn ≡ client bytes false → begun bytes ≡ held
+now_told : (config : Config) (heard : ℕ → Heard) (world : World) (law : KeepsLaw config heard world) (conn : ℕ) (bytes more : List ℕ) (held : Option (List ℕ))
+    → heard conn ≡ client bytes false → begun bytes ≡ held
     → IsTold (setting_of config) world.steps world.marks law.backend (asked_talk config heard conn more law.story).talk law.story.course
 now_told config heard world law conn bytes more held e is =
     told_asked (setting_of config) world.steps world.marks law.backend law.story.talk law.story.course _
     (asked_more config heard conn bytes more held e is law.story.talk.requests law.requests) law.is_told
 
-all_frames : (config : Config) (heard : ℕ → Heard) (conn : ℕ) (bytes more : List ℕ) (held : Option (List ℕ)) → heard conn ≡ client bytes false → begun bytes ≡ held
+all_frames : (config : Config) (heard : ℕ → Heard) (conn : ℕ) (bytes more : List ℕ) (held : Option (List ℕ)) → heard conn ≡ client bytes false
+    → begun bytes ≡ held
     → requests_of (frames_heard (hears config conn (heard conn) (Data conn more))) ≡ requests_of (frames bytes ++ frames_of_more held more)
 unfolding frames_heard
 all_frames config heard conn bytes more held e is =
     ap (λ h. requests_of (frames_heard h)) (heard_more config conn bytes more (heard conn) e) ∙ ap requests_of (frames_with_more bytes more held is)
 
-reading_behind : (config : Config) (heard : ℕ → Heard) (world : World) (law : KeepsLaw config heard world) (conn : ℕ) (bytes more node : List ℕ) (connection : Connection) → heard conn ≡ client bytes false
-    → connection.reader ≡ begun bytes → IsReading node (home_of config) conn (frames bytes) connection world law.story → Behind config heard world law conn bytes more node connection
+reading_behind : (config : Config) (heard : ℕ → Heard) (world : World) (law : KeepsLaw config heard world) (conn : ℕ) (bytes more node : List ℕ)
+    (connection : Connection) → heard conn ≡ client bytes false
+    → connection.reader ≡ begun bytes → IsReading node (home_of config) conn (frames bytes) connection world law.story
+    → Behind config heard world law conn bytes more node connection
 reading_behind config heard world law conn bytes more node connection e reader reading =
     let held : begun bytes ≡ connection.reader = sym reader in
     let told : Story = asked_talk config heard conn more law.story in
     let new : List Frame = frames_of_more connection.reader more in
     let turned : Turned = frames_come (setting_of config) (home_of config) conn (having_read connection more) new in
-    subst (λ f. StandsOn (setting_of config) node (home_of config) law.backend conn f (begun (bytes ++ more)) turned.connection world told (carry_all node world turned.outs)) (sym (frames_with_more bytes more connection.reader held))
-    (subst (λ h. StandsOn (setting_of config) node (home_of config) law.backend conn (frames bytes ++ new) h turned.connection world told (carry_all node world turned.outs)) (sym (begun_with_more bytes more connection.reader held))
-    (frames_kept (setting_of config) node (home_of config) law.backend conn new (begun_by_more connection.reader more) world told (faults_last bytes more connection.reader held)
+    subst (λ f. StandsOn (setting_of config) node (home_of config) law.backend conn f (begun (bytes ++ more)) turned.connection world told
+    (carry_all node world turned.outs)) (sym (frames_with_more bytes more connection.reader held))
+    (subst (λ h. StandsOn (setting_of config) node (home_of config) law.backend conn (frames bytes ++ new) h turned.connection world told
+    (carry_all node world turned.outs)) (sym (begun_with_more bytes more connection.reader held))
+    (frames_kept (setting_of config) node (home_of config) law.backend conn new (begun_by_more connection.reader more) world told
+    (faults_last bytes more connection.reader held)
     (frames bytes) (having_read connection more) world (all_frames config heard conn bytes more connection.reader e held)
     (record {
       story = told;
@@ -212,23 +236,30 @@ reading_behind config heard world law conn bytes more node connection e reader r
     })))
 
 -- the frames of more bytes wait behind a command that waits
-waiting_behind : (config : Config) (heard : ℕ → Heard) (world : World) (law : KeepsLaw config heard world) (conn : ℕ) (bytes more node : List ℕ) (connection : Connection) (passed : List Frame) (asking : List ℕ)
-    (tag : Tag) (it : Command) (name : List ℕ) (work : Work) → heard conn ≡ client bytes false → connection.reader ≡ begun bytes → connection.answered ≡ length (law.story.told conn)
+waiting_behind : (config : Config) (heard : ℕ → Heard) (world : World) (law : KeepsLaw config heard world) (conn : ℕ) (bytes more node : List ℕ)
+    (connection : Connection) (passed : List Frame) (asking : List ℕ)
+    (tag : Tag) (it : Command) (name : List ℕ) (work : Work) → heard conn ≡ client bytes false → connection.reader ≡ begun bytes
+    → connection.answered ≡ length (law.story.told conn)
     → client_at world conn ≡ Some (client_with node (frames bytes) (law.story.told conn))
-    → connection.stage ≡ Asked tag (awaited_of work) → frames bytes ≡ passed ++ Whole asking ∷ connection.waiting → connection.session ≡ law.story.course.sessions conn → AreAnswered passed (law.story.told conn)
-    → request_of asking ≡ a_command tag it → need_of (setting_of config) (law.story.course.sessions conn) it ≡ Mailbox name work → FaultsLast connection.waiting (begun bytes)
+    → connection.stage ≡ Asked tag (awaited_of work) → frames bytes ≡ passed ++ Whole asking ∷ connection.waiting
+    → connection.session ≡ law.story.course.sessions conn → AreAnswered passed (law.story.told conn)
+    → request_of asking ≡ a_command tag it → need_of (setting_of config) (law.story.course.sessions conn) it ≡ Mailbox name work
+    → FaultsLast connection.waiting (begun bytes)
     → OnItsWay world.links conn node (home_of config) connection tag name work (law.story.told conn) (law.story.talk.answers conn)
     → Behind config heard world law conn bytes more node connection
 unfolding carry_all
-waiting_behind config heard world law conn bytes more node connection passed asking tag it name work e reader count at stage parts session all is need last way =
+waiting_behind config heard world law conn bytes more node connection passed asking tag it name work e reader count at stage parts session all is need last way
+    =
     let held : begun bytes ≡ connection.reader = sym reader in
     let told : Story = asked_talk config heard conn more law.story in
     let new : List Frame = frames_of_more connection.reader more in
-    let waits_all : frames_come (setting_of config) (home_of config) conn (having_read connection more) new ≡ record { connection = record (having_read connection more) { waiting = connection.waiting ++ new }; outs = [] } =
+    let waits_all : frames_come (setting_of config) (home_of config) conn
+    (having_read connection more) new ≡ record { connection = record (having_read connection more) { waiting = connection.waiting ++ new }; outs = [] } =
     asked_waits (setting_of config) (home_of config) conn (having_read connection more) new tag (awaited_of work) stage in
     let now : frames (bytes ++ more) ≡ passed ++ Whole asking ∷ (connection.waiting ++ new) =
     frames_with_more bytes more connection.reader held ∙ ap (λ f. f ++ new) parts ∙ append_assoc passed (Whole asking ∷ connection.waiting) new in
-    subst (λ (t : Turned). StandsOn (setting_of config) node (home_of config) law.backend conn (frames (bytes ++ more)) (begun (bytes ++ more)) t.connection world told (carry_all node world t.outs)) (sym waits_all)
+    subst (λ (t : Turned). StandsOn (setting_of config) node (home_of config) law.backend conn (frames (bytes ++ more))
+    (begun (bytes ++ more)) t.connection world told (carry_all node world t.outs)) (sym waits_all)
     (record {
       story = told;
       made = record {
@@ -250,15 +281,19 @@ waiting_behind config heard world law conn bytes more node connection passed ask
     })
   where
     way_behind : OnItsWay world.links conn node (home_of config) connection tag name work (law.story.told conn) (law.story.talk.answers conn)
-        → OnItsWay world.links conn node (home_of config) (record (having_read connection more) { waiting = connection.waiting ++ frames_of_more connection.reader more }) tag name work (law.story.told conn) (law.story.talk.answers conn)
+        → OnItsWay world.links conn node (home_of config)
+        (record (having_read connection more) { waiting = connection.waiting ++ frames_of_more connection.reader more }) tag name work
+        (law.story.told conn) (law.story.talk.answers conn)
     way_behind (there s w) = there s w
     way_behind (back body reply s shown w) = back body reply s shown w
 
 -- a connection that hasn't ended takes more bytes
-taken_more : (config : Config) (heard : ℕ → Heard) (world : World) (law : KeepsLaw config heard world) (conn : ℕ) (bytes more node : List ℕ) (front : Front) (connection : Connection) → heard conn ≡ client bytes false
+taken_more : (config : Config) (heard : ℕ → Heard) (world : World) (law : KeepsLaw config heard world) (conn : ℕ) (bytes more node : List ℕ) (front : Front)
+    (connection : Connection) → heard conn ≡ client bytes false
     → IsAt world conn node front connection → connection.reader ≡ begun bytes → Behind config heard world law conn bytes more node connection
     → KeepsOn config (told_of law.story) (after_data config heard conn more)
-    (with_front world node (with_turned front conn (frames_come front.setting front.home conn (having_read connection more) (frames_of_more connection.reader more))))
+    (with_front world node (with_turned front conn
+    (frames_come front.setting front.home conn (having_read connection more) (frames_of_more connection.reader more))))
 taken_more config heard world law conn bytes more node front connection e at reader behind =
     let was = law.nodes.fronts node front at.at in
     let turned : Turned = frames_come (setting_of config) (home_of config) conn (having_read connection more) (frames_of_more connection.reader more) in
@@ -266,22 +301,28 @@ taken_more config heard world law conn bytes more node front connection e at rea
     ap (λ s. frames_come s front.home conn (having_read connection more) (frames_of_more connection.reader more)) was.1
     ∙ ap (λ h. frames_come (setting_of config) h conn (having_read connection more) (frames_of_more connection.reader more)) was.0 in
     subst (λ (t : Turned). KeepsOn config (told_of law.story) (after_data config heard conn more) (with_front world node (with_turned front conn t))) (sym same)
-    (front_keeps config heard (after_data config heard conn more) world law world.links conn node front connection turned.connection turned.outs (asked_talk config heard conn more law.story) behind.story
+    (front_keeps config heard (after_data config heard conn more) world law world.links conn node front connection turned.connection turned.outs
+    (asked_talk config heard conn more law.story) behind.story
     (λ other ne f h asks answers way. way) at.at at.has
     (record {
       requests = asked_more config heard conn bytes more connection.reader e (sym reader) law.story.talk.requests law.requests;
       answers = same_lists law.story.told;
       serials = same_lists law.story.talk.serials;
     }) refl refl refl (λ other. refl) (λ other ne. other_heard config conn other more (heard other) ne) behind.made
-    (subst (λ h. ConnectionIs (setting_of config) (home_of config) conn (world_after world node front conn turned.connection turned.outs) behind.story h) (sym (heard_more config conn bytes more (heard conn) e))
+    (subst (λ h. ConnectionIs (setting_of config) (home_of config) conn (world_after world node front conn turned.connection turned.outs) behind.story h)
+    (sym (heard_more config conn bytes more (heard conn) e))
     (is_open (bytes ++ more) node (with_connection front conn turned.connection) turned.connection
     (is_at_after world node front conn connection turned.connection turned.outs at.at at.has)
-    (frames_keep_reader (setting_of config) (home_of config) conn (having_read connection more) (frames_of_more connection.reader more) ∙ sym (begun_with_more bytes more connection.reader (sym reader)))
-    (standing_after world node front conn turned.connection turned.outs (setting_of config) (home_of config) (frames (bytes ++ more)) (begun (bytes ++ more)) behind.story behind.standing))))
+    (frames_keep_reader (setting_of config) (home_of config) conn (having_read connection more) (frames_of_more connection.reader more)
+    ∙ sym (begun_with_more bytes more connection.reader (sym reader)))
+    (standing_after world node front conn turned.connection turned.outs (setting_of config) (home_of config) (frames (bytes ++ more))
+    (begun (bytes ++ more)) behind.story behind.standing))))
 
 -- one that a fault ended takes none, and no frame ends in what it is sent
-heard_on : (config : Config) (heard : ℕ → Heard) (world : World) (law : KeepsLaw config heard world) (conn : ℕ) (bytes more node : List ℕ) (front : Front) (connection : Connection) → heard conn ≡ client bytes false
-    → IsAt world conn node front connection → connection.reader ≡ begun bytes → IsStanding (setting_of config) node (home_of config) conn (frames bytes) (begun bytes) connection world law.story
+heard_on : (config : Config) (heard : ℕ → Heard) (world : World) (law : KeepsLaw config heard world) (conn : ℕ) (bytes more node : List ℕ) (front : Front)
+    (connection : Connection) → heard conn ≡ client bytes false
+    → IsAt world conn node front connection → connection.reader ≡ begun bytes
+    → IsStanding (setting_of config) node (home_of config) conn (frames bytes) (begun bytes) connection world law.story
     → begun bytes ≡ None → KeepsLaw config (after_data config heard conn more) world
 unfolding frames_heard
 heard_on config heard world law conn bytes more node front connection e at reader standing none =
@@ -299,36 +340,46 @@ heard_on config heard world law conn bytes more node front connection e at reade
           (λ (ne : other ≢ conn). law.requests other ∙ ap (λ h. requests_of (frames_heard h)) (sym (other_heard config conn other more (heard other) ne)))
           (cases_eq other conn);
       connections = λ other. ⊎_elim
-          (λ (same : other ≡ conn). subst (λ c. ConnectionIs (setting_of config) (home_of config) c world law.story (after_data config heard conn more c)) (sym same)
+          (λ (same : other ≡ conn). subst (λ c. ConnectionIs (setting_of config) (home_of config) c world law.story (after_data config heard conn more c))
+          (sym same)
           (subst (λ h. ConnectionIs (setting_of config) (home_of config) conn world law.story h) (sym now)
           (is_open (bytes ++ more) node front connection at (reader ∙ none ∙ sym ended)
           (subst (λ f. IsStanding (setting_of config) node (home_of config) conn f (begun (bytes ++ more)) connection world law.story) (sym same_frames)
           (subst (λ h. IsStanding (setting_of config) node (home_of config) conn (frames bytes) h connection world law.story) (none ∙ sym ended) standing)))))
-          (λ (ne : other ≢ conn). subst (λ h. ConnectionIs (setting_of config) (home_of config) other world law.story h) (sym (other_heard config conn other more (heard other) ne)) (law.connections other))
+          (λ (ne : other ≢ conn). subst (λ h. ConnectionIs (setting_of config) (home_of config) other world law.story h)
+          (sym (other_heard config conn other more (heard other) ne)) (law.connections other))
           (cases_eq other conn);
     }
 
-at_ended : (front : Front) (conn : ℕ) (bytes : List ℕ) (connection : Connection) → connection_at front conn ≡ Some connection → connection.stage ≡ Ended → bytes_in front conn bytes ≡ still front
+at_ended : (front : Front) (conn : ℕ) (bytes : List ℕ) (connection : Connection) → connection_at front conn ≡ Some connection → connection.stage ≡ Ended
+    → bytes_in front conn bytes ≡ still front
 unfolding bytes_in front_bytes_at bytes_by
 at_ended front conn bytes connection has stage = ap (front_bytes_at front conn bytes) has ∙ ap (bytes_by front conn bytes connection) stage
 
 at_reading : (front : Front) (conn : ℕ) (bytes : List ℕ) (connection : Connection) → connection_at front conn ≡ Some connection → connection.stage ≡ Reading
-    → bytes_in front conn bytes ≡ with_turned front conn (frames_come front.setting front.home conn (having_read connection bytes) (frames_of_more connection.reader bytes))
+    → bytes_in front conn bytes ≡ with_turned front conn
+    (frames_come front.setting front.home conn (having_read connection bytes) (frames_of_more connection.reader bytes))
 unfolding bytes_in front_bytes_at bytes_by
 at_reading front conn bytes connection has stage = ap (front_bytes_at front conn bytes) has ∙ ap (bytes_by front conn bytes connection) stage
 
-at_asked : (front : Front) (conn : ℕ) (bytes : List ℕ) (connection : Connection) (tag : Tag) (awaited : _) → connection_at front conn ≡ Some connection → connection.stage ≡ Asked tag awaited
-    → bytes_in front conn bytes ≡ with_turned front conn (frames_come front.setting front.home conn (having_read connection bytes) (frames_of_more connection.reader bytes))
+at_asked : (front : Front) (conn : ℕ) (bytes : List ℕ) (connection : Connection) (tag : Tag) (awaited : _) → connection_at front conn ≡ Some connection
+    → connection.stage ≡ Asked tag awaited
+    → bytes_in front conn bytes ≡ with_turned front conn
+    (frames_come front.setting front.home conn (having_read connection bytes) (frames_of_more connection.reader bytes))
 unfolding bytes_in front_bytes_at bytes_by
 at_asked front conn bytes connection tag awaited has stage = ap (front_bytes_at front conn bytes) has ∙ ap (bytes_by front conn bytes connection) stage
 
-stands_more : (config : Config) (heard : ℕ → Heard) (world : World) (law : KeepsLaw config heard world) (conn : ℕ) (bytes more node : List ℕ) (front : Front) (connection : Connection) → heard conn ≡ client bytes false
-    → IsAt world conn node front connection → connection.reader ≡ begun bytes → IsStanding (setting_of config) node (home_of config) conn (frames bytes) (begun bytes) connection world law.story
-    → Stands (setting_of config) node (home_of config) conn (frames bytes) (begun bytes) connection world.links (law.story.told conn) (law.story.talk.answers conn) (law.story.course.sessions conn)
+stands_more : (config : Config) (heard : ℕ → Heard) (world : World) (law : KeepsLaw config heard world) (conn : ℕ) (bytes more node : List ℕ) (front : Front)
+    (connection : Connection) → heard conn ≡ client bytes false
+    → IsAt world conn node front connection → connection.reader ≡ begun bytes
+    → IsStanding (setting_of config) node (home_of config) conn (frames bytes) (begun bytes) connection world law.story
+    → Stands (setting_of config) node (home_of config) conn (frames bytes) (begun bytes) connection world.links (law.story.told conn)
+    (law.story.talk.answers conn) (law.story.course.sessions conn)
     → KeepsOn config (told_of law.story) (after_data config heard conn more) (with_front world node (bytes_in front conn more))
 unfolding heard_on
 stands_more config heard world law conn bytes more node front connection e at reader standing (reads stage waiting session all said way) =
-    subst (λ s. KeepsOn config (told_of law.story) (after_data config heard conn more) (with_front world node s)) (sym (at_reading front conn more connection at.has stage))
+    subst (λ s. KeepsOn config (told_of law.story) (after_data config heard conn more) (with_front world node s))
+    (sym (at_reading front conn more connection at.has stage))
     (taken_more config heard world law conn bytes more node front connection e at reader
     (reading_behind config heard world law conn bytes more node connection e reader (record {
       stage_is = stage;
@@ -340,13 +391,18 @@ stands_more config heard world law conn bytes more node front connection e at re
       client = standing.client;
       way = way;
     })))
-stands_more config heard world law conn bytes more node front connection e at reader standing (waits passed asking tag it name work stage parts session all is need last way) =
-    subst (λ s. KeepsOn config (told_of law.story) (after_data config heard conn more) (with_front world node s)) (sym (at_asked front conn more connection tag (awaited_of work) at.has stage))
+stands_more config heard world law conn bytes more node front connection e at reader standing
+    (waits passed asking tag it name work stage parts session all is need last way) =
+    subst (λ s. KeepsOn config (told_of law.story) (after_data config heard conn more) (with_front world node s))
+    (sym (at_asked front conn more connection tag (awaited_of work) at.has stage))
     (taken_more config heard world law conn bytes more node front connection e at reader
-    (waiting_behind config heard world law conn bytes more node connection passed asking tag it name work e reader standing.count standing.client stage parts session all is need last way))
+    (waiting_behind config heard world law conn bytes more node connection passed asking tag it name work e reader standing.count standing.client stage parts
+    session all is need last way))
 stands_more config heard world law conn bytes more node front connection e at reader standing (faulted stage none lengths said way) =
-    subst (λ s. KeepsOn config (told_of law.story) (after_data config heard conn more) (with_front world node s)) (sym (at_ended front conn more connection at.has stage))
-    (still_kept config (after_data config heard conn more) (after_data config heard conn more) world (with_front world node (still front)) (looks_put world node front at.at) (λ other. refl)
+    subst (λ s. KeepsOn config (told_of law.story) (after_data config heard conn more) (with_front world node s))
+    (sym (at_ended front conn more connection at.has stage))
+    (still_kept config (after_data config heard conn more) (after_data config heard conn more) world (with_front world node (still front))
+    (looks_put world node front at.at) (λ other. refl)
     (heard_on config heard world law conn bytes more node front connection e at reader standing none))
 
 nothing_heard : (config : Config) (conn : ℕ) (bytes : List ℕ) → hears config conn nobody (Data conn bytes) ≡ nobody
@@ -361,26 +417,32 @@ closed_heard : (config : Config) (conn : ℕ) (b bytes : List ℕ) → hears con
 unfolding hears
 closed_heard config conn b bytes = refl
 
-at_front : (world : World) (conn : ℕ) (bytes node : List ℕ) (front : Front) (given : List ℕ) → client_at world conn ≡ Some (record { at = node; given = given }) → front_at world node ≡ Some front
+at_front : (world : World) (conn : ℕ) (bytes node : List ℕ) (front : Front) (given : List ℕ)
+    → client_at world conn ≡ Some (record { at = node; given = given }) → front_at world node ≡ Some front
     → bytes_from world conn bytes (client_at world conn) ≡ with_front world node (bytes_in front conn bytes)
 unfolding bytes_from bytes_at
 at_front world conn bytes node front given at is = ap (bytes_from world conn bytes) at ∙ ap (bytes_at world conn bytes node) is
 
 data_by : (config : Config) (heard : ℕ → Heard) (world : World) (conn : ℕ) (bytes : List ℕ) (law : KeepsLaw config heard world) (was : Heard) → heard conn ≡ was
-    → ConnectionIs (setting_of config) (home_of config) conn world law.story was → KeepsOn config (told_of law.story) (after_data config heard conn bytes) (bytes_from world conn bytes (client_at world conn))
+    → ConnectionIs (setting_of config) (home_of config) conn world law.story was
+    → KeepsOn config (told_of law.story) (after_data config heard conn bytes) (bytes_from world conn bytes (client_at world conn))
 unfolding bytes_from bytes_at
 data_by config heard world conn bytes law was e (is_nobody none fronts untold) =
     subst (λ c. KeepsOn config (told_of law.story) (after_data config heard conn bytes) (bytes_from world conn bytes c)) (sym none)
-    (quiet_kept config heard world world conn bytes law (looks_same world) (ap (λ h. hears config conn h (Data conn bytes)) e ∙ nothing_heard config conn bytes ∙ sym e))
+    (quiet_kept config heard world world conn bytes law (looks_same world)
+    (ap (λ h. hears config conn h (Data conn bytes)) e ∙ nothing_heard config conn bytes ∙ sym e))
 data_by config heard world conn bytes law was e (is_elsewhere node at none untold) =
     subst (λ c. KeepsOn config (told_of law.story) (after_data config heard conn bytes) (bytes_from world conn bytes c)) (sym at)
     (subst (λ f. KeepsOn config (told_of law.story) (after_data config heard conn bytes) (bytes_at world conn bytes node f)) (sym none)
-    (quiet_kept config heard world world conn bytes law (looks_same world) (ap (λ h. hears config conn h (Data conn bytes)) e ∙ elsewhere_heard config conn bytes ∙ sym e)))
+    (quiet_kept config heard world world conn bytes law (looks_same world)
+    (ap (λ h. hears config conn h (Data conn bytes)) e ∙ elsewhere_heard config conn bytes ∙ sym e)))
 data_by config heard world conn bytes law was e (is_open b node front connection at reader standing) =
     subst (λ w. KeepsOn config (told_of law.story) (after_data config heard conn bytes) w) (sym (at_front world conn bytes node front _ standing.client at.at))
     (stands_more config heard world law conn b bytes node front connection e at reader standing standing.stands)
 data_by config heard world conn bytes law was e (is_closed b node front connection at gone) =
-    subst (λ w. KeepsOn config (told_of law.story) (after_data config heard conn bytes) w) (sym (at_front world conn bytes node front _ gone.client at.at ∙ ap (with_front world node) (at_ended front conn bytes connection at.has gone.stage_is)))
+    subst (λ w. KeepsOn config (told_of law.story) (after_data config heard conn bytes) w)
+    (sym (at_front world conn bytes node front _ gone.client at.at
+    ∙ ap (with_front world node) (at_ended front conn bytes connection at.has gone.stage_is)))
     (quiet_kept config heard world (with_front world node (still front)) conn bytes law (looks_put world node front at.at)
     (ap (λ h. hears config conn h (Data conn bytes)) e ∙ closed_heard config conn b bytes ∙ sym e))
 

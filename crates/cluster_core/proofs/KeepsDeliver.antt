@@ -39,7 +39,8 @@ use Rattle.mur_model.proofs.Numbered.{with_item, with_item-same}
 use Rattle.cluster_core.specs.declared.world.World.{World}
 use Rattle.cluster_core.specs.Heard.{Heard, nobody, elsewhere, client, frames_heard}
 use Rattle.cluster_core.specs.Links.{Links, on_link, sent, without_first}
-use Rattle.cluster_core.specs.World.{client_at, front_at, home_at, home_of, setting_of, with_front, with_home, taken, input_of, home_takes, comes_to_home, comes_to, deliver_first, delivers, carry_all}
+use Rattle.cluster_core.specs.World.{client_at, front_at, home_at, home_of, setting_of, with_front, with_home, taken, input_of, home_takes, comes_to_home}
+use Rattle.cluster_core.specs.World.{comes_to, deliver_first, delivers, carry_all}
 use Rattle.cluster_core.proofs.ConnectionLaw.{Story, told_of, client_with, keeps_all, same_story, OnItsWay, Stands, IsLeft, IsStanding}
 use Rattle.cluster_core.proofs.ConnectionLaw.OnItsWay.{there, back}
 use Rattle.cluster_core.proofs.ConnectionLaw.Stands.{reads, waits, faulted}
@@ -53,10 +54,12 @@ use Rattle.cluster_core.proofs.KeepsLaw.ConnectionIs.{is_nobody, is_elsewhere, i
 use Rattle.cluster_core.proofs.KeepsStill.{still_kept}
 use Rattle.cluster_core.proofs.RequestsOf.{requests_of, requests-append, answered_lengths, next_request}
 use Rattle.cluster_core.proofs.Told.{having_said}
-use Rattle.cluster_core.proofs.Ways.{AreOnWay, IsOfAnother, ask_of_another, answer_of_another, taken_for_another, ask_taken, answer_taken, no_ask_first, no_answer_first, answer_sent, ask_in, answer_in}
+use Rattle.cluster_core.proofs.Ways.{AreOnWay, IsOfAnother, ask_of_another, answer_of_another, taken_for_another, ask_taken, answer_taken, no_ask_first}
+use Rattle.cluster_core.proofs.Ways.{no_answer_first, answer_sent, ask_in, answer_in}
 
 -- a message that is neither an ask nor an answer changes nothing that can be looked up
-alike_taken : (world : World) (from to : List ℕ) (message : LinkMsg) (rest : List LinkMsg) → on_link world.links from to ≡ message ∷ rest → ((conn : ℕ) → IsOfAnother conn message) → LooksAlike world (taken world from to)
+alike_taken : (world : World) (from to : List ℕ) (message : LinkMsg) (rest : List LinkMsg) → on_link world.links from to ≡ message ∷ rest
+    → ((conn : ℕ) → IsOfAnother conn message) → LooksAlike world (taken world from to)
 alike_taken world from to message rest first other = record {
   fronts = λ any. refl;
   homes = λ any. refl;
@@ -78,7 +81,8 @@ alike_on one two three first second = record {
   steps = omega (arith, first.steps, second.steps);
 }
 
-home_put : (world : World) (node : List ℕ) (home : Backend) → home_at world node ≡ Some home → LooksAlike world (with_home world node (record { home = home; outs = [] }))
+home_put : (world : World) (node : List ℕ) (home : Backend) → home_at world node ≡ Some home
+    → LooksAlike world (with_home world node (record { home = home; outs = [] }))
 unfolding carry_all
 home_put world node home at = record {
   fronts = λ any. refl;
@@ -107,20 +111,23 @@ pub data IsQuiet : LinkMsg → Type 0 where
   an_end : IsQuiet End
   a_line : (bytes : List ℕ) → IsQuiet (Line bytes)
 
-quiet_at_front : (world : World) (from to : List ℕ) (message : LinkMsg) (front : Front) → front_at world to ≡ Some front → IsQuiet message → LooksAlike world (comes_to world from to message (Some front))
+quiet_at_front : (world : World) (from to : List ℕ) (message : LinkMsg) (front : Front) → front_at world to ≡ Some front → IsQuiet message
+    → LooksAlike world (comes_to world from to message (Some front))
 unfolding comes_to take_message
 quiet_at_front world from to message front at an_up = looks_put world to front at
 quiet_at_front world from to message front at an_end = looks_put world to front at
 quiet_at_front world from to message front at (a_line bytes) = looks_put world to front at
 
-quiet_at_home : (world : World) (from to : List ℕ) (message : LinkMsg) (found : Option Backend) → home_at world to ≡ found → IsQuiet message → LooksAlike world (comes_to_home world from to message found)
+quiet_at_home : (world : World) (from to : List ℕ) (message : LinkMsg) (found : Option Backend) → home_at world to ≡ found → IsQuiet message
+    → LooksAlike world (comes_to_home world from to message found)
 unfolding comes_to_home home_takes input_of plan_of
 quiet_at_home world from to message None at quiet = looks_same world
 quiet_at_home world from to message (Some home) at an_up = home_put world to home at
 quiet_at_home world from to message (Some home) at an_end = home_put world to home at
 quiet_at_home world from to message (Some home) at (a_line bytes) = looks_same world
 
-quiet_by : (world : World) (from to : List ℕ) (message : LinkMsg) (found : Option Front) → front_at world to ≡ found → IsQuiet message → LooksAlike world (comes_to world from to message found)
+quiet_by : (world : World) (from to : List ℕ) (message : LinkMsg) (found : Option Front) → front_at world to ≡ found → IsQuiet message
+    → LooksAlike world (comes_to world from to message found)
 unfolding comes_to
 quiet_by world from to message (Some front) at quiet = quiet_at_front world from to message front at quiet
 quiet_by world from to message None at quiet = quiet_at_home world from to message (home_at world to) refl quiet
@@ -131,8 +138,10 @@ of_nobody conn message an_up = record { no_ask = refl; no_answer = refl }
 of_nobody conn message an_end = record { no_ask = refl; no_answer = refl }
 of_nobody conn message (a_line bytes) = record { no_ask = refl; no_answer = refl }
 
-pub quiet_keeps : (config : Config) (heard after : ℕ → Heard) (world : World) (law : KeepsLaw config heard world) (from to : List ℕ) (message : LinkMsg) (rest : List LinkMsg) → on_link world.links from to ≡ message ∷ rest
-    → ((conn : ℕ) → after conn ≡ heard conn) → IsQuiet message → KeepsOn config (told_of law.story) after (comes_to (taken world from to) from to message (front_at world to))
+pub quiet_keeps : (config : Config) (heard after : ℕ → Heard) (world : World) (law : KeepsLaw config heard world) (from to : List ℕ) (message : LinkMsg)
+    (rest : List LinkMsg) → on_link world.links from to ≡ message ∷ rest
+    → ((conn : ℕ) → after conn ≡ heard conn) → IsQuiet message
+    → KeepsOn config (told_of law.story) after (comes_to (taken world from to) from to message (front_at world to))
 quiet_keeps config heard after world law from to message rest first same quiet =
     still_kept config heard after world (comes_to (taken world from to) from to message (front_at world to))
     (alike_on world (taken world from to) _ (alike_taken world from to message rest first (λ conn. of_nobody conn message quiet))
@@ -145,96 +154,126 @@ unfolding comes_to comes_to_home home_takes input_of
 to_home world from home ask backend none at =
     ap (comes_to (taken world from home) from home (Ask ask)) none ∙ ap (comes_to_home (taken world from home) from home (Ask ask)) at
 
-abbrev story_after : {config : Config} {heard : ℕ → Heard} {world : World} (law : KeepsLaw config heard world) (conn : ℕ) {front : List ℕ} {connection : Connection} {tag : Tag} {work : Work} {ask : FrontAsk}
+abbrev story_after : {config : Config} {heard : ℕ → Heard} {world : World} (law : KeepsLaw config heard world)
+    (conn : ℕ) {front : List ℕ} {connection : Connection} {tag : Tag} {work : Work} {ask : FrontAsk}
     → IsAnswered config heard world law conn front connection tag work ask → Story
 story_after law conn done = record { talk = having_said law.story.talk conn done.reply done.serial; told = law.story.told; course = done.course }
 
-said_after : (config : Config) (heard : ℕ → Heard) (world : World) (law : KeepsLaw config heard world) (conn : ℕ) (front : List ℕ) (connection : Connection) (tag : Tag) (work : Work) (ask : FrontAsk)
+said_after : (config : Config) (heard : ℕ → Heard) (world : World) (law : KeepsLaw config heard world) (conn : ℕ) (front : List ℕ) (connection : Connection)
+    (tag : Tag) (work : Work) (ask : FrontAsk)
     (done : IsAnswered config heard world law conn front connection tag work ask) (told : List AnswerOf) → law.story.talk.answers conn ≡ told
     → with_item law.story.talk.answers conn done.reply conn ≡ told ++ (record { tag = tag; reply = done.reply.reply }) ∷ []
 said_after config heard world law conn front connection tag work ask done told said =
-    with_item-same law.story.talk.answers conn done.reply ∙ ap (λ l. l ++ done.reply ∷ []) said ∙ ap (λ t. told ++ (record { tag = t; reply = done.reply.reply }) ∷ []) done.tagged
+    with_item-same law.story.talk.answers conn done.reply ∙ ap (λ l. l ++ done.reply ∷ []) said
+    ∙ ap (λ t. told ++ (record { tag = t; reply = done.reply.reply }) ∷ []) done.tagged
 
-way_after : (links : Links) (conn : ℕ) (node home from to : List ℕ) (ask : FrontAsk) (connection : Connection) (body : AnswerBody) → from ≡ node → to ≡ home → ask.id ≡ record { conn = conn; command = connection.answered + 1 }
+way_after : (links : Links) (conn : ℕ) (node home from to : List ℕ) (ask : FrontAsk) (connection : Connection) (body : AnswerBody) → from ≡ node → to ≡ home
+    → ask.id ≡ record { conn = conn; command = connection.answered + 1 }
     → AreOnWay (without_first links from to) conn node home [] []
-    → AreOnWay (sent (without_first links node home) home node (Answer (record { id = ask.id; body = body }))) conn node home [] ((record { id = record { conn = conn; command = connection.answered + 1 }; body = body }) ∷ [])
+    → AreOnWay (sent (without_first links node home) home node (Answer (record { id = ask.id; body = body }))) conn node home []
+    ((record { id = record { conn = conn; command = connection.answered + 1 }; body = body }) ∷ [])
 way_after links conn node home from to ask connection body f t id way =
-    subst (λ i. AreOnWay (sent (without_first links node home) home node (Answer (record { id = i; body = body }))) conn node home [] ((record { id = record { conn = conn; command = connection.answered + 1 }; body = body }) ∷ [])) (sym id)
+    subst (λ i. AreOnWay (sent (without_first links node home) home node (Answer (record { id = i; body = body }))) conn node home []
+    ((record { id = record { conn = conn; command = connection.answered + 1 }; body = body }) ∷ [])) (sym id)
     (answer_sent (without_first links node home) conn node home (record { id = record { conn = conn; command = connection.answered + 1 }; body = body }) refl
     (subst (λ x. AreOnWay (without_first links x home) conn node home [] []) f (subst (λ x. AreOnWay (without_first links from x) conn node home [] []) t way)))
 
 -- the world in which the home answered the ask
-asked_home : (config : Config) (heard after : ℕ → Heard) (world : World) (law : KeepsLaw config heard world) (from to : List ℕ) (ask : FrontAsk) (rest : List LinkMsg) (conn : ℕ) (node : List ℕ) (connection : Connection) (tag : Tag) (work : Work)
-    (done : IsAnswered config heard world law conn node connection tag work ask) → from ≡ node → to ≡ home_of config → on_link world.links from to ≡ Ask ask ∷ rest → ((c : ℕ) → after c ≡ heard c) → (ask.id).conn ≡ conn
-    → ConnectionIs (setting_of config) (home_of config) conn (answered_world world node (home_of config) done.backend ask done.body done.counts) (story_after law conn done) (after conn)
+asked_home : (config : Config) (heard after : ℕ → Heard) (world : World) (law : KeepsLaw config heard world) (from to : List ℕ) (ask : FrontAsk)
+    (rest : List LinkMsg) (conn : ℕ) (node : List ℕ) (connection : Connection) (tag : Tag) (work : Work)
+    (done : IsAnswered config heard world law conn node connection tag work ask) → from ≡ node → to ≡ home_of config
+    → on_link world.links from to ≡ Ask ask ∷ rest → ((c : ℕ) → after c ≡ heard c) → (ask.id).conn ≡ conn
+    → ConnectionIs (setting_of config) (home_of config) conn (answered_world world node (home_of config) done.backend ask done.body done.counts)
+    (story_after law conn done) (after conn)
     → KeepsOn config (told_of law.story) after (comes_to (taken world from to) from to (Ask ask) (front_at world to))
 asked_home config heard after world law from to ask rest conn node connection tag work done f t first same own mine =
     subst (λ x. KeepsOn config (told_of law.story) after (comes_to (taken world x to) x to (Ask ask) (front_at world to))) (sym f)
     (subst (λ x. KeepsOn config (told_of law.story) after (comes_to (taken world node x) node x (Ask ask) (front_at world x))) (sym t)
-    (subst (λ w. KeepsOn config (told_of law.story) after w) (sym (to_home world node (home_of config) ask law.backend law.nodes.home_no_front law.nodes.home_is ∙ done.world_is))
+    (subst (λ w. KeepsOn config (told_of law.story) after w)
+    (sym (to_home world node (home_of config) ask law.backend law.nodes.home_no_front law.nodes.home_is ∙ done.world_is))
     (ask_kept config heard after world law conn node connection tag work ask rest done own
     (ap (λ x. on_link world.links x (home_of config)) (sym f) ∙ ap (on_link world.links from) (sym t) ∙ first) same mine)))
 
-ask_open : (config : Config) (heard after : ℕ → Heard) (world : World) (law : KeepsLaw config heard world) (from to : List ℕ) (ask : FrontAsk) (rest : List LinkMsg) (conn : ℕ) (bytes node : List ℕ) (front : Front) (connection : Connection)
-    → on_link world.links from to ≡ Ask ask ∷ rest → ((c : ℕ) → after c ≡ heard c) → (ask.id).conn ≡ conn → heard conn ≡ client bytes false → IsAt world conn node front connection → connection.reader ≡ begun bytes
+ask_open : (config : Config) (heard after : ℕ → Heard) (world : World) (law : KeepsLaw config heard world) (from to : List ℕ) (ask : FrontAsk)
+    (rest : List LinkMsg) (conn : ℕ) (bytes node : List ℕ) (front : Front) (connection : Connection)
+    → on_link world.links from to ≡ Ask ask ∷ rest → ((c : ℕ) → after c ≡ heard c) → (ask.id).conn ≡ conn → heard conn ≡ client bytes false
+    → IsAt world conn node front connection → connection.reader ≡ begun bytes
     → IsStanding (setting_of config) node (home_of config) conn (frames bytes) (begun bytes) connection world law.story
-    → Stands (setting_of config) node (home_of config) conn (frames bytes) (begun bytes) connection world.links (law.story.told conn) (law.story.talk.answers conn) (law.story.course.sessions conn)
+    → Stands (setting_of config) node (home_of config) conn (frames bytes) (begun bytes) connection world.links (law.story.told conn)
+    (law.story.talk.answers conn) (law.story.course.sessions conn)
     → KeepsOn config (told_of law.story) after (comes_to (taken world from to) from to (Ask ask) (front_at world to))
 unfolding frames_heard requests_of
-ask_open config heard after world law from to ask rest conn bytes node front connection first same own e at reader standing (reads stage waiting s answered said way) =
+ask_open config heard after world law from to ask rest conn bytes node front connection first same own e at reader standing
+    (reads stage waiting s answered said way) =
     absurd (no_ask_first world.links conn node (home_of config) from to ask rest [] first own way)
-ask_open config heard after world law from to ask rest conn bytes node front connection first same own e at reader standing (faulted stage none lengths said way) =
+ask_open config heard after world law from to ask rest conn bytes node front connection first same own e at reader standing
+    (faulted stage none lengths said way) =
     absurd (no_ask_first world.links conn node (home_of config) from to ask rest [] first own way)
-ask_open config heard after world law from to ask rest conn bytes node front connection first same own e at reader standing (waits passed asking tag it name work stage parts s answered is need last (back body reply said shown way)) =
+ask_open config heard after world law from to ask rest conn bytes node front connection first same own e at reader standing
+    (waits passed asking tag it name work stage parts s answered is need last (back body reply said shown way)) =
     absurd (no_ask_first world.links conn node (home_of config) from to ask rest _ first own way)
-ask_open config heard after world law from to ask rest conn bytes node front connection first same own e at reader standing (waits passed asking tag it name work stage parts s answered is need last (there said way)) =
+ask_open config heard after world law from to ask rest conn bytes node front connection first same own e at reader standing
+    (waits passed asking tag it name work stage parts s answered is need last (there said way)) =
     let took = ask_taken world.links conn node (home_of config) from to ask rest (ask_for conn connection name work) [] first own way in
     let lengths : connection.answered ≡ length (law.story.talk.answers conn) = standing.count ∙ sym (ap length said) in
     let asked : numbered (law.story.talk.requests conn) (length (law.story.talk.answers conn) + 1) ≡ Some (a_command tag it) =
     subst (λ r. numbered r (length (law.story.talk.answers conn) + 1) ≡ Some (a_command tag it))
-    (sym (law.requests conn ∙ ap (λ h. requests_of (frames_heard h)) e ∙ ap requests_of parts ∙ requests-append passed (Whole asking ∷ connection.waiting) ∙ ap (λ r. requests_of passed ++ r ∷ requests_of connection.waiting) is))
-    (next_request (requests_of passed) (requests_of connection.waiting) (a_command tag it) (length (law.story.talk.answers conn)) (answered_lengths passed (law.story.told conn) answered ∙ sym (ap length said))) in
-    let done : IsAnswered config heard world law conn node connection tag work ask = answers_ask config heard world law conn node connection tag it name work ask (sym took.2) lengths asked need in
+    (sym (law.requests conn ∙ ap (λ h. requests_of (frames_heard h)) e ∙ ap requests_of parts ∙ requests-append passed (Whole asking ∷ connection.waiting)
+    ∙ ap (λ r. requests_of passed ++ r ∷ requests_of connection.waiting) is))
+    (next_request (requests_of passed) (requests_of connection.waiting) (a_command tag it) (length (law.story.talk.answers conn))
+    (answered_lengths passed (law.story.told conn) answered ∙ sym (ap length said))) in
+    let done : IsAnswered config heard world law conn node connection tag work ask =
+    answers_ask config heard world law conn node connection tag it name work ask (sym took.2) lengths asked need in
     asked_home config heard after world law from to ask rest conn node connection tag work done took.0 took.1 first same own
-    (subst (λ h. ConnectionIs (setting_of config) (home_of config) conn (answered_world world node (home_of config) done.backend ask done.body done.counts) (story_after law conn done) h) (sym (same conn ∙ e))
+    (subst (λ h. ConnectionIs (setting_of config) (home_of config) conn (answered_world world node (home_of config) done.backend ask done.body done.counts)
+    (story_after law conn done) h) (sym (same conn ∙ e))
     (is_open bytes node front connection (record { at = at.at; has = at.has }) reader
     (record {
       count = standing.count;
       client = standing.client;
-      stands = waits passed asking tag it name work stage parts (s ∙ sym done.mine) answered is (ap (λ x. need_of (setting_of config) x it) done.mine ∙ need) last
+      stands = waits passed asking tag it name work stage parts (s ∙ sym done.mine) answered is
+          (ap (λ x. need_of (setting_of config) x it) done.mine ∙ need) last
           (back done.body done.reply.reply (said_after config heard world law conn node connection tag work ask done (law.story.told conn) said) done.shown
           (way_after world.links conn node (home_of config) from to ask connection done.body took.0 took.1 (sym (ap (λ (a : FrontAsk). a.id) took.2)) took.3));
     })))
 
-ask_closed : (config : Config) (heard after : ℕ → Heard) (world : World) (law : KeepsLaw config heard world) (from to : List ℕ) (ask : FrontAsk) (rest : List LinkMsg) (conn : ℕ) (bytes node : List ℕ) (front : Front) (connection : Connection)
-    → on_link world.links from to ≡ Ask ask ∷ rest → ((c : ℕ) → after c ≡ heard c) → (ask.id).conn ≡ conn → heard conn ≡ client bytes true → IsAt world conn node front connection
+ask_closed : (config : Config) (heard after : ℕ → Heard) (world : World) (law : KeepsLaw config heard world) (from to : List ℕ) (ask : FrontAsk)
+    (rest : List LinkMsg) (conn : ℕ) (bytes node : List ℕ) (front : Front) (connection : Connection)
+    → on_link world.links from to ≡ Ask ask ∷ rest → ((c : ℕ) → after c ≡ heard c) → (ask.id).conn ≡ conn → heard conn ≡ client bytes true
+    → IsAt world conn node front connection
     → IsGone (setting_of config) node (home_of config) conn (frames bytes) connection world law.story
-    → IsLeft (setting_of config) node (home_of config) conn (requests_of (frames bytes)) connection world.links (law.story.told conn) (law.story.talk.answers conn) (law.story.course.sessions conn)
+    → IsLeft (setting_of config) node (home_of config) conn (requests_of (frames bytes)) connection world.links (law.story.told conn)
+    (law.story.talk.answers conn) (law.story.course.sessions conn)
     → KeepsOn config (told_of law.story) after (comes_to (taken world from to) from to (Ask ask) (front_at world to))
 unfolding frames_heard
 ask_closed config heard after world law from to ask rest conn bytes node front connection first same own e at gone (nothing more said few way) =
     absurd (no_ask_first world.links conn node (home_of config) from to ask rest [] first own way)
 ask_closed config heard after world law from to ask rest conn bytes node front connection first same own e at gone (its_answer more answer said few way) =
     absurd (no_ask_first world.links conn node (home_of config) from to ask rest _ first own way)
-ask_closed config heard after world law from to ask rest conn bytes node front connection first same own e at gone (its_ask tag it name work said next need s way) =
+ask_closed config heard after world law from to ask rest conn bytes node front connection first same own e at gone
+    (its_ask tag it name work said next need s way) =
     let took = ask_taken world.links conn node (home_of config) from to ask rest (ask_for conn connection name work) [] first own way in
     let lengths : connection.answered ≡ length (law.story.talk.answers conn) = gone.count ∙ sym (ap length said) in
     let asked : numbered (law.story.talk.requests conn) (length (law.story.talk.answers conn) + 1) ≡ Some (a_command tag it) =
     ap (λ r. numbered r (length (law.story.talk.answers conn) + 1)) (law.requests conn ∙ ap (λ h. requests_of (frames_heard h)) e)
     ∙ ap (λ n. numbered (requests_of (frames bytes)) (n + 1)) (ap length said) ∙ next in
-    let done : IsAnswered config heard world law conn node connection tag work ask = answers_ask config heard world law conn node connection tag it name work ask (sym took.2) lengths asked need in
+    let done : IsAnswered config heard world law conn node connection tag work ask =
+    answers_ask config heard world law conn node connection tag it name work ask (sym took.2) lengths asked need in
     asked_home config heard after world law from to ask rest conn node connection tag work done took.0 took.1 first same own
-    (subst (λ h. ConnectionIs (setting_of config) (home_of config) conn (answered_world world node (home_of config) done.backend ask done.body done.counts) (story_after law conn done) h) (sym (same conn ∙ e))
+    (subst (λ h. ConnectionIs (setting_of config) (home_of config) conn (answered_world world node (home_of config) done.backend ask done.body done.counts)
+    (story_after law conn done) h) (sym (same conn ∙ e))
     (is_closed bytes node front connection (record { at = at.at; has = at.has })
     (record {
       stage_is = gone.stage_is;
       count = gone.count;
       client = gone.client;
-      left = its_answer ((record { tag = tag; reply = done.reply.reply }) ∷ []) _ (said_after config heard world law conn node connection tag work ask done (law.story.told conn) said) (omega arith)
+      left = its_answer ((record { tag = tag; reply = done.reply.reply }) ∷ []) _
+          (said_after config heard world law conn node connection tag work ask done (law.story.told conn) said) (omega arith)
           (way_after world.links conn node (home_of config) from to ask connection done.body took.0 took.1 (sym (ap (λ (a : FrontAsk). a.id) took.2)) took.3);
     })))
 
-pub ask_by : (config : Config) (heard after : ℕ → Heard) (world : World) (law : KeepsLaw config heard world) (from to : List ℕ) (ask : FrontAsk) (rest : List LinkMsg) (conn : ℕ)
+pub ask_by : (config : Config) (heard after : ℕ → Heard) (world : World) (law : KeepsLaw config heard world) (from to : List ℕ) (ask : FrontAsk)
+    (rest : List LinkMsg) (conn : ℕ)
     → on_link world.links from to ≡ Ask ask ∷ rest → ((c : ℕ) → after c ≡ heard c) → (ask.id).conn ≡ conn → (was : Heard) → heard conn ≡ was
     → ConnectionIs (setting_of config) (home_of config) conn world law.story was
     → KeepsOn config (told_of law.story) after (comes_to (taken world from to) from to (Ask ask) (front_at world to))
@@ -248,9 +287,11 @@ ask_by config heard after world law from to ask rest conn first same own was e (
     ask_closed config heard after world law from to ask rest conn bytes node front connection first same own e at gone gone.left
 
 -- an answer comes to its frontend
-pub to_front : (world : World) (from node : List ℕ) (answer : BackAnswer) (front : Front) (connection : Connection) (turned : Turned) → front_at world node ≡ Some front → connection_at front (answer.id).conn ≡ Some connection
+pub to_front : (world : World) (from node : List ℕ) (answer : BackAnswer) (front : Front) (connection : Connection) (turned : Turned)
+    → front_at world node ≡ Some front → connection_at front (answer.id).conn ≡ Some connection
     → answer_comes front.setting front.home (answer.id).conn connection answer ≡ turned
-    → comes_to (taken world from node) from node (Answer answer) (front_at world node) ≡ world_after (taken world from node) node front (answer.id).conn turned.connection turned.outs
+    → comes_to (taken world from node) from node (Answer answer) (front_at world node) ≡ world_after (taken world from node) node front
+    (answer.id).conn turned.connection turned.outs
 unfolding comes_to take_message answer_at
 to_front world from node answer front connection turned at has comes =
     ap (comes_to (taken world from node) from node (Answer answer)) at

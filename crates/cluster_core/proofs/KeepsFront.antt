@@ -37,7 +37,8 @@ world_after world node front conn connection outs =
     carry_all node (with_fronts world (with_value (slice_cmp nat_cmp) world.fronts node (with_connection front conn connection))) outs
 
 -- the outputs of a connection's step were carried out and made this story; the connection is so behind it
-pub front_keeps : (config : Config) (heard after : ℕ → Heard) (origin : World) (law : KeepsLaw config heard origin) (links : Links) (conn : ℕ) (node : List ℕ) (front : Front) (was connection : Connection) (outs : List Out) (told story : Story)
+pub front_keeps : (config : Config) (heard after : ℕ → Heard) (origin : World) (law : KeepsLaw config heard origin) (links : Links) (conn : ℕ) (node : List ℕ)
+    (front : Front) (was connection : Connection) (outs : List Out) (told story : Story)
     → ((other : ℕ) → other ≢ conn → WaysOn origin.links links other)
     → front_at origin node ≡ Some front → connection_at front conn ≡ Some was
     → TalkGoesOn (told_of law.story) (told_of told) → told.told ≡ law.story.told → told.talk.answers ≡ law.story.talk.answers → told.course ≡ law.story.course
@@ -46,7 +47,8 @@ pub front_keeps : (config : Config) (heard after : ℕ → Heard) (origin : Worl
     → IsMade (setting_of config) law.backend conn (record origin { links = links }) told (carry_all node (record origin { links = links }) outs) story
     → ConnectionIs (setting_of config) (home_of config) conn (world_after (record origin { links = links }) node front conn connection outs) story (after conn)
     → KeepsOn config (told_of law.story) after (world_after (record origin { links = links }) node front conn connection outs)
-front_keeps config heard after origin law links conn node front was connection outs told story ways at has more same_told same_said same_course requests others made mine =
+front_keeps config heard after origin law links conn node front was connection outs told story ways at has more same_told same_said same_course requests others
+    made mine =
     let world : World = record origin { links = links } in
     let later : Front = with_connection front conn connection in
     let fronts = with_value (slice_cmp nat_cmp) world.fronts node later in
@@ -67,7 +69,8 @@ front_keeps config heard after origin law links conn node front was connection o
             (λ (ne : other ≢ conn). subst (λ h. ConnectionIs (setting_of config) (home_of config) other next story h) (sym (others other ne))
             (connection_stays (setting_of config) (home_of config) other origin next law.story story (heard other)
             (record {
-              fronts = fronts_at_other origin node front later other at (value_at-with_value-other nat_cmp numbers_apart front.connections conn other connection ne);
+              fronts = fronts_at_other origin node front later other at
+                  (value_at-with_value-other nat_cmp numbers_apart front.connections conn other connection ne);
               client = made.others.clients other ne;
               ways = λ f h asks answers way. made.others.ways other ne f h asks answers (ways other ne f h asks answers way);
               told = made.goes_on.told other ne ∙ ap (λ (t : ℕ → List Answer). t other) same_told;
@@ -80,7 +83,8 @@ front_keeps config heard after origin law links conn node front was connection o
     })
 
 -- the connection after its step, as the world then has it
-pub is_at_after : (world : World) (node : List ℕ) (front : Front) (conn : ℕ) (was connection : Connection) (outs : List Out) → front_at world node ≡ Some front → connection_at front conn ≡ Some was
+pub is_at_after : (world : World) (node : List ℕ) (front : Front) (conn : ℕ) (was connection : Connection) (outs : List Out) → front_at world node ≡ Some front
+    → connection_at front conn ≡ Some was
     → IsAt (world_after world node front conn connection outs) conn node (with_connection front conn connection) connection
 is_at_after world node front conn was connection outs at has = record {
   at = ap (λ w. front_at w node) (carry_all_fronts node world (with_value (slice_cmp nat_cmp) world.fronts node (with_connection front conn connection)) outs)
@@ -89,14 +93,18 @@ is_at_after world node front conn was connection outs at has = record {
 }
 
 -- what holds of the world that the outputs made holds with the frontend's new state
-pub standing_after : (world : World) (node : List ℕ) (front : Front) (conn : ℕ) (connection : Connection) (outs : List Out) (setting : Setting) (home : List ℕ) (all : List Frame) (held : Option (List ℕ)) (story : Story)
+pub standing_after : (world : World) (node : List ℕ) (front : Front) (conn : ℕ) (connection : Connection) (outs : List Out) (setting : Setting) (home : List ℕ)
+    (all : List Frame) (held : Option (List ℕ)) (story : Story)
     → IsStanding setting node home conn all held connection (carry_all node world outs) story
     → IsStanding setting node home conn all held connection (world_after world node front conn connection outs) story
 standing_after world node front conn connection outs setting home all held story is =
-    subst (λ w. IsStanding setting node home conn all held connection w story) (sym (carry_all_fronts node world (with_value (slice_cmp nat_cmp) world.fronts node (with_connection front conn connection)) outs))
+    subst (λ w. IsStanding setting node home conn all held connection w story)
+    (sym (carry_all_fronts node world (with_value (slice_cmp nat_cmp) world.fronts node (with_connection front conn connection)) outs))
     (record { count = is.count; client = is.client; stands = is.stands })
 
-pub gone_after : (world : World) (node : List ℕ) (front : Front) (conn : ℕ) (connection : Connection) (setting : Setting) (home : List ℕ) (all : List Frame) (story : Story)
-    → IsGone setting node home conn all connection world story → IsGone setting node home conn all connection (world_after world node front conn connection []) story
+pub gone_after : (world : World) (node : List ℕ) (front : Front) (conn : ℕ) (connection : Connection) (setting : Setting) (home : List ℕ) (all : List Frame)
+    (story : Story)
+    → IsGone setting node home conn all connection world story
+    → IsGone setting node home conn all connection (world_after world node front conn connection []) story
 unfolding carry_all
 gone_after world node front conn connection setting home all story is = record { stage_is = is.stage_is; count = is.count; client = is.client; left = is.left }

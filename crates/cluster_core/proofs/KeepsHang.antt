@@ -1,5 +1,6 @@
 -- A client that closes its connection keeps the law.
-use Rattle.std.proofs.Common.{◌≡◌, ◌≢◌, ◌⊎◌, ℕ, ◌+◌, ◌≤◌, Bool, true, false, nat_eq, List, [], ◌∷◌, ◌++◌, length, Option, None, Some, refl, sym, ◌∙◌, ap, subst, arith}
+use Rattle.std.proofs.Common.{◌≡◌, ◌≢◌, ◌⊎◌, ℕ, ◌+◌, ◌≤◌, Bool, true, false, nat_eq, List, [], ◌∷◌, ◌++◌, length, Option, None, Some, refl, sym, ◌∙◌, ap, subst}
+use Rattle.std.proofs.Common.{arith}
 use Rattle.std.specs.Ordering.{nat_cmp}
 use Rattle.std.specs.Cmp.Lexicographic.{slice_cmp}
 use Rattle.std.proofs.Math.Logic.{⊎_elim}
@@ -51,57 +52,72 @@ other_heard config conn other elsewhere ne = refl
 other_heard config conn other (client b true) ne = refl
 other_heard config conn other (client b false) ne = let apart : nat_eq other conn ≡ false = grind (arith, nat_tests) in rw apart refl
 
-heard_closed : (config : Config) (conn : ℕ) (bytes : List ℕ) (heard : Heard) → heard ≡ client bytes false → hears config conn heard (Hang conn) ≡ client bytes true
+heard_closed : (config : Config) (conn : ℕ) (bytes : List ℕ) (heard : Heard) → heard ≡ client bytes false
+    → hears config conn heard (Hang conn) ≡ client bytes true
 unfolding hears
 heard_closed config conn bytes heard e = let same : nat_eq conn conn ≡ true = grind (arith, nat_tests) in rw (e, same) refl
 
 -- what is left of a connection, whatever it was at
-left_by : (setting : Setting) (node home : List ℕ) (conn : ℕ) (all : List Frame) (held : Option (List ℕ)) (connection : Connection) (links : Links) (told said : List Answer) (session : Sess)
-    → Stands setting node home conn all held connection links told said session → IsLeft setting node home conn (requests_of all) (hung_up connection) links told said session
+left_by : (setting : Setting) (node home : List ℕ) (conn : ℕ) (all : List Frame) (held : Option (List ℕ)) (connection : Connection) (links : Links)
+    (told said : List Answer) (session : Sess)
+    → Stands setting node home conn all held connection links told said session
+    → IsLeft setting node home conn (requests_of all) (hung_up connection) links told said session
 unfolding requests_of
 left_by setting node home conn all held connection links told said session (reads stage waiting s answered same way) =
     nothing [] (same ∙ sym (append-nil told)) (omega arith) way
-left_by setting node home conn all held connection links told said session (waits passed bytes tag it name work stage parts s answered is need last (there same way)) =
+left_by setting node home conn all held connection links told said session
+    (waits passed bytes tag it name work stage parts s answered is need last (there same way)) =
     its_ask tag it name work same
-    (subst (λ r. numbered r (length told + 1) ≡ Some (a_command tag it)) (sym (ap requests_of parts ∙ requests-append passed (Whole bytes ∷ connection.waiting) ∙ ap (λ r. requests_of passed ++ r ∷ requests_of connection.waiting) is))
+    (subst (λ r. numbered r (length told + 1) ≡ Some (a_command tag it))
+    (sym (ap requests_of parts ∙ requests-append passed (Whole bytes ∷ connection.waiting)
+    ∙ ap (λ r. requests_of passed ++ r ∷ requests_of connection.waiting) is))
     (next_request (requests_of passed) (requests_of connection.waiting) (a_command tag it) (length told) (answered_lengths passed told answered))) need s way
-left_by setting node home conn all held connection links told said session (waits passed bytes tag it name work stage parts s answered is need last (back body reply same shown way)) =
+left_by setting node home conn all held connection links told said session
+    (waits passed bytes tag it name work stage parts s answered is need last (back body reply same shown way)) =
     its_answer _ _ same (omega arith) way
 left_by setting node home conn all held connection links told said session (faulted stage none lengths same way) =
     nothing [] (same ∙ sym (append-nil told)) (omega arith) way
 
 -- closing again changes nothing of what is left
-left_again : (setting : Setting) (node home : List ℕ) (conn : ℕ) (requests : _) (connection : Connection) (links : Links) (told said : List Answer) (session : Sess)
-    → IsLeft setting node home conn requests connection links told said session → IsLeft setting node home conn requests (hung_up connection) links told said session
+left_again : (setting : Setting) (node home : List ℕ) (conn : ℕ) (requests : _) (connection : Connection) (links : Links) (told said : List Answer)
+    (session : Sess)
+    → IsLeft setting node home conn requests connection links told said session
+    → IsLeft setting node home conn requests (hung_up connection) links told said session
 left_again setting node home conn requests connection links told said session (nothing rest a b way) = nothing rest a b way
 left_again setting node home conn requests connection links told said session (its_ask tag it name work a b c d way) = its_ask tag it name work a b c d way
 left_again setting node home conn requests connection links told said session (its_answer rest answer a b way) = its_answer rest answer a b way
 
-hangs_at : (world : World) (conn : ℕ) (node : List ℕ) (front : Front) (connection : Connection) (given : List ℕ) → client_at world conn ≡ Some (record { at = node; given = given })
+hangs_at : (world : World) (conn : ℕ) (node : List ℕ) (front : Front) (connection : Connection) (given : List ℕ)
+    → client_at world conn ≡ Some (record { at = node; given = given })
     → IsAt world conn node front connection → hangs world conn (client_at world conn) ≡ world_after world node front conn (hung_up connection) []
 unfolding hangs hang_at hang front_hang_at carry_all
 hangs_at world conn node front connection given at is = ap (hangs world conn) at ∙ ap (hang_at world conn node) is.at
     ∙ ap (λ f. record world { fronts = with_value (slice_cmp nat_cmp) world.fronts node (front_hang_at front conn f) }) is.has
 
 -- a connection at its frontend is closed
-closes : (config : Config) (heard : ℕ → Heard) (world : World) (conn : ℕ) (law : KeepsLaw config heard world) (bytes node : List ℕ) (front : Front) (connection : Connection) → IsAt world conn node front connection
+closes : (config : Config) (heard : ℕ → Heard) (world : World) (conn : ℕ) (law : KeepsLaw config heard world) (bytes node : List ℕ) (front : Front)
+    (connection : Connection) → IsAt world conn node front connection
     → law.story.talk.requests conn ≡ requests_of (frames bytes) → after_hang config heard conn conn ≡ client bytes true
     → IsGone (setting_of config) node (home_of config) conn (frames bytes) (hung_up connection) world law.story
     → KeepsOn config (told_of law.story) (after_hang config heard conn) (world_after world node front conn (hung_up connection) [])
 unfolding carry_all frames_heard
 closes config heard world conn law bytes node front connection at asked now gone =
-    front_keeps config heard (after_hang config heard conn) world law world.links conn node front connection (hung_up connection) [] law.story law.story (λ other ne f h asks answers way. way) at.at at.has (same_talk (told_of law.story)) refl refl refl
+    front_keeps config heard (after_hang config heard conn) world law world.links conn node front connection (hung_up connection) [] law.story law.story
+    (λ other ne f h asks answers way. way) at.at at.has (same_talk (told_of law.story)) refl refl refl
     (λ other. ⊎_elim
-    (λ (same : other ≡ conn). subst (λ c. law.story.talk.requests c ≡ requests_of (frames_heard (after_hang config heard conn c))) (sym same) (asked ∙ sym (ap (λ h. requests_of (frames_heard h)) now)))
+    (λ (same : other ≡ conn). subst (λ c. law.story.talk.requests c ≡ requests_of (frames_heard (after_hang config heard conn c))) (sym same)
+    (asked ∙ sym (ap (λ h. requests_of (frames_heard h)) now)))
     (λ (ne : other ≢ conn). law.requests other ∙ ap (λ h. requests_of (frames_heard h)) (sym (other_heard config conn other (heard other) ne)))
     (cases_eq other conn))
     (λ other ne. other_heard config conn other (heard other) ne)
     (record { others = keeps_all conn world; goes_on = same_story conn law.story; is_told = law.is_told })
     (subst (λ h. ConnectionIs (setting_of config) (home_of config) conn (world_after world node front conn (hung_up connection) []) law.story h) (sym now)
-    (is_closed bytes node (with_connection front conn (hung_up connection)) (hung_up connection) (is_at_after world node front conn connection (hung_up connection) [] at.at at.has)
+    (is_closed bytes node (with_connection front conn (hung_up connection)) (hung_up connection)
+    (is_at_after world node front conn connection (hung_up connection) [] at.at at.has)
     (gone_after world node front conn (hung_up connection) (setting_of config) (home_of config) (frames bytes) law.story gone)))
 
-still_heard : (config : Config) (heard : ℕ → Heard) (world : World) (conn : ℕ) (law : KeepsLaw config heard world) → after_hang config heard conn conn ≡ heard conn
+still_heard : (config : Config) (heard : ℕ → Heard) (world : World) (conn : ℕ) (law : KeepsLaw config heard world)
+    → after_hang config heard conn conn ≡ heard conn
     → KeepsOn config (told_of law.story) (after_hang config heard conn) world
 still_heard config heard world conn law same =
     still_kept config heard (after_hang config heard conn) world world (looks_same world)
@@ -123,7 +139,8 @@ unfolding hears
 closed_heard config conn bytes = refl
 
 hang_by : (config : Config) (heard : ℕ → Heard) (world : World) (conn : ℕ) (law : KeepsLaw config heard world) (was : Heard) → heard conn ≡ was
-    → ConnectionIs (setting_of config) (home_of config) conn world law.story was → KeepsOn config (told_of law.story) (after_hang config heard conn) (hangs world conn (client_at world conn))
+    → ConnectionIs (setting_of config) (home_of config) conn world law.story was
+    → KeepsOn config (told_of law.story) (after_hang config heard conn) (hangs world conn (client_at world conn))
 unfolding hangs hang_at frames_heard
 hang_by config heard world conn law was e (is_nobody none fronts untold) =
     subst (λ c. KeepsOn config (told_of law.story) (after_hang config heard conn) (hangs world conn c)) (sym none)
@@ -134,12 +151,14 @@ hang_by config heard world conn law was e (is_elsewhere node at none untold) =
     (still_heard config heard world conn law (ap (λ h. hears config conn h (Hang conn)) e ∙ elsewhere_heard config conn ∙ sym e)))
 hang_by config heard world conn law was e (is_open bytes node front connection at reader standing) =
     subst (λ w. KeepsOn config (told_of law.story) (after_hang config heard conn) w) (sym (hangs_at world conn node front connection _ standing.client at))
-    (closes config heard world conn law bytes node front connection at (law.requests conn ∙ ap (λ h. requests_of (frames_heard h)) e) (heard_closed config conn bytes (heard conn) e)
+    (closes config heard world conn law bytes node front connection at (law.requests conn ∙ ap (λ h. requests_of (frames_heard h)) e)
+    (heard_closed config conn bytes (heard conn) e)
     (record {
       stage_is = refl;
       count = standing.count;
       client = standing.client;
-      left = left_by (setting_of config) node (home_of config) conn (frames bytes) (begun bytes) connection world.links (law.story.told conn) (law.story.talk.answers conn) (law.story.course.sessions conn) standing.stands;
+      left = left_by (setting_of config) node (home_of config) conn (frames bytes) (begun bytes) connection world.links (law.story.told conn)
+          (law.story.talk.answers conn) (law.story.course.sessions conn) standing.stands;
     }))
 hang_by config heard world conn law was e (is_closed bytes node front connection at gone) =
     subst (λ w. KeepsOn config (told_of law.story) (after_hang config heard conn) w) (sym (hangs_at world conn node front connection _ gone.client at))
@@ -149,7 +168,8 @@ hang_by config heard world conn law was e (is_closed bytes node front connection
       stage_is = refl;
       count = gone.count;
       client = gone.client;
-      left = left_again (setting_of config) node (home_of config) conn (requests_of (frames bytes)) connection world.links (law.story.told conn) (law.story.talk.answers conn) (law.story.course.sessions conn) gone.left;
+      left = left_again (setting_of config) node (home_of config) conn (requests_of (frames bytes)) connection world.links (law.story.told conn)
+          (law.story.talk.answers conn) (law.story.course.sessions conn) gone.left;
     }))
 
 pub hang_keeps : (config : Config) (heard : ℕ → Heard) (world : World) (conn : ℕ) (law : KeepsLaw config heard world)

@@ -48,7 +48,8 @@ pub record IsAt (world : World) (conn : ℕ) (node : List ℕ) (front : Front) (
   pub at : front_at world node ≡ Some front
   pub has : connection_at front conn ≡ Some connection
 
-pub record IsGone (setting : Setting) (node home : List ℕ) (conn : ℕ) (frames : List Frame) (connection : Connection) (world : World) (story : Story) : Type 0 where
+pub record IsGone (setting : Setting) (node home : List ℕ) (conn : ℕ) (frames : List Frame) (connection : Connection) (world : World)
+    (story : Story) : Type 0 where
   pub stage_is : connection.stage ≡ Ended
   pub count : connection.answered ≡ length (story.told conn)
   pub client : client_at world conn ≡ Some (client_with node frames (story.told conn))
@@ -87,34 +88,44 @@ pub record KeepsOn (config : Config) (before : Talk) (heard : ℕ → Heard) (wo
   pub more : TalkGoesOn before (told_of law.story)
 
 -- one value put in its own place
-pub same_put : {K X : Type 0} (cmp : K → K → Ordering) (apart : TellsApart cmp) (entries : List (K × X)) (key : K) (value : X) → value_at cmp entries key ≡ Some value
+pub same_put : {K X : Type 0} (cmp : K → K → Ordering) (apart : TellsApart cmp) (entries : List (K × X)) (key : K) (value : X)
+    → value_at cmp entries key ≡ Some value
     → (other : K) → value_at cmp (with_value cmp entries key value) other ≡ value_at cmp entries other
 same_put cmp apart entries key value at other = ⊎_elim
-    (λ (e : other ≡ key). subst (λ k. value_at cmp (with_value cmp entries key value) k ≡ value_at cmp entries k) (sym e) (value_at-with_value cmp apart entries key value value at ∙ sym at))
+    (λ (e : other ≡ key). subst (λ k. value_at cmp (with_value cmp entries key value) k ≡ value_at cmp entries k) (sym e)
+    (value_at-with_value cmp apart entries key value value at ∙ sym at))
     (λ (ne : other ≢ key). value_at-with_value-other cmp apart entries key other value ne)
     (same_or_other cmp apart other key)
 
 -- what is on the way for a connection on other links
 abbrev pub WaysOn : Links → Links → ℕ → Type 0
-WaysOn links next conn = (front home : List ℕ) (asks : List FrontAsk) (answers : List BackAnswer) → AreOnWay links conn front home asks answers → AreOnWay next conn front home asks answers
+WaysOn links next conn = (front home : List ℕ) (asks : List FrontAsk) (answers : List BackAnswer) → AreOnWay links conn front home asks answers
+    → AreOnWay next conn front home asks answers
 
-way_on : (links next : Links) (conn : ℕ) (front home : List ℕ) (connection : Connection) (tag : _) (name : List ℕ) (work : _) (told said : List Answer) → WaysOn links next conn
+way_on : (links next : Links) (conn : ℕ) (front home : List ℕ) (connection : Connection) (tag : _) (name : List ℕ) (work : _) (told said : List Answer)
+    → WaysOn links next conn
     → OnItsWay links conn front home connection tag name work told said → OnItsWay next conn front home connection tag name work told said
 way_on links next conn front home connection tag name work told said on (there s way) = there s (on front home _ _ way)
 way_on links next conn front home connection tag name work told said on (back body reply s shown way) = back body reply s shown (on front home _ _ way)
 
-pub stands_on : (setting : Setting) (front home : List ℕ) (conn : ℕ) (all : List Frame) (held : Option (List ℕ)) (connection : Connection) (links next : Links) (told said : List Answer) (session : Sess)
-    → WaysOn links next conn → Stands setting front home conn all held connection links told said session → Stands setting front home conn all held connection next told said session
+pub stands_on : (setting : Setting) (front home : List ℕ) (conn : ℕ) (all : List Frame) (held : Option (List ℕ)) (connection : Connection) (links next : Links)
+    (told said : List Answer) (session : Sess)
+    → WaysOn links next conn → Stands setting front home conn all held connection links told said session
+    → Stands setting front home conn all held connection next told said session
 stands_on setting front home conn all held connection links next told said session on (reads a b c d e way) = reads a b c d e (on front home _ _ way)
 stands_on setting front home conn all held connection links next told said session on (waits passed bytes tag it name work a b c d e f g way) =
     waits passed bytes tag it name work a b c d e f g (way_on links next conn front home connection tag name work told said on way)
 stands_on setting front home conn all held connection links next told said session on (faulted a b c d way) = faulted a b c d (on front home _ _ way)
 
-pub left_on : (setting : Setting) (front home : List ℕ) (conn : ℕ) (requests : List Request) (connection : Connection) (links next : Links) (told said : List Answer) (session : Sess)
-    → WaysOn links next conn → IsLeft setting front home conn requests connection links told said session → IsLeft setting front home conn requests connection next told said session
+pub left_on : (setting : Setting) (front home : List ℕ) (conn : ℕ) (requests : List Request) (connection : Connection) (links next : Links)
+    (told said : List Answer) (session : Sess)
+    → WaysOn links next conn → IsLeft setting front home conn requests connection links told said session
+    → IsLeft setting front home conn requests connection next told said session
 left_on setting front home conn requests connection links next told said session on (nothing rest a b way) = nothing rest a b (on front home _ _ way)
-left_on setting front home conn requests connection links next told said session on (its_ask tag it name work a b c d way) = its_ask tag it name work a b c d (on front home _ _ way)
-left_on setting front home conn requests connection links next told said session on (its_answer rest answer a b way) = its_answer rest answer a b (on front home _ _ way)
+left_on setting front home conn requests connection links next told said session on (its_ask tag it name work a b c d way) =
+    its_ask tag it name work a b c d (on front home _ _ way)
+left_on setting front home conn requests connection links next told said session on (its_answer rest answer a b way) =
+    its_answer rest answer a b (on front home _ _ way)
 
 -- a frontend, as far as one connection goes
 pub data SameFront (conn : ℕ) : Option Front → Option Front → Type 0 where
@@ -137,17 +148,20 @@ record FrontNow (conn : ℕ) (now : Option Front) (was : Front) : Type 0 where
 
 front_now : (conn : ℕ) (one now : Option Front) (front : Front) → SameFront conn one now → one ≡ Some front → FrontNow conn now front
 front_now conn one now front both_none e = cc
-front_now conn one now front (both was next same) e = let is : was ≡ front = cc in record { front = next; is = refl; same = same ∙ ap (λ f. connection_at f conn) is }
+front_now conn one now front (both was next same) e = let is : was ≡ front = cc in
+    record { front = next; is = refl; same = same ∙ ap (λ f. connection_at f conn) is }
 
 front_was : (conn : ℕ) (one now : Option Front) (front : Front) → SameFront conn one now → now ≡ Some front → FrontNow conn one front
 front_was conn one now front both_none e = cc
-front_was conn one now front (both was next same) e = let is : next ≡ front = cc in record { front = was; is = refl; same = sym same ∙ ap (λ f. connection_at f conn) is }
+front_was conn one now front (both was next same) e = let is : next ≡ front = cc in
+    record { front = was; is = refl; same = sym same ∙ ap (λ f. connection_at f conn) is }
 
 no_front : (conn : ℕ) (one now : Option Front) → SameFront conn one now → one ≡ None → now ≡ None
 no_front conn one now both_none e = refl
 no_front conn one now (both was next same) e = cc
 
-untold_stays : (conn : ℕ) (world next : World) (story later : Story) → StaysAt conn world next story later → IsUntold conn world.links story → IsUntold conn next.links later
+untold_stays : (conn : ℕ) (world next : World) (story later : Story) → StaysAt conn world next story later → IsUntold conn world.links story
+    → IsUntold conn next.links later
 untold_stays conn world next story later stays untold = record {
   told = stays.told ∙ untold.told;
   said = stays.said ∙ untold.said;
@@ -155,24 +169,31 @@ untold_stays conn world next story later stays untold = record {
   way = λ front home. stays.ways front home [] [] (untold.way front home);
 }
 
-pub connection_stays : (setting : Setting) (home : List ℕ) (conn : ℕ) (world next : World) (story later : Story) (heard : Heard) → StaysAt conn world next story later
+pub connection_stays : (setting : Setting) (home : List ℕ) (conn : ℕ) (world next : World) (story later : Story) (heard : Heard)
+    → StaysAt conn world next story later
     → ConnectionIs setting home conn world story heard → ConnectionIs setting home conn next later heard
 connection_stays setting home conn world next story later heard stays (is_nobody none fronts untold) =
     is_nobody (stays.client ∙ none)
-    (λ node front at. let was = front_was conn (front_at world node) (front_at next node) front (stays.fronts node) at in sym was.same ∙ fronts node was.front was.is)
+    (λ node front at. let was = front_was conn (front_at world node) (front_at next node) front (stays.fronts node) at in sym was.same
+    ∙ fronts node was.front was.is)
     (untold_stays conn world next story later stays untold)
 connection_stays setting home conn world next story later heard stays (is_elsewhere node at none untold) =
-    is_elsewhere node (stays.client ∙ at) (no_front conn (front_at world node) (front_at next node) (stays.fronts node) none) (untold_stays conn world next story later stays untold)
+    is_elsewhere node (stays.client ∙ at) (no_front conn (front_at world node) (front_at next node) (stays.fronts node) none)
+    (untold_stays conn world next story later stays untold)
 connection_stays setting home conn world next story later heard stays (is_open bytes node front connection at reader standing) =
     let now = front_now conn (front_at world node) (front_at next node) front (stays.fronts node) at.at in
     is_open bytes node now.front connection (record { at = now.is; has = now.same ∙ at.has }) reader
     (record {
       count = standing.count ∙ ap length (sym stays.told);
       client = stays.client ∙ standing.client ∙ ap (λ t. Some (client_with node (frames bytes) t)) (sym stays.told);
-      stands = subst (λ t. Stands setting node home conn (frames bytes) (begun bytes) connection next.links t (later.talk.answers conn) (later.course.sessions conn)) (sym stays.told)
-          (subst (λ s. Stands setting node home conn (frames bytes) (begun bytes) connection next.links (story.told conn) s (later.course.sessions conn)) (sym stays.said)
-          (subst (λ s. Stands setting node home conn (frames bytes) (begun bytes) connection next.links (story.told conn) (story.talk.answers conn) s) (sym stays.session)
-          (stands_on setting node home conn (frames bytes) (begun bytes) connection world.links next.links (story.told conn) (story.talk.answers conn) (story.course.sessions conn) stays.ways standing.stands)));
+      stands = subst (λ t. Stands setting node home conn (frames bytes) (begun bytes) connection next.links t (later.talk.answers conn)
+          (later.course.sessions conn)) (sym stays.told)
+          (subst (λ s. Stands setting node home conn (frames bytes) (begun bytes) connection next.links (story.told conn) s (later.course.sessions conn))
+          (sym stays.said)
+          (subst (λ s. Stands setting node home conn (frames bytes) (begun bytes) connection next.links (story.told conn) (story.talk.answers conn) s)
+          (sym stays.session)
+          (stands_on setting node home conn (frames bytes) (begun bytes) connection world.links next.links (story.told conn) (story.talk.answers conn)
+          (story.course.sessions conn) stays.ways standing.stands)));
     })
 connection_stays setting home conn world next story later heard stays (is_closed bytes node front connection at gone) =
     let now = front_now conn (front_at world node) (front_at next node) front (stays.fronts node) at.at in
@@ -181,10 +202,14 @@ connection_stays setting home conn world next story later heard stays (is_closed
       stage_is = gone.stage_is;
       count = gone.count ∙ ap length (sym stays.told);
       client = stays.client ∙ gone.client ∙ ap (λ t. Some (client_with node (frames bytes) t)) (sym stays.told);
-      left = subst (λ t. IsLeft setting node home conn (requests_of (frames bytes)) connection next.links t (later.talk.answers conn) (later.course.sessions conn)) (sym stays.told)
-          (subst (λ s. IsLeft setting node home conn (requests_of (frames bytes)) connection next.links (story.told conn) s (later.course.sessions conn)) (sym stays.said)
-          (subst (λ s. IsLeft setting node home conn (requests_of (frames bytes)) connection next.links (story.told conn) (story.talk.answers conn) s) (sym stays.session)
-          (left_on setting node home conn (requests_of (frames bytes)) connection world.links next.links (story.told conn) (story.talk.answers conn) (story.course.sessions conn) stays.ways gone.left)));
+      left = subst (λ t. IsLeft setting node home conn (requests_of (frames bytes)) connection next.links t (later.talk.answers conn)
+          (later.course.sessions conn)) (sym stays.told)
+          (subst (λ s. IsLeft setting node home conn (requests_of (frames bytes)) connection next.links (story.told conn) s (later.course.sessions conn))
+          (sym stays.said)
+          (subst (λ s. IsLeft setting node home conn (requests_of (frames bytes)) connection next.links (story.told conn) (story.talk.answers conn) s)
+          (sym stays.session)
+          (left_on setting node home conn (requests_of (frames bytes)) connection world.links next.links (story.told conn) (story.talk.answers conn)
+          (story.course.sessions conn) stays.ways gone.left)));
     })
 
 pub same_front : (conn : ℕ) (one now : Option Front) → now ≡ one → SameFront conn one now

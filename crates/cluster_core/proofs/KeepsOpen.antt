@@ -1,5 +1,6 @@
 -- A connection that is opened keeps the law.
-use Rattle.std.proofs.Common.{◌≡◌, ◌≢◌, ◌⊎◌, ℕ, ◌+◌, ◌≤◌, Bool, true, false, nat_eq, List, [], ◌∷◌, ◌++◌, length, Option, None, Some, refl, sym, ◌∙◌, ap, subst, arith}
+use Rattle.std.proofs.Common.{◌≡◌, ◌≢◌, ◌⊎◌, ℕ, ◌+◌, ◌≤◌, Bool, true, false, nat_eq, List, [], ◌∷◌, ◌++◌, length, Option, None, Some, refl, sym, ◌∙◌, ap, subst}
+use Rattle.std.proofs.Common.{arith}
 use Rattle.std.specs.Prelude.{is_some}
 use Rattle.std.specs.Ordering.{nat_cmp}
 use Rattle.std.specs.Cmp.Lexicographic.{slice_cmp}
@@ -29,7 +30,8 @@ use Rattle.cluster_core.specs.Heard.{Heard, nobody, elsewhere, client, at_first,
 use Rattle.cluster_core.specs.World.{start, client_at, front_at, home_of, setting_of, with_client, with_front, open_at, opens, given_more, carry, carry_all}
 use Rattle.cluster_core.proofs.ConnectionLaw.{Story, told_of, client_with, Stands, IsStanding}
 use Rattle.cluster_core.proofs.ConnectionLaw.Stands.{reads}
-use Rattle.cluster_core.proofs.KeepsLaw.{ConnectionIs, IsUntold, IsAt, KeepsLaw, KeepsOn, StaysAt, SameFront, AreNodesOf, LooksAlike, connection_stays, same_front}
+use Rattle.cluster_core.proofs.KeepsLaw.{ConnectionIs, IsUntold, IsAt, KeepsLaw, KeepsOn, StaysAt, SameFront, AreNodesOf, LooksAlike, connection_stays}
+use Rattle.cluster_core.proofs.KeepsLaw.{same_front}
 use Rattle.cluster_core.proofs.KeepsLaw.ConnectionIs.{is_nobody, is_elsewhere, is_open, is_closed}
 use Rattle.cluster_core.proofs.KeepsStill.{still_kept, fronts_at_other, nodes_alike, nodes_with_front}
 use Rattle.cluster_core.proofs.RequestsOf.{requests_of}
@@ -37,7 +39,8 @@ use Rattle.cluster_core.proofs.Told.{IsTold}
 use Rattle.cluster_core.proofs.Ways.{AreOnWay}
 
 -- nothing is heard anew of a connection that was opened before, nor of another one
-heard_before : (config : Config) (conn : ℕ) (heard : Heard) (node : List ℕ) (other : ℕ) → (heard ≡ nobody → conn ≢ other) → hears config conn heard (Open node other) ≡ heard
+heard_before : (config : Config) (conn : ℕ) (heard : Heard) (node : List ℕ) (other : ℕ) → (heard ≡ nobody → conn ≢ other)
+    → hears config conn heard (Open node other) ≡ heard
 unfolding hears
 heard_before config conn nobody node other ne = let apart : nat_eq conn other ≡ false = by (ne refl) in rw apart refl
   where
@@ -60,13 +63,15 @@ record IsNew (conn : ℕ) (world : World) (story : Story) (heard : Heard) : Type
   fronts : (node : List ℕ) (front : Front) → front_at world node ≡ Some front → connection_at front conn ≡ None
   untold : IsUntold conn world.links story
 
-is_new : (setting : Setting) (home : List ℕ) (conn : ℕ) (world : World) (story : Story) (heard : Heard) → client_at world conn ≡ None → ConnectionIs setting home conn world story heard → IsNew conn world story heard
+is_new : (setting : Setting) (home : List ℕ) (conn : ℕ) (world : World) (story : Story) (heard : Heard) → client_at world conn ≡ None
+    → ConnectionIs setting home conn world story heard → IsNew conn world story heard
 is_new setting home conn world story heard at (is_nobody none fronts untold) = record { nobody_is = refl; fronts = fronts; untold = untold }
 is_new setting home conn world story heard at (is_elsewhere node is none untold) = cc
 is_new setting home conn world story heard at (is_open bytes node front connection is reader standing) = (let k = standing.client in cc)
 is_new setting home conn world story heard at (is_closed bytes node front connection is gone) = (let k = gone.client in cc)
 
-hears_first : (config : Config) (conn : ℕ) (heard : Heard) (node : List ℕ) (frontend : Bool) → heard ≡ nobody → is_frontend config node ≡ frontend → hears config conn heard (Open node conn) ≡ opened_at frontend
+hears_first : (config : Config) (conn : ℕ) (heard : Heard) (node : List ℕ) (frontend : Bool) → heard ≡ nobody → is_frontend config node ≡ frontend
+    → hears config conn heard (Open node conn) ≡ opened_at frontend
 unfolding hears
 hears_first config conn heard node frontend e f = let same : nat_eq conn conn ≡ true = grind (arith, nat_tests) in rw (e, same, f) refl
 
@@ -88,16 +93,19 @@ nothing_yet : (heard : Heard) → heard ≡ nobody → frames_heard heard ≡ []
 unfolding frames_heard
 nothing_yet heard e = ap frames_heard e
 
-requests_first : (config : Config) (story : Story) (heard : ℕ → Heard) (conn : ℕ) (node : List ℕ) → heard conn ≡ nobody → ((c : ℕ) → story.talk.requests c ≡ requests_of (frames_heard (heard c)))
+requests_first : (config : Config) (story : Story) (heard : ℕ → Heard) (conn : ℕ) (node : List ℕ) → heard conn ≡ nobody
+    → ((c : ℕ) → story.talk.requests c ≡ requests_of (frames_heard (heard c)))
     → (other : ℕ) → story.talk.requests other ≡ requests_of (frames_heard (after_open config heard node conn other))
 requests_first config story heard conn node e all other = ⊎_elim
     (λ (same : other ≡ conn). subst (λ c. story.talk.requests c ≡ requests_of (frames_heard (after_open config heard node conn c))) (sym same)
-    (all conn ∙ ap requests_of (nothing_yet (heard conn) e ∙ sym (ap frames_heard (hears_first config conn (heard conn) node (is_frontend config node) e refl) ∙ first_frames (is_frontend config node)))))
+    (all conn ∙ ap requests_of (nothing_yet (heard conn) e
+    ∙ sym (ap frames_heard (hears_first config conn (heard conn) node (is_frontend config node) e refl) ∙ first_frames (is_frontend config node)))))
     (λ (ne : other ≢ conn). all other ∙ ap (λ h. requests_of (frames_heard h)) (sym (other_after config heard node conn other ne)))
     (cases_eq other conn)
 
 -- a connection at a node that is no frontend is given nothing
-elsewhere_keeps : (config : Config) (heard : ℕ → Heard) (world : World) (node : List ℕ) (conn : ℕ) (law : KeepsLaw config heard world) → front_at world node ≡ None
+elsewhere_keeps : (config : Config) (heard : ℕ → Heard) (world : World) (node : List ℕ) (conn : ℕ) (law : KeepsLaw config heard world)
+    → front_at world node ≡ None
     → IsNew conn world law.story (heard conn) → KeepsOn config (told_of law.story) (after_open config heard node conn) (with_client world node conn)
 elsewhere_keeps config heard world node conn law none new =
     let next : World = with_client world node conn in
@@ -110,10 +118,13 @@ elsewhere_keeps config heard world node conn law none new =
         is_told = law.is_told;
         requests = requests_first config law.story heard conn node new.nobody_is law.requests;
         connections = λ other. ⊎_elim
-            (λ (same : other ≡ conn). subst (λ c. ConnectionIs (setting_of config) (home_of config) c next law.story (after_open config heard node conn c)) (sym same)
-            (subst (λ h. ConnectionIs (setting_of config) (home_of config) conn next law.story h) (sym (hears_first config conn (heard conn) node false new.nobody_is off))
+            (λ (same : other ≡ conn). subst (λ c. ConnectionIs (setting_of config) (home_of config) c next law.story (after_open config heard node conn c))
+            (sym same)
+            (subst (λ h. ConnectionIs (setting_of config) (home_of config) conn next law.story h)
+            (sym (hears_first config conn (heard conn) node false new.nobody_is off))
             (is_elsewhere node (value_at-with_entry nat_cmp numbers_apart world.clients conn (record { at = node; given = [] })) none new.untold)))
-            (λ (ne : other ≢ conn). subst (λ h. ConnectionIs (setting_of config) (home_of config) other next law.story h) (sym (other_after config heard node conn other ne))
+            (λ (ne : other ≢ conn). subst (λ h. ConnectionIs (setting_of config) (home_of config) other next law.story h)
+            (sym (other_after config heard node conn other ne))
             (connection_stays (setting_of config) (home_of config) other world next law.story law.story (heard other)
             (record {
               fronts = λ any. same_front other (front_at world any) (front_at next any) refl;
@@ -134,11 +145,16 @@ greeted world node conn front = record world {
   clients = with_value nat_cmp (with_entry nat_cmp world.clients conn (record { at = node; given = [] })) conn (record { at = node; given = [] ++ greeting });
 }
 
-greets : (world : World) (node : List ℕ) (conn : ℕ) (front : Front) → connection_at front conn ≡ None → with_front (with_client world node conn) node (connect front conn) ≡ greeted world node conn front
+greets : (world : World) (node : List ℕ) (conn : ℕ) (front : Front) → connection_at front conn ≡ None
+    → with_front (with_client world node conn) node (connect front conn) ≡ greeted world node conn front
 unfolding connect connect_at carry_all carry given_more
 greets world node conn front none =
     ap (λ f. with_front (with_client world node conn) node (connect_at front conn f)) none
-    ∙ ap (given_more (record (with_client world node conn) { fronts = with_value (slice_cmp nat_cmp) world.fronts node (record front { connections = with_entry nat_cmp front.connections conn new_connection }) }) conn greeting)
+    ∙ ap (given_more (record (with_client world node conn) {
+      fronts =
+          with_value (slice_cmp nat_cmp) world.fronts node (record front { connections = with_entry nat_cmp front.connections conn new_connection });
+    }) conn
+    greeting)
     (value_at-with_entry nat_cmp numbers_apart world.clients conn (record { at = node; given = [] }))
 
 greeting_alone : (told : List Answer) → told ≡ [] → greeting ≡ greeting ++ replies_to (frames []) told
@@ -149,8 +165,10 @@ all_answered : (told : List Answer) → told ≡ [] → AreAnswered (frames []) 
 all_answered told e = rw (e, ← frames-nil) none_answered
 
 -- a connection at a frontend is greeted
-front_keeps_open : (config : Config) (heard : ℕ → Heard) (world : World) (node : List ℕ) (conn : ℕ) (front : Front) (law : KeepsLaw config heard world) → front_at world node ≡ Some front
-    → IsNew conn world law.story (heard conn) → KeepsOn config (told_of law.story) (after_open config heard node conn) (with_front (with_client world node conn) node (connect front conn))
+front_keeps_open : (config : Config) (heard : ℕ → Heard) (world : World) (node : List ℕ) (conn : ℕ) (front : Front) (law : KeepsLaw config heard world)
+    → front_at world node ≡ Some front
+    → IsNew conn world law.story (heard conn)
+    → KeepsOn config (told_of law.story) (after_open config heard node conn) (with_front (with_client world node conn) node (connect front conn))
 unfolding new_connection
 front_keeps_open config heard world node conn front law at new =
     let next : World = greeted world node conn front in
@@ -166,8 +184,10 @@ front_keeps_open config heard world node conn front law at new =
         is_told = law.is_told;
         requests = requests_first config law.story heard conn node new.nobody_is law.requests;
         connections = λ other. ⊎_elim
-            (λ (same : other ≡ conn). subst (λ c. ConnectionIs (setting_of config) (home_of config) c next law.story (after_open config heard node conn c)) (sym same)
-            (subst (λ h. ConnectionIs (setting_of config) (home_of config) conn next law.story h) (sym (hears_first config conn (heard conn) node true new.nobody_is on))
+            (λ (same : other ≡ conn). subst (λ c. ConnectionIs (setting_of config) (home_of config) c next law.story (after_open config heard node conn c))
+            (sym same)
+            (subst (λ h. ConnectionIs (setting_of config) (home_of config) conn next law.story h)
+            (sym (hears_first config conn (heard conn) node true new.nobody_is on))
             (is_open [] node later new_connection
             (record {
               at = value_at-with_value (slice_cmp nat_cmp) names_apart world.fronts node later front at;
@@ -175,16 +195,21 @@ front_keeps_open config heard world node conn front law at new =
             }) refl
             (record {
               count = ap length (sym new.untold.told);
-              client = value_at-with_value nat_cmp numbers_apart (with_entry nat_cmp world.clients conn first) conn (record { at = node; given = [] ++ greeting }) first
-                  (value_at-with_entry nat_cmp numbers_apart world.clients conn first) ∙ ap (λ g. Some (record { at = node; given = g })) (greeting_alone (law.story.told conn) new.untold.told);
+              client = value_at-with_value nat_cmp numbers_apart (with_entry nat_cmp world.clients conn first) conn
+                  (record { at = node; given = [] ++ greeting }) first
+                  (value_at-with_entry nat_cmp numbers_apart world.clients conn first)
+                  ∙ ap (λ g. Some (record { at = node; given = g })) (greeting_alone (law.story.told conn) new.untold.told);
               stands = reads refl refl (sym new.untold.session) (all_answered (law.story.told conn) new.untold.told) (new.untold.said ∙ sym new.untold.told)
                   (new.untold.way node (home_of config));
             }))))
-            (λ (ne : other ≢ conn). subst (λ h. ConnectionIs (setting_of config) (home_of config) other next law.story h) (sym (other_after config heard node conn other ne))
+            (λ (ne : other ≢ conn). subst (λ h. ConnectionIs (setting_of config) (home_of config) other next law.story h)
+            (sym (other_after config heard node conn other ne))
             (connection_stays (setting_of config) (home_of config) other world next law.story law.story (heard other)
             (record {
-              fronts = fronts_at_other world node front later other at (value_at-with_entry-other nat_cmp numbers_apart front.connections conn other new_connection ne);
-              client = value_at-with_value-other nat_cmp numbers_apart (with_entry nat_cmp world.clients conn first) conn other (record { at = node; given = [] ++ greeting }) ne
+              fronts = fronts_at_other world node front later other at
+                  (value_at-with_entry-other nat_cmp numbers_apart front.connections conn other new_connection ne);
+              client = value_at-with_value-other nat_cmp numbers_apart (with_entry nat_cmp world.clients conn first) conn other
+                  (record { at = node; given = [] ++ greeting }) ne
                   ∙ clients_other world node conn other ne;
               ways = λ f home asks answers way. way;
               told = refl;
@@ -196,17 +221,20 @@ front_keeps_open config heard world node conn front law at new =
       more = same_talk (told_of law.story);
     })
 
-open_by : (config : Config) (heard : ℕ → Heard) (world : World) (node : List ℕ) (conn : ℕ) (found : Option Front) → front_at world node ≡ found → (law : KeepsLaw config heard world)
+open_by : (config : Config) (heard : ℕ → Heard) (world : World) (node : List ℕ) (conn : ℕ) (found : Option Front) → front_at world node ≡ found
+    → (law : KeepsLaw config heard world)
     → IsNew conn world law.story (heard conn) → KeepsOn config (told_of law.story) (after_open config heard node conn) (open_at world node conn found)
 unfolding open_at
 open_by config heard world node conn None at law new = elsewhere_keeps config heard world node conn law at new
 open_by config heard world node conn (Some front) at law new = front_keeps_open config heard world node conn front law at new
 
-pub open_keeps : (config : Config) (heard : ℕ → Heard) (world : World) (node : List ℕ) (conn : ℕ) (there : Option Client) → client_at world conn ≡ there → (law : KeepsLaw config heard world)
+pub open_keeps : (config : Config) (heard : ℕ → Heard) (world : World) (node : List ℕ) (conn : ℕ) (there : Option Client) → client_at world conn ≡ there
+    → (law : KeepsLaw config heard world)
     → KeepsOn config (told_of law.story) (after_open config heard node conn) (opens world node conn there)
 unfolding opens
 open_keeps config heard world node conn None at law =
-    open_by config heard world node conn (front_at world node) refl law (is_new (setting_of config) (home_of config) conn world law.story (heard conn) at (law.connections conn))
+    open_by config heard world node conn (front_at world node) refl law
+    (is_new (setting_of config) (home_of config) conn world law.story (heard conn) at (law.connections conn))
 open_keeps config heard world node conn (Some there) at law =
     still_kept config heard (after_open config heard node conn) world world
     (record {
@@ -218,5 +246,6 @@ open_keeps config heard world node conn (Some there) at law =
       marks = refl;
       steps = omega arith;
     })
-    (λ other. heard_before config other (heard other) node conn (λ e. λ same. has_client (setting_of config) (home_of config) conn world law.story (heard conn) there at (law.connections conn)
+    (λ other. heard_before config other (heard other) node conn
+    (λ e. λ same. has_client (setting_of config) (home_of config) conn world law.story (heard conn) there at (law.connections conn)
     (sym (ap heard same) ∙ e))) law

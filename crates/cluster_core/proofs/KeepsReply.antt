@@ -38,92 +38,126 @@ use Rattle.cluster_core.proofs.RequestsOf.{requests_of}
 use Rattle.cluster_core.proofs.Ways.{AreOnWay, answer_of_another, taken_for_another, answer_taken, no_answer_first}
 
 -- the ways of the others when the answer of a connection is taken
-others_on : (world : World) (from to : List ℕ) (answer : BackAnswer) (rest : List LinkMsg) (conn : ℕ) → on_link world.links from to ≡ Answer answer ∷ rest → (answer.id).conn ≡ conn
+others_on : (world : World) (from to : List ℕ) (answer : BackAnswer) (rest : List LinkMsg) (conn : ℕ) → on_link world.links from to ≡ Answer answer ∷ rest
+    → (answer.id).conn ≡ conn
     → (other : ℕ) → other ≢ conn → WaysOn world.links (without_first world.links from to) other
 others_on world from to answer rest conn first own other ne = λ front home asks answers way.
     taken_for_another world.links other front home from to (Answer answer) rest asks answers first (answer_of_another other answer (λ e. ne (sym e ∙ own))) way
 
 -- what the frontend makes of the answer
-replied_kept : (config : Config) (heard after : ℕ → Heard) (world : World) (law : KeepsLaw config heard world) (from : List ℕ) (answer : BackAnswer) (rest : List LinkMsg) (conn : ℕ) (bytes node : List ℕ) (front : Front) (connection : Connection)
-    (tag : Tag) (reply : Reply) → on_link world.links from node ≡ Answer answer ∷ rest → ((c : ℕ) → after c ≡ heard c) → (answer.id).conn ≡ conn → heard conn ≡ client bytes false → IsAt world conn node front connection → connection.reader ≡ begun bytes
+replied_kept : (config : Config) (heard after : ℕ → Heard) (world : World) (law : KeepsLaw config heard world) (from : List ℕ) (answer : BackAnswer)
+    (rest : List LinkMsg) (conn : ℕ) (bytes node : List ℕ) (front : Front) (connection : Connection)
+    (tag : Tag) (reply : Reply) → on_link world.links from node ≡ Answer answer ∷ rest → ((c : ℕ) → after c ≡ heard c) → (answer.id).conn ≡ conn
+    → heard conn ≡ client bytes false → IsAt world conn node front connection → connection.reader ≡ begun bytes
     → answer_comes front.setting front.home (answer.id).conn connection answer ≡ replied_turn (setting_of config) (home_of config) conn connection tag reply
-    → StandsOn (setting_of config) node (home_of config) law.backend conn (frames bytes) (begun bytes) (replied_turn (setting_of config) (home_of config) conn connection tag reply).connection
-    (taken world from node) law.story (carry_all node (taken world from node) (replied_turn (setting_of config) (home_of config) conn connection tag reply).outs)
+    → StandsOn (setting_of config) node (home_of config) law.backend conn (frames bytes) (begun bytes)
+    (replied_turn (setting_of config) (home_of config) conn connection tag reply).connection
+    (taken world from node) law.story (carry_all node (taken world from node)
+    (replied_turn (setting_of config) (home_of config) conn connection tag reply).outs)
     → KeepsOn config (told_of law.story) after (comes_to (taken world from node) from node (Answer answer) (front_at world node))
 replied_kept config heard after world law from answer rest conn bytes node front connection tag reply first same own e at reader comes stands =
     let turned : Turned = replied_turn (setting_of config) (home_of config) conn connection tag reply in
     subst (λ w. KeepsOn config (told_of law.story) after w)
-    (sym (to_front world from node answer front connection turned at.at (ap (connection_at front) own ∙ at.has) comes ∙ ap (λ c. world_after (taken world from node) node front c turned.connection turned.outs) own))
-    (front_keeps config heard after world law (without_first world.links from node) conn node front connection turned.connection turned.outs law.story stands.story
+    (sym (to_front world from node answer front connection turned at.at (ap (connection_at front) own ∙ at.has) comes
+    ∙ ap (λ c. world_after (taken world from node) node front c turned.connection turned.outs) own))
+    (front_keeps config heard after world law
+    (without_first world.links from node) conn node front connection turned.connection turned.outs law.story stands.story
     (others_on world from node answer rest conn first own) at.at at.has (same_talk (told_of law.story)) refl refl refl
     (λ other. law.requests other ∙ ap (λ h. requests_of (frames_heard h)) (sym (same other))) (λ other ne. same other) stands.made
-    (subst (λ h. ConnectionIs (setting_of config) (home_of config) conn (world_after (taken world from node) node front conn turned.connection turned.outs) stands.story h) (sym (same conn ∙ e))
-    (is_open bytes node (with_connection front conn turned.connection) turned.connection (is_at_after (taken world from node) node front conn connection turned.connection turned.outs at.at at.has)
+    (subst (λ h. ConnectionIs (setting_of config) (home_of config) conn
+    (world_after (taken world from node) node front conn turned.connection turned.outs) stands.story h) (sym (same conn ∙ e))
+    (is_open bytes node (with_connection front conn turned.connection) turned.connection
+    (is_at_after (taken world from node) node front conn connection turned.connection turned.outs at.at at.has)
     (frames_keep_reader (setting_of config) (home_of config) conn (reading_again connection) connection.waiting ∙ reader)
-    (standing_after (taken world from node) node front conn turned.connection turned.outs (setting_of config) (home_of config) (frames bytes) (begun bytes) stands.story stands.standing))))
+    (standing_after (taken world from node) node front conn turned.connection turned.outs (setting_of config) (home_of config) (frames bytes)
+    (begun bytes) stands.story stands.standing))))
 
-answer_open : (config : Config) (heard after : ℕ → Heard) (world : World) (law : KeepsLaw config heard world) (from to : List ℕ) (answer : BackAnswer) (rest : List LinkMsg) (conn : ℕ) (bytes node : List ℕ) (front : Front) (connection : Connection)
-    → on_link world.links from to ≡ Answer answer ∷ rest → ((c : ℕ) → after c ≡ heard c) → (answer.id).conn ≡ conn → heard conn ≡ client bytes false → IsAt world conn node front connection → connection.reader ≡ begun bytes
+answer_open : (config : Config) (heard after : ℕ → Heard) (world : World) (law : KeepsLaw config heard world) (from to : List ℕ) (answer : BackAnswer)
+    (rest : List LinkMsg) (conn : ℕ) (bytes node : List ℕ) (front : Front) (connection : Connection)
+    → on_link world.links from to ≡ Answer answer ∷ rest → ((c : ℕ) → after c ≡ heard c) → (answer.id).conn ≡ conn → heard conn ≡ client bytes false
+    → IsAt world conn node front connection → connection.reader ≡ begun bytes
     → IsStanding (setting_of config) node (home_of config) conn (frames bytes) (begun bytes) connection world law.story
-    → Stands (setting_of config) node (home_of config) conn (frames bytes) (begun bytes) connection world.links (law.story.told conn) (law.story.talk.answers conn) (law.story.course.sessions conn)
+    → Stands (setting_of config) node (home_of config) conn (frames bytes) (begun bytes) connection world.links (law.story.told conn)
+    (law.story.talk.answers conn) (law.story.course.sessions conn)
     → KeepsOn config (told_of law.story) after (comes_to (taken world from to) from to (Answer answer) (front_at world to))
 unfolding frames_heard
-answer_open config heard after world law from to answer rest conn bytes node front connection first same own e at reader standing (reads stage waiting s answered said way) =
+answer_open config heard after world law from to answer rest conn bytes node front connection first same own e at reader standing
+    (reads stage waiting s answered said way) =
     absurd (no_answer_first world.links conn node (home_of config) from to answer rest [] first own way)
-answer_open config heard after world law from to answer rest conn bytes node front connection first same own e at reader standing (faulted stage none lengths said way) =
+answer_open config heard after world law from to answer rest conn bytes node front connection first same own e at reader standing
+    (faulted stage none lengths said way) =
     absurd (no_answer_first world.links conn node (home_of config) from to answer rest [] first own way)
-answer_open config heard after world law from to answer rest conn bytes node front connection first same own e at reader standing (waits passed asking tag it name work stage parts s answered is need last (there said way)) =
+answer_open config heard after world law from to answer rest conn bytes node front connection first same own e at reader standing
+    (waits passed asking tag it name work stage parts s answered is need last (there said way)) =
     absurd (no_answer_first world.links conn node (home_of config) from to answer rest _ first own way)
-answer_open config heard after world law from to answer rest conn bytes node front connection first same own e at reader standing (waits passed asking tag it name work stage parts s answered is need last (back body reply said shown way)) =
-    let took = answer_taken world.links conn node (home_of config) from to answer rest [] (record { id = record { conn = conn; command = connection.answered + 1 }; body = body }) first own way in
+answer_open config heard after world law from to answer rest conn bytes node front connection first same own e at reader standing
+    (waits passed asking tag it name work stage parts s answered is need last (back body reply said shown way)) =
+    let took = answer_taken world.links conn node (home_of config) from to answer rest []
+    (record { id = record { conn = conn; command = connection.answered + 1 }; body = body }) first own way in
     let was = law.nodes.fronts node front at.at in
     let first_here : on_link world.links from node ≡ Answer answer ∷ rest = ap (on_link world.links from) (sym took.1) ∙ first in
-    let comes : answer_comes front.setting front.home (answer.id).conn connection answer ≡ replied_turn (setting_of config) (home_of config) conn connection tag reply =
-    ap (λ x. answer_comes x front.home (answer.id).conn connection answer) was.1 ∙ ap (λ x. answer_comes (setting_of config) x (answer.id).conn connection answer) was.0
+    let comes : answer_comes front.setting front.home (answer.id).conn connection answer ≡ replied_turn (setting_of config)
+    (home_of config) conn connection tag reply =
+    ap (λ x. answer_comes x front.home (answer.id).conn connection answer) was.1
+    ∙ ap (λ x. answer_comes (setting_of config) x (answer.id).conn connection answer) was.0
     ∙ ap (λ c. answer_comes (setting_of config) (home_of config) c connection answer) own
-    ∙ ap (answer_comes (setting_of config) (home_of config) conn connection) (sym took.2) ∙ fits (setting_of config) (home_of config) conn connection tag work body reply stage shown in
+    ∙ ap (answer_comes (setting_of config) (home_of config) conn connection) (sym took.2)
+    ∙ fits (setting_of config) (home_of config) conn connection tag work body reply stage shown in
     subst (λ x. KeepsOn config (told_of law.story) after (comes_to (taken world from x) from x (Answer answer) (front_at world x))) (sym took.1)
     (replied_kept config heard after world law from answer rest conn bytes node front connection tag reply first_here same own e at reader comes
-    (replied_stands (setting_of config) node (home_of config) law.backend conn (frames bytes) passed (begun bytes) asking connection tag reply (taken world from node) law.story parts standing.count standing.client s answered said
+    (replied_stands (setting_of config) node (home_of config) law.backend conn (frames bytes) passed (begun bytes) asking connection tag reply
+    (taken world from node) law.story parts standing.count standing.client s answered said
     (subst (λ x. AreOnWay (without_first world.links from x) conn node (home_of config) [] []) took.1 took.3) law.is_told last
     (law.requests conn ∙ ap (λ h. requests_of (frames_heard h)) e)))
 
 -- an answer to a connection that was closed is dropped
-dropped : (config : Config) (heard after : ℕ → Heard) (world : World) (law : KeepsLaw config heard world) (from to : List ℕ) (answer : BackAnswer) (rest : List LinkMsg) (conn : ℕ) (bytes node : List ℕ) (front : Front) (connection : Connection)
-    (more : List AnswerOf) → on_link world.links from node ≡ Answer answer ∷ rest → ((c : ℕ) → after c ≡ heard c) → (answer.id).conn ≡ conn → heard conn ≡ client bytes true → IsAt world conn node front connection
-    → IsGone (setting_of config) node (home_of config) conn (frames bytes) connection world law.story → law.story.talk.answers conn ≡ law.story.told conn ++ more → length more ≤ 1
+dropped : (config : Config) (heard after : ℕ → Heard) (world : World) (law : KeepsLaw config heard world) (from to : List ℕ) (answer : BackAnswer)
+    (rest : List LinkMsg) (conn : ℕ) (bytes node : List ℕ) (front : Front) (connection : Connection)
+    (more : List AnswerOf) → on_link world.links from node ≡ Answer answer ∷ rest → ((c : ℕ) → after c ≡ heard c) → (answer.id).conn ≡ conn
+    → heard conn ≡ client bytes true → IsAt world conn node front connection
+    → IsGone (setting_of config) node (home_of config) conn (frames bytes) connection world law.story
+    → law.story.talk.answers conn ≡ law.story.told conn ++ more → length more ≤ 1
     → AreOnWay (without_first world.links from node) conn node (home_of config) [] []
     → KeepsOn config (told_of law.story) after (comes_to (taken world from node) from node (Answer answer) (front_at world node))
 unfolding carry_all
 dropped config heard after world law from to answer rest conn bytes node front connection more first same own e at gone said few way =
     subst (λ w. KeepsOn config (told_of law.story) after w)
-    (sym (to_front world from node answer front connection (unchanged connection) at.at (ap (connection_at front) own ∙ at.has) (ended_drops_answer front.setting front.home (answer.id).conn connection answer gone.stage_is)
+    (sym (to_front world from node answer front connection (unchanged connection) at.at (ap (connection_at front) own ∙ at.has)
+    (ended_drops_answer front.setting front.home (answer.id).conn connection answer gone.stage_is)
     ∙ ap (λ c. world_after (taken world from node) node front c connection []) own))
     (front_keeps config heard after world law (without_first world.links from node) conn node front connection connection [] law.story law.story
     (others_on world from node answer rest conn first own) at.at at.has (same_talk (told_of law.story)) refl refl refl
     (λ other. law.requests other ∙ ap (λ h. requests_of (frames_heard h)) (sym (same other))) (λ other ne. same other)
     (record { others = keeps_all conn (taken world from node); goes_on = same_story conn law.story; is_told = law.is_told })
-    (subst (λ h. ConnectionIs (setting_of config) (home_of config) conn (world_after (taken world from node) node front conn connection []) law.story h) (sym (same conn ∙ e))
-    (is_closed bytes node (with_connection front conn connection) connection (is_at_after (taken world from node) node front conn connection connection [] at.at at.has)
+    (subst (λ h. ConnectionIs (setting_of config) (home_of config) conn (world_after (taken world from node) node front conn connection []) law.story h)
+    (sym (same conn ∙ e))
+    (is_closed bytes node (with_connection front conn connection) connection
+    (is_at_after (taken world from node) node front conn connection connection [] at.at at.has)
     (gone_after (taken world from node) node front conn connection (setting_of config) (home_of config) (frames bytes) law.story
     (record { stage_is = gone.stage_is; count = gone.count; client = gone.client; left = nothing more said few way })))))
 
-answer_closed : (config : Config) (heard after : ℕ → Heard) (world : World) (law : KeepsLaw config heard world) (from to : List ℕ) (answer : BackAnswer) (rest : List LinkMsg) (conn : ℕ) (bytes node : List ℕ) (front : Front) (connection : Connection)
-    → on_link world.links from to ≡ Answer answer ∷ rest → ((c : ℕ) → after c ≡ heard c) → (answer.id).conn ≡ conn → heard conn ≡ client bytes true → IsAt world conn node front connection
+answer_closed : (config : Config) (heard after : ℕ → Heard) (world : World) (law : KeepsLaw config heard world) (from to : List ℕ) (answer : BackAnswer)
+    (rest : List LinkMsg) (conn : ℕ) (bytes node : List ℕ) (front : Front) (connection : Connection)
+    → on_link world.links from to ≡ Answer answer ∷ rest → ((c : ℕ) → after c ≡ heard c) → (answer.id).conn ≡ conn → heard conn ≡ client bytes true
+    → IsAt world conn node front connection
     → IsGone (setting_of config) node (home_of config) conn (frames bytes) connection world law.story
-    → IsLeft (setting_of config) node (home_of config) conn (requests_of (frames bytes)) connection world.links (law.story.told conn) (law.story.talk.answers conn) (law.story.course.sessions conn)
+    → IsLeft (setting_of config) node (home_of config) conn (requests_of (frames bytes)) connection world.links (law.story.told conn)
+    (law.story.talk.answers conn) (law.story.course.sessions conn)
     → KeepsOn config (told_of law.story) after (comes_to (taken world from to) from to (Answer answer) (front_at world to))
 answer_closed config heard after world law from to answer rest conn bytes node front connection first same own e at gone (nothing more said few way) =
     absurd (no_answer_first world.links conn node (home_of config) from to answer rest [] first own way)
-answer_closed config heard after world law from to answer rest conn bytes node front connection first same own e at gone (its_ask tag it name work said next need s way) =
+answer_closed config heard after world law from to answer rest conn bytes node front connection first same own e at gone
+    (its_ask tag it name work said next need s way) =
     absurd (no_answer_first world.links conn node (home_of config) from to answer rest _ first own way)
 answer_closed config heard after world law from to answer rest conn bytes node front connection first same own e at gone (its_answer more mine said few way) =
     let took = answer_taken world.links conn node (home_of config) from to answer rest [] mine first own way in
     subst (λ x. KeepsOn config (told_of law.story) after (comes_to (taken world from x) from x (Answer answer) (front_at world x))) (sym took.1)
-    (dropped config heard after world law from to answer rest conn bytes node front connection more (ap (on_link world.links from) (sym took.1) ∙ first) same own e at gone said few
+    (dropped config heard after world law from to answer rest conn bytes node front connection more
+    (ap (on_link world.links from) (sym took.1) ∙ first) same own e at gone said few
     (subst (λ x. AreOnWay (without_first world.links from x) conn node (home_of config) [] []) took.1 took.3))
 
-answer_by_case : (config : Config) (heard after : ℕ → Heard) (world : World) (law : KeepsLaw config heard world) (from to : List ℕ) (answer : BackAnswer) (rest : List LinkMsg) (conn : ℕ)
+answer_by_case : (config : Config) (heard after : ℕ → Heard) (world : World) (law : KeepsLaw config heard world) (from to : List ℕ) (answer : BackAnswer)
+    (rest : List LinkMsg) (conn : ℕ)
     → on_link world.links from to ≡ Answer answer ∷ rest → ((c : ℕ) → after c ≡ heard c) → (answer.id).conn ≡ conn → (was : Heard) → heard conn ≡ was
     → ConnectionIs (setting_of config) (home_of config) conn world law.story was
     → KeepsOn config (told_of law.story) after (comes_to (taken world from to) from to (Answer answer) (front_at world to))
@@ -136,22 +170,27 @@ answer_by_case config heard after world law from to answer rest conn first same 
 answer_by_case config heard after world law from to answer rest conn first same own was e (is_closed bytes node front connection at gone) =
     answer_closed config heard after world law from to answer rest conn bytes node front connection first same own e at gone gone.left
 
-message_keeps : (config : Config) (heard after : ℕ → Heard) (world : World) (law : KeepsLaw config heard world) (from to : List ℕ) (message : LinkMsg) (rest : List LinkMsg) → on_link world.links from to ≡ message ∷ rest
+message_keeps : (config : Config) (heard after : ℕ → Heard) (world : World) (law : KeepsLaw config heard world) (from to : List ℕ) (message : LinkMsg)
+    (rest : List LinkMsg) → on_link world.links from to ≡ message ∷ rest
     → ((c : ℕ) → after c ≡ heard c) → KeepsOn config (told_of law.story) after (comes_to (taken world from to) from to message (front_at world to))
 message_keeps config heard after world law from to Up rest first same = quiet_keeps config heard after world law from to Up rest first same an_up
 message_keeps config heard after world law from to End rest first same = quiet_keeps config heard after world law from to End rest first same an_end
-message_keeps config heard after world law from to (Line bytes) rest first same = quiet_keeps config heard after world law from to (Line bytes) rest first same (a_line bytes)
+message_keeps config heard after world law from to (Line bytes) rest first same =
+    quiet_keeps config heard after world law from to (Line bytes) rest first same (a_line bytes)
 message_keeps config heard after world law from to (Ask ask) rest first same =
     ask_by config heard after world law from to ask rest (ask.id).conn first same refl (heard (ask.id).conn) refl (law.connections (ask.id).conn)
 message_keeps config heard after world law from to (Answer answer) rest first same =
-    answer_by_case config heard after world law from to answer rest (answer.id).conn first same refl (heard (answer.id).conn) refl (law.connections (answer.id).conn)
+    answer_by_case config heard after world law from to answer rest (answer.id).conn first same refl (heard (answer.id).conn) refl
+    (law.connections (answer.id).conn)
 
-deliver_by : (config : Config) (heard after : ℕ → Heard) (world : World) (law : KeepsLaw config heard world) (from to : List ℕ) (queue : List LinkMsg) → on_link world.links from to ≡ queue
+deliver_by : (config : Config) (heard after : ℕ → Heard) (world : World) (law : KeepsLaw config heard world) (from to : List ℕ) (queue : List LinkMsg)
+    → on_link world.links from to ≡ queue
     → ((c : ℕ) → after c ≡ heard c) → KeepsOn config (told_of law.story) after (deliver_first world from to queue)
 unfolding deliver_first
 deliver_by config heard after world law from to [] first same = still_kept config heard after world world (looks_same world) same law
 deliver_by config heard after world law from to (message ∷ rest) first same = message_keeps config heard after world law from to message rest first same
 
-pub deliver_keeps : (config : Config) (heard after : ℕ → Heard) (world : World) (law : KeepsLaw config heard world) (from to : List ℕ) → ((c : ℕ) → after c ≡ heard c)
+pub deliver_keeps : (config : Config) (heard after : ℕ → Heard) (world : World) (law : KeepsLaw config heard world) (from to : List ℕ)
+    → ((c : ℕ) → after c ≡ heard c)
     → KeepsOn config (told_of law.story) after (delivers world from to)
 deliver_keeps config heard after world law from to same = deliver_by config heard after world law from to (on_link world.links from to) refl same

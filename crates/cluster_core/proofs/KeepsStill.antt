@@ -11,7 +11,8 @@ use Rattle.front_core.specs.Front.{connection_at}
 use Rattle.link_msg.specs.declared.out.Out.{Out}
 use Rattle.link_msg.specs.declared.out.Out.TheVariants.{Client as to_client, Close, Link as to_node, Mark as mark}
 use Rattle.mur_base.specs.Map.{value_at, with_value, with_entry}
-use Rattle.mur_base.proofs.MapLaws.{names_apart, numbers_apart, same_or_other, value_at-with_value, value_at-with_value-other, value_at-with_entry, value_at-with_entry-other}
+use Rattle.mur_base.proofs.MapLaws.{names_apart, numbers_apart, same_or_other, value_at-with_value, value_at-with_value-other, value_at-with_entry}
+use Rattle.mur_base.proofs.MapLaws.{value_at-with_entry-other}
 use Rattle.mur_config.specs.declared.config.Config.{Config}
 use Rattle.mur_model.proofs.HistoryGrows.{same_talk}
 use Rattle.cluster_core.specs.declared.world.Client.{Client}
@@ -25,7 +26,8 @@ use Rattle.cluster_core.proofs.KeepsLaw.SameFront.{both_none, both}
 use Rattle.cluster_core.proofs.RequestsOf.{requests_of}
 use Rattle.cluster_core.proofs.Told.{IsTold, told_later}
 
-pub nodes_alike : (config : Config) (world next : World) (backend : Backend) → ((node : List ℕ) → front_at next node ≡ front_at world node) → ((node : List ℕ) → home_at next node ≡ home_at world node)
+pub nodes_alike : (config : Config) (world next : World) (backend : Backend) → ((node : List ℕ) → front_at next node ≡ front_at world node)
+    → ((node : List ℕ) → home_at next node ≡ home_at world node)
     → next.backends ≡ world.backends → AreNodesOf config world backend → AreNodesOf config next backend
 nodes_alike config world next backend fronts homes backends nodes = record {
   home_no_front = fronts (home_of config) ∙ nodes.home_no_front;
@@ -61,12 +63,15 @@ still_kept config heard after world next alike same law = record {
 }
 
 -- what the frontends are for another connection after a step of one connection at one of them
-pub fronts_at_other : (world : World) (node : List ℕ) (front next : Front) (other : ℕ) → front_at world node ≡ Some front → connection_at next other ≡ connection_at front other
+pub fronts_at_other : (world : World) (node : List ℕ) (front next : Front) (other : ℕ) → front_at world node ≡ Some front
+    → connection_at next other ≡ connection_at front other
     → (any : List ℕ) → SameFront other (front_at world any) (value_at (slice_cmp nat_cmp) (with_value (slice_cmp nat_cmp) world.fronts node next) any)
 fronts_at_other world node front next other at same any = ⊎_elim
-    (λ (e : any ≡ node). subst (λ n. SameFront other (front_at world n) (value_at (slice_cmp nat_cmp) (with_value (slice_cmp nat_cmp) world.fronts node next) n)) (sym e)
+    (λ (e : any ≡ node). subst (λ n. SameFront other (front_at world n)
+    (value_at (slice_cmp nat_cmp) (with_value (slice_cmp nat_cmp) world.fronts node next) n)) (sym e)
     (subst (λ f. SameFront other f (value_at (slice_cmp nat_cmp) (with_value (slice_cmp nat_cmp) world.fronts node next) node)) (sym at)
-    (subst (λ f. SameFront other (Some front) f) (sym (value_at-with_value (slice_cmp nat_cmp) names_apart world.fronts node next front at)) (both front next same))))
+    (subst (λ f. SameFront other (Some front) f) (sym (value_at-with_value (slice_cmp nat_cmp) names_apart world.fronts node next front at))
+    (both front next same))))
     (λ (ne : any ≢ node). same_front other (front_at world any) (value_at (slice_cmp nat_cmp) (with_value (slice_cmp nat_cmp) world.fronts node next) any)
     (value_at-with_value-other (slice_cmp nat_cmp) names_apart world.fronts node any next ne))
     (same_or_other (slice_cmp nat_cmp) names_apart any node)
@@ -76,7 +81,8 @@ pub nodes_with_front : (config : Config) (world next : World) (backend : Backend
     → next.fronts ≡ with_value (slice_cmp nat_cmp) world.fronts node later → next.homes ≡ world.homes → next.backends ≡ world.backends
     → later.home ≡ front.home → later.setting ≡ front.setting → AreNodesOf config world backend → AreNodesOf config next backend
 nodes_with_front config world next backend node front later at fronts homes backends home setting nodes =
-    let here : (any : List ℕ) → front_at next any ≡ value_at (slice_cmp nat_cmp) (with_value (slice_cmp nat_cmp) world.fronts node later) any = λ any. ap (λ f. value_at (slice_cmp nat_cmp) f any) fronts in
+    let here : (any : List ℕ) → front_at next any ≡ value_at (slice_cmp nat_cmp) (with_value (slice_cmp nat_cmp) world.fronts node later) any =
+    λ any. ap (λ f. value_at (slice_cmp nat_cmp) f any) fronts in
     record {
       home_no_front = here (home_of config) ∙ value_at-with_value-other (slice_cmp nat_cmp) names_apart world.fronts node (home_of config) later
           (λ e. some_none front (sym at ∙ ap (front_at world) (sym e) ∙ nodes.home_no_front)) ∙ nodes.home_no_front;
@@ -86,11 +92,13 @@ nodes_with_front config world next backend node front later at fronts homes back
           ∙ ap (λ n. value_at (slice_cmp nat_cmp) (with_value (slice_cmp nat_cmp) world.fronts node later) n) (sym e) ∙ sym (here any) ∙ is) in
           let was = nodes.fronts node front at in
           (ap (λ (f : Front). f.home) (sym same) ∙ home ∙ was.0, ap (λ (f : Front). f.setting) (sym same) ∙ setting ∙ was.1))
-          (λ (ne : any ≢ node). nodes.fronts any found (sym (value_at-with_value-other (slice_cmp nat_cmp) names_apart world.fronts node any later ne) ∙ sym (here any) ∙ is))
+          (λ (ne : any ≢ node). nodes.fronts any found
+          (sym (value_at-with_value-other (slice_cmp nat_cmp) names_apart world.fronts node any later ne) ∙ sym (here any) ∙ is))
           (same_or_other (slice_cmp nat_cmp) names_apart any node);
       frontends = λ any. ap is_some (here any) ∙ ⊎_elim
           (λ (e : any ≡ node). ap (λ n. is_some (value_at (slice_cmp nat_cmp) (with_value (slice_cmp nat_cmp) world.fronts node later) n)) e
-          ∙ ap is_some (value_at-with_value (slice_cmp nat_cmp) names_apart world.fronts node later front at) ∙ sym (ap is_some at) ∙ ap (λ n. is_some (front_at world n)) (sym e))
+          ∙ ap is_some (value_at-with_value (slice_cmp nat_cmp) names_apart world.fronts node later front at) ∙ sym (ap is_some at)
+          ∙ ap (λ n. is_some (front_at world n)) (sym e))
           (λ (ne : any ≢ node). ap is_some (value_at-with_value-other (slice_cmp nat_cmp) names_apart world.fronts node any later ne))
           (same_or_other (slice_cmp nat_cmp) names_apart any node) ∙ nodes.frontends any;
       other_homes = λ any other ne is. nodes.other_homes any other ne (sym (ap (λ h. value_at (slice_cmp nat_cmp) h any) homes) ∙ is);
@@ -113,7 +121,8 @@ unfolding given_more
 given_fronts world fronts conn bytes None = refl
 given_fronts world fronts conn bytes (Some client) = refl
 
-carry_fronts : (node : List ℕ) (world : World) (fronts : List (List ℕ × Front)) (out : Out) → carry node (with_fronts world fronts) out ≡ with_fronts (carry node world out) fronts
+carry_fronts : (node : List ℕ) (world : World) (fronts : List (List ℕ × Front)) (out : Out)
+    → carry node (with_fronts world fronts) out ≡ with_fronts (carry node world out) fronts
 unfolding carry
 carry_fronts node world fronts (to_client conn bytes) = given_fronts world fronts conn bytes (client_at world conn)
 carry_fronts node world fronts (Close conn) = refl
@@ -124,4 +133,5 @@ pub carry_all_fronts : (node : List ℕ) (world : World) (fronts : List (List �
     → carry_all node (with_fronts world fronts) outs ≡ with_fronts (carry_all node world outs) fronts
 unfolding carry_all
 carry_all_fronts node world fronts [] = refl
-carry_all_fronts node world fronts (out ∷ outs) = ap (λ w. carry_all node w outs) (carry_fronts node world fronts out) ∙ carry_all_fronts node (carry node world out) fronts outs
+carry_all_fronts node world fronts (out ∷ outs) = ap (λ w. carry_all node w outs) (carry_fronts node world fronts out)
+    ∙ carry_all_fronts node (carry node world out) fronts outs

@@ -1,5 +1,6 @@
 -- The marks of a run carry out their requests one after another, and what history they make.
-use Rattle.std.proofs.Common.{◌≡◌, ◌≢◌, ℕ, zero, suc, ◌+◌, ◌≤◌, ◌<◌, ◌&&◌, Bool, true, false, cond, nat_eq, nat_le, nat_lt, List, [], ◌∷◌, ◌++◌, length, Option, None, Some, inl, inr, ◌⊎◌, refl, sym, ◌∙◌, ap, subst, arith}
+use Rattle.std.proofs.Common.{◌≡◌, ◌≢◌, ℕ, zero, suc, ◌+◌, ◌≤◌, ◌<◌, ◌&&◌, Bool, true, false, cond, nat_eq, nat_le, nat_lt, List, [], ◌∷◌, ◌++◌, length, Option}
+use Rattle.std.proofs.Common.{None, Some, inl, inr, ◌⊎◌, refl, sym, ◌∙◌, ap, subst, arith}
 use Rattle.std.specs.Prelude.{All, AllPairs, count_by, slice_get}
 use Rattle.std.proofs.Math.Logic.{⊎_elim}
 use Rattle.std.proofs.lemmas.Bool.{cases_eq}
@@ -43,7 +44,8 @@ pub carries_on : (setting : Setting) (talk longer : Talk) → TalkGoesOn talk lo
 carries_on setting talk longer on first last marks (no_marks course) = no_marks course
 carries_on setting talk longer on first last marks (a_mark course end mark request serial rest takes answer unless later) =
     a_mark course end mark request serial rest (takes_on setting talk longer on course (conn_of mark) (command_of mark) request serial takes)
-    (numbered_on talk.answers longer.answers on.answers (conn_of mark) (command_of mark) (carried_out setting course (conn_of mark) request serial).answer answer)
+    (numbered_on talk.answers longer.answers on.answers (conn_of mark) (command_of mark)
+    (carried_out setting course (conn_of mark) request serial).answer answer)
     unless (carries_on setting talk longer on _ end rest later)
 
 pub carries_push : (setting : Setting) (talk : Talk) (first last : Course) (marks : List Mark) (mark : Mark) (request : Request) (serial : ℕ)
@@ -61,7 +63,8 @@ get_front [] more k item h e = absurd (omega arith)
 get_front (first ∷ items) more zero item h e = e
 get_front (first ∷ items) more (suc k) item h e = get_front items more k item (omega arith) e
 
-numbered_front : {T : Type 0} (items more : List T) (number : ℕ) (item : T) → number ≤ length items → numbered (items ++ more) number ≡ Some item → numbered items number ≡ Some item
+numbered_front : {T : Type 0} (items more : List T) (number : ℕ) (item : T) → number ≤ length items → numbered (items ++ more) number ≡ Some item
+    → numbered items number ≡ Some item
 unfolding numbered
 numbered_front items more zero item h e = e
 numbered_front items more (suc number) item h e = get_front items more number item (omega arith) e
@@ -79,7 +82,8 @@ told_takes : (setting : Setting) (talk : Talk) (told : ℕ → List Answer) (cou
 told_takes setting talk told course conn number request serial takes = record { asked = takes.asked; given = takes.given; free = takes.free }
 
 -- the history that the marks make is followed by the store, of which the clients were told the answers that they were given
-follows_by : (setting : Setting) (world : World) (talk : Talk) (told : ℕ → List Answer) → IsTold_of talk told → ((conn : ℕ) → answered_of world conn ≡ length (told conn))
+follows_by : (setting : Setting) (world : World) (talk : Talk) (told : ℕ → List Answer) → IsTold_of talk told
+    → ((conn : ℕ) → answered_of world conn ≡ length (told conn))
     → (course last : Course) (mark : Mark) (request : Request) (serial : ℕ) (points : List Point)
     → Takes setting talk course (conn_of mark) (command_of mark) request serial
     → numbered (talk.answers (conn_of mark)) (command_of mark) ≡ Some (carried_out setting course (conn_of mark) request serial).answer
@@ -90,15 +94,20 @@ follows_by : (setting : Setting) (world : World) (talk : Talk) (told : ℕ → L
 unfolding points_by
 follows_by setting world talk told of same course last mark request serial points takes answer unless later true h counts c =
     let in_told : command_of mark ≤ length (told (conn_of mark)) = subst (λ n. command_of mark ≤ n) (same (conn_of mark)) (grind (arith, nat_tests)) in
-    a_reply course last mark.step (conn_of mark) (command_of mark) request serial points (told_takes setting talk told course (conn_of mark) (command_of mark) request serial takes)
-    (numbered_front (told (conn_of mark)) (of.rest (conn_of mark)) (command_of mark) _ in_told (ap (λ l. numbered l (command_of mark)) (sym (of.parts (conn_of mark))) ∙ answer)) later
+    a_reply course last mark.step (conn_of mark) (command_of mark) request serial points
+    (told_takes setting talk told course (conn_of mark) (command_of mark) request serial takes)
+    (numbered_front (told (conn_of mark)) (of.rest (conn_of mark)) (command_of mark) _ in_told
+    (ap (λ l. numbered l (command_of mark)) (sym (of.parts (conn_of mark))) ∙ answer)) later
 follows_by setting world talk told of same course last mark request serial points takes answer unless later false h Always c =
-    a_loss course last mark.step (conn_of mark) (command_of mark) request serial points (told_takes setting talk told course (conn_of mark) (command_of mark) request serial takes) later
+    a_loss course last mark.step (conn_of mark) (command_of mark) request serial points
+    (told_takes setting talk told course (conn_of mark) (command_of mark) request serial takes) later
 follows_by setting world talk told of same course last mark request serial points takes answer unless later false h IfAnswered c =
     subst (λ k. Follows setting (told_talk talk told) k points last) (unless c) later
 
-pub marks_follow : (setting : Setting) (world : World) (talk : Talk) (told : ℕ → List Answer) → IsTold_of talk told → ((conn : ℕ) → answered_of world conn ≡ length (told conn))
-    → (first last : Course) (marks : List Mark) → Carries setting talk first marks last → Follows setting (told_talk talk told) first (points_of_all world marks) last
+pub marks_follow : (setting : Setting) (world : World) (talk : Talk) (told : ℕ → List Answer) → IsTold_of talk told
+    → ((conn : ℕ) → answered_of world conn ≡ length (told conn))
+    → (first last : Course) (marks : List Mark) → Carries setting talk first marks last
+    → Follows setting (told_talk talk told) first (points_of_all world marks) last
 unfolding points_of_all points_of
 marks_follow setting world talk told of same first last marks (no_marks course) = no_points course
 marks_follow setting world talk told of same first last marks (a_mark course end mark request serial rest takes answer unless later) =
@@ -136,8 +145,10 @@ all_points world Q P of (mark ∷ marks) all =
     all_by world mark P (points_of_all world marks) (λ point is. of mark point (head_marks Q mark marks all) is)
     (all_points world Q P of marks (tail_marks Q mark marks all)) (nat_le (command_of mark) (answered_of world (conn_of mark))) refl mark.counts
 
-pairs_by : (world : World) (mark : Mark) (R : Point → Point → Type 0) (points : List Point) → ((point : Point) → IsOf world mark point → All (R point) points) → AllPairs R points
-    → (among : Bool) → nat_le (command_of mark) (answered_of world (conn_of mark)) ≡ among → (counts : Counts) → AllPairs R (points_by mark among counts ++ points)
+pairs_by : (world : World) (mark : Mark) (R : Point → Point → Type 0) (points : List Point) → ((point : Point) → IsOf world mark point → All (R point) points)
+    → AllPairs R points
+    → (among : Bool) → nat_le (command_of mark) (answered_of world (conn_of mark)) ≡ among → (counts : Counts)
+    → AllPairs R (points_by mark among counts ++ points)
 unfolding points_by loses
 pairs_by world mark R points of rest true h counts =
     AllPairs-cons R _ points (of _ (record { same_step = refl; same_ask = refl; if_lost = λ k. cc; either = inl (refl, grind (arith, nat_tests)) })) rest
@@ -191,7 +202,8 @@ count_marks_push : (conn number : ℕ) (marks : List Mark) (mark : Mark)
 count_marks_push conn number marks mark =
     sum_by-append (λ (m : Mark). cond (is_mark conn number m) 1 0) marks (mark ∷ []) ∙ ap (λ n. count_by (is_mark conn number) marks + n) (omega arith)
 
-pub marked_once_push : (counts next : ℕ → ℕ) (marks : List Mark) (mark : Mark) → command_of mark ≡ counts (conn_of mark) + 1 → next (conn_of mark) ≡ counts (conn_of mark) + 1
+pub marked_once_push : (counts next : ℕ → ℕ) (marks : List Mark) (mark : Mark) → command_of mark ≡ counts (conn_of mark) + 1
+    → next (conn_of mark) ≡ counts (conn_of mark) + 1
     → ((other : ℕ) → other ≢ conn_of mark → next other ≡ counts other) → MarkedOnce counts marks → MarkedOnce next (marks ++ mark ∷ [])
 marked_once_push counts next marks mark is more others once other number =
     ⊎_elim
@@ -229,7 +241,8 @@ answers_by world conn number mark low true h counts true a true s = rw (a, s) re
 answers_by world conn number mark low true h counts true a false s = rw (a, s) refl
 answers_by world conn number mark low true h counts false a same s = rw a refl
 answers_by world conn number mark low false h counts true a true s =
-    absurd (let c : conn_of mark ≡ conn = grind (arith, nat_tests) in let low_here : number ≤ answered_of world (conn_of mark) = subst (λ x. number ≤ answered_of world x) (sym c) low in grind (arith, nat_tests))
+    absurd (let c : conn_of mark ≡ conn = grind (arith, nat_tests) in let low_here : number ≤ answered_of world (conn_of mark) =
+    subst (λ x. number ≤ answered_of world x) (sym c) low in grind (arith, nat_tests))
 answers_by world conn number mark low false h Always true a false s = refl
 answers_by world conn number mark low false h IfAnswered true a false s = refl
 answers_by world conn number mark low false h Always false a same s = refl
@@ -242,7 +255,8 @@ answering_points world conn number [] low = refl
 answering_points world conn number (mark ∷ marks) low =
     count_both (is_about answers conn number) (points_of world mark) (points_of_all world marks)
     ∙ ap (λ n. n + count_by (is_about answers conn number) (points_of_all world marks))
-    (answers_by world conn number mark low (nat_le (command_of mark) (answered_of world (conn_of mark))) refl mark.counts (nat_eq (conn_of mark) conn) refl (nat_eq (command_of mark) number) refl)
+    (answers_by world conn number mark low (nat_le (command_of mark) (answered_of world (conn_of mark))) refl mark.counts (nat_eq (conn_of mark) conn) refl
+    (nat_eq (command_of mark) number) refl)
     ∙ ap (λ n. cond (is_mark conn number mark) 1 0 + n) (answering_points world conn number marks low)
     ∙ sym (count_cons (is_mark conn number) mark marks)
 
@@ -266,5 +280,6 @@ losing_points world conn number (mark ∷ marks) = omega (
   losing_points world conn number marks,
   count_both (is_about loses conn number) (points_of world mark) (points_of_all world marks),
   count_cons (is_mark conn number) mark marks,
-  losses_by conn number mark (nat_le (command_of mark) (answered_of world (conn_of mark))) mark.counts (nat_eq (conn_of mark) conn) refl (nat_eq (command_of mark) number) refl,
+  losses_by conn number mark (nat_le (command_of mark) (answered_of world (conn_of mark))) mark.counts (nat_eq (conn_of mark) conn) refl
+      (nat_eq (command_of mark) number) refl,
 )

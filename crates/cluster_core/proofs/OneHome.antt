@@ -1,5 +1,6 @@
 -- After every step each name has at most one writable home.
-use Rattle.std.proofs.Common.{◌≡◌, ◌≢◌, ◌⊎◌, ℕ, zero, suc, ◌+◌, ◌≤◌, ◌<◌, ◌&&◌, Bool, true, false, cond, nat_eq, List, [], ◌∷◌, ◌++◌, length, Option, None, Some, refl, sym, ◌∙◌, ap, subst, arith, length-append}
+use Rattle.std.proofs.Common.{◌≡◌, ◌≢◌, ◌⊎◌, ℕ, zero, suc, ◌+◌, ◌≤◌, ◌<◌, ◌&&◌, Bool, true, false, cond, nat_eq, List, [], ◌∷◌, ◌++◌, length, Option, None}
+use Rattle.std.proofs.Common.{Some, refl, sym, ◌∙◌, ap, subst, arith, length-append}
 use Rattle.std.specs.Prelude.{All, count_by}
 use Rattle.std.specs.List.{fold, AllByRecursion}
 use Rattle.std.specs.Map.{keys_of}
@@ -53,7 +54,8 @@ row_counts name other node None = omega arith
 row_counts name other node (Some held) = by_tests (is_open held.phase) (is_name name other)
 
 -- no name has more writable homes than it stands among the names
-rows_count : (config : Config) (world : World) (law : AreNodes config.nodes) (backend : _) → AreNodesOf config world backend → (name : List ℕ) (names : List (List ℕ))
+rows_count : (config : Config) (world : World) (law : AreNodes config.nodes) (backend : _) → AreNodesOf config world backend
+    → (name : List ℕ) (names : List (List ℕ))
     → count_by (is_writable_home name) (rows_of_all world names) ≤ count_by (is_name name) names
 unfolding rows_of_all
 rows_count config world are backend nodes name [] = omega arith
@@ -84,13 +86,15 @@ later_by name first other names same less true h later =
     cc
 
 -- no later name is the first
-none_later : (name first : List ℕ) (names : List (List ℕ)) → first ≡ name → All (λ q. slice_cmp nat_cmp first q ≡ Less) names → count_by (is_name name) names ≡ 0
+none_later : (name first : List ℕ) (names : List (List ℕ)) → first ≡ name → All (λ q. slice_cmp nat_cmp first q ≡ Less) names
+    → count_by (is_name name) names ≡ 0
 none_later name first [] same below = refl
 none_later name first (other ∷ names) same below =
     later_by name first other names same (All-head (λ q. slice_cmp nat_cmp first q ≡ Less) other names below) (bytes_eq other name) refl
     (none_later name first names same (All-tail (λ q. slice_cmp nat_cmp first q ≡ Less) other names below))
 
-once_by : (name first : List ℕ) (names : List (List ℕ)) → All (λ q. slice_cmp nat_cmp first q ≡ Less) names → (b : Bool) → bytes_eq first name ≡ b → count_by (is_name name) names ≤ 1
+once_by : (name first : List ℕ) (names : List (List ℕ)) → All (λ q. slice_cmp nat_cmp first q ≡ Less) names → (b : Bool) → bytes_eq first name ≡ b
+    → count_by (is_name name) names ≤ 1
     → count_by (is_name name) (first ∷ names) ≤ 1
 once_by name first names below false h later = omega (arith, names_cons (is_name name) first names, ap {B = ℕ} (λ b. cond b 1 0) h, later)
 once_by name first names below true h later =
@@ -107,13 +111,16 @@ by_recursion : (P : List ℕ → Type 0) (names : List (List ℕ)) → All P nam
 by_recursion P [] all = tt
 by_recursion P (name ∷ names) all = (All-head P name names all, by_recursion P names (All-tail P name names all))
 
-insert_by : (key first : List ℕ) (names : List (List ℕ)) → IsStrictlySortedBy (slice_cmp nat_cmp) (first ∷ names) → IsStrictlySortedBy (slice_cmp nat_cmp) (insert_key (slice_cmp nat_cmp) names key)
-    → (o : Ordering) → slice_cmp nat_cmp key first ≡ o → IsStrictlySortedBy (slice_cmp nat_cmp) (match_ordering o (key ∷ first ∷ names) (first ∷ names) (first ∷ insert_key (slice_cmp nat_cmp) names key))
+insert_by : (key first : List ℕ) (names : List (List ℕ)) → IsStrictlySortedBy (slice_cmp nat_cmp) (first ∷ names)
+    → IsStrictlySortedBy (slice_cmp nat_cmp) (insert_key (slice_cmp nat_cmp) names key)
+    → (o : Ordering) → slice_cmp nat_cmp key first ≡ o
+    → IsStrictlySortedBy (slice_cmp nat_cmp) (match_ordering o (key ∷ first ∷ names) (first ∷ names) (first ∷ insert_key (slice_cmp nat_cmp) names key))
 unfolding IsStrictlySortedBy
 insert_by key first names sorted later Less h = (
   by_recursion (λ q. slice_cmp nat_cmp key q ≡ Less) (first ∷ names)
       (All-cons (λ q. slice_cmp nat_cmp key q ≡ Less) first names h
-      (All-weaker (λ q. slice_cmp nat_cmp first q ≡ Less) (λ q. slice_cmp nat_cmp key q ≡ Less) (λ q l. nat_list_cmp_total.trans key first q h l) names (All-after_first (slice_cmp nat_cmp) first names sorted))),
+      (All-weaker (λ q. slice_cmp nat_cmp first q ≡ Less) (λ q. slice_cmp nat_cmp key q ≡ Less) (λ q l. nat_list_cmp_total.trans key first q h l) names
+      (All-after_first (slice_cmp nat_cmp) first names sorted))),
   sorted,
 )
 insert_by key first names sorted later Equal h = sorted
@@ -124,16 +131,19 @@ insert_by key first names sorted later Greater h = (
   later,
 )
 
-insert_rises : (key : List ℕ) (names : List (List ℕ)) → IsStrictlySortedBy (slice_cmp nat_cmp) names → IsStrictlySortedBy (slice_cmp nat_cmp) (insert_key (slice_cmp nat_cmp) names key)
+insert_rises : (key : List ℕ) (names : List (List ℕ)) → IsStrictlySortedBy (slice_cmp nat_cmp) names
+    → IsStrictlySortedBy (slice_cmp nat_cmp) (insert_key (slice_cmp nat_cmp) names key)
 unfolding IsStrictlySortedBy
 insert_rises key [] sorted = (tt, tt)
 insert_rises key (first ∷ names) sorted = insert_by key first names sorted (insert_rises key names sorted.1) (slice_cmp nat_cmp key first) refl
 
-fold_rises : (keys names : List (List ℕ)) → IsStrictlySortedBy (slice_cmp nat_cmp) names → IsStrictlySortedBy (slice_cmp nat_cmp) (fold (insert_key (slice_cmp nat_cmp)) names keys)
+fold_rises : (keys names : List (List ℕ)) → IsStrictlySortedBy (slice_cmp nat_cmp) names
+    → IsStrictlySortedBy (slice_cmp nat_cmp) (fold (insert_key (slice_cmp nat_cmp)) names keys)
 fold_rises [] names sorted = sorted
 fold_rises (key ∷ keys) names sorted = fold_rises keys (insert_key (slice_cmp nat_cmp) names key) (insert_rises key names sorted)
 
-names_rise : (world : World) (nodes names : List (List ℕ)) → IsStrictlySortedBy (slice_cmp nat_cmp) names → IsStrictlySortedBy (slice_cmp nat_cmp) (names_at world names nodes)
+names_rise : (world : World) (nodes names : List (List ℕ)) → IsStrictlySortedBy (slice_cmp nat_cmp) names
+    → IsStrictlySortedBy (slice_cmp nat_cmp) (names_at world names nodes)
 unfolding names_at
 names_rise world [] names sorted = sorted
 names_rise world (node ∷ nodes) names sorted =

@@ -1,5 +1,6 @@
 -- In a step one node works, and nothing else changes.
-use Rattle.std.proofs.Common.{◌≡◌, ◌≢◌, ◌⊎◌, inl, inr, ℕ, Bool, true, false, cond, ◌&&◌, List, [], ◌∷◌, ◌++◌, drop, Option, None, Some, refl, sym, ◌∙◌, ap, subst}
+use Rattle.std.proofs.Common.{◌≡◌, ◌≢◌, ◌⊎◌, inl, inr, ℕ, Bool, true, false, cond, ◌&&◌, List, [], ◌∷◌, ◌++◌, drop, Option, None, Some, refl, sym, ◌∙◌, ap}
+use Rattle.std.proofs.Common.{subst}
 use Rattle.std.specs.Ordering.{nat_cmp, is_eq}
 use Rattle.std.specs.Cmp.Lexicographic.{slice_cmp}
 use Rattle.std.proofs.lemmas.List.{append-nil, append_assoc}
@@ -20,7 +21,8 @@ use Rattle.cluster_core.specs.declared.world.World.{World}
 use Rattle.cluster_core.specs.Flow.{run_steps}
 use Rattle.cluster_core.specs.Links.{Links, on_link, without_first}
 use Rattle.cluster_core.specs.OneNode.{WasSent, LosesFirst, OnlyWorks, OneNodeWorks, OneNodeWorksEach}
-use Rattle.cluster_core.specs.World.{client_at, front_at, home_at, given_more, carry, carry_all, with_front, with_home, with_client, open_at, opens, bytes_at, bytes_from, hang_at, hangs, input_of, home_takes, comes_to_home, comes_to, taken, deliver_first, takes, stepped, steps_by}
+use Rattle.cluster_core.specs.World.{client_at, front_at, home_at, given_more, carry, carry_all, with_front, with_home, with_client, open_at, opens, bytes_at}
+use Rattle.cluster_core.specs.World.{bytes_from, hang_at, hangs, input_of, home_takes, comes_to_home, comes_to, taken, deliver_first, takes, stepped, steps_by}
 use Rattle.cluster_core.proofs.Wires.{same_link, on_link-sent, on_link-taken}
 
 -- what a node's outputs do: messages stand behind those on its links, and nothing else of nodes and links changes
@@ -39,7 +41,8 @@ sent_on one two three first second = record {
   behind = second.behind ∙ ap (λ q. q ++ second.more) first.behind ∙ append_assoc one first.more second.more;
 }
 
-sends_nothing : (node : List ℕ) (before after : World) → after.fronts ≡ before.fronts → after.homes ≡ before.homes → after.links ≡ before.links → Sends node before after
+sends_nothing : (node : List ℕ) (before after : World) → after.fronts ≡ before.fronts → after.homes ≡ before.homes → after.links ≡ before.links
+    → Sends node before after
 sends_nothing node before after fronts homes links = record {
   fronts = fronts;
   homes = homes;
@@ -103,7 +106,8 @@ works_inside node before after fronts homes links = record {
   goes = λ to ne. none_sent (on_link before.links node to) (on_link after.links node to) (ap (λ l. on_link l node to) links);
 }
 
-idle : (node : List ℕ) (before after : World) → after.fronts ≡ before.fronts → after.homes ≡ before.homes → after.links ≡ before.links → OnlyWorks node before after
+idle : (node : List ℕ) (before after : World) → after.fronts ≡ before.fronts → after.homes ≡ before.homes → after.links ≡ before.links
+    → OnlyWorks node before after
 idle node before after fronts homes links = works_inside node before after
     (λ other ne. ap (λ f. value_at (slice_cmp nat_cmp) f other) fronts) (λ other ne. ap (λ h. value_at (slice_cmp nat_cmp) h other) homes) links
 
@@ -125,7 +129,8 @@ takes_first node world from = record {
   fronts = λ other ne. refl;
   homes = λ other ne. refl;
   elsewhere = λ a b na nb. other_end world.links from node a b nb;
-  comes = λ a ne. subst (λ q. LosesFirst (on_link world.links a node) q) (sym (on_link-taken world.links from node a node)) (lost (same_link a node from node) (on_link world.links a node));
+  comes = λ a ne. subst (λ q. LosesFirst (on_link world.links a node) q) (sym (on_link-taken world.links from node a node))
+      (lost (same_link a node from node) (on_link world.links a node));
   goes = λ b ne. none_sent (on_link world.links node b) (on_link (without_first world.links from node) node b) (other_end world.links from node node b ne);
 }
 
@@ -157,7 +162,11 @@ open_works : (world : World) (node : List ℕ) (conn : ℕ) (found : Option Fron
 unfolding open_at
 open_works world node conn None = record { node = node; only = idle node world (with_client world node conn) refl refl refl }
 open_works world node conn (Some front) =
-    record { node = node; only = front_works node world (with_client world node conn) (connect front conn) (idle node world (with_client world node conn) refl refl refl) }
+    record {
+      node = node;
+      only = front_works node world (with_client world node conn) (connect front conn)
+          (idle node world (with_client world node conn) refl refl refl);
+    }
 
 opens_work : (world : World) (node : List ℕ) (conn : ℕ) (found : Option Client) → OneNodeWorks world (opens world node conn found)
 unfolding opens
@@ -167,7 +176,8 @@ opens_work world node conn None = open_works world node conn (front_at world nod
 bytes_work : (world : World) (conn : ℕ) (bytes node : List ℕ) (found : Option Front) → OneNodeWorks world (bytes_at world conn bytes node found)
 unfolding bytes_at
 bytes_work world conn bytes node None = record { node = node; only = idle node world world refl refl refl }
-bytes_work world conn bytes node (Some front) = record { node = node; only = front_works node world world (bytes_in front conn bytes) (idle node world world refl refl refl) }
+bytes_work world conn bytes node (Some front) =
+    record { node = node; only = front_works node world world (bytes_in front conn bytes) (idle node world world refl refl refl) }
 
 data_works : (world : World) (conn : ℕ) (bytes : List ℕ) (found : Option Client) → OneNodeWorks world (bytes_from world conn bytes found)
 unfolding bytes_from
@@ -184,18 +194,21 @@ unfolding hangs
 hangs_work world conn None = record { node = []; only = idle [] world world refl refl refl }
 hangs_work world conn (Some client) = hang_works world conn client.at (front_at world client.at)
 
-home_works : (node : List ℕ) (before world : World) (home : Backend) (input : Option BackInput) → OnlyWorks node before world → OnlyWorks node before (home_takes world node home input)
+home_works : (node : List ℕ) (before world : World) (home : Backend) (input : Option BackInput) → OnlyWorks node before world
+    → OnlyWorks node before (home_takes world node home input)
 unfolding home_takes
 home_works node before world home None works = works
 home_works node before world home (Some input) works =
     works_and_sends node before _ _ (home_changes node before world (plan_of home input).home works) (carry_all_sends node _ (plan_of home input).outs)
 
-to_home_works : (before world : World) (from to : List ℕ) (message : LinkMsg) (found : Option Backend) → OnlyWorks to before world → OnlyWorks to before (comes_to_home world from to message found)
+to_home_works : (before world : World) (from to : List ℕ) (message : LinkMsg) (found : Option Backend) → OnlyWorks to before world
+    → OnlyWorks to before (comes_to_home world from to message found)
 unfolding comes_to_home
 to_home_works before world from to message None works = works
 to_home_works before world from to message (Some home) works = home_works to before world home (input_of from message) works
 
-comes_works : (before world : World) (from to : List ℕ) (message : LinkMsg) (found : Option Front) → OnlyWorks to before world → OnlyWorks to before (comes_to world from to message found)
+comes_works : (before world : World) (from to : List ℕ) (message : LinkMsg) (found : Option Front) → OnlyWorks to before world
+    → OnlyWorks to before (comes_to world from to message found)
 unfolding comes_to
 comes_works before world from to message (Some front) works = front_works to before world (take_message front message) works
 comes_works before world from to message None works = to_home_works before world from to message (home_at world to) works

@@ -1,5 +1,6 @@
 -- The one-store law at every step of a run.
-use Rattle.std.proofs.Common.{◌≡◌, ◌≢◌, ◌⊎◌, ℕ, zero, suc, ◌+◌, ◌≤◌, ◌<◌, Bool, true, false, List, [], ◌∷◌, ◌++◌, length, Option, None, Some, refl, sym, ◌∙◌, ap, subst, arith, append_assoc, length-append}
+use Rattle.std.proofs.Common.{◌≡◌, ◌≢◌, ◌⊎◌, ℕ, zero, suc, ◌+◌, ◌≤◌, ◌<◌, Bool, true, false, List, [], ◌∷◌, ◌++◌, length, Option, None, Some, refl, sym, ◌∙◌}
+use Rattle.std.proofs.Common.{ap, subst, arith, append_assoc, length-append}
 use Rattle.std.specs.Prelude.{All, AllPairs, count_by}
 use Rattle.std.specs.Ordering.{nat_cmp}
 use Rattle.std.specs.Cmp.Lexicographic.{slice_cmp}
@@ -35,7 +36,8 @@ use Rattle.cluster_core.proofs.ConnectionLaw.Stands.{reads as it_reads, waits, f
 use Rattle.cluster_core.proofs.ConnectionLaw.IsLeft.{nothing, its_ask, its_answer}
 use Rattle.cluster_core.proofs.KeepsLaw.{ConnectionIs, IsAt, KeepsLaw}
 use Rattle.cluster_core.proofs.KeepsLaw.ConnectionIs.{is_nobody, is_elsewhere, is_open, is_closed}
-use Rattle.cluster_core.proofs.Marks.{conn_of, command_of, IsOf, all_points, pairs_of_points, marks_follow, answering_points, losing_points, is_mark, MarkedOnce}
+use Rattle.cluster_core.proofs.Marks.{conn_of, command_of, IsOf, all_points, pairs_of_points, marks_follow, answering_points, losing_points, is_mark}
+use Rattle.cluster_core.proofs.Marks.{MarkedOnce}
 use Rattle.cluster_core.proofs.RequestsOf.{requests_of, asks_all, answered_lengths}
 use Rattle.cluster_core.proofs.Told.{IsTold, Later}
 use Rattle.cluster_core.proofs.Ways.{none_on_empty}
@@ -49,11 +51,14 @@ pub record IsToldSo (told said : List Answer) : Type 0 where
 all_told : (told said : List Answer) → said ≡ told → IsToldSo told said
 all_told told said e = record { rest = []; parts = e ∙ sym (append-nil told); few = omega arith }
 
-told_standing : (setting : Setting) (front home : List ℕ) (conn : ℕ) (all : _) (held : _) (connection : Connection) (links : _) (told said : List Answer) (session : _)
+told_standing : (setting : Setting) (front home : List ℕ) (conn : ℕ) (all : _) (held : _) (connection : Connection) (links : _) (told said : List Answer)
+    (session : _)
     → Stands setting front home conn all held connection links told said session → IsToldSo told said
 told_standing setting front home conn all held connection links told said session (it_reads a b c d e way) = all_told told said e
-told_standing setting front home conn all held connection links told said session (waits passed bytes tag it name work a b c d e f g (there s way)) = all_told told said s
-told_standing setting front home conn all held connection links told said session (waits passed bytes tag it name work a b c d e f g (back body reply s shown way)) = record { rest = _; parts = s; few = omega arith }
+told_standing setting front home conn all held connection links told said session (waits passed bytes tag it name work a b c d e f g (there s way)) =
+    all_told told said s
+told_standing setting front home conn all held connection links told said session
+    (waits passed bytes tag it name work a b c d e f g (back body reply s shown way)) = record { rest = _; parts = s; few = omega arith }
 told_standing setting front home conn all held connection links told said session (faulted a b c d way) = all_told told said d
 
 told_left : (setting : Setting) (front home : List ℕ) (conn : ℕ) (requests : _) (connection : Connection) (links : _) (told said : List Answer) (session : _)
@@ -69,7 +74,8 @@ pub record SaysOf (world : World) (conn : ℕ) (heard : Heard) (told said : List
   pub so : IsToldSo told said
   pub waits_not : AreEmpty world → has_closed heard ≡ false → length told ≡ length (requests_of (frames_heard heard))
 
-count_at : (world : World) (conn : ℕ) (node : List ℕ) (given : List ℕ) (front : Front) (connection : Connection) → client_at world conn ≡ Some (record { at = node; given = given }) → IsAt world conn node front connection
+count_at : (world : World) (conn : ℕ) (node : List ℕ) (given : List ℕ) (front : Front) (connection : Connection)
+    → client_at world conn ≡ Some (record { at = node; given = given }) → IsAt world conn node front connection
     → answered_of world conn ≡ connection.answered
 unfolding answered_of connection_of
 count_at world conn node given front connection at is =
@@ -79,7 +85,8 @@ count_none : (world : World) (conn : ℕ) → client_at world conn ≡ None → 
 unfolding answered_of connection_of
 count_none world conn at = ap (λ c. answered_in (connection_by world conn c)) at
 
-count_elsewhere : (world : World) (conn : ℕ) (node given : List ℕ) → client_at world conn ≡ Some (record { at = node; given = given }) → front_at world node ≡ None → answered_of world conn ≡ 0
+count_elsewhere : (world : World) (conn : ℕ) (node given : List ℕ) → client_at world conn ≡ Some (record { at = node; given = given })
+    → front_at world node ≡ None → answered_of world conn ≡ 0
 unfolding answered_of connection_of
 count_elsewhere world conn node given at none = ap (λ c. answered_in (connection_by world conn c)) at ∙ ap (λ f. answered_in (connection_in f conn)) none
 
@@ -88,12 +95,14 @@ unfolding given_to
 given_at world conn found at = ap given_by at
 
 -- where nothing is on the way, a client that hasn't closed its connection was answered in all
-none_waits : (setting : Setting) (front home : List ℕ) (conn : ℕ) (bytes : List ℕ) (connection : Connection) (world : World) (told said : List Answer) (session : _) → AreEmpty world
+none_waits : (setting : Setting) (front home : List ℕ) (conn : ℕ) (bytes : List ℕ) (connection : Connection) (world : World) (told said : List Answer)
+    (session : _) → AreEmpty world
     → Stands setting front home conn (frames bytes) (begun bytes) connection world.links told said session → length told ≡ length (requests_of (frames bytes))
 none_waits setting front home conn bytes connection world told said session empty (it_reads a b c d e way) = sym (answered_lengths (frames bytes) told d)
 none_waits setting front home conn bytes connection world told said session empty (waits passed asking tag it name work a b c d e f g (there s way)) =
     (let none = (none_on_empty world.links conn front home _ _ empty way).0 in cc)
-none_waits setting front home conn bytes connection world told said session empty (waits passed asking tag it name work a b c d e f g (back body reply s shown way)) =
+none_waits setting front home conn bytes connection world told said session empty
+    (waits passed asking tag it name work a b c d e f g (back body reply s shown way)) =
     (let none = (none_on_empty world.links conn front home _ _ empty way).1 in cc)
 none_waits setting front home conn bytes connection world told said session empty (faulted a b c d way) = sym c
 
@@ -115,13 +124,16 @@ says_of setting home conn world story heard (is_elsewhere node at none untold) =
 says_of setting home conn world story heard (is_open bytes node front connection at reader standing) = record {
   count = count_at world conn node _ front connection standing.client at ∙ standing.count;
   given = given_at world conn (Some (client_with node (frames bytes) (story.told conn))) standing.client;
-  so = told_standing setting node home conn (frames bytes) (begun bytes) connection world.links (story.told conn) (story.talk.answers conn) (story.course.sessions conn) standing.stands;
-  waits_not = λ empty stays. none_waits setting node home conn bytes connection world (story.told conn) (story.talk.answers conn) (story.course.sessions conn) empty standing.stands;
+  so = told_standing setting node home conn (frames bytes) (begun bytes) connection world.links (story.told conn) (story.talk.answers conn)
+      (story.course.sessions conn) standing.stands;
+  waits_not = λ empty stays. none_waits setting node home conn bytes connection world (story.told conn) (story.talk.answers conn)
+      (story.course.sessions conn) empty standing.stands;
 }
 says_of setting home conn world story heard (is_closed bytes node front connection at gone) = record {
   count = count_at world conn node _ front connection gone.client at ∙ gone.count;
   given = given_at world conn (Some (client_with node (frames bytes) (story.told conn))) gone.client;
-  so = told_left setting node home conn (requests_of (frames bytes)) connection world.links (story.told conn) (story.talk.answers conn) (story.course.sessions conn) gone.left;
+  so = told_left setting node home conn (requests_of (frames bytes)) connection world.links (story.told conn) (story.talk.answers conn)
+      (story.course.sessions conn) gone.left;
   waits_not = λ empty stays. cc;
 }
 
@@ -134,15 +146,24 @@ unfolding one_up_to
 at_most_one count number n e = grind (arith, nat_tests)
 
 -- what is related of two points, by their marks
-conns_same : (world : World) (earlier later : Mark) (one other : Point) → IsOf world earlier one → IsOf world later other → one.ask.conn ≡ other.ask.conn → conn_of earlier ≡ conn_of later
+conns_same : (world : World) (earlier later : Mark) (one other : Point) → IsOf world earlier one → IsOf world later other → one.ask.conn ≡ other.ask.conn
+    → conn_of earlier ≡ conn_of later
 conns_same world earlier later one other is at same = sym (ap (λ (a : AskId). a.conn) is.same_ask) ∙ same ∙ ap (λ (a : AskId). a.conn) at.same_ask
 
-in_order_by : (world : World) (earlier later : Mark) (one other : Point) → Later earlier later → IsOf world earlier one → IsOf world later other → one.ask.conn ≡ other.ask.conn → one.ask.command ≤ other.ask.command
+in_order_by : (world : World) (earlier later : Mark) (one other : Point) → Later earlier later → IsOf world earlier one → IsOf world later other
+    → one.ask.conn ≡ other.ask.conn → one.ask.command ≤ other.ask.command
 in_order_by world earlier later one other behind is at same =
-    omega (arith, behind.0 (conns_same world earlier later one other is at same), ap (λ (a : AskId). a.command) is.same_ask, ap (λ (a : AskId). a.command) at.same_ask)
+    omega (
+      arith,
+      behind.0 (conns_same world earlier later one other is at same),
+      ap (λ (a : AskId). a.command) is.same_ask,
+      ap (λ (a : AskId). a.command) at.same_ask,
+    )
 
-no_more : (world : World) (story : Story) → ((conn : ℕ) → answered_of world conn ≡ length (story.told conn)) → ((conn : ℕ) → IsToldSo (story.told conn) (story.talk.answers conn))
-    → (earlier later : Mark) (one other : Point) → Later earlier later → command_of later ≤ length (story.talk.answers (conn_of later)) → IsOf world earlier one → IsOf world later other
+no_more : (world : World) (story : Story) → ((conn : ℕ) → answered_of world conn ≡ length (story.told conn))
+    → ((conn : ℕ) → IsToldSo (story.told conn) (story.talk.answers conn))
+    → (earlier later : Mark) (one other : Point) → Later earlier later → command_of later ≤ length (story.talk.answers (conn_of later))
+    → IsOf world earlier one → IsOf world later other
     → loses one.what ≡ true → one.ask.conn ≡ other.ask.conn → ⊥
 no_more world story counts so earlier later one other behind bound is at loss same =
     let e = conns_same world earlier later one other is at same in
@@ -168,12 +189,19 @@ pub legal_history : (setting : Setting) (world : World) (story : Story) (home : 
     → IsLegal setting first_course (told_of story) (history_of world) story.course
 unfolding history_of
 legal_history setting world story home told counts so = record {
-  follows = marks_follow setting world story.talk story.told (record { rest = λ conn. (so conn).rest; parts = λ conn. (so conn).parts }) counts first_course story.course world.marks told.carries;
+  follows = marks_follow setting world story.talk story.told
+      (record { rest = λ conn. (so conn).rest; parts = λ conn. (so conn).parts }) counts first_course story.course world.marks told.carries;
   answered_once = λ conn number low high. answering_points world conn number world.marks (subst (λ n. number ≤ n) (sym (counts conn)) high)
-      ∙ answered_once (length (story.talk.answers conn)) number _ (told.once conn number) low (omega (arith, high, ap length (so conn).parts, length-append (story.told conn) (so conn).rest));
-  lost_once = λ conn number. omega (arith, losing_points world conn number world.marks, at_most_one (length (story.talk.answers conn)) number _ (told.once conn number));
+      ∙ answered_once (length (story.talk.answers conn)) number _ (told.once conn number) low
+      (omega (arith, high, ap length (so conn).parts, length-append (story.told conn) (so conn).rest));
+  lost_once = λ conn number. omega (
+    arith,
+    losing_points world conn number world.marks,
+    at_most_one (length (story.talk.answers conn)) number _ (told.once conn number),
+  );
   lost_last = pairs_of_points world Later (λ (m : Mark). command_of m ≤ length (story.talk.answers (conn_of m))) EndsAtLoss
-      (λ earlier later one other behind bound is at. no_more world story counts so earlier later one other behind bound is at) world.marks told.later told.numbers;
+      (λ earlier later one other behind bound is at. no_more world story counts so earlier later one other behind bound is at) world.marks told.later
+      told.numbers;
   never_read = all_points world (λ (m : Mark). command_of m ≤ length (story.talk.answers (conn_of m))) (λ (point : Point). reads point.what ≡ false)
       (λ mark point bound is. no_read world mark point is) world.marks told.numbers;
   in_order = pairs_of_points world Later (λ (m : Mark). command_of m ≤ length (story.talk.answers (conn_of m))) IsInOrder

@@ -36,11 +36,13 @@ asks_behind done [] requests asks = subst (λ f. AskFor f (requests ++ [])) (sym
 asks_behind done (Whole bytes ∷ frames) requests asks =
     subst (λ f. AskFor f (requests ++ request_of bytes ∷ requests_of frames)) (append_assoc done (Whole bytes ∷ []) frames)
     (subst (λ r. AskFor ((done ++ Whole bytes ∷ []) ++ frames) r) (append_assoc requests (request_of bytes ∷ []) (requests_of frames))
-    (asks_behind (done ++ Whole bytes ∷ []) frames (requests ++ request_of bytes ∷ []) (a_request done requests bytes (request_of bytes) asks (request_is bytes))))
+    (asks_behind (done ++ Whole bytes ∷ []) frames (requests ++ request_of bytes ∷ [])
+    (a_request done requests bytes (request_of bytes) asks (request_is bytes))))
 asks_behind done (TooBig bytes ∷ frames) requests asks =
     subst (λ f. AskFor f (requests ++ too_big_request bytes ∷ requests_of frames)) (append_assoc done (TooBig bytes ∷ []) frames)
     (subst (λ r. AskFor ((done ++ TooBig bytes ∷ []) ++ frames) r) (append_assoc requests (too_big_request bytes ∷ []) (requests_of frames))
-    (asks_behind (done ++ TooBig bytes ∷ []) frames (requests ++ too_big_request bytes ∷ []) (a_big_one done requests bytes (too_big_request bytes) asks (too_big_is bytes))))
+    (asks_behind (done ++ TooBig bytes ∷ []) frames (requests ++ too_big_request bytes ∷ [])
+    (a_big_one done requests bytes (too_big_request bytes) asks (too_big_is bytes))))
 asks_behind done (NeedLiteral size ∷ frames) requests asks =
     subst (λ f. AskFor f (requests ++ requests_of frames)) (append_assoc done (NeedLiteral size ∷ []) frames)
     (asks_behind (done ++ NeedLiteral size ∷ []) frames requests (a_wait done requests size asks))

@@ -1,6 +1,7 @@
 -- No count of a run is above the steps and the bytes that its events bring.
 use Rattle.std.proofs.Math.Logic.{⊎_elim}
-use Rattle.std.proofs.Common.{◌≡◌, ◌≢◌, ℕ, ◌+◌, ◌<◌, ◌≤◌, ◌^◌, List, [], ◌∷◌, length, Option, None, Some, refl, sym, ◌∙◌, ap, subst, arith, ◌-◌, Result, Ok, Err, OnOk}
+use Rattle.std.proofs.Common.{◌≡◌, ◌≢◌, ℕ, ◌+◌, ◌<◌, ◌≤◌, ◌^◌, List, [], ◌∷◌, length, Option, None, Some, refl, sym, ◌∙◌, ap, subst, arith, ◌-◌, Result, Ok}
+use Rattle.std.proofs.Common.{Err, OnOk}
 use Rattle.std.specs.Option.{IfSome}
 use Rattle.std.specs.Ordering.{nat_cmp}
 use Rattle.std.specs.Cmp.Lexicographic.{slice_cmp}
@@ -25,8 +26,10 @@ use Rattle.schedule_text.specs.declared.event.Event.TheVariants.{Open, Data, Han
 use Rattle.schedule_text.specs.Brings.{steps_of, bytes_of, steps_of_all, bytes_of_all}
 use Rattle.cluster_core.specs.declared.world.Client.{Client}
 use Rattle.cluster_core.specs.declared.world.World.{World}
-use Rattle.cluster_core.specs.World.{start, with_node, with_nodes, client_at, front_at, home_at, given_more, carry, carry_all, with_front, with_home, with_client}
-use Rattle.cluster_core.specs.World.{open_at, opens, bytes_at, bytes_from, hang_at, hangs, input_of, home_takes, comes_to_home, comes_to, taken, deliver_first, delivers}
+use Rattle.cluster_core.specs.World.{start, with_node, with_nodes, client_at, front_at, home_at, given_more, carry, carry_all, with_front, with_home}
+use Rattle.cluster_core.specs.World.{with_client}
+use Rattle.cluster_core.specs.World.{open_at, opens, bytes_at, bytes_from, hang_at, hangs, input_of, home_takes, comes_to_home, comes_to, taken, deliver_first}
+use Rattle.cluster_core.specs.World.{delivers}
 use Rattle.cluster_core.specs.World.{takes, stepped, steps_by}
 use Rattle.cluster_core.specs.Links.{on_link}
 use Rattle.cluster_core.specs.Room.{HaveCommands, HasRoom}
@@ -88,7 +91,8 @@ changed_commands world node old new m n there h have has q front is =
     let found = value_at-with_value (slice_cmp nat_cmp) names_apart world.fronts node new old there in
     let here = subst (λ k. front_at (front_changed world node new) k ≡ Some front) e is in
     subst (λ (f : Front). HasCommands f n) (same_some _ new front found here) has)
-    (λ (ne : q ≢ node). more_commands world m n h have q front (sym (value_at-with_value-other (slice_cmp nat_cmp) names_apart world.fronts node q new ne) ∙ is))
+    (λ (ne : q ≢ node). more_commands world m n h have q front
+    (sym (value_at-with_value-other (slice_cmp nat_cmp) names_apart world.fronts node q new ne) ∙ is))
     (same_or_other (slice_cmp nat_cmp) names_apart q node)
 
 front_commands : (world : World) (node : List ℕ) (old : Front) (step : Stepped) (m n : ℕ) → front_at world node ≡ Some old → m ≤ n → HaveCommands world m
@@ -142,7 +146,8 @@ unfolding home_takes
 home_takes_fronts world node home None = refl
 home_takes_fronts world node home (Some input) = carry_all_fronts node _ _
 
-to_home_fronts : (world : World) (from to : List ℕ) (message : LinkMsg) (found : Option Backend) → (comes_to_home world from to message found).fronts ≡ world.fronts
+to_home_fronts : (world : World) (from to : List ℕ) (message : LinkMsg) (found : Option Backend)
+    → (comes_to_home world from to message found).fronts ≡ world.fronts
 unfolding comes_to_home
 to_home_fronts world from to message None = refl
 to_home_fronts world from to message (Some home) = home_takes_fronts world to home (input_of from message)
@@ -150,7 +155,8 @@ to_home_fronts world from to message (Some home) = home_takes_fronts world to ho
 comes_commands : (world : World) (from to : List ℕ) (message : LinkMsg) (n : ℕ) (found : Option Front) → front_at world to ≡ found → HaveCommands world n
     → HaveCommands (comes_to world from to message found) n
 unfolding comes_to
-comes_commands world from to message n None there have = same_fronts world (comes_to_home world from to message (home_at world to)) n (to_home_fronts world from to message (home_at world to)) have
+comes_commands world from to message n None there have =
+    same_fronts world (comes_to_home world from to message (home_at world to)) n (to_home_fronts world from to message (home_at world to)) have
 comes_commands world from to message n (Some front) there have =
     front_commands world to front (take_message front message) n n there (omega arith) have (deliver_counts front message n (have to front there))
 
@@ -161,10 +167,14 @@ first_commands world from to (message ∷ rest) n have = comes_commands (taken w
 
 takes_commands : (world : World) (event : Event) (n : ℕ) → HaveCommands world n → HaveCommands (takes world event) (n + bytes_of event)
 unfolding takes bytes_of
-takes_commands world (Open node conn) n have = more_commands (opens world node conn (client_at world conn)) n (n + 0) (omega arith) (opens_commands world node conn n (client_at world conn) have)
+takes_commands world (Open node conn) n have =
+    more_commands (opens world node conn (client_at world conn)) n (n + 0) (omega arith) (opens_commands world node conn n (client_at world conn) have)
 takes_commands world (Data conn bytes) n have = bytes_from_commands world conn bytes n (client_at world conn) have
-takes_commands world (Hang conn) n have = more_commands (hangs world conn (client_at world conn)) n (n + 0) (omega arith) (hangs_commands world conn n (client_at world conn) have)
-takes_commands world (Deliver from to) n have = more_commands (deliver_first world from to (on_link world.links from to)) n (n + 0) (omega arith) (first_commands world from to (on_link world.links from to) n have)
+takes_commands world (Hang conn) n have =
+    more_commands (hangs world conn (client_at world conn)) n (n + 0) (omega arith) (hangs_commands world conn n (client_at world conn) have)
+takes_commands world (Deliver from to) n have =
+    more_commands (deliver_first world from to (on_link world.links from to)) n (n + 0) (omega arith)
+    (first_commands world from to (on_link world.links from to) n have)
 takes_commands world event n have = more_commands world n (n + 0) (omega arith) have
 
 pub step_commands : (world : World) (event : Event) (n : ℕ) → HaveCommands world n → HaveCommands (steps_by world event) (n + bytes_of event)
@@ -205,7 +215,8 @@ unfolding home_takes
 home_takes_steps world node home None = refl
 home_takes_steps world node home (Some input) = carry_all_steps node _ _
 
-to_home_steps : (world : World) (from to : List ℕ) (message : LinkMsg) (found : Option Backend) → (comes_to_home world from to message found).steps ≡ world.steps
+to_home_steps : (world : World) (from to : List ℕ) (message : LinkMsg) (found : Option Backend)
+    → (comes_to_home world from to message found).steps ≡ world.steps
 unfolding comes_to_home
 to_home_steps world from to message None = refl
 to_home_steps world from to message (Some home) = home_takes_steps world to home (input_of from message)
@@ -248,13 +259,16 @@ entered_commands world node new n have has q front is =
     (λ (ne : q ≢ node). have q front (sym (value_at-with_entry-other (slice_cmp nat_cmp) names_apart world.fronts node q new ne) ∙ is))
     (same_or_other (slice_cmp nat_cmp) names_apart q node)
 
-node_commands : (home : List ℕ) (setting : Setting) (world : World) (node : Node) (kind : Kind) → HaveCommands world 0 → HaveCommands (with_node home setting world node kind) 0
+node_commands : (home : List ℕ) (setting : Setting) (world : World) (node : Node) (kind : Kind) → HaveCommands world 0
+    → HaveCommands (with_node home setting world node kind) 0
 unfolding with_node
 node_commands home setting world node Master have = have
-node_commands home setting world node Frontend have = entered_commands world node.name (new_front node.name home setting) 0 have (new_commands node.name home setting)
+node_commands home setting world node Frontend have =
+    entered_commands world node.name (new_front node.name home setting) 0 have (new_commands node.name home setting)
 node_commands home setting world node backend_kind have = have
 
-nodes_commands : (home : List ℕ) (setting : Setting) (world : World) (nodes : List Node) → HaveCommands world 0 → HaveCommands (with_nodes home setting world nodes) 0
+nodes_commands : (home : List ℕ) (setting : Setting) (world : World) (nodes : List Node) → HaveCommands world 0
+    → HaveCommands (with_nodes home setting world nodes) 0
 unfolding with_nodes
 nodes_commands home setting world [] have = have
 nodes_commands home setting world (node ∷ nodes) have =
@@ -314,11 +328,13 @@ turn_room world from to left room = record {
   steps = omega (arith, room.steps);
 }
 
-pub later_room : (world : World) (from to : List ℕ) (left : ℕ) → left ≢ 0 → HasRoom world (Flow left) → HasRoom (steps_by world (Deliver from to)) (Flow (left - 1))
+pub later_room : (world : World) (from to : List ℕ) (left : ℕ) → left ≢ 0 → HasRoom world (Flow left)
+    → HasRoom (steps_by world (Deliver from to)) (Flow (left - 1))
 unfolding steps_of bytes_of
 later_room world from to left some room = record {
   most = room.most;
-  commands = more_commands (steps_by world (Deliver from to)) (room.most + bytes_of (Deliver from to)) room.most (omega arith) (step_commands world (Deliver from to) room.most room.commands);
+  commands = more_commands (steps_by world (Deliver from to)) (room.most + bytes_of (Deliver from to)) room.most (omega arith)
+      (step_commands world (Deliver from to) room.most room.commands);
   fits = room.fits;
   steps = omega (arith, room.steps, some, step_steps world (Deliver from to));
 }

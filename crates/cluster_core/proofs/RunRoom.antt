@@ -20,7 +20,8 @@ pub record IsWithin (most total : ℕ) (flowing : Flowing) : Type 0 where
 
 delivered_within : (world : World) (from to : List ℕ) (most : ℕ) → HaveCommands world most → HaveCommands (steps_by world (Deliver from to)) most
 unfolding bytes_of
-delivered_within world from to most have = more_commands (steps_by world (Deliver from to)) (most + 0) most (omega arith) (step_commands world (Deliver from to) most have)
+delivered_within world from to most have =
+    more_commands (steps_by world (Deliver from to)) (most + 0) most (omega arith) (step_commands world (Deliver from to) most have)
 
 turn_within : (most total : ℕ) (flowing : Flowing) (link : Link) (left : ℕ) (queue : List LinkMsg) → flowing.left ≡ left → IsWithin most total flowing
     → IsWithin most total (turn_by flowing link left queue)
@@ -39,7 +40,8 @@ round_within most total flowing (link ∷ links) within =
     round_within most total (turn_of flowing link) links
     (turn_within most total flowing link flowing.left (on_link flowing.world.links link.from link.to) refl within)
 
-either_within : (most total : ℕ) (b : Bool) (one more : Flowing) → IsWithin most total one → IsWithin most total more → IsWithin most total (rounds_by b one more)
+either_within : (most total : ℕ) (b : Bool) (one more : Flowing) → IsWithin most total one → IsWithin most total more
+    → IsWithin most total (rounds_by b one more)
 unfolding rounds_by
 either_within most total true one more a c = a
 either_within most total false one more a c = c
@@ -64,7 +66,8 @@ flow_counts world count most total has =
     (record { commands = has.commands; steps = omega (arith, has.steps) }) in
     record { commands = within.commands; steps = omega (arith, within.steps) }
 
-step_counts : (world : World) (event : Event) (most total : ℕ) → HasCounts world most total → HasCounts (steps_by world event) (most + bytes_of event) (total + steps_of event)
+step_counts : (world : World) (event : Event) (most total : ℕ) → HasCounts world most total
+    → HasCounts (steps_by world event) (most + bytes_of event) (total + steps_of event)
 step_counts world event most total has = record {
   commands = step_commands world event most has.commands;
   steps = omega (arith, has.steps, step_steps world event, one_step event);
@@ -73,10 +76,12 @@ step_counts world event most total has = record {
 more_counts : (world : World) (m n s t : ℕ) → m ≤ n → s ≤ t → HasCounts world m s → HasCounts world n t
 more_counts world m n s t h k has = record { commands = more_commands world m n h has.commands; steps = omega (arith, has.steps) }
 
-pub happens_counts : (world : World) (event : Event) (most total : ℕ) → HasCounts world most total → HasCounts (happens world event) (most + bytes_of event) (total + steps_of event)
+pub happens_counts : (world : World) (event : Event) (most total : ℕ) → HasCounts world most total
+    → HasCounts (happens world event) (most + bytes_of event) (total + steps_of event)
 unfolding happens steps_of bytes_of
 happens_counts world (Flow count) most total has =
-    more_counts (flow world count).world most (most + 0) (total + count) (total + (1 + count)) (omega arith) (omega arith) (flow_counts world count most total has)
+    more_counts (flow world count).world most (most + 0) (total + count) (total + (1 + count)) (omega arith) (omega arith)
+    (flow_counts world count most total has)
 happens_counts world event most total has = step_counts world event most total has
 
 -- a world in the middle of a run, and the events that are left
@@ -88,7 +93,8 @@ pub record IsOnTheWay (config : Config) (events : List Event) (world : World) (l
   pub counts : HasCounts world taken done
   pub ends : run world left ≡ run (start config) events
 
-pub way_begins : (config : Config) (events : List Event) (world : World) (left : List Event) → world ≡ start config → left ≡ events → IsOnTheWay config events world left
+pub way_begins : (config : Config) (events : List Event) (world : World) (left : List Event) → world ≡ start config → left ≡ events
+    → IsOnTheWay config events world left
 way_begins config events world left w l =
     rw (w, l) (record {
       taken = 0;
@@ -135,5 +141,6 @@ ends_here : (config : Config) (events : List Event) (world : World) → IsOnTheW
 unfolding run
 ends_here config events world way = way.ends
 
-pub way_ends : (config : Config) (events : List Event) (world : World) (left : List Event) → left ≡ [] → IsOnTheWay config events world left → world ≡ run (start config) events
+pub way_ends : (config : Config) (events : List Event) (world : World) (left : List Event) → left ≡ [] → IsOnTheWay config events world left
+    → world ≡ run (start config) events
 way_ends config events world left l way = ends_here config events world (subst (λ l. IsOnTheWay config events world l) l way)

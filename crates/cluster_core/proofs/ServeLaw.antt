@@ -25,11 +25,14 @@ pub serves_alike : (store : Store) (home : Backend) (id : AskId) (user name : Li
     → ServesAlike store home name work (worked_at store name work (home.last_serial + 1)) (home_step home (plain_ask id user name work))
 unfolding home_step op_step op_of work_on
 serves_alike store home id user name Make same =
-    subst (λ b. ServesAlike store home name Make (work_on name Make (home.last_serial + 1) (is_spent store.given) b) (home_step home (plain_ask id user name Make))) (sym (same.boxes name))
+    subst (λ b. ServesAlike store home name Make (work_on name Make (home.last_serial + 1) (is_spent store.given) b)
+    (home_step home (plain_ask id user name Make))) (sym (same.boxes name))
     (creates_alike store home name (held_at home name) refl same)
 serves_alike store home id user name (append_work message) same =
-    subst (λ b. ServesAlike store home name (append_work message) (work_on name (append_work message) (home.last_serial + 1) (is_spent store.given) b) (home_step home (plain_ask id user name (append_work message)))) (sym (same.boxes name))
+    subst (λ b. ServesAlike store home name (append_work message) (work_on name (append_work message) (home.last_serial + 1) (is_spent store.given) b)
+    (home_step home (plain_ask id user name (append_work message)))) (sym (same.boxes name))
     (appends_alike store home name message (held_at home name) refl same)
 serves_alike store home id user name (status_work shown items) same =
-    subst (λ b. ServesAlike store home name (status_work shown items) (work_on name (status_work shown items) (home.last_serial + 1) (is_spent store.given) b) (home_step home (plain_ask id user name (status_work shown items)))) (sym (same.boxes name))
+    subst (λ b. ServesAlike store home name (status_work shown items) (work_on name (status_work shown items) (home.last_serial + 1) (is_spent store.given) b)
+    (home_step home (plain_ask id user name (status_work shown items)))) (sym (same.boxes name))
     (looks_alike store home name shown items (held_at home name) refl same)

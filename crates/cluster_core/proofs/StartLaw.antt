@@ -1,5 +1,6 @@
 -- The law holds before the first step.
-use Rattle.std.proofs.Common.{◌≡◌, ◌≢◌, ◌⊎◌, ℕ, zero, suc, ◌+◌, ◌-◌, ◌^◌, ◌≤◌, ◌<◌, Bool, true, false, cond, nat_eq, List, [], ◌∷◌, ◌++◌, length, Option, None, Some, refl, sym, ◌∙◌, ap, subst, arith}
+use Rattle.std.proofs.Common.{◌≡◌, ◌≢◌, ◌⊎◌, ℕ, zero, suc, ◌+◌, ◌-◌, ◌^◌, ◌≤◌, ◌<◌, Bool, true, false, cond, nat_eq, List, [], ◌∷◌, ◌++◌, length, Option, None}
+use Rattle.std.proofs.Common.{Some, refl, sym, ◌∙◌, ap, subst, arith}
 use Rattle.std.specs.Prelude.{All, AllPairs, filter}
 use Rattle.std.specs.Ordering.{nat_cmp}
 use Rattle.std.specs.Cmp.Lexicographic.{slice_cmp}
@@ -24,7 +25,8 @@ use Rattle.cluster_core.specs.declared.world.World.{World}
 use Rattle.cluster_core.specs.Heard.{Heard, nobody, frames_heard}
 use Rattle.cluster_core.specs.Links.{on_link}
 use Rattle.cluster_core.specs.OneStore.{first_course}
-use Rattle.cluster_core.specs.World.{no_world, first_name, or_backend, backends_of, home_of, setting_of, with_node, with_nodes, start, client_at, front_at, home_at}
+use Rattle.cluster_core.specs.World.{no_world, first_name, or_backend, backends_of, home_of, setting_of, with_node, with_nodes, start, client_at, front_at}
+use Rattle.cluster_core.specs.World.{home_at}
 use Rattle.cluster_core.proofs.ConnectionLaw.{Story}
 use Rattle.cluster_core.proofs.KeepsLaw.{KeepsLaw, AreNodesOf, ConnectionIs}
 use Rattle.cluster_core.proofs.KeepsLaw.ConnectionIs.{is_nobody}
@@ -49,14 +51,17 @@ record IsFresh (home : List ℕ) (setting : Setting) (world : World) : Type 0 wh
 just : {T : Type 0} {one other : T} → Some one ≡ Some other → one ≡ other
 just h = cc
 
-fresh_node : (home : List ℕ) (setting : Setting) (world : World) (node : Node) (kind : Kind) → IsFresh home setting world → IsFresh home setting (with_node home setting world node kind)
+fresh_node : (home : List ℕ) (setting : Setting) (world : World) (node : Node) (kind : Kind) → IsFresh home setting world
+    → IsFresh home setting (with_node home setting world node kind)
 unfolding with_node
 fresh_node home setting world node Master fresh = fresh
 fresh_node home setting world node Frontend fresh = record {
   fronts = λ any front at. ⊎_elim
       (λ (e : any ≡ node.name). sym (just (sym (value_at-with_entry (slice_cmp nat_cmp) names_apart world.fronts node.name (new_front node.name home setting))
-      ∙ ap (λ n. value_at (slice_cmp nat_cmp) (with_entry (slice_cmp nat_cmp) world.fronts node.name (new_front node.name home setting)) n) (sym e) ∙ at)) ∙ ap (λ n. new_front n home setting) (sym e))
-      (λ (ne : any ≢ node.name). fresh.fronts any front (sym (value_at-with_entry-other (slice_cmp nat_cmp) names_apart world.fronts node.name any (new_front node.name home setting) ne) ∙ at))
+      ∙ ap (λ n. value_at (slice_cmp nat_cmp) (with_entry (slice_cmp nat_cmp) world.fronts node.name (new_front node.name home setting)) n) (sym e) ∙ at))
+      ∙ ap (λ n. new_front n home setting) (sym e))
+      (λ (ne : any ≢ node.name). fresh.fronts any front
+      (sym (value_at-with_entry-other (slice_cmp nat_cmp) names_apart world.fronts node.name any (new_front node.name home setting) ne) ∙ at))
       (same_or_other (slice_cmp nat_cmp) names_apart any node.name);
   homes = fresh.homes;
   clients = fresh.clients;
@@ -72,7 +77,8 @@ fresh_node home setting world node backend_kind fresh =
           (λ (e : any ≡ node.name). let is : new ≡ backend = just (sym (value_at-with_entry (slice_cmp nat_cmp) names_apart world.homes node.name new)
           ∙ ap (λ n. value_at (slice_cmp nat_cmp) (with_entry (slice_cmp nat_cmp) world.homes node.name new) n) (sym e) ∙ at) in
           (ap (λ (b : Backend). b.held) (sym is), ap (λ (b : Backend). b.last_serial) (sym is)))
-          (λ (ne : any ≢ node.name). fresh.homes any backend (sym (value_at-with_entry-other (slice_cmp nat_cmp) names_apart world.homes node.name any new ne) ∙ at))
+          (λ (ne : any ≢ node.name). fresh.homes any backend
+          (sym (value_at-with_entry-other (slice_cmp nat_cmp) names_apart world.homes node.name any new ne) ∙ at))
           (same_or_other (slice_cmp nat_cmp) names_apart any node.name);
       clients = fresh.clients;
       links = fresh.links;
@@ -80,12 +86,15 @@ fresh_node home setting world node backend_kind fresh =
       steps = fresh.steps;
     }
 
-fresh_nodes : (home : List ℕ) (setting : Setting) (world : World) (nodes : List Node) → IsFresh home setting world → IsFresh home setting (with_nodes home setting world nodes)
+fresh_nodes : (home : List ℕ) (setting : Setting) (world : World) (nodes : List Node) → IsFresh home setting world
+    → IsFresh home setting (with_nodes home setting world nodes)
 unfolding with_nodes
 fresh_nodes home setting world [] fresh = fresh
-fresh_nodes home setting world (node ∷ nodes) fresh = fresh_nodes home setting (with_node home setting world node node.kind) nodes (fresh_node home setting world node node.kind fresh)
+fresh_nodes home setting world (node ∷ nodes) fresh =
+    fresh_nodes home setting (with_node home setting world node node.kind) nodes (fresh_node home setting world node node.kind fresh)
 
-backends_node : (home : List ℕ) (setting : Setting) (world : World) (node : Node) (kind : Kind) → (with_node home setting world node kind).backends ≡ world.backends
+backends_node : (home : List ℕ) (setting : Setting) (world : World) (node : Node) (kind : Kind)
+    → (with_node home setting world node kind).backends ≡ world.backends
 unfolding with_node
 backends_node home setting world node Master = refl
 backends_node home setting world node Frontend = refl
@@ -94,17 +103,20 @@ backends_node home setting world node backend_kind = refl
 pub backends_stay : (home : List ℕ) (setting : Setting) (world : World) (nodes : List Node) → (with_nodes home setting world nodes).backends ≡ world.backends
 unfolding with_nodes
 backends_stay home setting world [] = refl
-backends_stay home setting world (node ∷ nodes) = backends_stay home setting (with_node home setting world node node.kind) nodes ∙ backends_node home setting world node node.kind
+backends_stay home setting world (node ∷ nodes) = backends_stay home setting (with_node home setting world node node.kind) nodes
+    ∙ backends_node home setting world node node.kind
 
 -- what holds of all names holds of the first backend's
-named_by : (P : List ℕ → Type 0) (node : Node) (kind : Kind) (names rest : List (List ℕ)) (home : List ℕ) → or_backend kind node.name names ≡ home ∷ rest → P node.name
+named_by : (P : List ℕ → Type 0) (node : Node) (kind : Kind) (names rest : List (List ℕ)) (home : List ℕ) → or_backend kind node.name names ≡ home ∷ rest
+    → P node.name
     → ((r : List (List ℕ)) → names ≡ home ∷ r → P home) → P home
 unfolding or_backend
 named_by P node Master names rest home e p later = later rest e
 named_by P node Frontend names rest home e p later = later rest e
 named_by P node backend_kind names rest home e p later = let same : node.name ≡ home = cc in subst P same p
 
-named : (P : List ℕ → Type 0) (nodes : List Node) (rest : List (List ℕ)) (home : List ℕ) → backends_of nodes ≡ home ∷ rest → All (λ (node : Node). P node.name) nodes → P home
+named : (P : List ℕ → Type 0) (nodes : List Node) (rest : List (List ℕ)) (home : List ℕ) → backends_of nodes ≡ home ∷ rest
+    → All (λ (node : Node). P node.name) nodes → P home
 unfolding backends_of
 named P [] rest home e all = cc
 named P (node ∷ nodes) rest home e all =
@@ -114,20 +126,24 @@ named P (node ∷ nodes) rest home e all =
 abbrev NoFrontend : List ℕ → Node → Type 0
 NoFrontend home node = node.kind ≡ Frontend → node.name ≢ home
 
-pub head_apart : (node : Node) (nodes : List Node) → AllPairs (λ (one other : Node). one.name ≢ other.name) (node ∷ nodes) → All (λ (other : Node). node.name ≢ other.name) nodes
+pub head_apart : (node : Node) (nodes : List Node) → AllPairs (λ (one other : Node). one.name ≢ other.name) (node ∷ nodes)
+    → All (λ (other : Node). node.name ≢ other.name) nodes
 head_apart node nodes pairs = λ k d h. pairs 0 (suc k) d (omega arith) (omega arith)
 
-pub tail_apart : (node : Node) (nodes : List Node) → AllPairs (λ (one other : Node). one.name ≢ other.name) (node ∷ nodes) → AllPairs (λ (one other : Node). one.name ≢ other.name) nodes
+pub tail_apart : (node : Node) (nodes : List Node) → AllPairs (λ (one other : Node). one.name ≢ other.name) (node ∷ nodes)
+    → AllPairs (λ (one other : Node). one.name ≢ other.name) nodes
 tail_apart node nodes pairs = λ i j d h k. pairs (suc i) (suc j) d (omega arith) (omega arith)
 
 apart_here : (home : List ℕ) (nodes : List Node) → All (λ (other : Node). home ≢ other.name) nodes → All (NoFrontend home) nodes
 apart_here home nodes all = λ k d h. λ kind. λ e. all k d h (sym e)
 
-apart_by : (node : Node) (nodes : List Node) (kind : Kind) (rest : List (List ℕ)) (home : List ℕ) → node.kind ≡ kind → or_backend kind node.name (backends_of nodes) ≡ home ∷ rest
+apart_by : (node : Node) (nodes : List Node) (kind : Kind) (rest : List (List ℕ)) (home : List ℕ) → node.kind ≡ kind
+    → or_backend kind node.name (backends_of nodes) ≡ home ∷ rest
     → AllPairs (λ (one other : Node). one.name ≢ other.name) (node ∷ nodes)
     → ((r : List (List ℕ)) → backends_of nodes ≡ home ∷ r → All (NoFrontend home) nodes) → All (NoFrontend home) (node ∷ nodes)
 unfolding or_backend
-apart_by node nodes Master rest home k e pairs later = All-cons (NoFrontend home) node nodes (λ f. λ same. (let no : Master ≡ Frontend = sym k ∙ f in cc)) (later rest e)
+apart_by node nodes Master rest home k e pairs later =
+    All-cons (NoFrontend home) node nodes (λ f. λ same. (let no : Master ≡ Frontend = sym k ∙ f in cc)) (later rest e)
 apart_by node nodes Frontend rest home k e pairs later =
     All-cons (NoFrontend home) node nodes (λ f. named (λ name. node.name ≢ name) nodes rest home e (head_apart node nodes pairs)) (later rest e)
 apart_by node nodes backend_kind rest home k e pairs later =
@@ -135,20 +151,23 @@ apart_by node nodes backend_kind rest home k e pairs later =
     All-cons (NoFrontend home) node nodes (λ f. λ s. (let no : backend_kind ≡ Frontend = sym k ∙ f in cc))
     (apart_here home nodes (subst (λ n. All (λ (other : Node). n ≢ other.name) nodes) same (head_apart node nodes pairs)))
 
-no_frontends : (nodes : List Node) (rest : List (List ℕ)) (home : List ℕ) → AllPairs (λ (one other : Node). one.name ≢ other.name) nodes → backends_of nodes ≡ home ∷ rest → All (NoFrontend home) nodes
+no_frontends : (nodes : List Node) (rest : List (List ℕ)) (home : List ℕ) → AllPairs (λ (one other : Node). one.name ≢ other.name) nodes
+    → backends_of nodes ≡ home ∷ rest → All (NoFrontend home) nodes
 unfolding backends_of
 no_frontends [] rest home pairs e = cc
 no_frontends (node ∷ nodes) rest home pairs e =
     apart_by node nodes node.kind rest home refl e pairs (λ r h. no_frontends nodes r home (tail_apart node nodes pairs) h)
 
-front_none_by : (home : List ℕ) (setting : Setting) (world : World) (node : Node) (kind : Kind) (name : List ℕ) → node.kind ≡ kind → NoFrontend name node → front_at world name ≡ None → front_at (with_node home setting world node kind) name ≡ None
+front_none_by : (home : List ℕ) (setting : Setting) (world : World) (node : Node) (kind : Kind) (name : List ℕ) → node.kind ≡ kind → NoFrontend name node
+    → front_at world name ≡ None → front_at (with_node home setting world node kind) name ≡ None
 unfolding with_node
 front_none_by home setting world node Master name k free none = none
 front_none_by home setting world node Frontend name k free none =
     value_at-with_entry-other (slice_cmp nat_cmp) names_apart world.fronts node.name name (new_front node.name home setting) (λ e. free k (sym e)) ∙ none
 front_none_by home setting world node backend_kind name k free none = none
 
-front_none : (home : List ℕ) (setting : Setting) (world : World) (nodes : List Node) (name : List ℕ) → All (NoFrontend name) nodes → front_at world name ≡ None → front_at (with_nodes home setting world nodes) name ≡ None
+front_none : (home : List ℕ) (setting : Setting) (world : World) (nodes : List Node) (name : List ℕ) → All (NoFrontend name) nodes → front_at world name ≡ None
+    → front_at (with_nodes home setting world nodes) name ≡ None
 unfolding with_nodes
 front_none home setting world [] name free none = none
 front_none home setting world (node ∷ nodes) name free none =
@@ -160,23 +179,36 @@ record HasHome (world : World) (name : List ℕ) : Type 0 where
   backend : Backend
   at : home_at world name ≡ Some backend
 
-home_by : (home : List ℕ) (setting : Setting) (world : World) (node : Node) (kind : Kind) (name : List ℕ) → HasHome world name → HasHome (with_node home setting world node kind) name
+home_by : (home : List ℕ) (setting : Setting) (world : World) (node : Node) (kind : Kind) (name : List ℕ) → HasHome world name
+    → HasHome (with_node home setting world node kind) name
 unfolding with_node
 home_by home setting world node Master name has = has
 home_by home setting world node Frontend name has = record { backend = has.backend; at = has.at }
 home_by home setting world node backend_kind name has =
     let new : Backend = booted (record { server = node.name; partition = node.partition }) in
     ⊎_elim
-    (λ (e : name ≡ node.name). record { backend = new; at = ap (λ n. value_at (slice_cmp nat_cmp) (with_entry (slice_cmp nat_cmp) world.homes node.name new) n) e ∙ value_at-with_entry (slice_cmp nat_cmp) names_apart world.homes node.name new })
-    (λ (ne : name ≢ node.name). record { backend = has.backend; at = value_at-with_entry-other (slice_cmp nat_cmp) names_apart world.homes node.name name new ne ∙ has.at })
+    (λ (e : name ≡ node.name). record {
+      backend = new;
+      at =
+          ap (λ n. value_at (slice_cmp nat_cmp) (with_entry (slice_cmp nat_cmp) world.homes node.name new) n) e
+          ∙ value_at-with_entry (slice_cmp nat_cmp) names_apart world.homes node.name new;
+    })
+    (λ (ne : name ≢ node.name). record {
+      backend = has.backend;
+      at =
+          value_at-with_entry-other (slice_cmp nat_cmp) names_apart world.homes node.name name new ne ∙ has.at;
+    })
     (same_or_other (slice_cmp nat_cmp) names_apart name node.name)
 
-home_stays : (home : List ℕ) (setting : Setting) (world : World) (nodes : List Node) (name : List ℕ) → HasHome world name → HasHome (with_nodes home setting world nodes) name
+home_stays : (home : List ℕ) (setting : Setting) (world : World) (nodes : List Node) (name : List ℕ) → HasHome world name
+    → HasHome (with_nodes home setting world nodes) name
 unfolding with_nodes
 home_stays home setting world [] name has = has
-home_stays home setting world (node ∷ nodes) name has = home_stays home setting (with_node home setting world node node.kind) nodes name (home_by home setting world node node.kind name has)
+home_stays home setting world (node ∷ nodes) name has =
+    home_stays home setting (with_node home setting world node node.kind) nodes name (home_by home setting world node node.kind name has)
 
-home_new : (home : List ℕ) (setting : Setting) (world : World) (node : Node) (nodes : List Node) (kind : Kind) (rest : List (List ℕ)) (name : List ℕ) → or_backend kind node.name (backends_of nodes) ≡ name ∷ rest
+home_new : (home : List ℕ) (setting : Setting) (world : World) (node : Node) (nodes : List Node) (kind : Kind) (rest : List (List ℕ)) (name : List ℕ)
+    → or_backend kind node.name (backends_of nodes) ≡ name ∷ rest
     → ((world : World) (r : List (List ℕ)) → backends_of nodes ≡ name ∷ r → HasHome (with_nodes home setting world nodes) name)
     → HasHome (with_nodes home setting (with_node home setting world node kind) nodes) name
 unfolding or_backend with_node
@@ -186,11 +218,13 @@ home_new home setting world node nodes backend_kind rest name e later =
     let same : node.name ≡ name = cc in
     home_stays home setting _ nodes name (record {
       backend = booted (record { server = node.name; partition = node.partition });
-      at = ap (λ n. value_at (slice_cmp nat_cmp) (with_entry (slice_cmp nat_cmp) world.homes node.name (booted (record { server = node.name; partition = node.partition }))) n) (sym same)
+      at = ap (λ n. value_at (slice_cmp nat_cmp)
+          (with_entry (slice_cmp nat_cmp) world.homes node.name (booted (record { server = node.name; partition = node.partition }))) n) (sym same)
           ∙ value_at-with_entry (slice_cmp nat_cmp) names_apart world.homes node.name (booted (record { server = node.name; partition = node.partition }));
     })
 
-home_comes : (home : List ℕ) (setting : Setting) (nodes : List Node) (world : World) (rest : List (List ℕ)) (name : List ℕ) → backends_of nodes ≡ name ∷ rest → HasHome (with_nodes home setting world nodes) name
+home_comes : (home : List ℕ) (setting : Setting) (nodes : List Node) (world : World) (rest : List (List ℕ)) (name : List ℕ) → backends_of nodes ≡ name ∷ rest
+    → HasHome (with_nodes home setting world nodes) name
 unfolding with_nodes backends_of
 home_comes home setting [] world rest name e = cc
 home_comes home setting (node ∷ nodes) world rest name e =
@@ -221,7 +255,8 @@ first_backend nodes are = has_first (backends_of nodes) (omega (arith, backend_c
 
 fresh_start : (config : Config) → IsFresh (home_of config) (setting_of config) (start config)
 unfolding start
-fresh_start config = fresh_nodes (home_of config) (setting_of config) (record no_world { backends = backends_of config.nodes; pairs = links_of config.nodes }) config.nodes
+fresh_start config = fresh_nodes (home_of config) (setting_of config)
+    (record no_world { backends = backends_of config.nodes; pairs = links_of config.nodes }) config.nodes
     (record { fronts = λ node front at. cc; homes = λ node backend at. cc; clients = refl; links = refl; marks = refl; steps = refl })
 
 nothing_held : (store_of : Backend) → store_of.held ≡ [] → store_of.last_serial ≡ 0 → IsStoreOf empty_store store_of
@@ -245,7 +280,8 @@ setting_new_front : (node home : List ℕ) (setting : Setting) → (new_front no
 unfolding new_front
 setting_new_front node home setting = refl
 
-no_connection : (home : List ℕ) (setting : Setting) (node : List ℕ) (front : Front) (conn : ℕ) → front ≡ new_front node home setting → connection_at front conn ≡ None
+no_connection : (home : List ℕ) (setting : Setting) (node : List ℕ) (front : Front) (conn : ℕ) → front ≡ new_front node home setting
+    → connection_at front conn ≡ None
 unfolding new_front
 no_connection home setting node front conn e = rw e refl
 
@@ -272,7 +308,8 @@ start_keeps config are =
     record {
       backend = has.backend;
       nodes = record {
-        home_no_front = front_none (home_of config) (setting_of config) origin config.nodes (home_of config) (no_frontends config.nodes first.rest (home_of config) are.names first.is) refl;
+        home_no_front = front_none (home_of config) (setting_of config) origin config.nodes (home_of config)
+            (no_frontends config.nodes first.rest (home_of config) are.names first.is) refl;
         home_is = has.at;
         fronts = λ node front at. (
           ap (λ (f : Front). f.home) (fresh.fronts node front at) ∙ home_new_front node (home_of config) (setting_of config),
@@ -284,7 +321,9 @@ start_keeps config are =
       };
       story = record { talk = record { requests = λ conn. []; answers = λ conn. []; serials = λ conn. [] }; told = λ conn. []; course = first_course };
       is_told = record {
-        carries = subst (λ m. Carries (setting_of config) (record { requests = λ conn. []; answers = λ conn. []; serials = λ conn. [] }) first_course m first_course) (sym fresh.marks) (no_marks first_course);
+        carries = subst (λ m. Carries (setting_of config)
+            (record { requests = λ conn. []; answers = λ conn. []; serials = λ conn. [] }) first_course m first_course) (sym fresh.marks)
+            (no_marks first_course);
         same = nothing_held has.backend free.0 free.1;
         once = subst (λ m. MarkedOnce (λ conn. 0) m) (sym fresh.marks) (λ conn number. counts_nothing number);
         later = subst (λ m. AllPairs Later m) (sym fresh.marks) (λ i j d h k. absurd (omega arith));

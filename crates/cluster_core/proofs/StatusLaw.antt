@@ -28,7 +28,8 @@ apart : Always ≡ IfAnswered → ⊥
 apart h = cc
 
 seen : (store : Store) (home : Backend) (name shown : List ℕ) (items : List StatusItem) (held : Held) → IsStoreOf store home
-    → ServesAlike store home name (status_work shown items) (status_on shown items (Some held.content)) (record { home = home; body = Some (look_unless held.content None).body; counts = (look_unless held.content None).counts })
+    → ServesAlike store home name (status_work shown items) (status_on shown items (Some held.content))
+    (record { home = home; body = Some (look_unless held.content None).body; counts = (look_unless held.content None).counts })
 unfolding look_unless status_on store_after awaited_of reply_shown status_reply reply_to_done MayWork
 seen store home name shown items held same = record {
   free = tt;
@@ -48,10 +49,12 @@ there_by : (store : Store) (home : Backend) (name shown : List ℕ) (items : Lis
 unfolding look_step look_at
 there_by store home name shown items held e same =
     subst (λ b. ServesAlike store home name (status_work shown items) (status_on shown items b) (look_step home 0 (Some held))) (sym (opened held e))
-    (subst (λ r. ServesAlike store home name (status_work shown items) (status_on shown items (Some held.content)) (record { home = home; body = Some (look_unless held.content r).body; counts = (look_unless held.content r).counts })) (sym (not_refused held e))
+    (subst (λ r. ServesAlike store home name (status_work shown items) (status_on shown items (Some held.content))
+    (record { home = home; body = Some (look_unless held.content r).body; counts = (look_unless held.content r).counts })) (sym (not_refused held e))
     (seen store home name shown items held same))
 
-pub looks_alike : (store : Store) (home : Backend) (name shown : List ℕ) (items : List StatusItem) (found : Option Held) → held_at home name ≡ found → IsStoreOf store home
+pub looks_alike : (store : Store) (home : Backend) (name shown : List ℕ) (items : List StatusItem) (found : Option Held) → held_at home name ≡ found
+    → IsStoreOf store home
     → LooksAlike store home name shown items found
 unfolding look_step look_at status_on store_after awaited_of reply_shown status_reply MayWork
 looks_alike store home name shown items None at same = record {

@@ -52,7 +52,8 @@ next_mark now talk conn counts = record { step = now; ask = record { conn = conn
 abbrev pub next_course : Setting → Course → ℕ → Request → ℕ → Course
 next_course setting course conn request serial = after course conn (carried_out setting course conn request serial)
 
-pub told_push : (setting : Setting) (now : ℕ) (marks : List Mark) (home later_home : Backend) (talk : Talk) (course : Course) (conn : ℕ) (request : Request) (serial : ℕ) (counts : Counts)
+pub told_push : (setting : Setting) (now : ℕ) (marks : List Mark) (home later_home : Backend) (talk : Talk) (course : Course) (conn : ℕ) (request : Request)
+    (serial : ℕ) (counts : Counts)
     → numbered (talk.requests conn) (length (talk.answers conn) + 1) ≡ Some request
     → MayTake setting course.store (course.sessions conn) request serial
     → (counts ≡ IfAnswered → next_course setting course conn request serial ≡ course)

@@ -1,5 +1,6 @@
 -- What is told at every step of a run.
-use Rattle.std.proofs.Common.{◌≡◌, ◌≢◌, ◌⊎◌, ℕ, zero, suc, ◌+◌, ◌≤◌, ◌<◌, ◌&&◌, Bool, true, false, cond, nat_eq, List, [], ◌∷◌, ◌++◌, length, Option, None, Some, refl, sym, ◌∙◌, ap, subst, arith, length-append}
+use Rattle.std.proofs.Common.{◌≡◌, ◌≢◌, ◌⊎◌, ℕ, zero, suc, ◌+◌, ◌≤◌, ◌<◌, ◌&&◌, Bool, true, false, cond, nat_eq, List, [], ◌∷◌, ◌++◌, length, Option, None}
+use Rattle.std.proofs.Common.{Some, refl, sym, ◌∙◌, ap, subst, arith, length-append}
 use Rattle.std.specs.Prelude.{All, AllPairs, count_by, slice_get}
 use Rattle.std.proofs.lemmas.Bool.Decides.{nat_tests}
 use Rattle.std.proofs.lemmas.List.{append-nil}
@@ -45,7 +46,8 @@ numbered_within items zero item e = omega arith
 numbered_within items (suc number) item e = omega (arith, got_within items number item e)
 
 -- every mark is of a command that was asked
-marks_asked : (setting : Setting) (talk : Talk) (first last : Course) (marks : List Mark) → Carries setting talk first marks last → All (λ (m : Mark). command_of m ≤ length (talk.requests (conn_of m))) marks
+marks_asked : (setting : Setting) (talk : Talk) (first last : Course) (marks : List Mark) → Carries setting talk first marks last
+    → All (λ (m : Mark). command_of m ≤ length (talk.requests (conn_of m))) marks
 marks_asked setting talk first last marks (no_marks course) = All-nil (λ (m : Mark). command_of m ≤ length (talk.requests (conn_of m)))
 marks_asked setting talk first last marks (a_mark course end mark request serial rest takes answer unless later) =
     All-cons (λ (m : Mark). command_of m ≤ length (talk.requests (conn_of m))) mark rest
@@ -58,7 +60,8 @@ count_both : (p : Mark → Bool) (xs ys : List Mark) → count_by p (xs ++ ys) �
 count_both p xs ys = sum_by-append (λ y. cond (p y) 1 0) xs ys
 
 own_mark : (mark : Mark) → is_mark (conn_of mark) (command_of mark) mark ≡ true
-own_mark mark = let one : nat_eq (conn_of mark) (conn_of mark) ≡ true = grind (arith, nat_tests) in let two : nat_eq (command_of mark) (command_of mark) ≡ true = grind (arith, nat_tests) in rw (one, two) refl
+own_mark mark = let one : nat_eq (conn_of mark) (conn_of mark) ≡ true = grind (arith, nat_tests) in
+    let two : nat_eq (command_of mark) (command_of mark) ≡ true = grind (arith, nat_tests) in rw (one, two) refl
 
 -- each mark of a list is counted in it
 counted : (marks : List Mark) → All (λ (m : Mark). 1 ≤ count_by (is_mark (conn_of m) (command_of m)) marks) marks
@@ -66,17 +69,21 @@ counted [] = All-nil (λ (m : Mark). 1 ≤ count_by (is_mark (conn_of m) (comman
 counted (mark ∷ marks) =
     All-cons (λ (m : Mark). 1 ≤ count_by (is_mark (conn_of m) (command_of m)) (mark ∷ marks)) mark marks
     (omega (arith, count_cons (is_mark (conn_of mark) (command_of mark)) mark marks, ap {B = ℕ} (λ b. cond b 1 0) (own_mark mark)))
-    (All-weaker (λ (m : Mark). 1 ≤ count_by (is_mark (conn_of m) (command_of m)) marks) (λ (m : Mark). 1 ≤ count_by (is_mark (conn_of m) (command_of m)) (mark ∷ marks))
+    (All-weaker (λ (m : Mark). 1 ≤ count_by (is_mark (conn_of m) (command_of m)) marks)
+    (λ (m : Mark). 1 ≤ count_by (is_mark (conn_of m) (command_of m)) (mark ∷ marks))
     (λ m h. omega (arith, h, count_cons (is_mark (conn_of m) (command_of m)) mark marks)) marks (counted marks))
 
 -- a command that has its mark has no other one behind
-no_other : (now later count number in_all in_now in_rest : ℕ) → in_all ≡ one_up_to later number → in_now ≡ one_up_to now number → in_all ≡ in_now + in_rest → 1 ≤ in_rest → now < number
+no_other : (now later count number in_all in_now in_rest : ℕ) → in_all ≡ one_up_to later number → in_now ≡ one_up_to now number → in_all ≡ in_now + in_rest
+    → 1 ≤ in_rest → now < number
 unfolding one_up_to
 no_other now later count number in_all in_now in_rest a n parts some = grind (arith, nat_tests)
 
 -- the points of the whole run, as they stand to a moment of it
-pub stands_in_time : (setting : Setting) (now later : World) (story whole : Story) (home last_home : _) → IsTold setting now.steps now.marks home story.talk story.course
-    → IsTold setting later.steps later.marks last_home whole.talk whole.course → StandsBehind now later → ((conn : ℕ) → IsToldSo (story.told conn) (story.talk.answers conn))
+pub stands_in_time : (setting : Setting) (now later : World) (story whole : Story) (home last_home : _)
+    → IsTold setting now.steps now.marks home story.talk story.course
+    → IsTold setting later.steps later.marks last_home whole.talk whole.course → StandsBehind now later
+    → ((conn : ℕ) → IsToldSo (story.told conn) (story.talk.answers conn))
     → StandsInTime (told_of story) now.steps (history_of later)
 unfolding history_of
 stands_in_time setting now later story whole home last_home told all behind so =
@@ -84,25 +91,39 @@ stands_in_time setting now later story whole home last_home told all behind so =
     record {
       behind_command = all_points later (λ (m : Mark). m.step ≤ now.steps → command_of m ≤ length (story.talk.requests (conn_of m)))
           (λ (p : Point). p.step ≤ now.steps → p.ask.command ≤ length (story.talk.requests p.ask.conn))
-          (λ mark point holds is. λ low. omega (arith, holds (omega (arith, is.same_step, low)), ap (λ (a : AskId). a.command) is.same_ask, ap (λ (a : AskId). length (story.talk.requests a.conn)) is.same_ask))
+          (λ mark point holds is. λ low. omega (
+            arith,
+            holds (omega (arith, is.same_step, low)),
+            ap (λ (a : AskId). a.command) is.same_ask,
+            ap (λ (a : AskId). length (story.talk.requests a.conn)) is.same_ask,
+          ))
           later.marks
           (subst (λ m. All (λ (m : Mark). m.step ≤ now.steps → command_of m ≤ length (story.talk.requests (conn_of m))) m) (sym behind.parts)
           (All-append (λ (m : Mark). m.step ≤ now.steps → command_of m ≤ length (story.talk.requests (conn_of m))) now.marks behind.rest
-          (All-weaker (λ (m : Mark). command_of m ≤ length (story.talk.requests (conn_of m))) (λ (m : Mark). m.step ≤ now.steps → command_of m ≤ length (story.talk.requests (conn_of m))) (λ m h. λ low. h) now.marks asked)
-          (All-weaker (λ (m : Mark). now.steps < m.step) (λ (m : Mark). m.step ≤ now.steps → command_of m ≤ length (story.talk.requests (conn_of m))) (λ m h. λ low. absurd (omega arith)) behind.rest behind.from_now)));
+          (All-weaker (λ (m : Mark). command_of m ≤ length (story.talk.requests (conn_of m)))
+          (λ (m : Mark). m.step ≤ now.steps → command_of m ≤ length (story.talk.requests (conn_of m))) (λ m h. λ low. h) now.marks asked)
+          (All-weaker (λ (m : Mark). now.steps < m.step) (λ (m : Mark). m.step ≤ now.steps → command_of m ≤ length (story.talk.requests (conn_of m)))
+          (λ m h. λ low. absurd (omega arith)) behind.rest behind.from_now)));
       before_reply = all_points later (λ (m : Mark). command_of m ≤ length (story.told (conn_of m)) → m.step ≤ now.steps)
           (λ (p : Point). p.ask.command ≤ length (story.told p.ask.conn) → p.step ≤ now.steps)
-          (λ mark point holds is. λ low. omega (arith, is.same_step, holds (omega (arith, low, ap (λ (a : AskId). a.command) is.same_ask, ap (λ (a : AskId). length (story.told a.conn)) is.same_ask))))
+          (λ mark point holds is. λ low. omega (
+            arith,
+            is.same_step,
+            holds (omega (arith, low, ap (λ (a : AskId). a.command) is.same_ask, ap (λ (a : AskId). length (story.told a.conn)) is.same_ask)),
+          ))
           later.marks
           (subst (λ m. All (λ (m : Mark). command_of m ≤ length (story.told (conn_of m)) → m.step ≤ now.steps) m) (sym behind.parts)
           (All-append (λ (m : Mark). command_of m ≤ length (story.told (conn_of m)) → m.step ≤ now.steps) now.marks behind.rest
-          (All-weaker (λ (m : Mark). m.step ≤ now.steps) (λ (m : Mark). command_of m ≤ length (story.told (conn_of m)) → m.step ≤ now.steps) (λ m h. λ low. h) now.marks told.timely)
-          (All-weaker (λ (m : Mark). 1 ≤ count_by (is_mark (conn_of m) (command_of m)) behind.rest) (λ (m : Mark). command_of m ≤ length (story.told (conn_of m)) → m.step ≤ now.steps)
+          (All-weaker (λ (m : Mark). m.step ≤ now.steps) (λ (m : Mark). command_of m ≤ length (story.told (conn_of m)) → m.step ≤ now.steps)
+          (λ m h. λ low. h) now.marks told.timely)
+          (All-weaker (λ (m : Mark). 1 ≤ count_by (is_mark (conn_of m) (command_of m)) behind.rest)
+          (λ (m : Mark). command_of m ≤ length (story.told (conn_of m)) → m.step ≤ now.steps)
           (λ m h. λ low. absurd (omega (
             arith,
             low,
             told_within (conn_of m),
-            no_other (length (story.talk.answers (conn_of m))) (length (whole.talk.answers (conn_of m))) 0 (command_of m) _ _ _ (all.once (conn_of m) (command_of m)) (told.once (conn_of m) (command_of m))
+            no_other (length (story.talk.answers (conn_of m))) (length (whole.talk.answers (conn_of m))) 0 (command_of m) _ _ _
+                (all.once (conn_of m) (command_of m)) (told.once (conn_of m) (command_of m))
                 (ap (count_by (is_mark (conn_of m) (command_of m))) behind.parts ∙ count_both (is_mark (conn_of m) (command_of m)) now.marks behind.rest) h,
           ))) behind.rest (counted behind.rest))));
     }
@@ -131,7 +152,8 @@ told_so_far config talk before later are now last =
       last = law.story.course;
       legal = legal_history (setting_of config) world law.story law.backend law.is_told (λ conn. (says conn).count) (λ conn. (says conn).so);
       one_content = has_boxes config world law.backend law.story.course.store are law.nodes law.is_told.same;
-      in_time = stands_in_time (setting_of config) world (run_steps (start config) (before ++ later)) law.story last.story law.backend last.backend law.is_told last.is_told behind (λ conn. (says conn).so);
+      in_time = stands_in_time (setting_of config) world
+          (run_steps (start config) (before ++ later)) law.story last.story law.backend last.backend law.is_told last.is_told behind (λ conn. (says conn).so);
       nothing_waits = λ empty conn stays. (says conn).waits_not empty stays ∙ sym (ap length (law.requests conn));
     }
 

@@ -23,7 +23,8 @@ delivery_made : (start : World) (flowing : Flowing) (left : ℕ) (event : Event)
 unfolding run_steps
 delivery_made start flowing left event e = ap (λ w. steps_by w event) e ∙ sym (run_steps-append start flowing.made (event ∷ []))
 
-turn_made : (start : World) (flowing : Flowing) (link : Link) (left : ℕ) (queue : List LinkMsg) → IsMadeOf start flowing → IsMadeOf start (turn_by flowing link left queue)
+turn_made : (start : World) (flowing : Flowing) (link : Link) (left : ℕ) (queue : List LinkMsg) → IsMadeOf start flowing
+    → IsMadeOf start (turn_by flowing link left queue)
 unfolding turn_by
 turn_made start flowing link zero queue e = e
 turn_made start flowing link (suc left) [] e = e
@@ -32,7 +33,8 @@ turn_made start flowing link (suc left) (message ∷ queue) e = delivery_made st
 round_made : (start : World) (flowing : Flowing) (links : List Link) → IsMadeOf start flowing → IsMadeOf start (round flowing links)
 unfolding round turn_of
 round_made start flowing [] e = e
-round_made start flowing (link ∷ links) e = round_made start (turn_of flowing link) links (turn_made start flowing link flowing.left (on_link flowing.world.links link.from link.to) e)
+round_made start flowing (link ∷ links) e =
+    round_made start (turn_of flowing link) links (turn_made start flowing link flowing.left (on_link flowing.world.links link.from link.to) e)
 
 either_made : (start : World) (ends : Bool) (one two : Flowing) → IsMadeOf start one → IsMadeOf start two → IsMadeOf start (rounds_by ends one two)
 unfolding rounds_by
@@ -44,7 +46,8 @@ unfolding rounds
 rounds_made start zero links flowing e = e
 rounds_made start (suc count) links flowing e =
     let next = round_made start flowing links e in
-    either_made start (nat_eq (round flowing links).left flowing.left) (round flowing links) (rounds count links (round flowing links)) next (rounds_made start count links (round flowing links) next)
+    either_made start (nat_eq (round flowing links).left flowing.left) (round flowing links) (rounds count links (round flowing links)) next
+    (rounds_made start count links (round flowing links) next)
 
 flow_made : (world : World) (count : ℕ) → (flow world count).world ≡ run_steps world (flow world count).made
 unfolding flow run_steps

@@ -1,5 +1,6 @@
 -- The messages on the way for one connection: none, its ask, or the answer to it.
-use Rattle.std.proofs.Common.{◌≡◌, ◌≢◌, ℕ, Bool, true, false, cond, nat_eq, List, [], ◌∷◌, ◌++◌, drop, Option, None, Some, refl, sym, ◌∙◌, ap, subst, arith, append_assoc}
+use Rattle.std.proofs.Common.{◌≡◌, ◌≢◌, ℕ, Bool, true, false, cond, nat_eq, List, [], ◌∷◌, ◌++◌, drop, Option, None, Some, refl, sym, ◌∙◌, ap, subst, arith}
+use Rattle.std.proofs.Common.{append_assoc}
 use Rattle.std.proofs.lemmas.Bool.Decides.{nat_tests}
 use Rattle.std.proofs.lemmas.List.{append-nil}
 use Rattle.link_msg.specs.declared.answer.BackAnswer.{BackAnswer}
@@ -35,13 +36,15 @@ answers_in conn (message ∷ queue) = answer_in conn message ++ answers_in conn 
 asks_in-append : (conn : ℕ) (one two : List LinkMsg) → asks_in conn (one ++ two) ≡ asks_in conn one ++ asks_in conn two
 unfolding asks_in
 asks_in-append conn [] two = refl
-asks_in-append conn (message ∷ one) two = ap (λ l. ask_in conn message ++ l) (asks_in-append conn one two) ∙ sym (append_assoc (ask_in conn message) (asks_in conn one) (asks_in conn two))
+asks_in-append conn (message ∷ one) two = ap (λ l. ask_in conn message ++ l) (asks_in-append conn one two)
+    ∙ sym (append_assoc (ask_in conn message) (asks_in conn one) (asks_in conn two))
 
 answers_in-append : (conn : ℕ) (one two : List LinkMsg) → answers_in conn (one ++ two) ≡ answers_in conn one ++ answers_in conn two
 unfolding answers_in
 answers_in-append conn [] two = refl
 answers_in-append conn (message ∷ one) two =
-    ap (λ l. answer_in conn message ++ l) (answers_in-append conn one two) ∙ sym (append_assoc (answer_in conn message) (answers_in conn one) (answers_in conn two))
+    ap (λ l. answer_in conn message ++ l) (answers_in-append conn one two)
+    ∙ sym (append_assoc (answer_in conn message) (answers_in conn one) (answers_in conn two))
 
 -- just these asks are on the way from the frontend to the home, and just these answers back
 pub record AreOnWay (links : Links) (conn : ℕ) (front home : List ℕ) (asks : List FrontAsk) (answers : List BackAnswer) : Type 0 where
@@ -89,7 +92,8 @@ ask_of_another conn ask ne = let apart : nat_eq (ask.id).conn conn ≡ false = g
 
 pub answer_of_another : (conn : ℕ) (answer : BackAnswer) → (answer.id).conn ≢ conn → IsOfAnother conn (Answer answer)
 unfolding ask_in answer_in
-answer_of_another conn answer ne = let apart : nat_eq (answer.id).conn conn ≡ false = grind (arith, nat_tests) in record { no_ask = refl; no_answer = rw apart refl }
+answer_of_another conn answer ne = let apart : nat_eq (answer.id).conn conn ≡ false = grind (arith, nat_tests) in
+    record { no_ask = refl; no_answer = rw apart refl }
 
 own_ask : (conn : ℕ) (ask : FrontAsk) → (ask.id).conn ≡ conn → ask_in conn (Ask ask) ≡ ask ∷ []
 unfolding ask_in
@@ -104,7 +108,8 @@ unfolding asks_in
 one_ask conn ask true e = append-nil (ask_in conn (Ask ask)) ∙ own_ask conn ask e
 one_ask conn ask false e = refl
 
-one_answer : (conn : ℕ) (answer : BackAnswer) (same : Bool) → (answer.id).conn ≡ conn → answers_in conn (cond same (Answer answer ∷ []) []) ≡ cond same (answer ∷ []) []
+one_answer : (conn : ℕ) (answer : BackAnswer) (same : Bool) → (answer.id).conn ≡ conn
+    → answers_in conn (cond same (Answer answer ∷ []) []) ≡ cond same (answer ∷ []) []
 unfolding answers_in
 one_answer conn answer true e = append-nil (answer_in conn (Answer answer)) ∙ own_answer conn answer e
 one_answer conn answer false e = refl
@@ -136,32 +141,42 @@ answer_sent links conn front home answer e way = record {
 }
 
 -- the first message of a link, for a connection of which it isn't
-rest_asks : (conn : ℕ) (queue rest : List LinkMsg) (message : LinkMsg) → queue ≡ message ∷ rest → ask_in conn message ≡ [] → asks_in conn (drop 1 queue) ≡ asks_in conn queue
+rest_asks : (conn : ℕ) (queue rest : List LinkMsg) (message : LinkMsg) → queue ≡ message ∷ rest → ask_in conn message ≡ []
+    → asks_in conn (drop 1 queue) ≡ asks_in conn queue
 unfolding asks_in
 rest_asks conn queue rest message e h = rw (e, h) refl
 
-rest_answers : (conn : ℕ) (queue rest : List LinkMsg) (message : LinkMsg) → queue ≡ message ∷ rest → answer_in conn message ≡ [] → answers_in conn (drop 1 queue) ≡ answers_in conn queue
+rest_answers : (conn : ℕ) (queue rest : List LinkMsg) (message : LinkMsg) → queue ≡ message ∷ rest → answer_in conn message ≡ []
+    → answers_in conn (drop 1 queue) ≡ answers_in conn queue
 unfolding answers_in
 rest_answers conn queue rest message e h = rw (e, h) refl
 
-taken_asks : (conn : ℕ) (links : Links) (f t a b : List ℕ) (rest : List LinkMsg) (message : LinkMsg) (same : Bool) → same_link a b f t ≡ same → on_link links f t ≡ message ∷ rest → ask_in conn message ≡ []
+taken_asks : (conn : ℕ) (links : Links) (f t a b : List ℕ) (rest : List LinkMsg) (message : LinkMsg) (same : Bool) → same_link a b f t ≡ same
+    → on_link links f t ≡ message ∷ rest → ask_in conn message ≡ []
     → asks_in conn (cond same (drop 1 (on_link links a b)) (on_link links a b)) ≡ asks_in conn (on_link links a b)
 taken_asks conn links f t a b rest message true h e none =
-    let is = same_names a b f t h in rest_asks conn (on_link links a b) rest message (ap (λ x. on_link links x b) is.0 ∙ ap (λ x. on_link links f x) is.1 ∙ e) none
+    let is = same_names a b f t h in rest_asks conn (on_link links a b) rest message
+    (ap (λ x. on_link links x b) is.0 ∙ ap (λ x. on_link links f x) is.1 ∙ e) none
 taken_asks conn links f t a b rest message false h e none = refl
 
-taken_answers : (conn : ℕ) (links : Links) (f t a b : List ℕ) (rest : List LinkMsg) (message : LinkMsg) (same : Bool) → same_link a b f t ≡ same → on_link links f t ≡ message ∷ rest → answer_in conn message ≡ []
+taken_answers : (conn : ℕ) (links : Links) (f t a b : List ℕ) (rest : List LinkMsg) (message : LinkMsg) (same : Bool) → same_link a b f t ≡ same
+    → on_link links f t ≡ message ∷ rest → answer_in conn message ≡ []
     → answers_in conn (cond same (drop 1 (on_link links a b)) (on_link links a b)) ≡ answers_in conn (on_link links a b)
 taken_answers conn links f t a b rest message true h e none =
-    let is = same_names a b f t h in rest_answers conn (on_link links a b) rest message (ap (λ x. on_link links x b) is.0 ∙ ap (λ x. on_link links f x) is.1 ∙ e) none
+    let is = same_names a b f t h in rest_answers conn (on_link links a b) rest message
+    (ap (λ x. on_link links x b) is.0 ∙ ap (λ x. on_link links f x) is.1 ∙ e) none
 taken_answers conn links f t a b rest message false h e none = refl
 
 -- a message of another connection is taken
-pub taken_for_another : (links : Links) (conn : ℕ) (front home f t : List ℕ) (message : LinkMsg) (rest : List LinkMsg) (asks : List FrontAsk) (answers : List BackAnswer)
-    → on_link links f t ≡ message ∷ rest → IsOfAnother conn message → AreOnWay links conn front home asks answers → AreOnWay (without_first links f t) conn front home asks answers
+pub taken_for_another : (links : Links) (conn : ℕ) (front home f t : List ℕ) (message : LinkMsg) (rest : List LinkMsg) (asks : List FrontAsk)
+    (answers : List BackAnswer)
+    → on_link links f t ≡ message ∷ rest → IsOfAnother conn message → AreOnWay links conn front home asks answers
+    → AreOnWay (without_first links f t) conn front home asks answers
 taken_for_another links conn front home f t message rest asks answers e other way = record {
-  asks_are = λ a b. ap (asks_in conn) (on_link-taken links f t a b) ∙ taken_asks conn links f t a b rest message (same_link a b f t) refl e other.no_ask ∙ way.asks_are a b;
-  answers_are = λ a b. ap (answers_in conn) (on_link-taken links f t a b) ∙ taken_answers conn links f t a b rest message (same_link a b f t) refl e other.no_answer ∙ way.answers_are a b;
+  asks_are = λ a b. ap (asks_in conn) (on_link-taken links f t a b) ∙ taken_asks conn links f t a b rest message (same_link a b f t) refl e other.no_ask
+      ∙ way.asks_are a b;
+  answers_are = λ a b. ap (answers_in conn) (on_link-taken links f t a b)
+      ∙ taken_answers conn links f t a b rest message (same_link a b f t) refl e other.no_answer ∙ way.answers_are a b;
 }
 
 first_ask : (conn : ℕ) (queue rest : List LinkMsg) (ask : FrontAsk) (asks : List FrontAsk) (same : Bool) → queue ≡ Ask ask ∷ rest → (ask.id).conn ≡ conn
@@ -173,7 +188,8 @@ first_ask conn queue rest ask asks false e own h = absurd (not_nothing (sym (rw 
     not_nothing : ask ∷ asks_in conn rest ≡ [] → ⊥
     not_nothing k = cc
 
-first_answer : (conn : ℕ) (queue rest : List LinkMsg) (answer : BackAnswer) (answers : List BackAnswer) (same : Bool) → queue ≡ Answer answer ∷ rest → (answer.id).conn ≡ conn
+first_answer : (conn : ℕ) (queue rest : List LinkMsg) (answer : BackAnswer) (answers : List BackAnswer) (same : Bool) → queue ≡ Answer answer ∷ rest
+    → (answer.id).conn ≡ conn
     → answers_in conn queue ≡ cond same answers [] → (same ≡ true) × (answers ≡ answer ∷ answers_in conn rest)
 unfolding answers_in
 first_answer conn queue rest answer answers true e own h = (refl, sym h ∙ (rw (e, own_answer conn answer own) refl))
@@ -182,8 +198,10 @@ first_answer conn queue rest answer answers false e own h = absurd (not_nothing 
     not_nothing : answer ∷ answers_in conn rest ≡ [] → ⊥
     not_nothing k = cc
 
-rest_of_own : (links : Links) (conn : ℕ) (a b f t : List ℕ) (rest : List LinkMsg) (ask : FrontAsk) (same : Bool) → same_link a b f t ≡ same → on_link links f t ≡ Ask ask ∷ rest
-    → asks_in conn rest ≡ [] → asks_in conn (on_link links a b) ≡ cond same (ask ∷ []) [] → asks_in conn (cond same (drop 1 (on_link links a b)) (on_link links a b)) ≡ []
+rest_of_own : (links : Links) (conn : ℕ) (a b f t : List ℕ) (rest : List LinkMsg) (ask : FrontAsk) (same : Bool) → same_link a b f t ≡ same
+    → on_link links f t ≡ Ask ask ∷ rest
+    → asks_in conn rest ≡ [] → asks_in conn (on_link links a b) ≡ cond same (ask ∷ []) []
+    → asks_in conn (cond same (drop 1 (on_link links a b)) (on_link links a b)) ≡ []
 rest_of_own links conn a b f t rest ask true h e none own =
     let is = same_names a b f t h in ap (λ q. asks_in conn (drop 1 q)) (ap (λ x. on_link links x b) is.0 ∙ ap (λ x. on_link links f x) is.1 ∙ e) ∙ none
 rest_of_own links conn a b f t rest ask false h e none own = own
@@ -242,7 +260,8 @@ answer_taken links conn front home f t answer rest asks mine e own way =
             ∙ taken_asks conn links f t a b rest (Answer answer) (same_link a b f t) refl e (no_ask_in conn answer) ∙ way.asks_are a b;
         answers_are = λ a b. ap (answers_in conn) (on_link-taken links f t a b)
             ∙ rest_of_own_answer links conn a b f t rest mine (same_link a b f t) refl (e ∙ ap (λ x. Answer x ∷ rest) (sym only)) none
-            (way.answers_are a b ∙ ap (λ x. cond (same_link a b x front) (mine ∷ []) []) (sym is.0) ∙ ap (λ x. cond (same_link a b f x) (mine ∷ []) []) (sym is.1))
+            (way.answers_are a b ∙ ap (λ x. cond (same_link a b x front) (mine ∷ []) []) (sym is.0)
+            ∙ ap (λ x. cond (same_link a b f x) (mine ∷ []) []) (sym is.1))
             ∙ sym (alike (same_link a b home front) []);
       },
     )
@@ -261,7 +280,8 @@ no_answer_first links conn front home f t answer rest asks e own way =
     (let k = first.1 in cc)
 
 -- where nothing is on any link, nothing is on the way
-pub none_on_empty : (links : Links) (conn : ℕ) (front home : List ℕ) (asks : List FrontAsk) (answers : List BackAnswer) → ((a b : List ℕ) → on_link links a b ≡ [])
+pub none_on_empty : (links : Links) (conn : ℕ) (front home : List ℕ) (asks : List FrontAsk) (answers : List BackAnswer)
+    → ((a b : List ℕ) → on_link links a b ≡ [])
     → AreOnWay links conn front home asks answers → (asks ≡ []) × (answers ≡ [])
 unfolding asks_in answers_in
 none_on_empty links conn front home asks answers empty way = (
@@ -270,7 +290,8 @@ none_on_empty links conn front home asks answers empty way = (
 )
 
 -- nothing on the way is nothing on the way between any other nodes
-pub nothing_anywhere : (links : Links) (conn : ℕ) (front home other another : List ℕ) → AreOnWay links conn front home [] [] → AreOnWay links conn other another [] []
+pub nothing_anywhere : (links : Links) (conn : ℕ) (front home other another : List ℕ) → AreOnWay links conn front home [] []
+    → AreOnWay links conn other another [] []
 nothing_anywhere links conn front home other another way = record {
   asks_are = λ a b. way.asks_are a b ∙ alike (same_link a b front home) [] ∙ sym (alike (same_link a b other another) []);
   answers_are = λ a b. way.answers_are a b ∙ alike (same_link a b home front) [] ∙ sym (alike (same_link a b another other) []);

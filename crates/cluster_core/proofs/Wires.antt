@@ -13,7 +13,8 @@ use Rattle.cluster_core.specs.Links.{Ways, Links, ways_from, ways_or_none, queue
 abbrev pub same_link : List ℕ → List ℕ → List ℕ → List ℕ → Bool
 same_link from to other another = is_eq (slice_cmp nat_cmp from other) && is_eq (slice_cmp nat_cmp to another)
 
-way_by : (ways : Ways) (t b : List ℕ) (queue : List LinkMsg) → queue_to (with_entry (slice_cmp nat_cmp) ways t queue) b ≡ cond (is_eq (slice_cmp nat_cmp b t)) queue (queue_to ways b)
+way_by : (ways : Ways) (t b : List ℕ) (queue : List LinkMsg)
+    → queue_to (with_entry (slice_cmp nat_cmp) ways t queue) b ≡ cond (is_eq (slice_cmp nat_cmp b t)) queue (queue_to ways b)
 way_by ways t b queue = ⊎_elim
     (λ (e : b ≡ t). let same : is_eq (slice_cmp nat_cmp b t) ≡ true = subst (λ x. is_eq (slice_cmp nat_cmp b x) ≡ true) e (names_apart.itself b) in
     ap queue_or_none (subst (λ x. value_at (slice_cmp nat_cmp) (with_entry (slice_cmp nat_cmp) ways t queue) x ≡ Some queue) (sym e)
@@ -27,7 +28,8 @@ pub link_with_queue : (links : Links) (f t a b : List ℕ) (queue : List LinkMsg
 unfolding on_link
 link_with_queue links f t a b queue = ⊎_elim
     (λ (e : a ≡ f). let same : is_eq (slice_cmp nat_cmp a f) ≡ true = subst (λ x. is_eq (slice_cmp nat_cmp a x) ≡ true) e (names_apart.itself a) in
-    ap (λ w. queue_to (ways_or_none w) b) (subst (λ x. value_at (slice_cmp nat_cmp) (with_queue links f t queue) x ≡ Some (with_entry (slice_cmp nat_cmp) (ways_from links f) t queue)) (sym e)
+    ap (λ w. queue_to (ways_or_none w) b) (subst
+    (λ x. value_at (slice_cmp nat_cmp) (with_queue links f t queue) x ≡ Some (with_entry (slice_cmp nat_cmp) (ways_from links f) t queue)) (sym e)
     (value_at-with_entry (slice_cmp nat_cmp) names_apart links f (with_entry (slice_cmp nat_cmp) (ways_from links f) t queue)))
     ∙ way_by (ways_from links f) t b queue
     ∙ ap (λ x. cond (is_eq (slice_cmp nat_cmp b t)) queue (queue_to (ways_from links x) b)) (sym e)
@@ -50,7 +52,8 @@ same_itself a b = rw (names_apart.itself a, names_apart.itself b) refl
 
 at_link : (links : Links) (a b f t : List ℕ) (same : Bool) → same_link a b f t ≡ same → (change : List LinkMsg → List LinkMsg)
     → cond same (change (on_link links f t)) (on_link links a b) ≡ cond same (change (on_link links a b)) (on_link links a b)
-at_link links a b f t true h change = let e = same_names a b f t h in ap (λ x. change (on_link links x t)) (sym e.0) ∙ ap (λ x. change (on_link links a x)) (sym e.1)
+at_link links a b f t true h change = let e = same_names a b f t h in ap (λ x. change (on_link links x t)) (sym e.0)
+    ∙ ap (λ x. change (on_link links a x)) (sym e.1)
 at_link links a b f t false h change = refl
 
 sent_by : (links : Links) (a b : List ℕ) (message : LinkMsg) (same : Bool)
@@ -59,7 +62,8 @@ sent_by links a b message true = refl
 sent_by links a b message false = sym (append-nil (on_link links a b))
 
 -- a message that was sent stands behind the others of its link
-pub on_link-sent : (links : Links) (f t a b : List ℕ) (message : LinkMsg) → on_link (sent links f t message) a b ≡ on_link links a b ++ cond (same_link a b f t) (message ∷ []) []
+pub on_link-sent : (links : Links) (f t a b : List ℕ) (message : LinkMsg)
+    → on_link (sent links f t message) a b ≡ on_link links a b ++ cond (same_link a b f t) (message ∷ []) []
 unfolding sent
 on_link-sent links f t a b message =
     link_with_queue links f t a b (on_link links f t ++ message ∷ [])
@@ -67,7 +71,8 @@ on_link-sent links f t a b message =
     ∙ sent_by links a b message (same_link a b f t)
 
 -- the first of a link is taken
-pub on_link-taken : (links : Links) (f t a b : List ℕ) → on_link (without_first links f t) a b ≡ cond (same_link a b f t) (drop 1 (on_link links a b)) (on_link links a b)
+pub on_link-taken : (links : Links) (f t a b : List ℕ)
+    → on_link (without_first links f t) a b ≡ cond (same_link a b f t) (drop 1 (on_link links a b)) (on_link links a b)
 unfolding without_first
 on_link-taken links f t a b =
     link_with_queue links f t a b (drop 1 (on_link links f t)) ∙ at_link links a b f t (same_link a b f t) refl (λ (q : List LinkMsg). drop 1 q)

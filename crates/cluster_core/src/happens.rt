@@ -3,7 +3,8 @@ ghost use Rattle.std.specs.Prelude.{◌≡◌, ◌+◌, ◌<◌, ◌^◌, OnOk, 
 ghost use Rattle.schedule_text.specs.declared.event.Event.TheVariants.{Open, Data, Hang, Deliver};
 ghost use Rattle.front_core.specs.Room.{HasRoomAt, HasRoomFor};
 ghost use Rattle.cluster_core.specs.Room.{HasRoom};
-ghost use Rattle.cluster_core.specs.World.{client_at, front_at, home_at, with_client, opens, open_at, bytes_from, bytes_at, hangs, hang_at, input_of, comes_to, comes_to_home, steps_by};
+ghost use Rattle.cluster_core.specs.World.{client_at, front_at, home_at, with_client, opens, open_at, bytes_from, bytes_at, hangs, hang_at, input_of, comes_to};
+ghost use Rattle.cluster_core.specs.World.{comes_to_home, steps_by};
 ghost use Rattle.cluster_core.specs.Flow.{happens};
 
 use crate::carry::carry_out;

@@ -1,5 +1,6 @@
 -- What a stop and a first word say of a frame.
-use Rattle.std.proofs.Common.{◌≡◌, ℕ, zero, suc, ◌-◌, ◌<◌, ◌≤◌, List, [], ◌∷◌, ◌++◌, length, take, Result, Ok, Err, Option, true, false, refl, sym, ap, ◌∙◌, subst, append_assoc, length-append, arith, eqb-true}
+use Rattle.std.proofs.Common.{◌≡◌, ℕ, zero, suc, ◌-◌, ◌<◌, ◌≤◌, List, [], ◌∷◌, ◌++◌, length, take, Result, Ok, Err, Option, true, false, refl, sym, ap, ◌∙◌}
+use Rattle.std.proofs.Common.{subst, append_assoc, length-append, arith, eqb-true}
 use Rattle.grammar.specs.Part.{starts}
 use Rattle.grammar.specs.Words.{scan}
 use Rattle.grammar.specs.Exact.{Stops}

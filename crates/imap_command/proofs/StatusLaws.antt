@@ -1,5 +1,6 @@
 -- STATUS: its arguments are read exactly, are spelled as they are printed, hold no NUL, and ask for something.
-use Rattle.std.proofs.Common.{◌≡◌, ℕ, ◌+◌, ◌<◌, List, [], ◌∷◌, ◌++◌, length, Bool, ◌==◌, inl, refl, sym, ap, ◌∙◌, subst, append-nil, append_assoc, length-append, arith, codes, drop, drop-cons, get_or, add-one}
+use Rattle.std.proofs.Common.{◌≡◌, ℕ, ◌+◌, ◌<◌, List, [], ◌∷◌, ◌++◌, length, Bool, ◌==◌, inl, refl, sym, ap, ◌∙◌, subst, append-nil, append_assoc}
+use Rattle.std.proofs.Common.{length-append, arith, codes, drop, drop-cons, get_or, add-one}
 use Rattle.grammar.specs.Part.{Part, ◌then◌, ◌sp◌, map, byte, turns, repeat, spaced, listed}
 use Rattle.grammar.specs.Exact.{Good, StartsWith, among}
 use Rattle.grammar.specs.Words.{word}

@@ -1,5 +1,6 @@
 -- A printed string is a spelling of it.
-use Rattle.std.proofs.Common.{◌≡◌, ℕ, ◌+◌, ◌^◌, ◌<◌, List, [], ◌∷◌, ◌++◌, length, Bool, true, false, cond, ◌||◌, inl, inr, Some, None, nat_lt, nat_le, refl, sym, ap, ◌∙◌, subst, append-nil, append_assoc, decimal, drop, drop-cons, add-one, get_or}
+use Rattle.std.proofs.Common.{◌≡◌, ℕ, ◌+◌, ◌^◌, ◌<◌, List, [], ◌∷◌, ◌++◌, length, Bool, true, false, cond, ◌||◌, inl, inr, Some, None, nat_lt, nat_le, refl}
+use Rattle.std.proofs.Common.{sym, ap, ◌∙◌, subst, append-nil, append_assoc, decimal, drop, drop-cons, add-one, get_or}
 use Rattle.std.specs.List.{list_all}
 use Rattle.mur_base.specs.Number.{number_of, is_numeral, is_digit}
 use Rattle.grammar.specs.Part.{◌then◌, map, byte, exactly, optional, turns, repeat}
@@ -8,7 +9,8 @@ use Rattle.grammar.specs.Runs.{run}
 use Rattle.grammar.specs.Numbers.{value_of}
 use Rattle.grammar.proofs.Conditions.{and_left, and_right, and_both}
 use Rattle.imap_command.specs.Characters.{is_quoted_plain, is_quoted_special, is_text_char, is_char8}
-use Rattle.imap_command.specs.Strings.{crlf_part, quoted_char, is_no_quote, quoted, literal, string, astring, IsString, escaped, escaped_text, quoted_text, literal_text, is_astring_atom, is_quotable}
+use Rattle.imap_command.specs.Strings.{crlf_part, quoted_char, is_no_quote, quoted, literal, string, astring, IsString, escaped, escaped_text, quoted_text}
+use Rattle.imap_command.specs.Strings.{literal_text, is_astring_atom, is_quotable}
 use Rattle.imap_command.proofs.StringsLaw.{octets, behind_length}
 use Rattle.imap_command.proofs.Spelling.{spell_then, spell_map, spell_byte, spell_one, spell_exactly}
 

@@ -85,9 +85,12 @@ pub fault_told : (frames : List Frame) (answers : List Answer) (fault : FrameFau
 unfolding AreAnswered replies_to
 fault_told [] [] fault all = refl
 fault_told [] (a ∷ answers) fault all = absurd all
-fault_told (NeedLiteral s ∷ frames) answers fault all = ap (λ t. ready ++ t) (fault_told frames answers fault all) ∙ sym (append_assoc ready (replies_to frames answers) (bye_line (bye_of fault)))
+fault_told (NeedLiteral s ∷ frames) answers fault all = ap (λ t. ready ++ t) (fault_told frames answers fault all)
+    ∙ sym (append_assoc ready (replies_to frames answers) (bye_line (bye_of fault)))
 fault_told (Fault f ∷ frames) answers fault all = absurd all
 fault_told (Whole b ∷ frames) [] fault all = absurd all
-fault_told (Whole b ∷ frames) (a ∷ answers) fault all = ap (λ t. answer_text a ++ t) (fault_told frames answers fault all) ∙ sym (append_assoc (answer_text a) (replies_to frames answers) (bye_line (bye_of fault)))
+fault_told (Whole b ∷ frames) (a ∷ answers) fault all = ap (λ t. answer_text a ++ t) (fault_told frames answers fault all)
+    ∙ sym (append_assoc (answer_text a) (replies_to frames answers) (bye_line (bye_of fault)))
 fault_told (TooBig b ∷ frames) [] fault all = absurd all
-fault_told (TooBig b ∷ frames) (a ∷ answers) fault all = ap (λ t. answer_text a ++ t) (fault_told frames answers fault all) ∙ sym (append_assoc (answer_text a) (replies_to frames answers) (bye_line (bye_of fault)))
+fault_told (TooBig b ∷ frames) (a ∷ answers) fault all = ap (λ t. answer_text a ++ t) (fault_told frames answers fault all)
+    ∙ sym (append_assoc (answer_text a) (replies_to frames answers) (bye_line (bye_of fault)))

@@ -3,7 +3,8 @@ use Rattle.std.proofs.Common.{◌≡◌, None, Some, codes, refl}
 use Rattle.mur_base.specs.Names.{short_name_fault, has_short_name_bytes, is_short_name_byte}
 use Rattle.mur_base.specs.Users.{users_fault, user_names_differ, is_user_named, has_password, is_password, is_no_nul}
 use Rattle.mail_message.specs.Date.{date_of, is_date, is_calendar, is_clock, is_zone, is_day, is_month, is_below}
-use Rattle.mur_config.specs.Nodes.{nodes_fault, node_names_differ, is_node_named, has_node_counts, count_of_kind, is_node_of_kind, is_of_kind, is_some_within, has_partition, fits_kind}
+use Rattle.mur_config.specs.Nodes.{nodes_fault, node_names_differ, is_node_named, has_node_counts, count_of_kind, is_node_of_kind, is_of_kind, is_some_within}
+use Rattle.mur_config.specs.Nodes.{has_partition, fits_kind}
 use Rattle.mur_config.specs.Config.{one_backend, two_backends, known_users, known_date}
 
 pub m_fits : short_name_fault (codes "m") ≡ None

@@ -1,5 +1,6 @@
 -- Nodes that break no rule have names of their own, the kinds that a cluster needs, and a frontend.
-use Rattle.std.proofs.Common.{◌≡◌, ◌≢◌, ℕ, ◌≤◌, Bool, true, false, ◌||◌, ◌&&◌, not, nat_eq, nat_lt, nat_le, is_none, IsSome, List, [], ◌∷◌, length, Option, None, Some, refl, sym, arith}
+use Rattle.std.proofs.Common.{◌≡◌, ◌≢◌, ℕ, ◌≤◌, Bool, true, false, ◌||◌, ◌&&◌, not, nat_eq, nat_lt, nat_le, is_none, IsSome, List, [], ◌∷◌, length, Option}
+use Rattle.std.proofs.Common.{None, Some, refl, sym, arith}
 use Rattle.std.specs.List.{All, AllPairs, list_any, list_all}
 use Rattle.std.specs.Str.{bytes_eq}
 use Rattle.std.proofs.lemmas.Bool.{eqb-true}
@@ -15,7 +16,8 @@ use Rattle.mur_config.specs.declared.node.Kind.{Kind}
 use Rattle.mur_config.specs.declared.node.Kind.TheVariants.{Master, Frontend, Backend}
 use Rattle.mur_config.specs.declared.node.Node.{Node}
 use Rattle.mur_config.specs.declared.nodes.NodesFault.TheVariants.{NameTwice, NodeCount, BadPartition}
-use Rattle.mur_config.specs.Nodes.{is_node_named, node_names_differ, is_of_kind, is_node_of_kind, count_of_kind, is_some_within, has_node_counts, fits_kind, has_partition, nodes_fault, FitsKind, AreNodes, frontend_of}
+use Rattle.mur_config.specs.Nodes.{is_node_named, node_names_differ, is_of_kind, is_node_of_kind, count_of_kind, is_some_within, has_node_counts, fits_kind}
+use Rattle.mur_config.specs.Nodes.{has_partition, nodes_fault, FitsKind, AreNodes, frontend_of}
 
 both_true : (a b : Bool) → (a && b) ≡ true → (a ≡ true) × (b ≡ true)
 both_true true b h = (refl, h)

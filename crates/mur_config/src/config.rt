@@ -43,11 +43,15 @@ impl From<Memory> for ConfigFault {
 
 /// The text of the configuration of a master, a frontend, a backend and two users.
 pub const ONE_BACKEND_CONFIG: &[u8] =
-    br#"{"nodes":[{"name":"m","kind":"master"},{"name":"f1","kind":"frontend"},{"name":"b1","kind":"backend","partition":"p"}],"users":[{"name":"adm","password":"x","admin":true},{"name":"bob","password":"y"}],"date":"17-Jul-1996 02:44:25 -0700"}"#;
+    b"{\"nodes\":[{\"name\":\"m\",\"kind\":\"master\"},{\"name\":\"f1\",\"kind\":\"frontend\"},\
+      {\"name\":\"b1\",\"kind\":\"backend\",\"partition\":\"p\"}],\
+      \"users\":[{\"name\":\"adm\",\"password\":\"x\",\"admin\":true},{\"name\":\"bob\",\"password\":\"y\"}],\"date\":\"17-Jul-1996 02:44:25 -0700\"}";
 
 /// The same with a second backend.
 pub const TWO_BACKENDS_CONFIG: &[u8] =
-    br#"{"nodes":[{"name":"m","kind":"master"},{"name":"f1","kind":"frontend"},{"name":"b1","kind":"backend","partition":"p"},{"name":"b2","kind":"backend","partition":"p"}],"users":[{"name":"adm","password":"x","admin":true},{"name":"bob","password":"y"}],"date":"17-Jul-1996 02:44:25 -0700"}"#;
+    b"{\"nodes\":[{\"name\":\"m\",\"kind\":\"master\"},{\"name\":\"f1\",\"kind\":\"frontend\"},\
+      {\"name\":\"b1\",\"kind\":\"backend\",\"partition\":\"p\"},{\"name\":\"b2\",\"kind\":\"backend\",\"partition\":\"p\"}],\
+      \"users\":[{\"name\":\"adm\",\"password\":\"x\",\"admin\":true},{\"name\":\"bob\",\"password\":\"y\"}],\"date\":\"17-Jul-1996 02:44:25 -0700\"}";
 
 /// The bytes of the longest configuration that is known so far.
 pub const CONFIG_LIMIT: usize = TWO_BACKENDS_CONFIG.len();

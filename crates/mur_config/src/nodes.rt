@@ -2,7 +2,8 @@
 ghost use Rattle.std.specs.Prelude.{◌≡◌, ◌++◌, IsSome, IfSome, IfOk, OnOk};
 ghost use Rattle.std.specs.Option.{option_copied};
 ghost use Rattle.std.specs.List.{list_any, list_all};
-ghost use Rattle.mur_config.specs.Nodes.{nodes_fault, node_names_differ, is_node_named, is_of_kind, is_node_of_kind, count_of_kind, is_some_within, has_node_counts, fits_kind, has_partition, frontend_of, node_named, links_from, links_of, AreTakenAsNodes, AreNodes};
+ghost use Rattle.mur_config.specs.Nodes.{nodes_fault, node_names_differ, is_node_named, is_of_kind, is_node_of_kind, count_of_kind, is_some_within};
+ghost use Rattle.mur_config.specs.Nodes.{has_node_counts, fits_kind, has_partition, frontend_of, node_named, links_from, links_of, AreTakenAsNodes, AreNodes};
 
 use crate::node::{Kind, Links, Node};
 use mur_base::limits::{BACKEND_LIMIT, FRONTEND_LIMIT};

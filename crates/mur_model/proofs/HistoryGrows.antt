@@ -1,5 +1,6 @@
 -- A history with one more point at its end, and the same history for longer lists of what was asked and answered.
-use Rattle.std.proofs.Common.{◌≡◌, ◌≢◌, ℕ, suc, ◌+◌, Bool, true, false, ◌&&◌, cond, nat_eq, nat_lt, nat_le, List, [], ◌∷◌, ◌++◌, Some, refl, sym, ◌∙◌, ap, arith}
+use Rattle.std.proofs.Common.{◌≡◌, ◌≢◌, ℕ, suc, ◌+◌, Bool, true, false, ◌&&◌, cond, nat_eq, nat_lt, nat_le, List, [], ◌∷◌, ◌++◌, Some, refl, sym, ◌∙◌, ap}
+use Rattle.std.proofs.Common.{arith}
 use Rattle.std.specs.Prelude.{All, AllPairs, count_by}
 use Rattle.std.proofs.lemmas.Bool.{cases_eq}
 use Rattle.std.proofs.lemmas.Bool.Decides.{nat_tests}
@@ -67,7 +68,8 @@ turn_more talk conn request answer serial = record {
   serials = item_more talk.serials conn serial;
 }
 
-pub numbered_on : {T : Type 0} (lists longer : ℕ → List T) → GoesOn lists longer → (conn number : ℕ) (item : T) → numbered (lists conn) number ≡ Some item → numbered (longer conn) number ≡ Some item
+pub numbered_on : {T : Type 0} (lists longer : ℕ → List T) → GoesOn lists longer → (conn number : ℕ) (item : T) → numbered (lists conn) number ≡ Some item
+    → numbered (longer conn) number ≡ Some item
 numbered_on lists longer on conn number item h = ap (λ l. numbered l number) (on.parts conn) ∙ numbered_more (lists conn) (on.more conn) number item h
 
 pub takes_on : (setting : Setting) (talk longer : Talk) → TalkGoesOn talk longer → (course : Course) (conn number : ℕ) (request : Request) (serial : ℕ)
@@ -142,17 +144,20 @@ one_up_to-next count number = grind (arith, nat_tests)
 
 -- the points that answer a command, with one more at the end
 count_push : (conn number : ℕ) (points : List Point) (step other next : ℕ)
-    → count_by (is_about answers conn number) (points ++ point_of step other next replied ∷ []) ≡ count_by (is_about answers conn number) points + cond (nat_eq other conn && nat_eq next number) 1 0
+    → count_by (is_about answers conn number) (points ++ point_of step other next replied ∷ []) ≡ count_by (is_about answers conn number) points + cond
+    (nat_eq other conn && nat_eq next number) 1 0
 unfolding answers
 count_push conn number points step other next =
-    sum_by-append (λ (p : Point). cond (is_about answers conn number p) 1 0) points (point_of step other next replied ∷ []) ∙ ap (λ n. count_by (is_about answers conn number) points + n) (omega arith)
+    sum_by-append (λ (p : Point). cond (is_about answers conn number p) 1 0) points (point_of step other next replied ∷ [])
+    ∙ ap (λ n. count_by (is_about answers conn number) points + n) (omega arith)
 
 -- each connection's answers have one point each
 abbrev pub AnswersOnce : (ℕ → ℕ) → List Point → Type 0
 AnswersOnce counts points = (conn number : ℕ) → count_by (is_about answers conn number) points ≡ one_up_to (counts conn) number
 
 -- after one answer more at a connection
-pub answers_once_push : (counts next : ℕ → ℕ) (points : List Point) (step conn : ℕ) → next conn ≡ counts conn + 1 → ((other : ℕ) → other ≢ conn → next other ≡ counts other)
+pub answers_once_push : (counts next : ℕ → ℕ) (points : List Point) (step conn : ℕ) → next conn ≡ counts conn + 1
+    → ((other : ℕ) → other ≢ conn → next other ≡ counts other)
     → AnswersOnce counts points → AnswersOnce next (points ++ point_of step conn (counts conn + 1) replied ∷ [])
 answers_once_push counts next points step conn more others once other number =
     ⊎_elim

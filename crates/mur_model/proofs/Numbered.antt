@@ -1,5 +1,6 @@
 -- Lists of connections, and what has a number in them.
-use Rattle.std.proofs.Common.{◌≡◌, ◌≢◌, ℕ, suc, zero, ◌+◌, ◌≤◌, Bool, true, false, cond, nat_eq, List, [], ◌∷◌, ◌++◌, length, Some, refl, ◌∙◌, ap, arith, add-one, length-append}
+use Rattle.std.proofs.Common.{◌≡◌, ◌≢◌, ℕ, suc, zero, ◌+◌, ◌≤◌, Bool, true, false, cond, nat_eq, List, [], ◌∷◌, ◌++◌, length, Some, refl, ◌∙◌, ap, arith}
+use Rattle.std.proofs.Common.{add-one, length-append}
 use Rattle.std.specs.Prelude.{slice_get}
 use Rattle.std.proofs.lemmas.Bool.Decides.{nat_tests}
 use Rattle.mur_model.specs.History.{numbered}
@@ -39,7 +40,8 @@ pub numbered_last : {T : Type 0} (items : List T) (item : T) → numbered (items
 unfolding numbered
 numbered_last items item = rw (add-one (length items)) (get_last items item)
 
-pub numbered_new : {T : Type 0} (lists : ℕ → List T) (conn : ℕ) (item : T) (n : ℕ) → n ≡ length (lists conn) → numbered (with_item lists conn item conn) (n + 1) ≡ Some item
+pub numbered_new : {T : Type 0} (lists : ℕ → List T) (conn : ℕ) (item : T) (n : ℕ) → n ≡ length (lists conn)
+    → numbered (with_item lists conn item conn) (n + 1) ≡ Some item
 numbered_new lists conn item n e = rw (with_item-same lists conn item, e) (numbered_last (lists conn) item)
 
 by_lengths : {T U : Type 0} (lists : ℕ → List T) (others : ℕ → List U) (conn : ℕ) (item : T) (another : U) (at : ℕ) (same : Bool) → nat_eq at conn ≡ same
@@ -53,7 +55,8 @@ pub with_item-lengths : {T U : Type 0} (lists : ℕ → List T) (others : ℕ �
     → length (lists at) ≡ length (others at) → length (with_item lists conn item at) ≡ length (with_item others conn another at)
 with_item-lengths lists others conn item another at e = by_lengths lists others conn item another at (nat_eq at conn) refl e
 
-by_longer : {T : Type 0} (lists : ℕ → List T) (conn : ℕ) (item : T) (other : ℕ) (same : Bool) → nat_eq other conn ≡ same → length (lists other) ≤ length (with_item lists conn item other)
+by_longer : {T : Type 0} (lists : ℕ → List T) (conn : ℕ) (item : T) (other : ℕ) (same : Bool) → nat_eq other conn ≡ same
+    → length (lists other) ≤ length (with_item lists conn item other)
 unfolding with_item
 by_longer lists conn item other true h = rw h (omega (arith, length-append (lists other) (item ∷ [])))
 by_longer lists conn item other false h = rw h (omega arith)

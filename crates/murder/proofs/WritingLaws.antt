@@ -1,5 +1,6 @@
 -- How a list of items is written, one behind the other.
-use Rattle.std.proofs.Common.{◌≡◌, ℕ, List, [], ◌∷◌, ◌++◌, ◌+◌, ◌<◌, length, get_or, subst, take, drop, Option, None, Some, Result, Ok, Err, IsErr, refl, arith, sym, ap, ◌∙◌, append_assoc}
+use Rattle.std.proofs.Common.{◌≡◌, ℕ, List, [], ◌∷◌, ◌++◌, ◌+◌, ◌<◌, length, get_or, subst, take, drop, Option, None, Some, Result, Ok, Err, IsErr, refl, arith}
+use Rattle.std.proofs.Common.{sym, ap, ◌∙◌, append_assoc}
 use Rattle.std.proofs.lemmas.List.{append-nil, take_at, take-append-drop, at_drop_more}
 use Rattle.std.proofs.Math.Seq.{take-length}
 use Rattle.std.specs.List.{flat_map}
@@ -22,26 +23,31 @@ pub begins : {X : Type 0} (text : X → List ℕ) (t : Option (List ℕ)) (part 
 begins text t part items = record { front = []; took = known-nil t; whole = refl }
 
 -- what was taken before, then a front of what is kept back and a line, then what is left
-joined : (front kept line left step back whole : List ℕ) → step ++ back ≡ kept ++ line → front ++ (kept ++ (line ++ left)) ≡ whole → front ++ step ++ (back ++ left) ≡ whole
+joined : (front kept line left step back whole : List ℕ) → step ++ back ≡ kept ++ line → front ++ (kept ++ (line ++ left)) ≡ whole
+    → front ++ step ++ (back ++ left) ≡ whole
 joined front kept line left step back whole same all =
     append_assoc front step (back ++ left)
     ∙ (ap (λ (x : List ℕ). front ++ x) (sym (append_assoc step back left) ∙ (ap (λ (x : List ℕ). x ++ left) same ∙ append_assoc kept line left)) ∙ all)
 
 -- an item of those that are left is taken in
-pub goes_on : {X : Type 0} (text : X → List ℕ) (t0 t t1 : Option (List ℕ)) (part kept now : List ℕ) (before rest : List X) (item : X) (all : List ℕ) → before ≡ item ∷ rest
+pub goes_on : {X : Type 0} (text : X → List ℕ) (t0 t t1 : Option (List ℕ)) (part kept now : List ℕ) (before rest : List X) (item : X) (all : List ℕ)
+    → before ≡ item ∷ rest
     → OnWay text t0 t part kept before all → TakesIn t t1 kept now (text item) → OnWay text t0 t1 part now rest all
 goes_on text t0 t t1 part kept now before rest item all is way step =
-    let on : way.front ++ (kept ++ (text item ++ flat_map text rest)) ≡ part ++ all = subst (λ items. way.front ++ (kept ++ flat_map text items) ≡ part ++ all) is way.whole in record {
+    let on : way.front ++ (kept ++ (text item ++ flat_map text rest)) ≡ part ++ all =
+        subst (λ items. way.front ++ (kept ++ flat_map text items) ≡ part ++ all) is way.whole in record {
       front = way.front ++ step.front;
       took = Took-append t0 t t1 way.front step.front way.took step.took;
       whole = joined way.front kept (text item) (flat_map text rest) step.front now (part ++ all) step.whole on;
     }
 
 -- writing fails inside an item of those that are left
-pub breaks : {X : Type 0} (text : X → List ℕ) (t0 t t1 : Option (List ℕ)) (part kept : List ℕ) (before rest : List X) (item : X) (all : List ℕ) → before ≡ item ∷ rest
+pub breaks : {X : Type 0} (text : X → List ℕ) (t0 t t1 : Option (List ℕ)) (part kept : List ℕ) (before rest : List X) (item : X) (all : List ℕ)
+    → before ≡ item ∷ rest
     → OnWay text t0 t part kept before all → TookPart t t1 (kept ++ text item) → TookPart t0 t1 (part ++ all)
 breaks text t0 t t1 part kept before rest item all is way step =
-    let on : way.front ++ (kept ++ (text item ++ flat_map text rest)) ≡ part ++ all = subst (λ items. way.front ++ (kept ++ flat_map text items) ≡ part ++ all) is way.whole in record {
+    let on : way.front ++ (kept ++ (text item ++ flat_map text rest)) ≡ part ++ all =
+        subst (λ items. way.front ++ (kept ++ flat_map text items) ≡ part ++ all) is way.whole in record {
       front = way.front ++ step.front;
       back = step.back ++ flat_map text rest;
       took = Took-append t0 t t1 way.front step.front way.took step.took;
@@ -49,12 +55,14 @@ breaks text t0 t t1 part kept before rest item all is way step =
     }
 
 -- a call that failed inside has put a front out
-pub fails : {E : Type 0} (t now : Option (List ℕ)) (part kept lines : List ℕ) (answer : Result (Unit {0}) E) → IsErr answer → TookPart t now (part ++ lines) → DidPut t now part kept lines answer
+pub fails : {E : Type 0} (t now : Option (List ℕ)) (part kept lines : List ℕ) (answer : Result (Unit {0}) E) → IsErr answer → TookPart t now (part ++ lines)
+    → DidPut t now part kept lines answer
 fails t now part kept lines (Ok done) is took = absurd (grind arith)
 fails t now part kept lines (Err fault) is took = took
 
 -- no item is left
-pub ends : {X : Type 0} (text : X → List ℕ) (t0 t : Option (List ℕ)) (part kept : List ℕ) (left : List X) (all : List ℕ) → left ≡ [] → OnWay text t0 t part kept left all → TakesIn t0 t part kept all
+pub ends : {X : Type 0} (text : X → List ℕ) (t0 t : Option (List ℕ)) (part kept : List ℕ) (left : List X) (all : List ℕ) → left ≡ []
+    → OnWay text t0 t part kept left all → TakesIn t0 t part kept all
 ends text t0 t part kept left all is way = record {
   front = way.front;
   took = way.took;
@@ -89,16 +97,19 @@ pub ruleset by_line = (untouched, keeps, spills, part_of_front)
 
 front_of_part : (t now : Option (List ℕ)) (text : List ℕ) → TookPart t now text → TookFront t now text
 front_of_part t now text took =
-    (length took.front, took.took ∙ ap (append_known t) (sym (take_at took.front took.back (length took.front) refl) ∙ ap (take (length took.front)) took.whole))
+    (length took.front, took.took ∙ ap (append_known t)
+        (sym (take_at took.front took.back (length took.front) refl) ∙ ap (take (length took.front)) took.whole))
 
 -- what is kept back at the end is written
-pub all_written : (t t1 t2 : Option (List ℕ)) (none kept last all : List ℕ) → none ≡ [] → last ≡ kept → TakesIn t t1 none kept all → Took t1 t2 last → Took t t2 all
+pub all_written : (t t1 t2 : Option (List ℕ)) (none kept last all : List ℕ) → none ≡ [] → last ≡ kept → TakesIn t t1 none kept all → Took t1 t2 last
+    → Took t t2 all
 all_written t t1 t2 none kept last all empty is taken took =
     subst (λ (text : List ℕ). Took t t2 text)
     (ap (λ (x : List ℕ). taken.front ++ x) is ∙ (taken.whole ∙ ap (λ (x : List ℕ). x ++ all) empty))
     (Took-append t t1 t2 taken.front last taken.took took)
 
-pub last_breaks : (t t1 t2 : Option (List ℕ)) (none kept last all : List ℕ) → none ≡ [] → last ≡ kept → TakesIn t t1 none kept all → TookFront t1 t2 last → TookFront t t2 all
+pub last_breaks : (t t1 t2 : Option (List ℕ)) (none kept last all : List ℕ) → none ≡ [] → last ≡ kept → TakesIn t t1 none kept all → TookFront t1 t2 last
+    → TookFront t t2 all
 last_breaks t t1 t2 none kept last all empty is taken took =
     subst (λ (text : List ℕ). TookFront t t2 text)
     (ap (λ (x : List ℕ). taken.front ++ x) is ∙ (taken.whole ∙ ap (λ (x : List ℕ). x ++ all) empty))

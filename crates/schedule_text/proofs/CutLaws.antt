@@ -1,5 +1,6 @@
 -- The first piece ends behind the first LF.
-use Rattle.std.proofs.Common.{◌≡◌, ℕ, zero, suc, ◌+◌, ◌<◌, ◌≤◌, Bool, true, false, nat_eq, List, [], ◌∷◌, length, slice_index, take, drop, None, Some, refl, arith}
+use Rattle.std.proofs.Common.{◌≡◌, ℕ, zero, suc, ◌+◌, ◌<◌, ◌≤◌, Bool, true, false, nat_eq, List, [], ◌∷◌, length, slice_index, take, drop, None, Some, refl}
+use Rattle.std.proofs.Common.{arith}
 use Rattle.std.proofs.lemmas.Bool.{false_from_ne_true}
 use Rattle.mur_base.specs.Names.{with_first}
 use Rattle.memchr.specs.Find.{IsFirstByte, is_byte}
@@ -10,7 +11,10 @@ unfolding cuts_of with_first
 cut_nowhere [] some none = absurd (omega arith)
 cut_nowhere (b ∷ []) some none = rw (false_from_ne_true _ (none 0 (omega arith) (omega arith))) refl
 cut_nowhere (b ∷ next ∷ text) some none =
-    rw (false_from_ne_true _ (none 0 (omega arith) (omega arith)), cut_nowhere (next ∷ text) (omega arith) (λ k low high. none (suc k) (omega arith) (omega arith))) refl
+    rw (
+      false_from_ne_true _ (none 0 (omega arith) (omega arith)),
+      cut_nowhere (next ∷ text) (omega arith) (λ k low high. none (suc k) (omega arith) (omega arith)),
+    ) refl
 
 cut_at : (text : List ℕ) (k : ℕ) → k < length text → ((q : ℕ) → q < k → nat_eq (slice_index text q) 10 ≡ false) → nat_eq (slice_index text k) 10 ≡ true
     → cuts_of text ≡ take (suc k) text ∷ cuts_of (drop (suc k) text)

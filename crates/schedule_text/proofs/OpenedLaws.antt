@@ -46,7 +46,8 @@ knows_after es events (Open node conn) knows q = opened_by es events node conn q
 knows_after es events (Data conn bytes) knows q = knows q ∙ sym (is_opened-push events (Data conn bytes) q ∙ or_false (is_opened events q))
 knows_after es events (Hang conn) knows q = knows q ∙ sym (is_opened-push events (Hang conn) q ∙ or_false (is_opened events q))
 knows_after es events (Deliver from to) knows q = knows q ∙ sym (is_opened-push events (Deliver from to) q ∙ or_false (is_opened events q))
-knows_after es events (Cut one other kept_one kept_other) knows q = knows q ∙ sym (is_opened-push events (Cut one other kept_one kept_other) q ∙ or_false (is_opened events q))
+knows_after es events (Cut one other kept_one kept_other) knows q = knows q
+    ∙ sym (is_opened-push events (Cut one other kept_one kept_other) q ∙ or_false (is_opened events q))
 knows_after es events (Join one other) knows q = knows q ∙ sym (is_opened-push events (Join one other) q ∙ or_false (is_opened events q))
 knows_after es events (Crash node choice keep) knows q = knows q ∙ sym (is_opened-push events (Crash node choice keep) q ∙ or_false (is_opened events q))
 knows_after es events (Arm node call choice keep) knows q = knows q ∙ sym (is_opened-push events (Arm node call choice keep) q ∙ or_false (is_opened events q))

@@ -1,5 +1,6 @@
 -- The events that a schedule gives fit one another, and weigh no more than its bytes.
-use Rattle.std.proofs.Common.{◌≡◌, ℕ, ◌+◌, ◌*◌, ◌^◌, ◌<◌, ◌≤◌, Bool, true, false, cond, nat_lt, nat_le, List, [], ◌∷◌, ◌++◌, length, sum_by, Result, Ok, Err, refl, sym, subst, append_assoc, arith}
+use Rattle.std.proofs.Common.{◌≡◌, ℕ, ◌+◌, ◌*◌, ◌^◌, ◌<◌, ◌≤◌, Bool, true, false, cond, nat_lt, nat_le, List, [], ◌∷◌, ◌++◌, length, sum_by, Result, Ok, Err}
+use Rattle.std.proofs.Common.{refl, sym, subst, append_assoc, arith}
 use Rattle.std.specs.Str.{bytes_eq}
 use Rattle.mur_base.specs.declared.limits.TheConstants.{SCHEDULE_LIMIT}
 use Rattle.schedule_text.specs.declared.schedule.open_line.TheConstants.{OPEN}

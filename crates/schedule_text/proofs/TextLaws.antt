@@ -1,9 +1,11 @@
 -- The canonical text of bytes is read back as those bytes.
-use Rattle.std.proofs.Common.{◌≡◌, ℕ, suc, ◌+◌, ◌*◌, ◌/◌, ◌%◌, ◌<◌, Bool, true, false, nat_eq, List, [], ◌∷◌, ◌++◌, get_or, Fits, w8, Option, None, Some, refl, sym, ap, ◌∙◌, append_assoc, arith}
+use Rattle.std.proofs.Common.{◌≡◌, ℕ, suc, ◌+◌, ◌*◌, ◌/◌, ◌%◌, ◌<◌, Bool, true, false, nat_eq, List, [], ◌∷◌, ◌++◌, get_or, Fits, w8, Option, None, Some, refl}
+use Rattle.std.proofs.Common.{sym, ap, ◌∙◌, append_assoc, arith}
 use Rattle.std.proofs.lemmas.Bool.{eqb-true}
 use Rattle.std.proofs.lemmas.Bool.Decides.{nat_tests}
 use Rattle.schedule_text.specs.declared.text.Spelling.TheVariants.{Between}
-use Rattle.schedule_text.specs.Text.{bytes_of, bytes_from, bytes_behind, with_byte, character_at, at_end, text_of, spelling_of, is_printed, hex_digit, hex_value, between_spellings, behind_escape, first_digit, second_digit}
+use Rattle.schedule_text.specs.Text.{bytes_of, bytes_from, bytes_behind, with_byte, character_at, at_end, text_of, spelling_of, is_printed, hex_digit}
+use Rattle.schedule_text.specs.Text.{hex_value, between_spellings, behind_escape, first_digit, second_digit}
 
 -- bytes behind those that were read
 unfoldable pub bytes_onto : List ℕ → Option (List ℕ) → Option (List ℕ)
@@ -24,7 +26,8 @@ hex_value-digit : (d : ℕ) → d < 16 → hex_value (hex_digit d) ≡ Some d
 unfolding hex_value hex_digit
 hex_value-digit d h = grind (arith, nat_tests)
 
-hex_behind : (b : ℕ) (rest : List ℕ) → b < 256 → bytes_from (92 ∷ 120 ∷ hex_digit (b / 16) ∷ hex_digit (b % 16) ∷ rest) Between ≡ with_byte b (bytes_from rest Between)
+hex_behind : (b : ℕ) (rest : List ℕ) → b < 256
+    → bytes_from (92 ∷ 120 ∷ hex_digit (b / 16) ∷ hex_digit (b % 16) ∷ rest) Between ≡ with_byte b (bytes_from rest Between)
 unfolding bytes_from bytes_behind character_at between_spellings behind_escape first_digit second_digit
 hex_behind b rest h =
     let high = hex_value-digit (b / 16) (omega arith) in

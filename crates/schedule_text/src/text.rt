@@ -1,7 +1,8 @@
 // Bytes as printable text, in schedules and in outputs.
 ghost use Rattle.std.specs.Prelude.{◌≡◌, ◌<◌, ◌++◌, IfOk, IfSome, OnOk};
 ghost use Rattle.std.specs.Option.{ForSome};
-ghost use Rattle.schedule_text.specs.Text.{spelling_of, name_spelling_of, text_of, name_text_of, bytes_of, is_printed, hex_digit, hex_value, character_at, between_spellings, behind_escape, first_digit, second_digit, IsSpelling, KeepsSpelling};
+ghost use Rattle.schedule_text.specs.Text.{spelling_of, name_spelling_of, text_of, name_text_of, bytes_of, is_printed, hex_digit, hex_value, character_at};
+ghost use Rattle.schedule_text.specs.Text.{between_spellings, behind_escape, first_digit, second_digit, IsSpelling, KeepsSpelling};
 
 use mur_base::{Bytes, Memory};
 use std::alloc::Global;

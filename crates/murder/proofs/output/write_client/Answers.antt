@@ -11,7 +11,8 @@ loop-piece-preserved g c = record {
 
 pub returns-in_err-write_line-clause-did : goal.returns-in_err-write_line-clause-did
 unfolding client_lines
-returns-in_err-write_line-clause-did g c = fails _ _ _ _ _ _ c.from_residual.ensures.0 (breaks _ _ _ _ _ _ _ _ _ _ c.in-Some.ensures.steps c.loop-piece.invariant.way c.in_err-write_line.ensures.did)
+returns-in_err-write_line-clause-did g c =
+    fails _ _ _ _ _ _ c.from_residual.ensures.0 (breaks _ _ _ _ _ _ _ _ _ _ c.in-Some.ensures.steps c.loop-piece.invariant.way c.in_err-write_line.ensures.did)
 
 pub returns-clause-did : goal.returns-clause-did
 unfolding client_lines

@@ -7,6 +7,7 @@ use Rattle.murder.proofs.output.write_client.Given as goal
 
 abbrev pub invariant-loop-piece : goal.invariant-loop-piece
 invariant-loop-piece g l = record {
-  way : OnWay (to_line l.conn) (g.S.Sink.facts l.initial.sink).taken (g.S.Sink.facts l.sink).taken l.initial.part l.part (cuts_left l.piece-iterator) (flat_map (to_line l.conn) (cuts_of l.client.given));
+  way : OnWay (to_line l.conn) (g.S.Sink.facts l.initial.sink).taken (g.S.Sink.facts l.sink).taken l.initial.part l.part (cuts_left l.piece-iterator)
+      (flat_map (to_line l.conn) (cuts_of l.client.given));
   faultless : (g.S.Sink.facts l.sink).faults ≡ (g.S.Sink.facts l.initial.sink).faults;
 }

@@ -6,6 +6,7 @@ use Rattle.murder.proofs.output.write_clients.Given as goal
 
 abbrev pub invariant-loop-conn : goal.invariant-loop-conn
 invariant-loop-conn g l = record {
-  way : OnWay client_lines (g.S.Sink.facts l.initial.sink).taken (g.S.Sink.facts l.sink).taken l.initial.part l.part l.conn-iterator (flat_map client_lines l.clients);
+  way : OnWay client_lines (g.S.Sink.facts l.initial.sink).taken (g.S.Sink.facts l.sink).taken l.initial.part l.part l.conn-iterator
+      (flat_map client_lines l.clients);
   faultless : (g.S.Sink.facts l.sink).faults ≡ (g.S.Sink.facts l.initial.sink).faults;
 }
