@@ -35,7 +35,7 @@ pub goes_on : {X : Type 0} (text : X → List ℕ) (t0 t t1 : Option (List ℕ))
     → OnWay text t0 t part kept before all → TakesIn t t1 kept now (text item) → OnWay text t0 t1 part now rest all
 goes_on text t0 t t1 part kept now before rest item all is way step =
     let on : way.front ++ (kept ++ (text item ++ flat_map text rest)) ≡ part ++ all =
-        subst (λ items. way.front ++ (kept ++ flat_map text items) ≡ part ++ all) is way.whole in record {
+    subst (λ items. way.front ++ (kept ++ flat_map text items) ≡ part ++ all) is way.whole in record {
       front = way.front ++ step.front;
       took = Took-append t0 t t1 way.front step.front way.took step.took;
       whole = joined way.front kept (text item) (flat_map text rest) step.front now (part ++ all) step.whole on;
@@ -47,7 +47,7 @@ pub breaks : {X : Type 0} (text : X → List ℕ) (t0 t t1 : Option (List ℕ)) 
     → OnWay text t0 t part kept before all → TookPart t t1 (kept ++ text item) → TookPart t0 t1 (part ++ all)
 breaks text t0 t t1 part kept before rest item all is way step =
     let on : way.front ++ (kept ++ (text item ++ flat_map text rest)) ≡ part ++ all =
-        subst (λ items. way.front ++ (kept ++ flat_map text items) ≡ part ++ all) is way.whole in record {
+    subst (λ items. way.front ++ (kept ++ flat_map text items) ≡ part ++ all) is way.whole in record {
       front = way.front ++ step.front;
       back = step.back ++ flat_map text rest;
       took = Took-append t0 t t1 way.front step.front way.took step.took;
@@ -96,9 +96,11 @@ part_of_front t now text whole is took = record {
 pub ruleset by_line = (untouched, keeps, spills, part_of_front)
 
 front_of_part : (t now : Option (List ℕ)) (text : List ℕ) → TookPart t now text → TookFront t now text
-front_of_part t now text took =
-    (length took.front, took.took ∙ ap (append_known t)
-        (sym (take_at took.front took.back (length took.front) refl) ∙ ap (take (length took.front)) took.whole))
+front_of_part t now text took = (
+  length took.front,
+  took.took ∙ ap (append_known t)
+      (sym (take_at took.front took.back (length took.front) refl) ∙ ap (take (length took.front)) took.whole),
+)
 
 -- what is kept back at the end is written
 pub all_written : (t t1 t2 : Option (List ℕ)) (none kept last all : List ℕ) → none ≡ [] → last ≡ kept → TakesIn t t1 none kept all → Took t1 t2 last

@@ -132,133 +132,75 @@ fn assert_ends(
 
 #[test]
 fn each_call_ends_by_its_row(rt: HostRuntime) -> Result<(), Fail> {
-    assert_ends(&rt, rt.alloc(), &ROW, Status::Done, OUTPUT, b"")?;
+    assert_ends(&rt, rt.alloc(), &ROW, Status::Done, OUTPUT, b"")
+}
+
+const NONE: &[u64] = &[];
+
+const FIRST: &[u64] = &[0];
+
+const SECOND: &[u64] = &[1];
+
+const THIRD: &[u64] = &[2];
+
+const LAST: &[u64] = &[2, 3];
+
+#[test]
+fn each_fault_ends_the_call(rt: HostRuntime) -> Result<(), Fail> {
     let read: &[u8] = b"murder: read fault\n";
     let write: &[u8] = b"murder: write fault\n";
-    let words: &[u8] = b"murder: words refused\n";
-    let config: &[u8] = b"murder: configuration refused: rule 0\n";
-    let line: &[u8] = b"murder: schedule refused: line 2 rule 1\n";
-    let bad = Status::Config { rule: 0 };
-    let unknown = Status::Schedule { line: 2, rule: 1 };
-    for (given, status, errors) in [
-        (
-            Given {
-                config_fails: &[0],
-                ..ROW
-            },
-            Status::Read,
-            read,
-        ),
-        (
-            Given {
-                config_fails: &[1],
-                ..ROW
-            },
-            Status::Read,
-            read,
-        ),
-        (
-            Given {
-                schedule_fails: &[0],
-                ..ROW
-            },
-            Status::Read,
-            read,
-        ),
-        (
-            Given {
-                schedule_fails: &[1],
-                ..ROW
-            },
-            Status::Read,
-            read,
-        ),
-        (
-            Given {
-                out_fails: &[0],
-                ..ROW
-            },
-            Status::Write,
-            write,
-        ),
-        (
-            Given {
-                host_fails: &[0],
-                ..ROW
-            },
-            Status::Read,
-            read,
-        ),
-        (
-            Given {
-                host_fails: &[1],
-                ..ROW
-            },
-            Status::Read,
-            read,
-        ),
-        (
-            Given {
-                host_fails: &[2],
-                ..ROW
-            },
-            Status::Write,
-            write,
-        ),
-        (
-            Given {
-                host_fails: &[2, 3],
-                ..ROW
-            },
-            Status::Write,
-            b"",
-        ),
-        (
-            Given {
-                words: "replay config -v",
-                ..ROW
-            },
-            Status::Words,
-            words,
-        ),
-        (
-            Given {
-                words: "replay config",
-                ..ROW
-            },
-            Status::Words,
-            words,
-        ),
-        (
-            Given {
-                words: "serve config schedule",
-                ..ROW
-            },
-            Status::Words,
-            words,
-        ),
-        (Given { words: "", ..ROW }, Status::Words, words),
-        (
-            Given {
-                config: &ONE_BACKEND_CONFIG[1..],
-                ..ROW
-            },
-            bad,
-            config,
-        ),
-        (LONG, bad, config),
-        (
-            Given {
-                schedule: b"open f1 1\nopne f1 2\n",
-                ..ROW
-            },
-            unknown,
-            line,
-        ),
+    // The calls that fail: of the configuration, of the schedule, of the output, of the host.
+    for (config, schedule, out, host, status, errors) in [
+        (FIRST, NONE, NONE, NONE, Status::Read, read),
+        (SECOND, NONE, NONE, NONE, Status::Read, read),
+        (NONE, FIRST, NONE, NONE, Status::Read, read),
+        (NONE, SECOND, NONE, NONE, Status::Read, read),
+        (NONE, NONE, FIRST, NONE, Status::Write, write),
+        (NONE, NONE, NONE, FIRST, Status::Read, read),
+        (NONE, NONE, NONE, SECOND, Status::Read, read),
+        (NONE, NONE, NONE, THIRD, Status::Write, write),
+        (NONE, NONE, NONE, LAST, Status::Write, b""),
     ] {
+        let given = Given {
+            config_fails: config,
+            schedule_fails: schedule,
+            out_fails: out,
+            host_fails: host,
+            ..ROW
+        };
         assert_ends(&rt, rt.alloc(), &given, status, b"", errors)?;
     }
     Ok(())
+}
+
+#[test]
+fn each_refusal_names_its_rule(rt: HostRuntime) -> Result<(), Fail> {
+    for words in [
+        "replay config -v",
+        "replay config",
+        "serve config schedule",
+        "",
+    ] {
+        let given = Given { words, ..ROW };
+        let line: &[u8] = b"murder: words refused\n";
+        assert_ends(&rt, rt.alloc(), &given, Status::Words, b"", line)?;
+    }
+    let short = Given {
+        config: &ONE_BACKEND_CONFIG[1..],
+        ..ROW
+    };
+    for given in [short, LONG] {
+        let line: &[u8] = b"murder: configuration refused: rule 0\n";
+        let status = Status::Config { rule: 0 };
+        assert_ends(&rt, rt.alloc(), &given, status, b"", line)?;
+    }
+    let given = Given {
+        schedule: b"open f1 1\nopne f1 2\n",
+        ..ROW
+    };
+    let line: &[u8] = b"murder: schedule refused: line 2 rule 1\n";
+    let status = Status::Schedule { line: 2, rule: 1 };
+    assert_ends(&rt, rt.alloc(), &given, status, b"", line)
 }
 
 // How a replay ends whose files come byte by byte and whose output goes byte by byte, and what it wrote.

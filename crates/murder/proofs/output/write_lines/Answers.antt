@@ -21,7 +21,7 @@ together : (world : World) (points : List Point) (rows : List HomeRow) → flat_
 unfolding lines_of
 together world points rows =
     ap (λ (last : List ℕ). flat_map client_lines world.clients ++ (flat_map point_line points ++ (flat_map box_line rows ++ last)))
-        (append-nil (end_line world.steps (length points)))
+    (append-nil (end_line world.steps (length points)))
 
 failed : {E : Type 0} (t now : Option (List ℕ)) (part kept : List ℕ) (world : World) (points : List Point) (rows : List HomeRow) (answer : Result (Unit {0}) E)
     → IsErr answer → TookPart t now (part ++ flat_map itself (parts_of world points rows)) → DidPut t now part kept (lines_of world points rows) answer
@@ -42,7 +42,7 @@ start t part world points rows = begins itself t part (parts_of world points row
 pub returns-in_err-write_clients-clause-did : goal.returns-in_err-write_clients-clause-did
 returns-in_err-write_clients-clause-did g c =
     failed _ _ _ _ _ _ _ _ c.from_residual.ensures.0
-        (breaks itself _ _ _ _ _ _ _ _ _ refl (start _ _ c.args.world.now c.args.points.now c.args.rows.now) c.in_err-write_clients.ensures.did)
+    (breaks itself _ _ _ _ _ _ _ _ _ refl (start _ _ c.args.world.now c.args.points.now c.args.rows.now) c.in_err-write_clients.ensures.did)
 
 pub returns-in_err-write_points-clause-did : goal.returns-in_err-write_points-clause-did
 returns-in_err-write_points-clause-did g c =
@@ -61,8 +61,8 @@ returns-in_err-write_line-clause-did g c =
     let points = goes_on itself _ _ _ _ _ _ _ _ _ _ refl clients c.in_ok-write_points.ensures.did in
     let boxes = goes_on itself _ _ _ _ _ _ _ _ _ _ refl points c.in_ok-write_boxes.ensures.did in
     failed _ _ _ _ _ _ _ _ c.from_residual-in_err-write_line.ensures.0
-        (breaks itself _ _ _ _ _ _ _ _ _ (end_is c.len.result (length c.args.points.now) c.args.world.now.steps c.len.ensures) boxes
-            c.in_err-write_line.ensures.did)
+    (breaks itself _ _ _ _ _ _ _ _ _ (end_is c.len.result (length c.args.points.now) c.args.world.now.steps c.len.ensures) boxes
+    c.in_err-write_line.ensures.did)
 
 pub returns-clause-did : goal.returns-clause-did
 returns-clause-did g c =
@@ -70,5 +70,5 @@ returns-clause-did g c =
     let points = goes_on itself _ _ _ _ _ _ _ _ _ _ refl clients c.in_ok-write_points.ensures.did in
     let boxes = goes_on itself _ _ _ _ _ _ _ _ _ _ refl points c.in_ok-write_boxes.ensures.did in
     let last = goes_on itself _ _ _ _ _ _ _ _ _ _
-        (end_is c.len.result (length c.args.points.now) c.args.world.now.steps c.len.ensures) boxes c.in_ok-write_line.ensures.did in
+    (end_is c.len.result (length c.args.points.now) c.args.world.now.steps c.len.ensures) boxes c.in_ok-write_line.ensures.did in
     done _ _ _ _ _ _ _ (ends itself _ _ _ _ _ _ refl last)
