@@ -18,7 +18,7 @@ use Rattle.mur_base.specs.declared.point.What.TheVariants.{Reply as replied, Los
 use Rattle.mur_config.specs.declared.config.Config.{Config}
 use Rattle.mur_model.specs.declared.request.Answer.{Answer}
 use Rattle.mur_model.specs.declared.setting.Setting.{Setting}
-use Rattle.mur_model.specs.History.{Course, Talk, IsLegal, IsInOrder, EndsAtLoss, answers, loses, reads, is_about}
+use Rattle.mur_model.specs.History.{Course, Talk, IsLegal, IsInOrder, EndsAtLoss, IsUnanswered, answers, loses, reads, is_about}
 use Rattle.mur_model.proofs.HistoryGrows.{one_up_to}
 use Rattle.schedule_text.specs.declared.event.Event.{Event}
 use Rattle.cluster_core.specs.declared.world.Client.{Client}
@@ -183,6 +183,16 @@ no_read : (world : World) (mark : Mark) (point : Point) → IsOf world mark poin
 unfolding reads
 no_read world mark point is = ⊎_elim (λ both. ap reads both.0) (λ lost. ap reads lost) is.either
 
+unanswered : (world : World) (story : Story) → ((conn : ℕ) → answered_of world conn ≡ length (story.told conn)) → (mark : Mark) (point : Point)
+    → IsOf world mark point → IsUnanswered (told_of story) point
+unanswered world story counts mark point is = λ loss. omega (
+  arith,
+  is.if_lost loss,
+  counts (conn_of mark),
+  ap (λ (a : AskId). a.command) is.same_ask,
+  ap (λ (a : AskId). length (story.told a.conn)) is.same_ask,
+)
+
 -- the history is legal for what was asked and told
 pub legal_history : (setting : Setting) (world : World) (story : Story) (home : _) → IsTold setting world.steps world.marks home story.talk story.course
     → ((conn : ℕ) → answered_of world conn ≡ length (story.told conn)) → ((conn : ℕ) → IsToldSo (story.told conn) (story.talk.answers conn))
@@ -194,6 +204,8 @@ legal_history setting world story home told counts so = record {
   answered_once = λ conn number low high. answering_points world conn number world.marks (subst (λ n. number ≤ n) (sym (counts conn)) high)
       ∙ answered_once (length (story.talk.answers conn)) number _ (told.once conn number) low
       (omega (arith, high, ap length (so conn).parts, length-append (story.told conn) (so conn).rest));
+  lost_unanswered = all_points world (λ (m : Mark). command_of m ≤ length (story.talk.answers (conn_of m))) (IsUnanswered (told_of story))
+      (λ mark point bound is. unanswered world story counts mark point is) world.marks told.numbers;
   lost_once = λ conn number. omega (
     arith,
     losing_points world conn number world.marks,

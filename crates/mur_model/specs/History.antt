@@ -102,13 +102,18 @@ IsInOrder earlier later = earlier.ask.conn ≡ later.ask.conn → earlier.ask.co
 abbrev pub EndsAtLoss : Point → Point → Type 0
 EndsAtLoss earlier later = loses earlier.what ≡ true → earlier.ask.conn ≡ later.ask.conn → ⊥
 
+-- a command that is lost in a point has no answer
+abbrev pub IsUnanswered : Talk → Point → Type 0
+IsUnanswered talk point = loses point.what ≡ true → length (talk.answers point.ask.conn) < point.ask.command
+
 -- a history that leads from one state to another is legal for what each connection's client asked and was answered
 pub record IsLegal (setting : Setting) (first : Course) (talk : Talk) (points : List Point) (last : Course) : Type 0 where
   -- each answer is that of its point's step, and each new UIDVALIDITY is free
   pub follows : Follows setting talk first points last
   -- an answered command has exactly one point that answers it
   pub answered_once : (conn number : ℕ) → 0 < number → number ≤ length (talk.answers conn) → count_by (is_about answers conn number) points ≡ 1
-  -- a lost command has at most one point, and its connection has none behind it: its session has ended
+  -- a lost command was never answered, has at most one point, and its connection has none behind it: its session has ended
+  pub lost_unanswered : All (IsUnanswered talk) points
   pub lost_once : (conn number : ℕ) → count_by (is_about loses conn number) points ≤ 1
   pub lost_last : AllPairs EndsAtLoss points
   -- a `read` belongs to a command that appends later what was read, and no command does
