@@ -11,6 +11,7 @@ use Rattle.std.specs.BTreeMap.{insert_entry}
 use Rattle.std.specs.Map.{keys_of}
 use Rattle.std.proofs.lemmas.Cmp.{nat_list_cmp_total}
 use Rattle.std.proofs.lemmas.List.Elements.{All-head, All-tail, All-weaker}
+use Rattle.std.proofs.lemmas.Map.Steps.{set_value_same}
 use Rattle.std.proofs.lemmas.Map.Views.{All-after_first}
 use Rattle.mur_base.specs.Map.{value_at, with_entry, with_value, IsInOrder}
 
@@ -41,3 +42,5 @@ pub entered_name : {X : Type 0} (es : List (List ℕ × X)) (k : List ℕ) (v ol
     → value_at (slice_cmp nat_cmp) es k ≡ Some old
     → with_value (slice_cmp nat_cmp) es k v ≡ with_entry (slice_cmp nat_cmp) es k v
 entered_name es k v old sorted there = sym (entered (slice_cmp nat_cmp) nat_list_cmp_total es k v old sorted there)
+
+pub ruleset by_entry = (entered_name, set_value_same)

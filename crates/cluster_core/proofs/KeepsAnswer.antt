@@ -137,7 +137,7 @@ pub fits : (setting : Setting) (home : List ℕ) (conn : ℕ) (connection : Conn
     → reply_shown (awaited_of work) body ≡ Some reply
     → answer_comes setting home conn connection
     (record { id = record { conn = conn; command = connection.answered + 1 }; body = body }) ≡ replied_turn setting home conn connection tag reply
-unfolding answer_comes answer_by replied
+unfolding answer_comes answer_by
 fits setting home conn connection tag work body reply stage shown =
     let same : nat_eq (connection.answered + 1) (connection.answered + 1) ≡ true = grind (arith, nat_tests) in
     ap (λ b. answer_by setting home conn connection

@@ -49,7 +49,7 @@ fn send_way(alloc: Global, ways: &mut Ways, to: NodeName, message: LinkMsg) -> R
 }
 
 /// Takes the first message on its way from one node to another, if there is one.
-#[tactic(auto, unfolding(crate::specs::Links::without_first, crate::specs::Links::on_link), using(crate::proofs::Entries::entered_name, std::proofs::lemmas::Map::Steps::set_value_same))]
+#[tactic(auto, unfolding(crate::specs::Links::without_first, crate::specs::Links::on_link), using(crate::proofs::Entries::by_entry))]
 pub fn take_first(links: &mut Links, from: &NodeName, to: &NodeName) -> Option<LinkMsg>
     ensures empty { IfNone result ((on_link links.old from.now to.now ≡ []) × (links.new ≡ links.old)) }
     ensures first { IfSome result (λ message. on_link links.old from.now to.now ≡ message ∷ drop 1 (on_link links.old from.now to.now)) }
@@ -61,7 +61,7 @@ pub fn take_first(links: &mut Links, from: &NodeName, to: &NodeName) -> Option<L
     }
 }
 
-#[tactic(auto, using(crate::proofs::Entries::entered_name, std::proofs::lemmas::Map::Steps::set_value_same))]
+#[tactic(auto, using(crate::proofs::Entries::by_entry))]
 fn take_way(ways: &mut Ways, to: &NodeName) -> Option<LinkMsg>
     ensures empty { IfNone result ((queue_to ways.old to.now ≡ []) × (ways.new ≡ ways.old)) }
     ensures first { IfSome result (λ message. queue_to ways.old to.now ≡ message ∷ drop 1 (queue_to ways.old to.now)) }

@@ -62,7 +62,7 @@ module _ (setting : Setting) (home : List ℕ) (conn : ℕ) where
 
   replied_counts : (c : Connection) (tag : Tag) (awaited : Awaited) (reply : Option Reply) → c.stage ≡ Asked tag awaited
       → commands_of (replied setting home conn c tag reply).connection ≤ commands_of c
-  unfolding replied is_asked
+  unfolding is_asked
   replied_counts c tag awaited None is = omega arith
   replied_counts c tag awaited (Some reply) is = omega (arith, frames_count (reading_again c) c.waiting, ap is_asked is)
 

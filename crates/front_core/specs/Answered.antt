@@ -19,7 +19,7 @@ reading_again connection = record connection { waiting = []; stage = Reading; an
 abbrev pub unchanged : Connection → Turned
 unchanged connection = record { connection = connection; outs = [] }
 
-unfoldable pub replied : Setting → List ℕ → ℕ → Connection → Tag → Option Reply → Turned
+abbrev pub replied : Setting → List ℕ → ℕ → Connection → Tag → Option Reply → Turned
 replied setting home conn connection tag None = unchanged connection
 replied setting home conn connection tag (Some reply) =
     behind_outs (Client conn (reply_text tag reply) ∷ []) (frames_come setting home conn (reading_again connection) connection.waiting)

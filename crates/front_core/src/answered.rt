@@ -16,7 +16,7 @@ use std::alloc::Global;
 
 /// Takes an answer, where it is one to the command that waits: the client is given its reply, and the frames that waited
 /// come. For want of memory the connection is spent.
-#[tactic(auto, unfolding(crate::specs::Answered::answer_comes, crate::specs::Answered::answer_by, crate::specs::Answered::replied, crate::specs::Front::is_asked))]
+#[tactic(auto, unfolding(crate::specs::Answered::answer_comes, crate::specs::Answered::answer_by, crate::specs::Front::is_asked))]
 pub fn answer_comes(
     alloc: Global,
     setting: &Setting,

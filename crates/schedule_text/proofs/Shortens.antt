@@ -24,13 +24,11 @@ onto_byte b size (Some rest) ih bytes h =
 
 behind_character : (char : Character) (text : List ℕ) → ((place : Spelling) (bytes : List ℕ) → bytes_from text place ≡ Some bytes → length bytes ≤ length text)
     → (bytes : List ℕ) → bytes_behind char (bytes_from text) ≡ Some bytes → length bytes ≤ length text + 1
-unfolding bytes_behind
 behind_character Bad text ih bytes h = cc
 behind_character (Inside place) text ih bytes h = omega (arith, ih place bytes h)
 behind_character (Ends b) text ih bytes h = onto_byte b (length text) (bytes_from text Between) (ih Between) bytes h
 
 ended : (place : Spelling) (bytes : List ℕ) → at_end place ≡ Some bytes → length bytes ≤ 0
-unfolding at_end
 ended Between bytes h = let same : [] ≡ bytes = cc in subst (λ (found : List ℕ). length found ≤ 0) same (omega arith)
 ended Escape bytes h = cc
 ended Hex bytes h = cc
@@ -46,7 +44,7 @@ some_text None bytes h = cc
 some_text (Some found) bytes h = cc
 
 pub text_shortens : (text bytes : List ℕ) → text_in text ≡ Ok bytes → length bytes ≤ length text
-unfolding text_in bytes_of
+unfolding text_in
 text_shortens text bytes h = bytes_shorten text Between bytes (some_text (bytes_of text) bytes h)
 
 behind_letter : (b : ℕ) (size : ℕ) (cut : Option Words) → ((words : Words) → cut ≡ Some words → length words.rest < size)

@@ -28,7 +28,7 @@ hex_value-digit d h = grind (arith, nat_tests)
 
 hex_behind : (b : ℕ) (rest : List ℕ) → b < 256
     → bytes_from (92 ∷ 120 ∷ hex_digit (b / 16) ∷ hex_digit (b % 16) ∷ rest) Between ≡ with_byte b (bytes_from rest Between)
-unfolding bytes_from bytes_behind character_at between_spellings behind_escape first_digit second_digit
+unfolding bytes_from character_at between_spellings behind_escape first_digit second_digit
 hex_behind b rest h =
     let high = hex_value-digit (b / 16) (omega arith) in
     let low = hex_value-digit (b % 16) (omega arith) in
@@ -39,7 +39,7 @@ hex_behind b rest h =
 spelling_by : (b : ℕ) (rest : List ℕ) → b < 256 → (escape printed return feed : Bool) → nat_eq b 92 ≡ escape → is_printed b ≡ printed
     → nat_eq b 13 ≡ return → nat_eq b 10 ≡ feed
     → bytes_from (spelling_of b ++ rest) Between ≡ with_byte b (bytes_from rest Between)
-unfolding bytes_from bytes_behind character_at between_spellings behind_escape spelling_of
+unfolding bytes_from character_at between_spellings behind_escape spelling_of
 spelling_by b rest h true printed return feed e p r f = rw (e) (ap (λ (x : ℕ). with_byte x (bytes_from rest Between)) (sym (eqb-true b 92 e)))
 spelling_by b rest h false true return feed e p r f = rw (e, p, e, p) refl
 spelling_by b rest h false false true feed e p r f = rw (e, p, r) (ap (λ (x : ℕ). with_byte x (bytes_from rest Between)) (sym (eqb-true b 13 r)))
@@ -50,7 +50,7 @@ spelling_behind : (b : ℕ) (rest : List ℕ) → b < 256 → bytes_from (spelli
 spelling_behind b rest h = spelling_by b rest h (nat_eq b 92) (is_printed b) (nat_eq b 13) (nat_eq b 10) refl refl refl refl
 
 pub bytes_of_text : (bytes : List ℕ) → ((k : ℕ) → Fits w8 (get_or bytes k 0)) → bytes_of (text_of bytes) ≡ Some bytes
-unfolding bytes_of text_of bytes_from at_end with_byte
+unfolding text_of bytes_from with_byte
 bytes_of_text [] small = refl
 bytes_of_text (b ∷ bytes) small =
     spelling_behind b (text_of bytes) (omega (arith, small 0)) ∙ ap (with_byte b) (bytes_of_text bytes (λ k. small (suc k)))

@@ -100,13 +100,13 @@ KeepsSpelling (Inside place) = IsSpelling place
 KeepsSpelling (Ends b) = ⊤
 
 -- the bytes that are spelled behind a character, where `rest` says which are spelled behind it at each place
-unfoldable pub bytes_behind : Character → (Spelling → Option (List ℕ)) → Option (List ℕ)
+abbrev pub bytes_behind : Character → (Spelling → Option (List ℕ)) → Option (List ℕ)
 bytes_behind Bad rest = None
 bytes_behind (Inside place) rest = rest place
 bytes_behind (Ends b) rest = with_byte b (rest Between)
 
 -- no spelling ends inside
-unfoldable pub at_end : Spelling → Option (List ℕ)
+abbrev pub at_end : Spelling → Option (List ℕ)
 at_end Between = Some []
 at_end Escape = None
 at_end Hex = None
@@ -118,5 +118,5 @@ bytes_from [] place = at_end place
 bytes_from (c ∷ text) place = bytes_behind (character_at place c) (bytes_from text)
 
 -- the bytes that a text spells, in any of the forms
-unfoldable pub bytes_of : List ℕ → Option (List ℕ)
+abbrev pub bytes_of : List ℕ → Option (List ℕ)
 bytes_of text = bytes_from text Between

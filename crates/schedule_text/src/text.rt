@@ -104,7 +104,7 @@ fn hex_digit(digit: u8) -> u8
 
 /// The bytes that a text spells, in any of the forms. `None` exactly where it has a byte outside 0x20 to 0x7E, or a
 /// backslash that begins none of them.
-#[tactic(auto, using(crate::proofs::TextLaws::by_reading), unfolding(crate::specs::Text::bytes_of, crate::specs::Text::bytes_from, crate::specs::Text::bytes_behind, crate::specs::Text::at_end, crate::proofs::TextLaws::bytes_onto))]
+#[tactic(auto, using(crate::proofs::TextLaws::by_reading), unfolding(crate::specs::Text::bytes_from, crate::proofs::TextLaws::bytes_onto))]
 pub fn read_text(alloc: Global, text: &[u8]) -> Result<Option<Bytes>, Memory>
     ensures { IfOk result (λ bytes. bytes ≡ bytes_of text.now) }
 {

@@ -6,7 +6,7 @@ use Rattle.schedule_text.proofs.text.read_text.Goals as goal
 use Rattle.schedule_text.proofs.text.read_text.Goals.{in-Inside, in-Ends+in_ok-push-in-Ends}
 
 pub loop-character-preserved : goal.loop-character-preserved
-unfolding bytes_from bytes_behind
+unfolding bytes_from
 loop-character-preserved c = elim c.match-character_at.branch [
   | in-Inside w ↦ record { place = subst IsSpelling (sym w.place-is) w.in-Inside.ensures.place; spelled = grind (arith, common_steps, by_reading) }
   | in-Ends+in_ok-push-in-Ends w ↦ record { place = subst IsSpelling (sym w.place-is) tt; spelled = grind (arith, common_steps, by_reading) }
