@@ -1,1 +1,4 @@
 pub mod TranscriptGrows
+pub mod Joined
+pub mod SpacedLaws
+pub mod SetLaws

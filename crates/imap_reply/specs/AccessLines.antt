@@ -12,10 +12,18 @@ is_create letter = letter == 107
 abbrev pub is_delete : ℕ → Bool
 is_delete letter = letter == 120 || letter == 116 || letter == 101
 
+unfoldable pub create_text : List ℕ → List ℕ
+create_text letters = if list_any is_create letters then codes "c" else []
+
+unfoldable pub delete_text : List ℕ → List ℕ
+delete_text letters = if list_any is_delete letters then codes "d" else []
+
 -- the letters, and behind them those of RFC 2086 that they stand for
 unfoldable pub rights_text : List ℕ → List ℕ
-rights_text letters =
-    letters ++ (if list_any is_create letters then codes "c" else []) ++ (if list_any is_delete letters then codes "d" else [])
+rights_text letters = letters ++ create_text letters ++ delete_text letters
+
+abbrev pub is_tab : ℕ → Bool
+is_tab byte = byte == tab
 
 -- each identifier with its rights; an access list has a TAB behind each, and nothing behind the last
 unfoldable pub entries_text : List (List ℕ) → List ℕ
@@ -24,7 +32,7 @@ entries_text (identifier ∷ []) = []
 entries_text (identifier ∷ rights ∷ fields) = space ∷ (mailbox_text identifier ++ space ∷ (rights_text rights ++ entries_text fields))
 
 unfoldable pub acl_line : List ℕ → List ℕ → List ℕ
-acl_line name acl = codes "* ACL " ++ mailbox_text name ++ entries_text (slice_split (λ b. b == tab) acl) ++ codes "\r\n"
+acl_line name acl = codes "* ACL " ++ mailbox_text name ++ entries_text (slice_split is_tab acl) ++ codes "\r\n"
 
 unfoldable pub my_rights_line : List ℕ → List ℕ → List ℕ
 my_rights_line name letters = codes "* MYRIGHTS " ++ mailbox_text name ++ space ∷ rights_text letters ++ codes "\r\n"
