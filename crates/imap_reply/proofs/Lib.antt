@@ -2,3 +2,4 @@ pub mod TranscriptGrows
 pub mod Joined
 pub mod SpacedLaws
 pub mod SetLaws
+pub mod AccessLaws

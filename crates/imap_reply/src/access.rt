@@ -1,6 +1,6 @@
 // Access lists and rights (RFC 4314, 3.6 and 3.8).
 ghost use Rattle.std.specs.Prelude.{◌≡◌, [], ◌∷◌, ◌++◌, ◌<◌, length, position, OnOk, IfNone, IfSome};
-ghost use Rattle.std.specs.List.{slice_split};
+ghost use Rattle.std.specs.List.{list_any, slice_split};
 ghost use Rattle.mur_base.specs.Ascii.{space};
 ghost use Rattle.imap_reply.specs.Mailbox.{mailbox_text};
 ghost use Rattle.imap_reply.specs.AccessLines.{is_tab, is_create, is_delete, create_text, delete_text, rights_text, entries_text, acl_line, my_rights_line};
@@ -88,22 +88,26 @@ fn put_rights(letters: &[u8], out: &mut Bytes) -> Result<(), Memory>
 fn create_text(letters: &[u8]) -> &'static [u8]
     ensures { result.now ≡ create_text letters.now }
 {
-    if letters.iter().any(|letter| is_create(*letter)) {
-        b"c"
-    } else {
-        b""
-    }
+    if has_create(letters) { b"c" } else { b"" }
 }
 
 #[tactic(auto, unfolding(crate::specs::AccessLines::delete_text))]
 fn delete_text(letters: &[u8]) -> &'static [u8]
     ensures { result.now ≡ delete_text letters.now }
 {
-    if letters.iter().any(|letter| is_delete(*letter)) {
-        b"d"
-    } else {
-        b""
-    }
+    if has_delete(letters) { b"d" } else { b"" }
+}
+
+fn has_create(letters: &[u8]) -> bool
+    ensures { result ≡ list_any is_create letters.now }
+{
+    letters.iter().any(|letter| is_create(*letter))
+}
+
+fn has_delete(letters: &[u8]) -> bool
+    ensures { result ≡ list_any is_delete letters.now }
+{
+    letters.iter().any(|letter| is_delete(*letter))
 }
 
 fn is_create(letter: u8) -> bool

@@ -1,6 +1,6 @@
 // Numbers as a set (RFC 9051, 9: sequence-set).
-ghost use Rattle.std.specs.Prelude.{◌≡◌, ◌∷◌, ◌++◌, OnOk};
-ghost use Rattle.imap_reply.specs.Sets.{before_runs, runs_of, run_text, runs_text, set_text};
+ghost use Rattle.std.specs.Prelude.{◌≡◌, suc, ◌∷◌, ◌++◌, IsTrue, ◌↔◌, OnOk};
+ghost use Rattle.imap_reply.specs.Sets.{run_text, set_text};
 
 use mur_base::{Bytes, Memory, put_number};
 
@@ -22,7 +22,7 @@ fn put_runs(number: u32, more: &[u32], out: &mut Bytes) -> Result<(), Memory>
     let mut first = number;
     let mut last = number;
     for next in more {
-        if u64::from(last) + 1 != u64::from(*next) {
+        if !goes_on(last, *next) {
             put_run(first, last, out)?;
             out.push(b',')?;
             first = *next;
@@ -30,6 +30,13 @@ fn put_runs(number: u32, more: &[u32], out: &mut Bytes) -> Result<(), Memory>
         last = *next;
     }
     put_run(first, last, out)
+}
+
+/// Whether one number comes at once behind another.
+fn goes_on(last: u32, next: u32) -> bool
+    ensures { IsTrue result ↔ (suc last ≡ next) }
+{
+    next > last && next - last == 1
 }
 
 /// Writes the numbers from the first to the last.

@@ -1,5 +1,4 @@
 use Rattle.std.proofs.lemmas.Result.{on_ok_weaker}
-use Rattle.std.proofs.Common.{ap, ◌∙◌, ◌++◌}
 use Rattle.imap_reply.specs.SearchLine.{search_line}
 use Rattle.imap_reply.proofs.Joined.{joined_six}
 use Rattle.imap_reply.proofs.search.put_search.Goals as goal
@@ -9,5 +8,5 @@ unfolding search_line
 returns c =
     on_ok_weaker c.extend_from_slice-4.result
     (λ last. joined_six c.args.out.now _ _ _ _ _ _ _ _ _ _ _ _ c.in_ok-extend_from_slice.ensures.ok c.in_ok-put_tag.ensures
-    c.in_ok-extend_from_slice-2.ensures.ok (c.in_ok-extend_from_slice-3.ensures.ok ∙ ap (λ t. _ ++ t) c.uid_text.ensures) c.in_ok-put_all.ensures last)
+    c.in_ok-extend_from_slice-2.ensures.ok (rw c.uid_text.ensures at c.in_ok-extend_from_slice-3.ensures.ok) c.in_ok-put_all.ensures last)
     c.extend_from_slice-4.ensures.ok
