@@ -1,5 +1,9 @@
 -- The first part of a list that is split, and what is left.
-use Rattle.std.proofs.Common.{◌≡◌, ℕ, ◌+◌, ◌<◌, ◌≤◌, Bool, true, false, cond, List, [], ◌∷◌, length, take, drop, Option, None, Some, sym, ap, subst, arith}
+use Rattle.std.proofs.Common.{◌≡◌, ℕ, ◌+◌, ◌<◌, ◌≤◌, Bool, true, false, cond, List, [], ◌∷◌, length, take, drop, Option, None, Some, sym, ◌∙◌, ap, subst, ◌++◌, append_assoc, arith}
+use Rattle.std.proofs.lemmas.List.{append-nil}
+use Rattle.mur_base.specs.Ascii.{space}
+use Rattle.imap_reply.specs.Mailbox.{mailbox_text}
+use Rattle.imap_reply.specs.AccessLines.{rights_text, entries_text}
 use Rattle.std.proofs.lemmas.Bool.Decides.{nat_tests}
 use Rattle.std.proofs.lemmas.List.Splits.{slice_split_none, slice_split_first}
 use Rattle.std.proofs.lemmas.List.Sums.{fails_before_first}
@@ -22,3 +26,32 @@ split_some p xs at e =
     let found = some_below (position_or_len p xs) (length xs) at e in
     let P : ℕ → Type 0 = λ n. slice_split p xs ≡ take n xs ∷ slice_split p (drop (n + 1) xs) in
     subst P found.1 (slice_split_first p xs 0 found.0)
+
+abbrev pub entry_text : List ℕ → List ℕ → List ℕ
+entry_text identifier rights = space ∷ (mailbox_text identifier ++ space ∷ rights_text rights)
+
+first_entry : (identifier rights : List ℕ) (more : List (List ℕ))
+    → entries_text (identifier ∷ rights ∷ more) ≡ entry_text identifier rights ++ entries_text more
+unfolding entries_text
+first_entry identifier rights more =
+    ap (λ t. space ∷ t) (sym (append_assoc (mailbox_text identifier) (space ∷ rights_text rights) (entries_text more)))
+
+-- an entry is written, and its two fields are behind
+pub entry_told : (out text identifier rights : List ℕ) (fields behind more : List (List ℕ)) → fields ≡ identifier ∷ behind → behind ≡ rights ∷ more
+    → out ++ entries_text fields ≡ text → (out ++ entry_text identifier rights) ++ entries_text more ≡ text
+entry_told out text identifier rights fields behind more is_first is_second so_far =
+    append_assoc out (entry_text identifier rights) (entries_text more)
+    ∙ ap (λ t. out ++ t) (sym (ap entries_text (is_first ∙ ap (λ t. identifier ∷ t) is_second) ∙ first_entry identifier rights more))
+    ∙ so_far
+
+-- the last entry has no TAB behind it
+pub last_told : (out text identifier rights : List ℕ) (fields behind : List (List ℕ)) → fields ≡ identifier ∷ behind → behind ≡ rights ∷ []
+    → out ++ entries_text fields ≡ text → out ++ entry_text identifier rights ≡ text
+unfolding entries_text
+last_told out text identifier rights fields behind is_first is_second so_far =
+    sym (append-nil (out ++ entry_text identifier rights)) ∙ entry_told out text identifier rights fields behind [] is_first is_second so_far
+
+-- a text without a TAB has no entry
+pub none_told : (out text left : List ℕ) (fields : List (List ℕ)) → fields ≡ left ∷ [] → out ++ entries_text fields ≡ text → out ≡ text
+unfolding entries_text
+none_told out text left fields is_last so_far = sym (append-nil out) ∙ ap (λ t. out ++ entries_text t) (sym is_last) ∙ so_far
