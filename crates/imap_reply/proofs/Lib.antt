@@ -3,3 +3,5 @@ pub mod Joined
 pub mod SpacedLaws
 pub mod SetLaws
 pub mod AccessLaws
+pub mod Texts
+pub mod LineLaws

@@ -20,3 +20,6 @@ pub mod Codes
 pub mod TaggedLine
 pub mod ReplyText
 pub mod Transcript
+pub mod Lines
+pub mod SoundTexts
+pub mod ReadAsMeant
