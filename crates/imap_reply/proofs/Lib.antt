@@ -5,3 +5,6 @@ pub mod SetLaws
 pub mod AccessLaws
 pub mod Texts
 pub mod LineLaws
+pub mod EachLine
+pub mod LongLines
+pub mod TaggedIsLine
