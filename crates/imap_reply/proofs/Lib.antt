@@ -8,3 +8,4 @@ pub mod LineLaws
 pub mod EachLine
 pub mod LongLines
 pub mod TaggedIsLine
+pub mod OneCut

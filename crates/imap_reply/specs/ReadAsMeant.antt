@@ -1,6 +1,6 @@
 -- What a client reads of a reply is what was meant, whatever the texts in it are.
-use Rattle.std.specs.Prelude.{◌≡◌, ℕ, Bool, true, false, nat_eq, List, [], ◌∷◌, ◌++◌, codes, map, All}
-use Rattle.std.specs.List.{concat, starts_with}
+use Rattle.std.specs.Prelude.{◌≡◌, ℕ, Bool, true, false, ◌&&◌, ◌==◌, List, [], ◌∷◌, ◌++◌, codes, map, All}
+use Rattle.std.specs.List.{concat}
 use Rattle.mur_model.specs.declared.command.Tag.{Tag}
 use Rattle.mur_model.specs.declared.reply.Reply.{Reply}
 use Rattle.mur_model.specs.declared.reply.Verdict.{Verdict}
@@ -11,8 +11,10 @@ use Rattle.imap_reply.specs.ReplyText.{line_text, reply_text}
 use Rattle.imap_reply.specs.TaggedLine.{tagged_line}
 use Rattle.imap_reply.specs.Tags.{tag_text}
 
-abbrev pub begins_with : List ℕ → List ℕ → Bool
-begins_with front text = starts_with nat_eq text front
+unfoldable pub begins_with : List ℕ → List ℕ → Bool
+begins_with [] text = true
+begins_with (c ∷ front) [] = false
+begins_with (c ∷ front) (d ∷ text) = c == d && begins_with front text
 
 -- the untagged lines that are meant
 abbrev pub untagged_lines : Tag → Reply → List (List ℕ)
