@@ -9,3 +9,4 @@ pub mod EachLine
 pub mod LongLines
 pub mod TaggedIsLine
 pub mod OneCut
+pub mod NoForgery
