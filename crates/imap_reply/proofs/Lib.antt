@@ -10,3 +10,4 @@ pub mod LongLines
 pub mod TaggedIsLine
 pub mod OneCut
 pub mod NoForgery
+pub mod PlainNames

@@ -1,5 +1,7 @@
 // A whole reply (RFC 9051, 7).
 ghost use Rattle.std.specs.Prelude.{◌≡◌, ◌++◌, OnOk};
+ghost use Rattle.imap_reply.specs.SoundTexts.{IsSound};
+ghost use Rattle.imap_reply.specs.ReadAsMeant.{IsReadAsMeant};
 ghost use Rattle.imap_reply.specs.ReplyText.{line_text, lines_text, reply_text};
 
 use crate::access::{put_acl, put_my_rights};
@@ -18,10 +20,12 @@ use crate::tagged::put_tagged;
 use mur_base::{Bytes, Memory};
 use mur_model::{Reply, ReplyLine, Tag};
 
-/// Writes a reply under the tag of its command: its untagged lines in order, and then the tagged one.
+/// Writes a reply under the tag of its command: its untagged lines in order, and then the tagged one. A client reads of it what
+/// was meant, whatever the texts in it are.
 #[tactic(auto, using(std::proofs::lemmas::Grind::common_steps), unfolding(crate::specs::ReplyText::reply_text))]
 pub fn write(tag: &Tag, reply: &Reply, out: &mut Bytes) -> Result<(), Memory>
-    ensures { OnOk result (out.new ≡ out.old ++ reply_text tag.now reply.now) }
+    ensures text { OnOk result (out.new ≡ out.old ++ reply_text tag.now reply.now) }
+    ensures read { IsSound tag.now reply.now → IsReadAsMeant tag.now reply.now }
 {
     put_lines(tag, reply.lines.as_slice(), out)?;
     put_tagged(tag, &reply.verdict, out)
