@@ -1,1 +1,13 @@
 pub mod TranscriptGrows
+pub mod Joined
+pub mod SpacedLaws
+pub mod SetLaws
+pub mod AccessLaws
+pub mod Texts
+pub mod LineLaws
+pub mod EachLine
+pub mod LongLines
+pub mod TaggedIsLine
+pub mod OneCut
+pub mod NoForgery
+pub mod PlainNames

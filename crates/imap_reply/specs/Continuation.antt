@@ -1,5 +1,14 @@
--- The line that a client waits for before it sends a literal (RFC 9051, 7.6).
+-- Lines that ask the client to go on (RFC 9051, 7.6).
 use Rattle.std.specs.Prelude.{ℕ, List, codes}
 
+-- before it sends a literal (RFC 9051, 4.3)
 unfoldable pub ready : List ℕ
 ready = codes "+ ready\r\n"
+
+-- before it sends its response to AUTHENTICATE: the challenge of PLAIN is empty (RFC 9051, 6.2.2)
+unfoldable pub challenge : List ℕ
+challenge = codes "+ \r\n"
+
+-- before it sends the DONE of its IDLE (RFC 9051, 6.3.13)
+unfoldable pub idling : List ℕ
+idling = codes "+ idling\r\n"

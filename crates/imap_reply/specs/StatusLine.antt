@@ -1,4 +1,4 @@
--- The line of a STATUS (RFC 9051, 7.3.4): a mailbox, and how much of each item there is.
+-- The line of a STATUS (RFC 9051, 7.3.3): a mailbox, and how much of each item there is.
 use Rattle.std.specs.Prelude.{ℕ, List, [], ◌∷◌, ◌++◌, codes, decimal}
 use Rattle.mur_base.specs.Ascii.{space}
 use Rattle.mur_model.specs.declared.reply.StatusCount.{StatusCount}

@@ -20,6 +20,9 @@ fn bye_text(bye: Bye) -> &'static [u8]
     ensures { result.now ≡ bye_text bye }
 {
     match bye {
+        Bye::Logout => b"bye",
+        Bye::Gone => b"mailbox is gone",
+        Bye::Lost => b"[UNAVAILABLE] server lost",
         Bye::LineTooLong => b"line too long",
         Bye::LiteralTooLong => b"literal too long",
     }

@@ -3,15 +3,30 @@
 //! of memory spends the list of bytes.
 #![tactic(auto)]
 
+mod access;
 mod bye;
+mod capability;
+mod code;
 mod continuation;
+mod enabled;
+mod exists;
+mod expunge;
+mod fetch;
+mod flags;
 mod greeting;
+mod list;
 mod mailbox;
+mod numbered;
+mod ok_lines;
 mod reply;
+mod search;
+mod sets;
+mod spaced;
 mod status;
 mod tagged;
+mod tags;
 
 pub use bye::put_bye;
-pub use continuation::put_ready;
+pub use continuation::{put_challenge, put_idling, put_ready};
 pub use greeting::put_greeting;
 pub use reply::write;

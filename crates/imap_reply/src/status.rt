@@ -1,4 +1,4 @@
-// The line of a STATUS (RFC 9051, 7.3.4).
+// The line of a STATUS (RFC 9051, 7.3.3).
 ghost use Rattle.std.specs.Prelude.{◌≡◌, ◌++◌, OnOk};
 ghost use Rattle.imap_reply.specs.StatusLine.{count_text, more_counts_text, counts_text, status_line};
 

@@ -1,72 +1,53 @@
 // The tagged line of a reply (RFC 9051, 7.1).
-ghost use Rattle.std.specs.Prelude.{◌≡◌, ◌∷◌, ◌++◌, OnOk, codes, decimal};
-ghost use Rattle.mur_base.specs.Ascii.{space};
-ghost use Rattle.imap_reply.specs.TaggedLine.{tag_text, code_text, no_text, bad_text, verdict_text, tagged_line};
+ghost use Rattle.std.specs.Prelude.{◌≡◌, ◌++◌, OnOk, codes};
+ghost use Rattle.imap_reply.specs.Tags.{tag_text};
+ghost use Rattle.imap_reply.specs.TaggedLine.{no_text, bad_text, ok_text, tagged_line};
 
-use mur_base::{Bytes, Memory, put_number};
+use crate::code::put_code;
+use crate::tags::put_tag;
+use mur_base::{Bytes, Memory};
 use mur_model::{BadText, Code, NoText, Tag, Verdict};
 
-/// Writes the line that ends a reply.
-#[tactic(auto, unfolding(crate::specs::TaggedLine::tagged_line))]
+/// Writes the line that ends a reply, if there is one.
+#[tactic(auto, unfolding(crate::specs::TaggedLine::tagged_line, crate::specs::TaggedLine::under))]
 pub fn put_tagged(tag: &Tag, verdict: &Verdict, out: &mut Bytes) -> Result<(), Memory>
     ensures { OnOk result (out.new ≡ out.old ++ tagged_line tag.now verdict.now) }
 {
-    put_tag(tag, out)?;
-    out.push(b' ')?;
-    put_verdict(verdict, out)?;
-    out.extend_from_slice(b"\r\n")
-}
-
-#[tactic(auto, unfolding(crate::specs::TaggedLine::tag_text))]
-fn put_tag(tag: &Tag, out: &mut Bytes) -> Result<(), Memory>
-    ensures { OnOk result (out.new ≡ out.old ++ tag_text tag.now) }
-{
-    match tag {
-        Tag::Star => out.extend_from_slice(b"*"),
-        Tag::Text(text) => out.extend_from_slice(text.as_slice()),
-    }
-}
-
-#[tactic(auto, unfolding(crate::specs::TaggedLine::verdict_text))]
-fn put_verdict(verdict: &Verdict, out: &mut Bytes) -> Result<(), Memory>
-    ensures { OnOk result (out.new ≡ out.old ++ verdict_text verdict.now) }
-{
     match verdict {
-        Verdict::Ok(code, name) => put_ok(*code, name, out),
-        Verdict::No(why) => put_no(*why, out),
-        Verdict::Bad(why) => put_bad(*why, out),
+        Verdict::Nothing => Ok(()),
+        Verdict::Ok(code, name) => {
+            put_begin(tag, out)?;
+            put_ok(code, name.as_slice(), out)?;
+            out.extend_from_slice(b"\r\n")
+        }
+        Verdict::No(why) => {
+            put_begin(tag, out)?;
+            put_no(*why, out)?;
+            out.extend_from_slice(b"\r\n")
+        }
+        Verdict::Bad(why) => {
+            put_begin(tag, out)?;
+            put_bad(*why, out)?;
+            out.extend_from_slice(b"\r\n")
+        }
     }
 }
 
-fn put_ok(code: Code, name: &Bytes, out: &mut Bytes) -> Result<(), Memory>
-    ensures { OnOk result (out.new ≡ out.old ++ (codes "OK " ++ code_text code ++ name.now ++ codes " completed")) }
+fn put_begin(tag: &Tag, out: &mut Bytes) -> Result<(), Memory>
+    ensures { OnOk result (out.new ≡ out.old ++ (tag_text tag.now ++ codes " ")) }
+{
+    put_tag(tag, out)?;
+    out.push(b' ')
+}
+
+#[tactic(auto, unfolding(crate::specs::TaggedLine::ok_text))]
+fn put_ok(code: &Code, name: &[u8], out: &mut Bytes) -> Result<(), Memory>
+    ensures { OnOk result (out.new ≡ out.old ++ ok_text code.now name.now) }
 {
     out.extend_from_slice(b"OK ")?;
     put_code(code, out)?;
-    out.extend_from_slice(name.as_slice())?;
+    out.extend_from_slice(name)?;
     out.extend_from_slice(b" completed")
-}
-
-/// Writes a response code with its space, if there is one (RFC 9051, 7.1).
-#[tactic(auto, unfolding(crate::specs::TaggedLine::code_text))]
-fn put_code(code: Code, out: &mut Bytes) -> Result<(), Memory>
-    ensures { OnOk result (out.new ≡ out.old ++ code_text code) }
-{
-    match code {
-        Code::None => Ok(()),
-        Code::AppendUid(serial, uid) => put_append_uid(u64::from(serial), u64::from(uid), out),
-    }
-}
-
-#[tactic(auto, using(std::proofs::lemmas::Grind::common_steps))]
-fn put_append_uid(serial: u64, uid: u64, out: &mut Bytes) -> Result<(), Memory>
-    ensures { OnOk result (out.new ≡ out.old ++ (codes "[APPENDUID " ++ (decimal serial ++ space ∷ (decimal uid ++ codes "] ")))) }
-{
-    out.extend_from_slice(b"[APPENDUID ")?;
-    put_number(serial, out)?;
-    out.push(b' ')?;
-    put_number(uid, out)?;
-    out.extend_from_slice(b"] ")
 }
 
 fn put_no(why: NoText, out: &mut Bytes) -> Result<(), Memory>
@@ -88,6 +69,8 @@ fn no_text(why: NoText) -> &'static [u8]
         NoText::NoPerm => b"[NOPERM] not permitted",
         NoText::Cannot => b"[CANNOT] cannot be done",
         NoText::Limit => b"[LIMIT] too large or too many",
+        NoText::BeingMoved => b"[UNAVAILABLE] mailbox is being moved",
+        NoText::NotReached => b"[UNAVAILABLE] server not reached",
     }
 }
 
@@ -105,5 +88,6 @@ fn bad_text(why: BadText) -> &'static [u8]
     match why {
         BadText::Syntax => b"syntax error",
         BadText::State => b"not in this state",
+        BadText::Message => b"no such message",
     }
 }

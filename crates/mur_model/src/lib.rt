@@ -21,8 +21,8 @@ pub use append::append_reply;
 pub use command::{Command, StatusItem, StatusItems, Tag};
 pub use need::{Need, Work, begin};
 pub use reply::{
-    BadText, Bye, Code, NoText, Reply, ReplyLine, ReplyLines, StatusCount, StatusCounts, Verdict,
-    completed, refused,
+    Attribute, BadText, Bye, Code, FlagNames, NoText, Parts, Reply, ReplyLine, ReplyLines,
+    StatusCount, StatusCounts, Verdict, completed, refused,
 };
 pub use request::{Answer, Answers, Request, Requests};
 pub use session::Sess;

@@ -3,6 +3,7 @@ ghost use Rattle.std.specs.Prelude.{◌≡◌, IfOk};
 ghost use Rattle.mur_model.specs.Reply.{completed, refused};
 
 use crate::command::StatusItem;
+use mail_message::{FlagName, Uids};
 use mur_base::{Bytes, Items, Memory};
 use std::alloc::Global;
 
@@ -16,22 +17,90 @@ pub struct StatusCount {
 /// What one STATUS tells, in the order in which it was asked.
 pub type StatusCounts = Items<StatusCount>;
 
+/// Flags in the order in which they are told (RFC 9051, 2.3.2).
+pub type FlagNames = Items<FlagName>;
+
+/// What a FETCH tells of one message, an item each.
+pub type Parts = Items<Bytes>;
+
+/// Why a connection ends, with the text of its BYE (RFC 9051, 7.1.5).
+#[derive(Clone, Copy, Debug, PartialEq, Eq)]
+pub enum Bye {
+    /// The client asked for it.
+    Logout,
+    /// The selected mailbox is no more.
+    Gone,
+    /// Whether the command was carried out isn't known.
+    Lost,
+    /// A command has too many bytes outside its literals.
+    LineTooLong,
+    /// A literal that comes unasked is too long.
+    LiteralTooLong,
+}
+
+/// What is told of a name in a LIST (RFC 9051, 7.3.1).
+#[derive(Clone, Copy, Debug, PartialEq, Eq)]
+pub enum Attribute {
+    /// It is a mailbox.
+    None,
+    /// It can't be selected.
+    NoSelect,
+    /// There is no such mailbox, but there are some below it.
+    NonExistent,
+}
+
 /// An untagged line of a reply.
 #[derive(Drop)]
 pub enum ReplyLine {
-    /// The items of a mailbox, under its name as it is shown (RFC 9051, 7.3.4).
+    /// What the server can do (RFC 9051, 7.2.2).
+    Capability,
+    /// The connection ends (RFC 9051, 7.1.5).
+    Bye(Bye),
+    /// What ENABLE has switched on: nothing (RFC 9051, 7.2.1).
+    Enabled,
+    /// The mailbox that was selected is so no more (RFC 9051, 7.1).
+    Closed,
+    /// The flags of the mailbox (RFC 9051, 7.3.5).
+    Flags(FlagNames),
+    /// The number of messages (RFC 9051, 7.4.1).
+    Exists(u32),
+    /// A name as it is shown (RFC 9051, 7.3.1).
+    Listed(Attribute, Bytes),
+    /// The flags that the client can change for good, and whether it can make keywords (RFC 9051, 7.1).
+    Permanent(FlagNames, bool),
+    /// The UID that the next message gets (RFC 9051, 7.1).
+    UidNext(u32),
+    /// The UIDVALIDITY of the mailbox (RFC 9051, 7.1).
+    UidValidity(u32),
+    /// The items of a mailbox, under its name as it is shown (RFC 9051, 7.3.3).
     Status(Bytes, StatusCounts),
+    /// The numbers that a SEARCH found, in rising order; whether they are UIDs (RFC 9051, 7.3.4).
+    Search(bool, Uids),
+    /// The message of this number is no more (RFC 9051, 7.5.1).
+    Expunge(u32),
+    /// What there is of the message of this number (RFC 9051, 7.5.2).
+    Fetch(u32, Parts),
+    /// The access list of a mailbox, under its name as it is shown (RFC 4314, 3.6).
+    Acl(Bytes, Bytes),
+    /// The user's rights on a mailbox, under its name as it is shown (RFC 4314, 3.8).
+    MyRights(Bytes, Bytes),
 }
 
 /// The untagged lines of a reply, in order.
 pub type ReplyLines = Items<ReplyLine>;
 
-/// The response code of a tagged OK.
-#[derive(Clone, Copy, Debug, PartialEq, Eq)]
+/// The response code of a tagged OK (RFC 9051, 7.1).
+#[derive(Drop)]
 pub enum Code {
     None,
-    /// The UIDVALIDITY of a mailbox, and the UID that its new message got (RFC 9051, 7.1).
+    /// The UIDVALIDITY of a mailbox, and the UID that its new message got.
     AppendUid(u32, u32),
+    /// The UIDVALIDITY of a mailbox, the UIDs that were copied, and those that the copies got, both in rising order.
+    CopyUid(u32, Uids, Uids),
+    /// Some of the messages that were named are no more.
+    ExpungeIssued,
+    ReadWrite,
+    ReadOnly,
 }
 
 /// Why a command was refused, with the text of its NO.
@@ -51,6 +120,10 @@ pub enum NoText {
     Cannot,
     /// A limit would be passed.
     Limit,
+    /// The mailbox goes from one server to another.
+    BeingMoved,
+    /// A server can't be asked.
+    NotReached,
 }
 
 /// Why a command was not understood, with the text of its BAD.
@@ -60,20 +133,15 @@ pub enum BadText {
     Syntax,
     /// The command isn't allowed in the session's state.
     State,
-}
-
-/// Why a connection ends, with the text of its BYE (RFC 9051, 7.1.5).
-#[derive(Clone, Copy, Debug, PartialEq, Eq)]
-pub enum Bye {
-    /// A command has too many bytes outside its literals.
-    LineTooLong,
-    /// A literal that comes unasked is too long.
-    LiteralTooLong,
+    /// The mailbox has no message of this number.
+    Message,
 }
 
 /// The tagged line of a reply.
 #[derive(Drop)]
 pub enum Verdict {
+    /// There is none: the connection ends before.
+    Nothing,
     /// OK, with the command's name in capitals.
     Ok(Code, Bytes),
     No(NoText),

@@ -1,6 +1,6 @@
 use Rattle.std.proofs.Common.{◌≡◌, ℕ, List, ◌++◌, refl, append_assoc}
 use Rattle.std.proofs.lemmas.Result.{on_ok_weaker}
-use Rattle.imap_reply.proofs.tagged.put_append_uid.Goals as goal
+use Rattle.imap_reply.proofs.code.put_append_uid.Goals as goal
 
 -- five texts, each put behind those before it
 joined : (out a b c d e one two three four five : List ℕ)

@@ -1,0 +1,181 @@
+-- Each line that is written is one line.
+use Rattle.std.proofs.Common.{◌≡◌, ℕ, ◌<◌, ◌==◌, Bool, true, false, not, cond, List, [], ◌∷◌, ◌++◌, length, map, codes, decimal, refl, sym, ◌∙◌, ap, subst, append_assoc, arith}
+use Rattle.std.proofs.Common.{Option, None, Some}
+use Rattle.std.specs.Prelude.{All, nat_lt}
+use Rattle.std.specs.List.{list_all, list_any, slice_split, onto_first}
+use Rattle.std.proofs.lemmas.Bool.{and_parts}
+use Rattle.std.proofs.lemmas.Bool.Decides.{nat_tests}
+use Rattle.std.proofs.lemmas.List.Elements.{All-nil, All-cons, All-head, All-tail, All-weaker, All-map, All-append}
+use Rattle.mur_base.specs.Ascii.{crlf, tab}
+use Rattle.mur_base.specs.Number.{is_digit}
+use Rattle.mur_base.specs.declared.limits.TheConstants.{KEYWORD_LIMIT}
+use Rattle.mur_base.specs.declared.name.NameFault.{NameFault}
+use Rattle.mur_base.specs.declared.name.NameFault.TheVariants.{Empty, TooLong, BadByte}
+use Rattle.mail_message.specs.Keywords.{keyword_fault, is_atom, is_atom_byte}
+use Rattle.mail_message.specs.declared.flag_name.FlagName.{FlagName}
+use Rattle.mail_message.specs.declared.flag_name.FlagName.TheVariants.{System, Keyword}
+use Rattle.mail_message.specs.declared.system_flags.SystemFlag.TheVariants.{Answered, Flagged, Deleted, Seen, Draft}
+use Rattle.imap_command.specs.Status.{item_text}
+use Rattle.imap_command.specs.Strings.{escaped, escaped_text, quoted_text}
+use Rattle.imap_command.specs.Characters.{is_quoted_special}
+use Rattle.mur_model.specs.declared.command.StatusItem.{StatusItem}
+use Rattle.mur_model.specs.declared.command.StatusItem.TheVariants.{Messages}
+use Rattle.mur_model.specs.declared.command.Tag.{Tag}
+use Rattle.mur_model.specs.declared.command.Tag.TheVariants.{Star, Text}
+use Rattle.mur_model.specs.declared.reply.StatusCount.{StatusCount}
+use Rattle.mur_model.specs.declared.reply.Attribute.{Attribute}
+use Rattle.mur_model.specs.declared.reply.Attribute.TheVariants.{None as no_attribute, NoSelect, NonExistent}
+use Rattle.mur_model.specs.declared.reply.Bye as bye
+use Rattle.mur_model.specs.declared.reply.Bye.TheVariants.{Logout, Gone, Lost, LineTooLong, LiteralTooLong}
+use Rattle.imap_reply.specs.Lines.{IsPlain, IsPart, IsLine, is_within, is_announced, after_text, after_byte, Announcing}
+use Rattle.imap_reply.specs.Lines.Announcing.{nothing}
+use Rattle.imap_reply.specs.SoundTexts.{IsTag, IsSoundTag, IsSoundFlag, IsCalm, is_calm}
+use Rattle.imap_reply.specs.AccessLines.{is_tab, is_create, is_delete, create_text, delete_text, rights_text, entries_text, acl_line, my_rights_line}
+use Rattle.imap_reply.specs.ByeLine.{bye_text, bye_line}
+use Rattle.imap_reply.specs.Capability.{capability_line}
+use Rattle.imap_reply.specs.Enabled.{enabled_line}
+use Rattle.imap_reply.specs.ExistsLine.{exists_line}
+use Rattle.imap_reply.specs.ExpungeLine.{expunge_line}
+use Rattle.imap_reply.specs.FetchLine.{fetch_line}
+use Rattle.imap_reply.specs.FlagsLine.{system_flag_text, flag_text, flags_text, flags_line}
+use Rattle.imap_reply.specs.ListLine.{attribute_text, list_line}
+use Rattle.imap_reply.specs.Mailbox.{mailbox_text}
+use Rattle.imap_reply.specs.OkLines.{closed_line, new_keywords, permanent_line, uid_next_line, uid_validity_line}
+use Rattle.imap_reply.specs.SearchLine.{uid_text, all_text, search_line}
+use Rattle.imap_reply.specs.Sets.{set_text}
+use Rattle.imap_reply.specs.Spaced.{spaced}
+use Rattle.imap_reply.specs.StatusLine.{count_text, more_counts_text, counts_text, status_line}
+use Rattle.imap_reply.specs.Tags.{tag_text}
+use Rattle.imap_reply.proofs.LineLaws.{Fits, line_of, fits_of, parts_fit, end_fits, mailbox_state, after_append, after_calm}
+use Rattle.imap_reply.proofs.Texts.{all_append, all_weaker, one_of, calm_plain, decimal_calm, set_calm, spaced_plain, tag_calm, mailbox_plain}
+
+-- texts that stand as they are
+
+pub capability_is_line : IsLine capability_line
+unfolding capability_line after_text after_byte is_digit
+capability_is_line = line_of [] (codes "* CAPABILITY IMAP4rev2 AUTH=PLAIN") refl refl (λ state. refl)
+
+pub enabled_is_line : IsLine enabled_line
+unfolding enabled_line after_text after_byte is_digit
+enabled_is_line = line_of [] (codes "* ENABLED") refl refl (λ state. refl)
+
+pub closed_is_line : IsLine closed_line
+unfolding closed_line after_text after_byte is_digit
+closed_is_line = line_of [] (codes "* OK [CLOSED] closed") refl refl (λ state. refl)
+
+pub bye_is_line : (why : bye.Bye) → IsLine (bye_line why)
+unfolding bye_line bye_text after_text after_byte is_digit
+bye_is_line Logout = line_of [] (codes "* BYE bye") refl refl (λ state. refl)
+bye_is_line Gone = line_of [] (codes "* BYE mailbox is gone") refl refl (λ state. refl)
+bye_is_line Lost = line_of [] (codes "* BYE [UNAVAILABLE] server lost") refl refl (λ state. refl)
+bye_is_line LineTooLong = line_of [] (codes "* BYE line too long") refl refl (λ state. refl)
+bye_is_line LiteralTooLong = line_of [] (codes "* BYE literal too long") refl refl (λ state. refl)
+
+-- numbers
+
+decimal_plain : (n : ℕ) → IsPlain (decimal n)
+decimal_plain n = calm_plain (decimal n) (decimal_calm n)
+
+pub exists_is_line : (count : ℕ) → IsLine (exists_line count)
+unfolding exists_line after_text after_byte is_digit
+exists_is_line count = line_of (codes "* " ++ decimal count) (codes " EXISTS") (decimal_plain count) refl (λ state. refl)
+
+pub expunge_is_line : (number : ℕ) → IsLine (expunge_line number)
+unfolding expunge_line after_text after_byte is_digit
+expunge_is_line number = line_of (codes "* " ++ decimal number) (codes " EXPUNGE") (decimal_plain number) refl (λ state. refl)
+
+pub uid_next_is_line : (uid : ℕ) → IsLine (uid_next_line uid)
+unfolding uid_next_line after_text after_byte is_digit
+uid_next_is_line uid = line_of (codes "* OK [UIDNEXT " ++ decimal uid) (codes "] next") (decimal_plain uid) refl (λ state. refl)
+
+pub uid_validity_is_line : (serial : ℕ) → IsLine (uid_validity_line serial)
+unfolding uid_validity_line after_text after_byte is_digit
+uid_validity_is_line serial = line_of (codes "* OK [UIDVALIDITY " ++ decimal serial) (codes "] validity") (decimal_plain serial) refl (λ state. refl)
+
+-- flags
+
+atom_byte_within : (c : ℕ) → is_atom_byte c ≡ true → is_within c ≡ true
+unfolding is_atom_byte
+atom_byte_within c h = grind (arith, nat_tests, h)
+
+last_rule : (x y z : Bool) → cond x (Some Empty) (cond y (Some TooLong) (cond (not z) (Some BadByte) None)) ≡ None → z ≡ true
+last_rule x y true h = refl
+last_rule true y false h = cc
+last_rule false true false h = cc
+last_rule false false false h = cc
+
+pub keyword_plain : (keyword : List ℕ) → keyword_fault keyword ≡ None → IsPlain keyword
+unfolding keyword_fault is_atom
+keyword_plain keyword h =
+    all_weaker is_atom_byte is_within atom_byte_within keyword
+    (last_rule (length keyword == 0) (nat_lt KEYWORD_LIMIT (length keyword)) (list_all is_atom_byte keyword) h)
+
+flag_plain : (flag : FlagName) → IsSoundFlag flag → IsPlain (flag_text flag)
+unfolding flag_text system_flag_text IsSoundFlag
+flag_plain (System Answered) sound = refl
+flag_plain (System Flagged) sound = refl
+flag_plain (System Deleted) sound = refl
+flag_plain (System Seen) sound = refl
+flag_plain (System Draft) sound = refl
+flag_plain (Keyword keyword) sound = keyword_plain keyword sound
+
+flags_plain : (flags : List FlagName) → All IsSoundFlag flags → All IsPlain (map flag_text flags)
+flags_plain flags sound = All-map IsPlain flag_text flags (All-weaker IsSoundFlag (λ flag. IsPlain (flag_text flag)) flag_plain flags sound)
+
+pub flags_is_line : (flags : List FlagName) → All IsSoundFlag flags → IsLine (flags_line flags)
+unfolding flags_line flags_text after_text after_byte is_digit
+flags_is_line flags sound =
+    line_of (codes "* FLAGS (" ++ spaced (map flag_text flags)) (codes ")") (spaced_plain (map flag_text flags) (flags_plain flags sound)) refl (λ state. refl)
+
+new_plain : (new : Bool) → All IsPlain (new_keywords new)
+unfolding new_keywords
+new_plain true = All-cons IsPlain (codes "\\*") [] refl (All-nil IsPlain)
+new_plain false = All-nil IsPlain
+
+pub permanent_is_line : (flags : List FlagName) (new : Bool) → All IsSoundFlag flags → IsLine (permanent_line flags new)
+unfolding permanent_line after_text after_byte is_digit
+permanent_is_line flags new sound =
+    let texts = map flag_text flags ++ new_keywords new in
+    line_of (codes "* OK [PERMANENTFLAGS (" ++ spaced texts) (codes ")] flags")
+    (spaced_plain texts (All-append IsPlain (map flag_text flags) (new_keywords new) (flags_plain flags sound) (new_plain new))) refl (λ state. refl)
+
+-- names
+
+before_name : (front name : List ℕ) → IsPlain front → IsPlain name → IsLine (((front ++ 32 ∷ []) ++ mailbox_text name) ++ crlf)
+before_name front name one other =
+    subst IsLine (regroup front (mailbox_text name) crlf) ((end_fits (mailbox_text name) (mailbox_plain name other) (mailbox_state name)).before front one)
+  where
+    regroup : (a b c : List ℕ) → a ++ (32 ∷ (b ++ c)) ≡ ((a ++ 32 ∷ []) ++ b) ++ c
+    regroup a b c = simp append_assoc refl
+
+pub list_is_line : (attribute : Attribute) (name : List ℕ) → IsPlain name → IsLine (list_line attribute name)
+unfolding list_line attribute_text
+list_is_line no_attribute name sound = before_name (codes "* LIST () \".\"") name refl sound
+list_is_line NoSelect name sound = before_name (codes "* LIST (\\Noselect) \".\"") name refl sound
+list_is_line NonExistent name sound = before_name (codes "* LIST (\\NonExistent) \".\"") name refl sound
+
+item_plain : (item : StatusItem) → IsPlain (item_text item)
+unfolding item_text
+item_plain Messages = refl
+
+count_plain : (count : StatusCount) → IsPlain (count_text count)
+unfolding count_text
+count_plain count = all_append is_within (item_text count.item) (32 ∷ decimal count.count) (item_plain count.item) (decimal_plain count.count)
+
+more_counts_plain : (counts : List StatusCount) → IsPlain (more_counts_text counts)
+unfolding more_counts_text
+more_counts_plain [] = refl
+more_counts_plain (count ∷ counts) = all_append is_within (count_text count) (more_counts_text counts) (count_plain count) (more_counts_plain counts)
+
+counts_plain : (counts : List StatusCount) → IsPlain (counts_text counts)
+unfolding counts_text
+counts_plain [] = refl
+counts_plain (count ∷ counts) = all_append is_within (count_text count) (more_counts_text counts) (count_plain count) (more_counts_plain counts)
+
+pub status_is_line : (name : List ℕ) (counts : List StatusCount) → IsPlain name → IsLine (status_line name counts)
+unfolding status_line after_text after_byte is_digit
+status_is_line name counts sound =
+    let front = codes "* STATUS " ++ mailbox_text name ++ codes " (" in
+    line_of (front ++ counts_text counts) (codes ")")
+    (all_append is_within front (counts_text counts) (all_append is_within (mailbox_text name) (codes " (") (mailbox_plain name sound) refl) (counts_plain counts))
+    refl (λ state. refl)

@@ -1,0 +1,130 @@
+-- Which bytes stand in the texts of replies.
+use Rattle.std.proofs.Common.{◌≡◌, ℕ, zero, suc, ◌+◌, ◌<◌, ◌/◌, ◌%◌, ◌==◌, Bool, true, false, ◌&&◌, not, cond, List, [], ◌∷◌, ◌++◌, length, refl, sym, ◌∙◌, ap, subst, arith}
+use Rattle.std.specs.Prelude.{nat_lt, All, map}
+use Rattle.std.specs.List.{list_all}
+use Rattle.std.specs.Fmt.{digits, digits_onto, digit_glyph, decimal}
+use Rattle.std.proofs.lemmas.Bool.{and_parts}
+use Rattle.std.proofs.lemmas.Bool.Decides.{nat_tests}
+use Rattle.std.proofs.lemmas.List.Folds.{list_all-append}
+use Rattle.std.proofs.lemmas.List.Elements.{All-head, All-tail}
+use Rattle.mur_base.specs.Number.{is_digit}
+use Rattle.imap_command.specs.Characters.{is_astring_char, is_atom_char, is_tag_byte, is_quoted_special}
+use Rattle.imap_command.specs.Strings.{escaped, escaped_text, quoted_text, is_atom}
+use Rattle.imap_reply.specs.Lines.{is_within, IsPlain}
+use Rattle.imap_reply.specs.Mailbox.{mailbox_text}
+use Rattle.imap_reply.specs.Sets.{Run, before_runs, runs_of, run_text, more_runs_text, runs_text, set_text}
+use Rattle.imap_reply.specs.SoundTexts.{is_calm, IsCalm}
+use Rattle.imap_reply.specs.Spaced.{more_spaced, spaced}
+
+pub all_append : (p : ℕ → Bool) (s t : List ℕ) → list_all p s ≡ true → list_all p t ≡ true → list_all p (s ++ t) ≡ true
+all_append p s t one other = rw (list_all-append p s t, one, other) refl
+
+pub all_weaker : (p q : ℕ → Bool) → ((c : ℕ) → p c ≡ true → q c ≡ true) → (text : List ℕ) → list_all p text ≡ true → list_all q text ≡ true
+all_weaker p q weaker [] all = refl
+all_weaker p q weaker (c ∷ text) all =
+    let both = and_parts (p c) (list_all p text) all in
+    rw (weaker c both.0, all_weaker p q weaker text both.1) refl
+
+pub calm_plain : (text : List ℕ) → IsCalm text → IsPlain text
+calm_plain text calm = all_weaker is_calm is_within (λ c h. (and_parts (is_within c) _ h).0) text calm
+
+-- numbers
+
+digit_is : (n : ℕ) → is_digit (digit_glyph false (n % 10)) ≡ true
+unfolding is_digit
+digit_is n = grind (arith, nat_tests)
+
+pub one_of : (p : ℕ → Bool) (b : Bool) (s t : List ℕ) → list_all p s ≡ true → list_all p t ≡ true → list_all p (cond b s t) ≡ true
+one_of p true s t one other = one
+one_of p false s t one other = other
+
+digits_onto_all : (k n : ℕ) (behind : List ℕ) → list_all is_digit behind ≡ true → list_all is_digit (digits_onto k 10 false n behind) ≡ true
+digits_onto_all zero n behind all = all
+digits_onto_all (suc k) n behind all =
+    let digit = digit_glyph false (n % 10) in
+    let more : list_all is_digit (digit ∷ behind) ≡ true = rw (digit_is n, all) refl in
+    one_of is_digit (n / 10 == 0) (digit ∷ behind) (digits_onto k 10 false (n / 10) (digit ∷ behind)) more
+    (digits_onto_all k (n / 10) (digit ∷ behind) more)
+
+pub decimal_digits : (n : ℕ) → list_all is_digit (decimal n) ≡ true
+unfolding digits
+decimal_digits n = digits_onto_all 64 n [] refl
+
+digit_calm : (c : ℕ) → is_digit c ≡ true → is_calm c ≡ true
+unfolding is_digit
+digit_calm c h = grind (arith, nat_tests, h)
+
+pub decimal_calm : (n : ℕ) → IsCalm (decimal n)
+decimal_calm n = all_weaker is_digit is_calm digit_calm (decimal n) (decimal_digits n)
+
+-- sets of numbers
+
+run_calm : (run : Run) → IsCalm (run_text run)
+unfolding run_text
+run_calm run =
+    one_of is_calm (run.first == run.last) (decimal run.first) (decimal run.first ++ 58 ∷ decimal run.last) (decimal_calm run.first)
+    (all_append is_calm (decimal run.first) (58 ∷ decimal run.last) (decimal_calm run.first) (decimal_calm run.last))
+
+more_runs_calm : (runs : List Run) → IsCalm (more_runs_text runs)
+unfolding more_runs_text
+more_runs_calm [] = refl
+more_runs_calm (run ∷ runs) = all_append is_calm (run_text run) (more_runs_text runs) (run_calm run) (more_runs_calm runs)
+
+runs_calm : (runs : List Run) → IsCalm (runs_text runs)
+unfolding runs_text
+runs_calm [] = refl
+runs_calm (run ∷ runs) = all_append is_calm (run_text run) (more_runs_text runs) (run_calm run) (more_runs_calm runs)
+
+pub set_calm : (numbers : List ℕ) → IsCalm (set_text numbers)
+unfolding set_text
+set_calm numbers = runs_calm (runs_of numbers)
+
+-- texts with spaces between them
+
+more_spaced_plain : (texts : List (List ℕ)) → All IsPlain texts → IsPlain (more_spaced texts)
+unfolding more_spaced
+more_spaced_plain [] all = refl
+more_spaced_plain (text ∷ texts) all =
+    all_append is_within text (more_spaced texts) (All-head IsPlain text texts all) (more_spaced_plain texts (All-tail IsPlain text texts all))
+
+pub spaced_plain : (texts : List (List ℕ)) → All IsPlain texts → IsPlain (spaced texts)
+unfolding spaced
+spaced_plain [] all = refl
+spaced_plain (text ∷ texts) all =
+    all_append is_within text (more_spaced texts) (All-head IsPlain text texts all) (more_spaced_plain texts (All-tail IsPlain text texts all))
+
+-- names
+
+atom_char_calm : (c : ℕ) → is_atom_char c ≡ true → is_calm c ≡ true
+unfolding is_atom_char is_astring_char
+atom_char_calm c h = grind (arith, nat_tests, h)
+
+tag_byte_calm : (c : ℕ) → is_tag_byte c ≡ true → is_calm c ≡ true
+unfolding is_tag_byte
+tag_byte_calm c h = grind (arith, nat_tests, h)
+
+pub tag_calm : (text : List ℕ) → list_all is_tag_byte text ≡ true → IsCalm text
+tag_calm text all = all_weaker is_tag_byte is_calm tag_byte_calm text all
+
+pub atom_calm : (text : List ℕ) → is_atom text ≡ true → IsCalm text
+unfolding is_atom
+atom_calm text h = all_weaker is_atom_char is_calm atom_char_calm text (and_parts (list_all is_atom_char text) _ h).0
+
+escaped_plain : (c : ℕ) → is_within c ≡ true → IsPlain (escaped c)
+unfolding escaped
+escaped_plain c h = one_of is_within (is_quoted_special c) (92 ∷ c ∷ []) (c ∷ []) (rw h refl) (rw h refl)
+
+escaped_text_plain : (text : List ℕ) → IsPlain text → IsPlain (escaped_text text)
+unfolding escaped_text
+escaped_text_plain [] plain = refl
+escaped_text_plain (c ∷ text) plain =
+    let both = and_parts (is_within c) (list_all is_within text) plain in
+    all_append is_within (escaped c) (escaped_text text) (escaped_plain c both.0) (escaped_text_plain text both.1)
+
+quoted_plain : (text : List ℕ) → IsPlain text → IsPlain (quoted_text text)
+unfolding quoted_text
+quoted_plain text plain = all_append is_within (escaped_text text) (34 ∷ []) (escaped_text_plain text plain) refl
+
+pub mailbox_plain : (name : List ℕ) → IsPlain name → IsPlain (mailbox_text name)
+unfolding mailbox_text
+mailbox_plain name plain = one_of is_within (is_atom name) name (quoted_text name) plain (quoted_plain name plain)

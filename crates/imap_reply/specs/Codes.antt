@@ -1,0 +1,15 @@
+-- The response code of a tagged OK, with its space, if there is one (RFC 9051, 7.1).
+use Rattle.std.specs.Prelude.{ℕ, List, [], ◌∷◌, ◌++◌, codes, decimal}
+use Rattle.mur_base.specs.Ascii.{space}
+use Rattle.mur_model.specs.declared.reply.Code.{Code}
+use Rattle.mur_model.specs.declared.reply.Code.TheVariants.{None as no_code, AppendUid, CopyUid, ExpungeIssued, ReadWrite, ReadOnly}
+use Rattle.imap_reply.specs.Sets.{set_text}
+
+unfoldable pub code_text : Code → List ℕ
+code_text no_code = []
+code_text (AppendUid serial uid) = codes "[APPENDUID " ++ (decimal serial ++ space ∷ (decimal uid ++ codes "] "))
+code_text (CopyUid serial uids copies) =
+    codes "[COPYUID " ++ (decimal serial ++ space ∷ (set_text uids ++ space ∷ (set_text copies ++ codes "] ")))
+code_text ExpungeIssued = codes "[EXPUNGEISSUED] "
+code_text ReadWrite = codes "[READ-WRITE] "
+code_text ReadOnly = codes "[READ-ONLY] "

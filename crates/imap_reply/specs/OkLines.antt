@@ -1,0 +1,22 @@
+-- Untagged lines OK with the response codes of a mailbox that is selected (RFC 9051, 7.1 and 7.1.1).
+use Rattle.std.specs.Prelude.{ℕ, Bool, true, false, List, [], ◌∷◌, ◌++◌, codes, decimal, map}
+use Rattle.mail_message.specs.declared.flag_name.FlagName.{FlagName}
+use Rattle.imap_reply.specs.Spaced.{spaced}
+use Rattle.imap_reply.specs.FlagsLine.{flag_text}
+
+unfoldable pub closed_line : List ℕ
+closed_line = codes "* OK [CLOSED] closed\r\n"
+
+-- `\*`: the client can make keywords
+unfoldable pub new_keywords : Bool → List (List ℕ)
+new_keywords true = codes "\\*" ∷ []
+new_keywords false = []
+
+unfoldable pub permanent_line : List FlagName → Bool → List ℕ
+permanent_line flags new = codes "* OK [PERMANENTFLAGS (" ++ spaced (map flag_text flags ++ new_keywords new) ++ codes ")] flags\r\n"
+
+unfoldable pub uid_next_line : ℕ → List ℕ
+uid_next_line uid = codes "* OK [UIDNEXT " ++ decimal uid ++ codes "] next\r\n"
+
+unfoldable pub uid_validity_line : ℕ → List ℕ
+uid_validity_line serial = codes "* OK [UIDVALIDITY " ++ decimal serial ++ codes "] validity\r\n"

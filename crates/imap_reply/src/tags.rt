@@ -1,0 +1,16 @@
+// What stands for a tag (RFC 9051, 2.2.1).
+ghost use Rattle.std.specs.Prelude.{◌≡◌, ◌++◌, OnOk};
+ghost use Rattle.imap_reply.specs.Tags.{tag_text};
+
+use mur_base::{Bytes, Memory};
+use mur_model::Tag;
+
+#[tactic(auto, unfolding(crate::specs::Tags::tag_text))]
+pub fn put_tag(tag: &Tag, out: &mut Bytes) -> Result<(), Memory>
+    ensures { OnOk result (out.new ≡ out.old ++ tag_text tag.now) }
+{
+    match tag {
+        Tag::Star => out.extend_from_slice(b"*"),
+        Tag::Text(text) => out.extend_from_slice(text.as_slice()),
+    }
+}
