@@ -15,7 +15,7 @@ use Rattle.imap_reply.specs.ByeLine.{bye_line, bye_of}
 use Rattle.imap_reply.specs.Continuation.{ready}
 use Rattle.imap_reply.specs.Greeting.{greeting}
 use Rattle.imap_reply.specs.ReplyText.{reply_text}
-use Rattle.imap_reply.specs.Transcript.{answer_text, replies_to}
+use Rattle.imap_reply.specs.Transcript.{answer_text, ends, replies_to}
 use Rattle.imap_reply.proofs.TranscriptGrows.{AreAnswered, Grows, whole_answered, too_big_answered, literal_awaited, fault_told}
 use Rattle.imap_wire.specs.declared.frame.Frame.{Frame}
 use Rattle.imap_wire.specs.declared.frame.FrameFault.{FrameFault}
@@ -58,6 +58,7 @@ use Rattle.cluster_core.proofs.FrontAnswers.{IsTaken, request_taken}
 use Rattle.cluster_core.proofs.FrontAnswers.IsTaken.{here, asked}
 use Rattle.cluster_core.proofs.RequestsOf.{requests_of, requests-append, answered_lengths, next_request, replies_stop}
 use Rattle.cluster_core.proofs.ServedAlike.{IsStoreOf}
+use Rattle.cluster_core.proofs.StaysLaw.{Stays, stays_answered}
 use Rattle.cluster_core.proofs.Told.{IsTold, having_said, next_mark, next_course, told_push}
 use Rattle.cluster_core.proofs.Ways.{AreOnWay, ask_sent, sent_for_another, ask_of_another}
 
@@ -144,7 +145,7 @@ answered_here : (setting : Setting) (front home : List ℕ) (backend : Backend) 
     → ((store : Store) → answer_of setting store
     (was.story.course.sessions conn) request 0 ≡ record { store = store; session = session; answer = record { tag = tag; reply = reply } })
     → ((store : Store) → MayTake setting store (was.story.course.sessions conn) request 0)
-    → ((answer : Answer) → Grows frames next (was.story.told conn) (was.story.told conn ++ answer ∷ []) (answer_text answer))
+    → ((answer : Answer) → Stays answer.reply → Grows frames next (was.story.told conn) (was.story.told conn ++ answer ∷ []) (answer_text answer))
     → ReadsOn setting front home backend conn next (answers conn connection session tag reply).connection before told
     (carry_all front world (answers conn connection session tag reply).outs)
 unfolding answers
@@ -161,7 +162,8 @@ answered_here setting front home backend conn frames next connection before told
     let world_is = answer_carried front world conn client text (record { conn = conn; command = connection.answered + 1 }) was.reading.client in
     let after_world = marked_world (given_world world conn client text) (record { conn = conn; command = connection.answered + 1 }) in
     let now : Story = said_story setting story conn request answer in
-    let grown = grows answer in
+    let stays : Stays reply = sym (ap (λ (a : Answered). ends (a.answer).reply) out) ∙ stays_answered setting course.store (course.sessions conn) request 0 in
+    let grown = grows answer stays in
     subst (λ w. ReadsOn setting front home backend conn next (answers conn connection session tag reply).connection before told w) (sym world_is)
     (record {
       story = now;
@@ -441,7 +443,7 @@ request_kept setting front home backend conn frames new bytes held connection be
     (reads_frame setting home conn connection (Whole bytes) was.reading.stage_is ∙ form connection was.reading.session_is) all follow
     (answered_here setting front home backend conn frames (frames ++ Whole bytes ∷ []) connection before told world (request_of bytes) tag reply session was
     (next_of setting front home backend conn frames new (Whole bytes) connection before told world (request_of bytes) was all refl) is free
-    (λ answer. whole_answered frames (was.story.told conn) bytes answer was.reading.answered))
+    (λ answer stays. whole_answered frames (was.story.told conn) bytes answer was.reading.answered stays))
 request_kept setting front home backend conn frames new bytes held connection before told world was last all follow (asked tag it name work is need form) =
     let turned : Turned = asks home conn connection tag name work in
     let waits_all : frames_come setting home conn turned.connection new ≡
@@ -468,7 +470,7 @@ big_kept setting front home backend conn frames new bytes held connection before
     (answered_here setting front home backend conn frames (frames ++ TooBig bytes ∷ []) connection before told world
     (too_big_request bytes) tag reply session was
     (next_of setting front home backend conn frames new (TooBig bytes) connection before told world (too_big_request bytes) was all refl) is free
-    (λ answer. too_big_answered frames (was.story.told conn) bytes answer was.reading.answered))
+    (λ answer stays. too_big_answered frames (was.story.told conn) bytes answer was.reading.answered stays))
 big_kept setting front home backend conn frames new bytes held connection before told world was all follow (asked tag it name work is need form) = cc
 
 -- all frames of a piece, or all that waited

@@ -39,6 +39,7 @@ use Rattle.mur_model.proofs.Numbered.{with_item, with_item-same, with_item-other
 use Rattle.cluster_core.specs.declared.world.Client.{Client}
 use Rattle.cluster_core.specs.declared.world.World.{World}
 use Rattle.cluster_core.specs.World.{client_at, front_at, carry, carry_all}
+use Rattle.cluster_core.proofs.StaysLaw.{Stays}
 use Rattle.cluster_core.proofs.ConnectionLaw.{Story, told_of, client_with, keeps_all, GoesOnAt, IsReading, IsMade, ReadsOn, StandsOn}
 use Rattle.cluster_core.proofs.FrameLaw.{carry_all-append, given_world, line_carried, given_keeps, frames_kept}
 use Rattle.cluster_core.proofs.RequestsOf.{requests_of, replies_stop}
@@ -68,14 +69,14 @@ replied_reads : (setting : Setting) (front home : List ℕ) (backend : Backend) 
     → client_at world conn ≡ Some (client_with front all (story.told conn))
     → connection.session ≡ story.course.sessions conn → AreAnswered passed (story.told conn)
     → story.talk.answers conn ≡ story.told conn ++ (record { tag = tag; reply = reply }) ∷ []
-    → AreOnWay world.links conn front home [] [] → IsTold setting world.steps world.marks backend story.talk story.course
+    → Stays reply → AreOnWay world.links conn front home [] [] → IsTold setting world.steps world.marks backend story.talk story.course
     → ReadsOn setting front home backend conn (passed ++ Whole bytes ∷ []) (reading_again connection) world story
     (carry_all front world (to_client conn (reply_text tag reply) ∷ []))
-replied_reads setting front home backend conn all passed bytes connection tag reply world story parts count at session answered said way told =
+replied_reads setting front home backend conn all passed bytes connection tag reply world story parts count at session answered said stays way told =
     let answer : AnswerOf = record { tag = tag; reply = reply } in
     let client : Client = client_with front all (story.told conn) in
     let text : List ℕ = reply_text tag reply in
-    let grown = whole_answered passed (story.told conn) bytes answer answered in
+    let grown = whole_answered passed (story.told conn) bytes answer answered stays in
     let now : Story = told_more story conn answer in
     let stops : replies_to all (story.told conn) ≡ replies_to passed (story.told conn) =
     ap (λ f. replies_to f (story.told conn)) parts ∙ sym (replies_stop passed (story.told conn) bytes connection.waiting answered) in
@@ -115,11 +116,11 @@ pub replied_stands : (setting : Setting) (front home : List ℕ) (backend : Back
     → client_at world conn ≡ Some (client_with front all (story.told conn))
     → connection.session ≡ story.course.sessions conn → AreAnswered passed (story.told conn)
     → story.talk.answers conn ≡ story.told conn ++ (record { tag = tag; reply = reply }) ∷ []
-    → AreOnWay world.links conn front home [] [] → IsTold setting world.steps world.marks backend story.talk story.course
+    → Stays reply → AreOnWay world.links conn front home [] [] → IsTold setting world.steps world.marks backend story.talk story.course
     → FaultsLast connection.waiting held → story.talk.requests conn ≡ requests_of all
     → StandsOn setting front home backend conn all held (replied_turn setting home conn connection tag reply).connection world story
     (carry_all front world (replied_turn setting home conn connection tag reply).outs)
-replied_stands setting front home backend conn all passed held bytes connection tag reply world story parts count at session answered said way told last asked =
+replied_stands setting front home backend conn all passed held bytes connection tag reply world story parts count at session answered said stays way told last asked =
     let turned : Turned = frames_come setting home conn (reading_again connection) connection.waiting in
     let whole : all ≡ (passed ++ Whole bytes ∷ []) ++ connection.waiting = parts ∙ sym (append_assoc passed (Whole bytes ∷ []) connection.waiting) in
     subst (λ w. StandsOn setting front home backend conn all held turned.connection world story w)
@@ -129,7 +130,7 @@ replied_stands setting front home backend conn all passed held bytes connection 
     (frames_kept setting front home backend conn connection.waiting held world story last (passed ++ Whole bytes ∷ []) (reading_again connection)
     (carry_all front world (to_client conn (reply_text tag reply) ∷ []))
     (asked ∙ ap requests_of whole)
-    (replied_reads setting front home backend conn all passed bytes connection tag reply world story parts count at session answered said way told)))
+    (replied_reads setting front home backend conn all passed bytes connection tag reply world story parts count at session answered said stays way told)))
 
 -- the answer that fits is replied to
 pub fits : (setting : Setting) (home : List ℕ) (conn : ℕ) (connection : Connection) (tag : Tag) (work : Work) (body : AnswerBody) (reply : Reply)

@@ -26,6 +26,7 @@ use Rattle.cluster_core.proofs.ConnectionLaw.{Story, told_of, keeps_all, same_st
 use Rattle.cluster_core.proofs.ConnectionLaw.OnItsWay.{there, back}
 use Rattle.cluster_core.proofs.ConnectionLaw.Stands.{reads, waits, faulted}
 use Rattle.cluster_core.proofs.ConnectionLaw.IsLeft.{nothing, its_ask, its_answer}
+use Rattle.cluster_core.proofs.StaysLaw.{stays_shown}
 use Rattle.cluster_core.proofs.KeepsAnswer.{replied_turn, replied_stands, fits, ended_drops_answer}
 use Rattle.cluster_core.proofs.KeepsData.{frames_keep_reader, looks_same}
 use Rattle.cluster_core.proofs.KeepsDeliver.{ask_by, to_front, quiet_keeps, IsQuiet}
@@ -106,7 +107,7 @@ answer_open config heard after world law from to answer rest conn bytes node fro
     subst (λ x. KeepsOn config (told_of law.story) after (comes_to (taken world from x) from x (Answer answer) (front_at world x))) (sym took.1)
     (replied_kept config heard after world law from answer rest conn bytes node front connection tag reply first_here same own e at reader comes
     (replied_stands (setting_of config) node (home_of config) law.backend conn (frames bytes) passed (begun bytes) asking connection tag reply
-    (taken world from node) law.story parts standing.count standing.client s answered said
+    (taken world from node) law.story parts standing.count standing.client s answered said (stays_shown (awaited_of work) body reply shown)
     (subst (λ x. AreOnWay (without_first world.links from x) conn node (home_of config) [] []) took.1 took.3) law.is_told last
     (law.requests conn ∙ ap (λ h. requests_of (frames_heard h)) e)))
 

@@ -5,6 +5,7 @@ pub mod CreateLaw
 pub mod AppendLaw
 pub mod StatusLaw
 pub mod ServeLaw
+pub mod StaysLaw
 pub mod Marks
 pub mod Told
 pub mod RequestsOf

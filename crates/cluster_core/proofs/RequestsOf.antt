@@ -3,9 +3,10 @@ use Rattle.std.proofs.Common.{◌≡◌, ℕ, ◌+◌, List, [], ◌∷◌, ◌+
 use Rattle.std.proofs.lemmas.List.{append-nil}
 use Rattle.imap_command.specs.Request.{request_of, too_big_request}
 use Rattle.imap_command.proofs.RequestLaws.{request_is, too_big_is}
-use Rattle.imap_reply.specs.Transcript.{answer_text, replies_to}
+use Rattle.imap_reply.specs.Transcript.{stop_text, replies_to}
+use Rattle.imap_reply.specs.Transcript.Stop.{silent}
 use Rattle.imap_reply.specs.Continuation.{ready}
-use Rattle.imap_reply.proofs.TranscriptGrows.{AreAnswered}
+use Rattle.imap_reply.proofs.TranscriptGrows.{AreAnswered, unanswered_told}
 use Rattle.imap_wire.specs.declared.frame.Frame.{Frame}
 use Rattle.imap_wire.specs.declared.frame.Frame.TheVariants.{Whole, NeedLiteral, TooBig, Fault}
 use Rattle.mur_model.specs.declared.request.Answer.{Answer}
@@ -61,9 +62,9 @@ answered_lengths [] (a ∷ answers) all = absurd all
 answered_lengths (NeedLiteral size ∷ frames) answers all = answered_lengths frames answers all
 answered_lengths (Fault fault ∷ frames) answers all = absurd all
 answered_lengths (Whole bytes ∷ frames) [] all = absurd all
-answered_lengths (Whole bytes ∷ frames) (a ∷ answers) all = omega (arith, answered_lengths frames answers all)
+answered_lengths (Whole bytes ∷ frames) (a ∷ answers) all = omega (arith, answered_lengths frames answers all.1)
 answered_lengths (TooBig bytes ∷ frames) [] all = absurd all
-answered_lengths (TooBig bytes ∷ frames) (a ∷ answers) all = omega (arith, answered_lengths frames answers all)
+answered_lengths (TooBig bytes ∷ frames) (a ∷ answers) all = omega (arith, answered_lengths frames answers all.1)
 
 -- the request behind those that were answered
 pub next_request : (requests more : List Request) (request : Request) (answered : ℕ) → length requests ≡ answered
@@ -76,12 +77,6 @@ next_request requests more request answered e =
 -- nothing is told behind a request that has no answer
 pub replies_stop : (frames : List Frame) (answers : List Answer) (bytes : List ℕ) (more : List Frame) → AreAnswered frames answers
     → replies_to frames answers ≡ replies_to (frames ++ Whole bytes ∷ more) answers
-unfolding AreAnswered replies_to
-replies_stop [] [] bytes more all = refl
-replies_stop [] (a ∷ answers) bytes more all = absurd all
-replies_stop (NeedLiteral size ∷ frames) answers bytes more all = ap (λ t. ready ++ t) (replies_stop frames answers bytes more all)
-replies_stop (Fault fault ∷ frames) answers bytes more all = absurd all
-replies_stop (Whole b ∷ frames) [] bytes more all = absurd all
-replies_stop (Whole b ∷ frames) (a ∷ answers) bytes more all = ap (λ t. answer_text a ++ t) (replies_stop frames answers bytes more all)
-replies_stop (TooBig b ∷ frames) [] bytes more all = absurd all
-replies_stop (TooBig b ∷ frames) (a ∷ answers) bytes more all = ap (λ t. answer_text a ++ t) (replies_stop frames answers bytes more all)
+unfolding stop_text
+replies_stop frames answers bytes more all =
+    sym (append-nil (replies_to frames answers)) ∙ sym (unanswered_told silent frames answers bytes more all)
