@@ -9,7 +9,7 @@ use Rattle.front_core.specs.declared.connection.Connection.{Connection}
 use Rattle.front_core.specs.declared.connection.Stage.{Stage}
 use Rattle.front_core.specs.declared.connection.Stage.TheVariants.{Reading, Asked, Ended}
 use Rattle.front_core.specs.declared.front.Front.{Front}
-use Rattle.front_core.specs.Answered.{reading_again, unchanged, replied, answer_by, answer_comes}
+use Rattle.front_core.specs.Answered.{reading_again, unchanged, replied, answer_by, answer_comes, text_shown}
 use Rattle.front_core.specs.Awaited.{awaited_of, reply_shown}
 use Rattle.front_core.specs.Front.{connection_at, deliver, answer_at, with_turned}
 use Rattle.front_core.specs.Taken.{Turned, frames_come, behind_outs}
@@ -144,7 +144,7 @@ fits setting home conn connection tag work body reply stage shown =
     ap (λ b. answer_by setting home conn connection
     (record { id = record { conn = conn; command = connection.answered + 1 }; body = body }) b connection.stage) same
     ∙ ap (answer_by setting home conn connection (record { id = record { conn = conn; command = connection.answered + 1 }; body = body }) true) stage
-    ∙ ap (replied setting home conn connection tag) shown
+    ∙ ap (λ r. replied setting home conn connection (text_shown tag r)) shown
 
 ended_by : (setting : Setting) (home : List ℕ) (conn : ℕ) (connection : Connection) (answer : BackAnswer) (fits : Bool)
     → answer_by setting home conn connection answer fits Ended ≡ unchanged connection

@@ -17,7 +17,7 @@ use Rattle.front_core.specs.declared.connection.Awaited.{Awaited}
 use Rattle.front_core.specs.declared.connection.Connection.{Connection}
 use Rattle.front_core.specs.declared.connection.Stage.{Stage}
 use Rattle.front_core.specs.declared.connection.Stage.TheVariants.{Reading, Asked, Ended}
-use Rattle.front_core.specs.Answered.{answer_comes, answer_by, replied, reading_again}
+use Rattle.front_core.specs.Answered.{answer_comes, answer_by, replied, reading_again, text_shown}
 use Rattle.front_core.specs.Awaited.{reply_shown}
 use Rattle.front_core.specs.Front.{is_asked}
 use Rattle.front_core.specs.Room.{commands_of}
@@ -60,16 +60,16 @@ module _ (setting : Setting) (home : List ℕ) (conn : ℕ) where
   frames_count c (frame ∷ frames) =
       omega (arith, frame_counts c frame, frames_count (frame_comes setting home conn c frame).connection frames)
 
-  replied_counts : (c : Connection) (tag : Tag) (awaited : Awaited) (reply : Option Reply) → c.stage ≡ Asked tag awaited
-      → commands_of (replied setting home conn c tag reply).connection ≤ commands_of c
+  replied_counts : (c : Connection) (tag : Tag) (awaited : Awaited) (text : Option (List ℕ)) → c.stage ≡ Asked tag awaited
+      → commands_of (replied setting home conn c text).connection ≤ commands_of c
   unfolding is_asked
   replied_counts c tag awaited None is = omega arith
-  replied_counts c tag awaited (Some reply) is = omega (arith, frames_count (reading_again c) c.waiting, ap is_asked is)
+  replied_counts c tag awaited (Some text) is = omega (arith, frames_count (reading_again c) c.waiting, ap is_asked is)
 
   answer_counts_by : (c : Connection) (answer : BackAnswer) (fits : Bool) (stage : Stage) → c.stage ≡ stage
       → commands_of (answer_by setting home conn c answer fits stage).connection ≤ commands_of c
   unfolding answer_by
-  answer_counts_by c answer true (Asked tag awaited) is = replied_counts c tag awaited (reply_shown awaited answer.body) is
+  answer_counts_by c answer true (Asked tag awaited) is = replied_counts c tag awaited (text_shown tag (reply_shown awaited answer.body)) is
   answer_counts_by c answer true Reading is = omega arith
   answer_counts_by c answer true Ended is = omega arith
   answer_counts_by c answer false stage is = omega arith

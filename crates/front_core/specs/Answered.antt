@@ -19,15 +19,20 @@ reading_again connection = record connection { waiting = []; stage = Reading; an
 abbrev pub unchanged : Connection → Turned
 unchanged connection = record { connection = connection; outs = [] }
 
-abbrev pub replied : Setting → List ℕ → ℕ → Connection → Tag → Option Reply → Turned
-replied setting home conn connection tag None = unchanged connection
-replied setting home conn connection tag (Some reply) =
-    behind_outs (Client conn (reply_text tag reply) ∷ []) (frames_come setting home conn (reading_again connection) connection.waiting)
+-- the bytes of a reply, if there is one
+abbrev pub text_shown : Tag → Option Reply → Option (List ℕ)
+text_shown tag None = None
+text_shown tag (Some reply) = Some (reply_text tag reply)
+
+abbrev pub replied : Setting → List ℕ → ℕ → Connection → Option (List ℕ) → Turned
+replied setting home conn connection None = unchanged connection
+replied setting home conn connection (Some text) =
+    behind_outs (Client conn text ∷ []) (frames_come setting home conn (reading_again connection) connection.waiting)
 
 -- an answer to another command than the one that waits changes nothing
 unfoldable pub answer_by : Setting → List ℕ → ℕ → Connection → BackAnswer → Bool → Stage → Turned
 answer_by setting home conn connection answer true (Asked tag awaited) =
-    replied setting home conn connection tag (reply_shown awaited answer.body)
+    replied setting home conn connection (text_shown tag (reply_shown awaited answer.body))
 answer_by setting home conn connection answer fits stage = unchanged connection
 
 unfoldable pub answer_comes : Setting → List ℕ → ℕ → Connection → BackAnswer → Turned

@@ -1,17 +1,18 @@
 // The answer of a home to the command that waits for it.
 ghost use Rattle.std.specs.Prelude.{◌≡◌, ◌+◌, ◌<◌, ◌^◌, [], ◌∷◌, length, IfOk};
 ghost use Rattle.link_msg.specs.declared.out.Out.TheVariants.{Client};
-ghost use Rattle.front_core.specs.Answered.{answer_comes, reading_again};
+ghost use Rattle.front_core.specs.Answered.{answer_comes, reading_again, text_shown};
+ghost use Rattle.front_core.specs.Awaited.{reply_shown};
 ghost use Rattle.front_core.specs.Room.{commands_of};
 ghost use Rattle.front_core.specs.Taken.{frames_come, behind_outs};
 
 use crate::awaited::reply_shown;
-use crate::connection::{Connection, Stage};
+use crate::connection::{Awaited, Connection, Stage};
 use crate::taken::reply_bytes;
 use crate::waiting::waiting_come;
-use link_msg::{BackAnswer, Out, Outs};
+use link_msg::{AnswerBody, BackAnswer, Out, Outs};
 use mur_base::{Bytes, Memory, NodeName};
-use mur_model::Setting;
+use mur_model::{Setting, Tag};
 use std::alloc::Global;
 
 /// Takes an answer, where it is one to the command that waits: the client is given its reply, and the frames that waited
@@ -31,13 +32,27 @@ pub fn answer_comes(
 {
     match &connection.stage {
         Stage::Asked(tag, awaited) if answer.id.command == connection.answered + 1 => {
-            let Some(reply) = reply_shown(alloc, awaited, answer.body)? else {
+            let Some(bytes) = bytes_shown(alloc, tag, awaited, answer.body)? else {
                 return Ok(Outs::new(alloc));
             };
-            let bytes = reply_bytes(alloc, tag, &reply)?;
             read_again(alloc, setting, home, conn, connection, bytes)
         }
         _ => Ok(Outs::new(alloc)),
+    }
+}
+
+/// The bytes of the reply to a home's answer; none where it doesn't fit what was asked.
+fn bytes_shown(
+    alloc: Global,
+    tag: &Tag,
+    awaited: &Awaited,
+    body: AnswerBody,
+) -> Result<Option<Bytes>, Memory>
+    ensures { IfOk result (λ bytes. bytes ≡ text_shown tag.now (reply_shown awaited.now body)) }
+{
+    match reply_shown(alloc, awaited, body)? {
+        Some(reply) => Ok(Some(reply_bytes(alloc, tag, reply)?)),
+        None => Ok(None),
     }
 }
 

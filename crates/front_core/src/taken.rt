@@ -123,11 +123,11 @@ fn request_in(
         }
         Request::Unknown(tag) => {
             let reply = reply_of(alloc, Verdict::Bad(BadText::Syntax));
-            answers(alloc, conn, connection, &tag, &reply, outs)
+            answers(alloc, conn, connection, &tag, reply, outs)
         }
         Request::TooBig(tag) => {
             let reply = refused(alloc, NoText::Limit);
-            answers(alloc, conn, connection, &tag, &reply, outs)
+            answers(alloc, conn, connection, &tag, reply, outs)
         }
     }
 }
@@ -150,12 +150,12 @@ fn need_in(
     match need {
         Need::Refusal(verdict) => {
             let reply = reply_of(alloc, verdict);
-            answers(alloc, conn, connection, &tag, &reply, outs)
+            answers(alloc, conn, connection, &tag, reply, outs)
         }
         Need::Login(user) => {
             connection.session = Sess::In(user);
             let reply = completed(alloc, b"LOGIN")?;
-            answers(alloc, conn, connection, &tag, &reply, outs)
+            answers(alloc, conn, connection, &tag, reply, outs)
         }
         Need::Mailbox(name, work) => asks(alloc, home, conn, connection, tag, name, work, outs),
     }
@@ -177,12 +177,12 @@ fn answers(
     conn: u64,
     connection: &mut Connection,
     tag: &Tag,
-    reply: &Reply,
+    reply: Reply,
     outs: &mut Outs,
 ) -> Result<(), Memory>
     requires room { connection.old.answered + 1 < 2 ^ 64 }
     ensures { OnOk result (record { connection = connection.new; outs = outs.new }
-        ≡ behind_outs outs.old (answers conn connection.old connection.old.session tag.now reply.now)) }
+        ≡ behind_outs outs.old (answers conn connection.old connection.old.session tag.now reply)) }
 {
     connection.answered += 1;
     let id = AskId {
@@ -197,10 +197,10 @@ fn answers(
 const REPLY_ROOM: usize = 64;
 
 /// The bytes of a reply.
-pub fn reply_bytes(alloc: Global, tag: &Tag, reply: &Reply) -> Result<Bytes, Memory>
-    ensures { IfOk result (λ bytes. bytes ≡ reply_text tag.now reply.now) }
+pub fn reply_bytes(alloc: Global, tag: &Tag, reply: Reply) -> Result<Bytes, Memory>
+    ensures { IfOk result (λ bytes. bytes ≡ reply_text tag.now reply) }
 {
     let mut bytes = Bytes::from_vec(Vec::with_capacity(alloc, REPLY_ROOM)?);
-    write(tag, reply, &mut bytes)?;
+    write(tag, &reply, &mut bytes)?;
     Ok(bytes)
 }
