@@ -11,3 +11,4 @@ pub mod TaggedIsLine
 pub mod OneCut
 pub mod NoForgery
 pub mod PlainNames
+pub mod AnswersStay

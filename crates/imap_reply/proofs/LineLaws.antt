@@ -68,8 +68,8 @@ part_fits _ line (with_literal text octets rest one counted inner) fits =
     let behind : IsLine (rest ++ line) = (part_fits rest line inner fits).before [] refl in
     record {
       before = λ front before.
-        subst IsLine (regroup front text (literal octets) rest line)
-        (goes_on (front ++ text) octets (rest ++ line) (all_append is_within front text before one) counted behind);
+          subst IsLine (regroup front text (literal octets) rest line)
+          (goes_on (front ++ text) octets (rest ++ line) (all_append is_within front text before one) counted behind);
     }
   where
     regroup : (a b c d e : List ℕ) → (a ++ b) ++ (c ++ (d ++ e)) ≡ a ++ ((b ++ (c ++ d)) ++ e)
