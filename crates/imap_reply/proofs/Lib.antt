@@ -12,3 +12,4 @@ pub mod OneCut
 pub mod NoForgery
 pub mod PlainNames
 pub mod AnswersStay
+pub mod SoundAnswers
