@@ -1,5 +1,6 @@
 -- Each line that is written is one line.
-use Rattle.std.proofs.Common.{◌≡◌, ℕ, ◌<◌, ◌==◌, Bool, true, false, not, cond, List, [], ◌∷◌, ◌++◌, length, map, codes, decimal, refl, sym, ◌∙◌, ap, subst, append_assoc, arith}
+use Rattle.std.proofs.Common.{◌≡◌, ℕ, ◌<◌, ◌==◌, Bool, true, false, not, cond, List, [], ◌∷◌}
+use Rattle.std.proofs.Common.{◌++◌, length, map, codes, decimal, refl, sym, ◌∙◌, ap, subst, append_assoc, arith}
 use Rattle.std.proofs.Common.{Option, None, Some}
 use Rattle.std.specs.Prelude.{All, nat_lt}
 use Rattle.std.specs.List.{list_all, list_any, slice_split, onto_first}
@@ -40,7 +41,7 @@ use Rattle.imap_reply.specs.FetchLine.{fetch_line}
 use Rattle.imap_reply.specs.FlagsLine.{system_flag_text, flag_text, flags_text, flags_line}
 use Rattle.imap_reply.specs.ListLine.{attribute_text, list_line}
 use Rattle.imap_reply.specs.Mailbox.{mailbox_text}
-use Rattle.imap_reply.specs.OkLines.{closed_line, new_keywords, permanent_line, uid_next_line, uid_validity_line}
+use Rattle.imap_reply.specs.OkLines.{closed_line, new_keywords, permanent_texts, permanent_line, uid_next_line, uid_validity_line}
 use Rattle.imap_reply.specs.SearchLine.{uid_text, all_text, search_line}
 use Rattle.imap_reply.specs.Sets.{set_text}
 use Rattle.imap_reply.specs.Spaced.{spaced}
@@ -127,17 +128,17 @@ unfolding flags_line flags_text after_text after_byte is_digit
 flags_is_line flags sound =
     line_of (codes "* FLAGS (" ++ spaced (map flag_text flags)) (codes ")") (spaced_plain (map flag_text flags) (flags_plain flags sound)) refl (λ state. refl)
 
-new_plain : (new : Bool) → All IsPlain (new_keywords new)
-unfolding new_keywords
-new_plain true = All-cons IsPlain (codes "\\*") [] refl (All-nil IsPlain)
-new_plain false = All-nil IsPlain
+permanent_plain : (flags : List FlagName) (new : Bool) → All IsSoundFlag flags → All IsPlain (permanent_texts flags new)
+unfolding permanent_texts
+permanent_plain flags true sound =
+    All-append IsPlain (map flag_text flags) (new_keywords ∷ []) (flags_plain flags sound) (All-cons IsPlain new_keywords [] refl (All-nil IsPlain))
+permanent_plain flags false sound = flags_plain flags sound
 
 pub permanent_is_line : (flags : List FlagName) (new : Bool) → All IsSoundFlag flags → IsLine (permanent_line flags new)
 unfolding permanent_line after_text after_byte is_digit
 permanent_is_line flags new sound =
-    let texts = map flag_text flags ++ new_keywords new in
-    line_of (codes "* OK [PERMANENTFLAGS (" ++ spaced texts) (codes ")] flags")
-    (spaced_plain texts (All-append IsPlain (map flag_text flags) (new_keywords new) (flags_plain flags sound) (new_plain new))) refl (λ state. refl)
+    line_of (codes "* OK [PERMANENTFLAGS (" ++ spaced (permanent_texts flags new)) (codes ")] flags")
+    (spaced_plain (permanent_texts flags new) (permanent_plain flags new sound)) refl (λ state. refl)
 
 -- names
 
@@ -177,5 +178,6 @@ unfolding status_line after_text after_byte is_digit
 status_is_line name counts sound =
     let front = codes "* STATUS " ++ mailbox_text name ++ codes " (" in
     line_of (front ++ counts_text counts) (codes ")")
-    (all_append is_within front (counts_text counts) (all_append is_within (mailbox_text name) (codes " (") (mailbox_plain name sound) refl) (counts_plain counts))
+    (all_append is_within front (counts_text counts)
+    (all_append is_within (mailbox_text name) (codes " (") (mailbox_plain name sound) refl) (counts_plain counts))
     refl (λ state. refl)

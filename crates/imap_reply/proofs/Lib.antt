@@ -11,3 +11,5 @@ pub mod TaggedIsLine
 pub mod OneCut
 pub mod NoForgery
 pub mod PlainNames
+pub mod AnswersStay
+pub mod SoundAnswers

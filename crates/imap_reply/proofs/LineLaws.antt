@@ -1,5 +1,6 @@
 -- How texts make lines.
-use Rattle.std.proofs.Common.{◌≡◌, ℕ, ◌<◌, ◌^◌, ◌==◌, Bool, true, false, ◌&&◌, not, cond, List, [], ◌∷◌, ◌++◌, length, refl, sym, ◌∙◌, ap, subst, append_assoc, arith}
+use Rattle.std.proofs.Common.{◌≡◌, ℕ, ◌<◌, ◌^◌, ◌==◌, Bool, true, false, ◌&&◌, not, cond}
+use Rattle.std.proofs.Common.{List, [], ◌∷◌, ◌++◌, length, refl, sym, ◌∙◌, ap, subst, append_assoc, arith}
 use Rattle.std.proofs.lemmas.Bool.{and_parts}
 use Rattle.std.proofs.lemmas.Bool.Decides.{nat_tests}
 use Rattle.std.specs.List.{list_all}
@@ -68,8 +69,8 @@ part_fits _ line (with_literal text octets rest one counted inner) fits =
     let behind : IsLine (rest ++ line) = (part_fits rest line inner fits).before [] refl in
     record {
       before = λ front before.
-        subst IsLine (regroup front text (literal octets) rest line)
-        (goes_on (front ++ text) octets (rest ++ line) (all_append is_within front text before one) counted behind);
+          subst IsLine (regroup front text (literal octets) rest line)
+          (goes_on (front ++ text) octets (rest ++ line) (all_append is_within front text before one) counted behind);
     }
   where
     regroup : (a b c d e : List ℕ) → (a ++ b) ++ (c ++ (d ++ e)) ≡ a ++ ((b ++ (c ++ d)) ++ e)

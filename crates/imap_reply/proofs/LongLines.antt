@@ -61,7 +61,6 @@ fetch_is_line number parts sound =
 
 -- rights
 
-
 rights_calm : (letters : List ℕ) → IsCalm letters → IsCalm (rights_text letters)
 unfolding rights_text create_text delete_text
 rights_calm letters calm =
@@ -119,7 +118,7 @@ named front name end one other calm =
     let text = mailbox_text name ++ end in
     let plain : IsPlain text = all_append is_within (mailbox_text name) end (mailbox_plain name other) (calm_plain end calm) in
     let state : after_text nothing text ≡ nothing =
-        after_append nothing (mailbox_text name) end ∙ ap (λ state. after_text state end) (mailbox_state name) ∙ after_calm end calm in
+    after_append nothing (mailbox_text name) end ∙ ap (λ state. after_text state end) (mailbox_state name) ∙ after_calm end calm in
     subst IsLine (regroup front (mailbox_text name) end crlf) ((end_fits text plain state).before front one)
   where
     regroup : (a b c d : List ℕ) → a ++ (32 ∷ ((b ++ c) ++ d)) ≡ (((a ++ 32 ∷ []) ++ b) ++ c) ++ d

@@ -1,5 +1,6 @@
 -- No text forges a reply.
-use Rattle.std.proofs.Common.{◌≡◌, ℕ, ◌<◌, ◌==◌, Bool, true, false, ◌&&◌, List, [], ◌∷◌, ◌++◌, length, map, codes, refl, sym, ◌∙◌, ap, subst, append_assoc, arith}
+use Rattle.std.proofs.Common.{◌≡◌, ℕ, ◌<◌, ◌==◌, Bool, true, false, ◌&&◌, List, [], ◌∷◌}
+use Rattle.std.proofs.Common.{◌++◌, length, map, codes, refl, sym, ◌∙◌, ap, subst, append_assoc, arith}
 use Rattle.std.specs.Prelude.{All}
 use Rattle.std.specs.List.{list_all, concat}
 use Rattle.std.proofs.lemmas.Bool.{and_parts}
@@ -97,7 +98,8 @@ unfolding is_tag_byte
 no_star c h = grind (arith, nat_tests, h)
 
 star_first : (tag : Tag) (line : ReplyLine) (c : ℕ) (word : List ℕ) → (c == 42) ≡ false → begins_with (c ∷ word) (line_text tag line) ≡ false
-unfolding begins_with line_text capability_line bye_line enabled_line closed_line flags_line exists_line list_line permanent_line uid_next_line uid_validity_line status_line search_line expunge_line fetch_line acl_line my_rights_line
+unfolding begins_with line_text capability_line bye_line enabled_line closed_line flags_line exists_line list_line
+    permanent_line uid_next_line uid_validity_line status_line search_line expunge_line fetch_line acl_line my_rights_line
 star_first tag Capability c word h = rw h refl
 star_first tag (Bye bye) c word h = rw h refl
 star_first tag Enabled c word h = rw h refl

@@ -1,5 +1,6 @@
 -- A text is cut into lines in one way.
-use Rattle.std.proofs.Common.{◌≡◌, ℕ, suc, ◌+◌, ◌<◌, ◌^◌, ◌==◌, Bool, true, false, ◌&&◌, not, List, [], ◌∷◌, ◌++◌, length, codes, decimal, refl, sym, ◌∙◌, ap, subst, append_assoc, arith}
+use Rattle.std.proofs.Common.{◌≡◌, ℕ, suc, ◌+◌, ◌<◌, ◌^◌, ◌==◌, Bool, true, false, ◌&&◌, not, List}
+use Rattle.std.proofs.Common.{[], ◌∷◌, ◌++◌, length, codes, decimal, refl, sym, ◌∙◌, ap, subst, append_assoc, arith}
 use Rattle.std.specs.Prelude.{All}
 use Rattle.std.specs.List.{list_all, concat}
 use Rattle.std.proofs.lemmas.Bool.{and_parts}
@@ -146,7 +147,7 @@ differs : (s text octets x y : List ℕ) → IsPlain s → announces s ≡ false
 differs s text octets x y plain silent one counted e =
     let same = (first_break s (announcement text octets) x y plain (announcement_plain text octets one) e).0 in
     let loud : announces (announcement text octets) ≡ true =
-        is_announcement text (decimal (length octets)) (decimal_digits (length octets)) (decimal_nonempty (length octets) counted) in
+    is_announcement text (decimal (length octets)) (decimal_digits (length octets)) (decimal_nonempty (length octets) counted) in
     let P : List ℕ → Type 0 = λ t. announces t ≡ true in
     let both : announces s ≡ true = subst P (sym same) loud in
     cc
@@ -161,7 +162,7 @@ one_cut _ _ (goes_on s octets line plain counted inner) (ends t other quiet) x y
     absurd (differs t s octets y (octets ++ (line ++ x)) other quiet plain counted (sym (append_assoc t crlf y) ∙ sym e ∙ spread s octets line x))
 one_cut _ _ (goes_on s octets line plain counted inner) (goes_on t more rest other limited within) x y e =
     let both = first_break (announcement s octets) (announcement t more) (octets ++ (line ++ x)) (more ++ (rest ++ y))
-        (announcement_plain s octets plain) (announcement_plain t more other) (sym (spread s octets line x) ∙ e ∙ spread t more rest y) in
+    (announcement_plain s octets plain) (announcement_plain t more other) (sym (spread s octets line x) ∙ e ∙ spread t more rest y) in
     let heads = same_digits s t (decimal (length octets)) (decimal (length more)) (decimal_digits (length octets)) (decimal_digits (length more)) both.0 in
     let lengths = decimal_injective (length octets) (length more) counted limited heads.1 in
     let parts = same_length octets more (line ++ x) (rest ++ y) lengths both.1 in

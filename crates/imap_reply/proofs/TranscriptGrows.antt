@@ -113,8 +113,8 @@ literal_awaited frames answers size all =
     record {
       answered = subst (λ a. AreAnswered next a) (no_more answers) (all_answered frames (NeedLiteral size ∷ []) answers [] all tt);
       text_is =
-        ap (λ a. replies_till silent next a) (sym (no_more answers))
-        ∙ all_given silent frames (NeedLiteral size ∷ []) answers [] ready all (append-nil ready);
+          ap (λ a. replies_till silent next a) (sym (no_more answers))
+          ∙ all_given silent frames (NeedLiteral size ∷ []) answers [] ready all (append-nil ready);
     }
 
 -- a fault is answered by its line, and then by nothing

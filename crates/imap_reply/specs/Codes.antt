@@ -5,11 +5,16 @@ use Rattle.mur_model.specs.declared.reply.Code.{Code}
 use Rattle.mur_model.specs.declared.reply.Code.TheVariants.{None as no_code, AppendUid, CopyUid, ExpungeIssued, ReadWrite, ReadOnly}
 use Rattle.imap_reply.specs.Sets.{set_text}
 
+abbrev pub appended_text : ℕ → ℕ → List ℕ
+appended_text serial uid = codes "[APPENDUID " ++ (decimal serial ++ space ∷ (decimal uid ++ codes "] "))
+
+abbrev pub copied_text : ℕ → List ℕ → List ℕ → List ℕ
+copied_text serial uids copies = codes "[COPYUID " ++ (decimal serial ++ space ∷ (set_text uids ++ space ∷ (set_text copies ++ codes "] ")))
+
 unfoldable pub code_text : Code → List ℕ
 code_text no_code = []
-code_text (AppendUid serial uid) = codes "[APPENDUID " ++ (decimal serial ++ space ∷ (decimal uid ++ codes "] "))
-code_text (CopyUid serial uids copies) =
-    codes "[COPYUID " ++ (decimal serial ++ space ∷ (set_text uids ++ space ∷ (set_text copies ++ codes "] ")))
+code_text (AppendUid serial uid) = appended_text serial uid
+code_text (CopyUid serial uids copies) = copied_text serial uids copies
 code_text ExpungeIssued = codes "[EXPUNGEISSUED] "
 code_text ReadWrite = codes "[READ-WRITE] "
 code_text ReadOnly = codes "[READ-ONLY] "

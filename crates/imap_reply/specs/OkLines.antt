@@ -7,13 +7,17 @@ use Rattle.imap_reply.specs.FlagsLine.{flag_text}
 unfoldable pub closed_line : List ℕ
 closed_line = codes "* OK [CLOSED] closed\r\n"
 
--- `\*`: the client can make keywords
-unfoldable pub new_keywords : Bool → List (List ℕ)
-new_keywords true = codes "\\*" ∷ []
-new_keywords false = []
+-- the client can make keywords
+abbrev pub new_keywords : List ℕ
+new_keywords = codes "\\*"
+
+-- the flags that the client can change, and whether it can make keywords
+unfoldable pub permanent_texts : List FlagName → Bool → List (List ℕ)
+permanent_texts flags true = map flag_text flags ++ new_keywords ∷ []
+permanent_texts flags false = map flag_text flags
 
 unfoldable pub permanent_line : List FlagName → Bool → List ℕ
-permanent_line flags new = codes "* OK [PERMANENTFLAGS (" ++ spaced (map flag_text flags ++ new_keywords new) ++ codes ")] flags\r\n"
+permanent_line flags new = codes "* OK [PERMANENTFLAGS (" ++ spaced (permanent_texts flags new) ++ codes ")] flags\r\n"
 
 unfoldable pub uid_next_line : ℕ → List ℕ
 uid_next_line uid = codes "* OK [UIDNEXT " ++ decimal uid ++ codes "] next\r\n"

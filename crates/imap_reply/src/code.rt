@@ -1,8 +1,6 @@
 // Response codes of a tagged OK (RFC 9051, 7.1).
-ghost use Rattle.std.specs.Prelude.{◌≡◌, ◌∷◌, ◌++◌, OnOk, codes, decimal};
-ghost use Rattle.mur_base.specs.Ascii.{space};
-ghost use Rattle.imap_reply.specs.Sets.{set_text};
-ghost use Rattle.imap_reply.specs.Codes.{code_text};
+ghost use Rattle.std.specs.Prelude.{◌≡◌, ◌++◌, OnOk};
+ghost use Rattle.imap_reply.specs.Codes.{appended_text, copied_text, code_text};
 
 use crate::sets::put_set;
 use mur_base::{Bytes, Memory, put_number};
@@ -27,7 +25,7 @@ pub fn put_code(code: &Code, out: &mut Bytes) -> Result<(), Memory>
 
 #[tactic(auto, using(std::proofs::lemmas::Grind::common_steps))]
 fn put_append_uid(serial: u64, uid: u64, out: &mut Bytes) -> Result<(), Memory>
-    ensures { OnOk result (out.new ≡ out.old ++ (codes "[APPENDUID " ++ (decimal serial ++ space ∷ (decimal uid ++ codes "] ")))) }
+    ensures { OnOk result (out.new ≡ out.old ++ appended_text serial uid) }
 {
     out.extend_from_slice(b"[APPENDUID ")?;
     put_number(serial, out)?;
@@ -38,7 +36,7 @@ fn put_append_uid(serial: u64, uid: u64, out: &mut Bytes) -> Result<(), Memory>
 
 #[tactic(auto, using(std::proofs::lemmas::Grind::common_steps))]
 fn put_copy_uid(serial: u64, uids: &[u32], copies: &[u32], out: &mut Bytes) -> Result<(), Memory>
-    ensures { OnOk result (out.new ≡ out.old ++ (codes "[COPYUID " ++ (decimal serial ++ space ∷ (set_text uids.now ++ space ∷ (set_text copies.now ++ codes "] "))))) }
+    ensures { OnOk result (out.new ≡ out.old ++ copied_text serial uids.now copies.now) }
 {
     out.extend_from_slice(b"[COPYUID ")?;
     put_number(serial, out)?;

@@ -1,8 +1,8 @@
 // Untagged lines OK about the mailbox that is selected (RFC 9051, 7.1 and 7.1.1).
-ghost use Rattle.std.specs.Prelude.{◌≡◌, ◌++◌, map, OnOk};
+ghost use Rattle.std.specs.Prelude.{◌≡◌, [], ◌∷◌, ◌++◌, map, OnOk};
 ghost use Rattle.imap_reply.specs.Spaced.{spaced};
 ghost use Rattle.imap_reply.specs.FlagsLine.{flag_text};
-ghost use Rattle.imap_reply.specs.OkLines.{closed_line, new_keywords, permanent_line, uid_next_line, uid_validity_line};
+ghost use Rattle.imap_reply.specs.OkLines.{closed_line, new_keywords, permanent_texts, permanent_line, uid_next_line, uid_validity_line};
 
 use crate::flags::{put_flag, put_flags, put_more_flags};
 use crate::numbered::put_numbered;
@@ -27,14 +27,21 @@ pub fn put_permanent(flags: &[FlagName], new: bool, out: &mut Bytes) -> Result<(
     out.extend_from_slice(b")] flags\r\n")
 }
 
-/// Writes flags with a space between each two, and `\*` as the last of them where the client can make keywords.
-#[tactic(auto, using(std::proofs::lemmas::Grind::common_steps, crate::proofs::SpacedLaws::more_spaced_last), unfolding(crate::specs::OkLines::new_keywords, crate::specs::FlagsLine::flags_text, crate::specs::Spaced::spaced, crate::specs::Spaced::more_spaced))]
+#[tactic(auto, unfolding(crate::specs::OkLines::permanent_texts, crate::specs::FlagsLine::flags_text))]
 fn put_permanent_flags(flags: &[FlagName], new: bool, out: &mut Bytes) -> Result<(), Memory>
-    ensures { OnOk result (out.new ≡ out.old ++ spaced (map flag_text flags.now ++ new_keywords new)) }
+    ensures { OnOk result (out.new ≡ out.old ++ spaced (permanent_texts flags.now new)) }
 {
-    if !new {
-        return put_flags(flags, out);
+    if new {
+        put_flags_and_new(flags, out)
+    } else {
+        put_flags(flags, out)
     }
+}
+
+/// Writes flags with a space between each two, and `\*` as the last of them.
+fn put_flags_and_new(flags: &[FlagName], out: &mut Bytes) -> Result<(), Memory>
+    ensures { OnOk result (out.new ≡ out.old ++ spaced (map flag_text flags.now ++ new_keywords ∷ [])) }
+{
     match flags {
         [] => out.extend_from_slice(b"\\*"),
         [flag, more @ ..] => {

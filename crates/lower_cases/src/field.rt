@@ -4,19 +4,24 @@ use memchr::memchr;
 use mur_base::{Bytes, Memory, read_number};
 use std::alloc::Global;
 
-/// The texts between the separators of a line.
+/// The fields of a line.
 pub fn fields_of(alloc: Global, line: &str) -> Result<Vec<&str>, Memory> {
-    let mut fields = Vec::new(alloc);
-    let mut rest = line;
-    for _ in 0..line.len() {
-        let Some((field, more)) = rest.split_once(" | ") else {
+    parts_of(alloc, line, " | ")
+}
+
+/// The texts between the separators of a text.
+pub fn parts_of<'a>(alloc: Global, text: &'a str, separator: &str) -> Result<Vec<&'a str>, Memory> {
+    let mut parts = Vec::new(alloc);
+    let mut rest = text;
+    for _ in 0..text.len() {
+        let Some((part, more)) = rest.split_once(separator) else {
             break;
         };
-        fields.push(field)?;
+        parts.push(part)?;
         rest = more;
     }
-    fields.push(rest)?;
-    Ok(fields)
+    parts.push(rest)?;
+    Ok(parts)
 }
 
 /// The bytes of a field: `\r`, `\n`, `\\`, `\xHH`, and `\*N:B` for N times the byte B; each other byte is itself.
@@ -83,5 +88,13 @@ pub fn number_of(field: &str) -> Result<u64> {
     match read_number(field.as_bytes()) {
         Some(number) => Ok(number),
         None => Err(anyhow!("no number")),
+    }
+}
+
+/// The number of at most 32 bits that a field writes.
+pub fn small_of(field: &str) -> Result<u32> {
+    match u32::try_from(number_of(field)?) {
+        Ok(number) => Ok(number),
+        Err(_) => Err(anyhow!("too large a number")),
     }
 }

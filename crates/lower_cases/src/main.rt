@@ -1,6 +1,6 @@
 //! Reads worked cases from text files, and compares what the lowest crates make of each with what the case wants:
-//! `lower_cases WIRE COMMAND BASE` takes the frames of connections, the commands of frames, and names, numbers, lists,
-//! queues and maps. It prints how many cases of each file passed, or ends with status 1 at the first one that differs.
+//! `lower_cases WIRE COMMAND REPLY BASE` takes the frames of connections, the commands of frames, the bytes of replies, and
+//! names, numbers, lists, queues and maps. It prints how many cases of each file passed, or ends with status 1 at the first one that differs.
 //!
 //! A case is a line of fields with ` | ` between them. A file's first lines, which begin with `#`, say what the fields are.
 #![tactic(auto)]
@@ -8,6 +8,7 @@
 mod base;
 mod command;
 mod field;
+mod reply;
 mod wire;
 
 use anyhow::{Result, anyhow};
@@ -19,6 +20,7 @@ use std::{env, fs};
 enum Subject {
     Wire,
     Command,
+    Reply,
     Base,
 }
 
@@ -28,6 +30,7 @@ impl Subject {
         match self {
             Subject::Wire => wire::holds(alloc, fields),
             Subject::Command => command::holds(alloc, fields),
+            Subject::Reply => reply::holds(alloc, fields),
             Subject::Base => base::holds(alloc, fields),
         }
     }
@@ -50,9 +53,14 @@ impl Subject {
 
 fn main(rt: HostRuntime) -> Result<()> {
     let mut files = env::args(&rt)?.skip(1);
-    for subject in [Subject::Wire, Subject::Command, Subject::Base] {
+    for subject in [
+        Subject::Wire,
+        Subject::Command,
+        Subject::Reply,
+        Subject::Base,
+    ] {
         let Some(file) = files.next() else {
-            return Err(anyhow!("lower_cases WIRE COMMAND BASE"));
+            return Err(anyhow!("lower_cases WIRE COMMAND REPLY BASE"));
         };
         let text = fs::read_to_string(&rt, file.as_str())?;
         let passed = subject.passed(rt.alloc(), text.as_str())?;
