@@ -16,6 +16,7 @@ use Rattle.imap_reply.specs.Continuation.{ready}
 use Rattle.imap_reply.specs.Greeting.{greeting}
 use Rattle.imap_reply.specs.ReplyText.{reply_text}
 use Rattle.imap_reply.specs.Transcript.{answer_text, ends, replies_to}
+use Rattle.imap_reply.proofs.AnswersStay.{answer_stays}
 use Rattle.imap_reply.proofs.TranscriptGrows.{AreAnswered, Grows, whole_answered, too_big_answered, literal_awaited, fault_told}
 use Rattle.imap_wire.specs.declared.frame.Frame.{Frame}
 use Rattle.imap_wire.specs.declared.frame.FrameFault.{FrameFault}
@@ -58,7 +59,7 @@ use Rattle.cluster_core.proofs.FrontAnswers.{IsTaken, request_taken}
 use Rattle.cluster_core.proofs.FrontAnswers.IsTaken.{here, asked}
 use Rattle.cluster_core.proofs.RequestsOf.{requests_of, requests-append, answered_lengths, next_request, replies_stop}
 use Rattle.cluster_core.proofs.ServedAlike.{IsStoreOf}
-use Rattle.cluster_core.proofs.StaysLaw.{Stays, stays_answered}
+use Rattle.cluster_core.proofs.StaysLaw.{Stays}
 use Rattle.cluster_core.proofs.Told.{IsTold, having_said, next_mark, next_course, told_push}
 use Rattle.cluster_core.proofs.Ways.{AreOnWay, ask_sent, sent_for_another, ask_of_another}
 
@@ -162,7 +163,7 @@ answered_here setting front home backend conn frames next connection before told
     let world_is = answer_carried front world conn client text (record { conn = conn; command = connection.answered + 1 }) was.reading.client in
     let after_world = marked_world (given_world world conn client text) (record { conn = conn; command = connection.answered + 1 }) in
     let now : Story = said_story setting story conn request answer in
-    let stays : Stays reply = sym (ap (λ (a : Answered). ends (a.answer).reply) out) ∙ stays_answered setting course.store (course.sessions conn) request 0 in
+    let stays : Stays reply = sym (ap (λ (a : Answered). ends (a.answer).reply) out) ∙ answer_stays setting course.store (course.sessions conn) request 0 in
     let grown = grows answer stays in
     subst (λ w. ReadsOn setting front home backend conn next (answers conn connection session tag reply).connection before told w) (sym world_is)
     (record {
