@@ -120,7 +120,8 @@ pub replied_stands : (setting : Setting) (front home : List ℕ) (backend : Back
     → FaultsLast connection.waiting held → story.talk.requests conn ≡ requests_of all
     → StandsOn setting front home backend conn all held (replied_turn setting home conn connection tag reply).connection world story
     (carry_all front world (replied_turn setting home conn connection tag reply).outs)
-replied_stands setting front home backend conn all passed held bytes connection tag reply world story parts count at session answered said stays way told last asked =
+replied_stands setting front home backend conn all passed held bytes connection tag reply world story parts count at session answered said stays way told last
+    asked =
     let turned : Turned = frames_come setting home conn (reading_again connection) connection.waiting in
     let whole : all ≡ (passed ++ Whole bytes ∷ []) ++ connection.waiting = parts ∙ sym (append_assoc passed (Whole bytes ∷ []) connection.waiting) in
     subst (λ w. StandsOn setting front home backend conn all held turned.connection world story w)
