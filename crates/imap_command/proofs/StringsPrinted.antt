@@ -107,3 +107,6 @@ astring_as_literal text h = inr (inr h)
 pub escaped_step : (text : List ℕ) (i : ℕ) → i < length text → escaped_text (drop i text) ≡ escaped (get_or text i 0) ++ escaped_text (drop (i + 1) text)
 unfolding escaped_text
 escaped_step text i h = ap escaped_text (drop-cons text i 0 h) ∙ ap (λ n. escaped (get_or text i 0) ++ escaped_text (drop n text)) (sym (add-one i))
+
+-- a string is printed as an atom, in quotes or as a literal
+pub ruleset as_printed = (astring_as_atom, astring_as_quoted, astring_as_literal)

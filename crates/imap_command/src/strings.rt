@@ -277,7 +277,7 @@ pub fn put_literal(text: &[u8], out: &mut Bytes) -> Result<(), Memory>
 }
 
 /// Prints a string as an atom, in quotes or as a literal, the first of them that it can be.
-#[tactic(auto, using(crate::proofs::StringsPrinted::astring_as_atom, crate::proofs::StringsPrinted::astring_as_quoted, crate::proofs::StringsPrinted::astring_as_literal), unfolding(crate::specs::Strings::astring_text))]
+#[tactic(auto, using(crate::proofs::StringsPrinted::as_printed), unfolding(crate::specs::Strings::astring_text))]
 pub fn put_astring(text: &[u8], out: &mut Bytes) -> Result<(), Memory>
     requires { IsString text.now }
     ensures text { OnOk result (out.new ≡ out.old ++ astring_text text.now) }
