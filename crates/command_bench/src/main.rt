@@ -20,12 +20,32 @@ struct Load {
     times: u32,
 }
 
-fn loads(alloc: Global) -> Result<[Load; 6], Memory> {
+fn loads(alloc: Global) -> Result<[Load; 10], Memory> {
     Ok([
         Load {
             name: "LOGIN of 21 bytes",
             frame: Vec::from_slice(alloc, b"a1 LOGIN adm secret\r\n")?,
             times: 10_000,
+        },
+        Load {
+            name: "SELECT INBOX",
+            frame: Vec::from_slice(alloc, b"a1 SELECT INBOX\r\n")?,
+            times: 10_000,
+        },
+        Load {
+            name: "UID FETCH 1:* (FLAGS)",
+            frame: Vec::from_slice(alloc, b"a1 UID FETCH 1:* (FLAGS)\r\n")?,
+            times: 10_000,
+        },
+        Load {
+            name: "UID STORE 1:* +FLAGS.SILENT (\\Seen)",
+            frame: Vec::from_slice(alloc, b"a1 UID STORE 1:* +FLAGS.SILENT (\\Seen)\r\n")?,
+            times: 10_000,
+        },
+        Load {
+            name: "UID EXPUNGE of 2,000 ranges",
+            frame: filled_by(alloc, b"a1 UID EXPUNGE 1", b",1:*", 2_000, b"\r\n")?,
+            times: 100,
         },
         Load {
             name: "CREATE of an atom in a line of 8,192 bytes",
@@ -70,6 +90,22 @@ fn filled(alloc: Global, front: &[u8], count: usize, back: &[u8]) -> Result<Vec<
     let mut bytes = Vec::from_slice(alloc, front)?;
     for _ in 0..count {
         bytes.push(b'x')?;
+    }
+    bytes.extend_from_slice(back)?;
+    Ok(bytes)
+}
+
+/// A text so many times between a front and a back.
+fn filled_by(
+    alloc: Global,
+    front: &[u8],
+    text: &[u8],
+    count: usize,
+    back: &[u8],
+) -> Result<Vec<u8>, Memory> {
+    let mut bytes = Vec::from_slice(alloc, front)?;
+    for _ in 0..count {
+        bytes.extend_from_slice(text)?;
     }
     bytes.extend_from_slice(back)?;
     Ok(bytes)

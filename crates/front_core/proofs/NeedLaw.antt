@@ -36,6 +36,7 @@ off-needs setting (login_of user password) = login-needs (user_named setting.use
 off-needs setting (create_of text) = tt
 off-needs setting (append_of text body) = tt
 off-needs setting (status_of text items) = tt
+off-needs setting it = tt
 
 pub may_need : (setting : Setting) (session : Sess) (it : Command) → MayNeed session (need_of setting session it)
 unfolding MayNeed need_of

@@ -15,3 +15,10 @@ pub mod TurnSteps
 pub mod StartLaw
 pub mod ToolLaws
 pub mod NameSteps
+pub mod Spelling
+pub mod FormLaw
+pub mod NamesLaw
+pub mod SeveralLaw
+pub mod NumeralLaw
+pub mod DecimalLaw
+pub mod MembersLaw

@@ -42,6 +42,9 @@ module _ (zeros : Bool) (most : ℕ) where
       by_zeros true h = h
       by_zeros false h = no_zero_front s t h
 
+  pub numeral_small : (s : List ℕ) → (numerals zeros most).begins s ≡ true → value_of s ≤ most
+  numeral_small s h = leb-true (value_of s) most (and_right (list_all is_digit s) _ (and_left _ _ h))
+
   numeral_goes_on : (d : ℕ) → (numerals zeros most).whole (d ∷ []) ≡ true → (s : List ℕ) → (numerals zeros most).begins s ≡ true
       → (t : List ℕ) × ((numerals zeros most).whole (s ++ t) ≡ true)
   numeral_goes_on d one [] h = (d ∷ [], one)

@@ -1,6 +1,6 @@
 -- What the spellings of parts begin with.
 use Rattle.std.proofs.Common.{◌≡◌, ℕ, suc, ◌==◌, List, [], ◌∷◌, ◌++◌, Bool, true, false, ⊎_elim, sym, ap, ◌∙◌}
-use Rattle.grammar.specs.Part.{Part, ◌then◌, one_of, byte, choose, exactly, map, when}
+use Rattle.grammar.specs.Part.{Part, ◌then◌, one_of, byte, choose, exactly, map}
 use Rattle.grammar.specs.Exact.{Begins, StartsWith, StartsWithout}
 use Rattle.grammar.specs.Words.{Words, Lawful, word}
 
@@ -64,10 +64,6 @@ starts_word w test lawful none first = record { full = λ c tail a l. full c tai
 pub starts_exactly : (test : ℕ → Bool) (n : ℕ) → StartsWith test (exactly test (suc n))
 unfolding exactly
 starts_exactly test n = starts_then (one_of test) (λ c. map (λ rest. c ∷ rest) (exactly test n)) (starts_one_of test)
-
-pub starts_when : {A : Type 0} {test : ℕ → Bool} (b : Bool) (p q : Part A) → StartsWith test p → StartsWith test q → StartsWith test (when b p q)
-starts_when true p q s t = s
-starts_when false p q s t = t
 
 -- this byte
 pub starts_byte : (c : ℕ) → StartsWith (λ b. b == c) (byte c)

@@ -27,7 +27,7 @@ starts_whole [] (c ∷ s) h = h
 starts_whole (n ∷ name) [] h = refl
 starts_whole (n ∷ name) (c ∷ s) h = and_both _ _ (and_left _ _ h) (starts_whole name s (and_right _ _ h))
 
-name_same : (name : List ℕ) → is_name name name ≡ true
+pub name_same : (name : List ℕ) → is_name name name ≡ true
 name_same [] = refl
 name_same (n ∷ name) = and_both _ _ (letter_same n) (name_same name)
 

@@ -1,12 +1,12 @@
 -- The small parts that productions are made of are exact too.
 use Rattle.std.proofs.Common.{◌≡◌, ℕ, List, [], ◌∷◌, ◌++◌, Bool, true, false, ◌==◌, refl, sym, ap, ⊎_elim, subst, ◌∙◌, eq-eqb}
 use Rattle.std.proofs.Common.{eqb-true}
-use Rattle.grammar.specs.Part.{Part, ◌then◌, ◌sp◌, give, map, byte, when, optional, spaced, listed, repeat}
+use Rattle.grammar.specs.Part.{Part, ◌then◌, ◌sp◌, give, map, byte, optional}
 use Rattle.grammar.specs.Exact.{Begins, StartsWith, Good, any}
 use Rattle.grammar.proofs.Reading.{empty_halves}
 use Rattle.grammar.proofs.SequenceLaw.{good_give, good_map, good_then}
 use Rattle.grammar.proofs.ChoiceLaw.{good_choose, good_one_of}
-use Rattle.grammar.proofs.RepetitionLaw.{good_repeat, begins_repeat, no_byte}
+use Rattle.grammar.proofs.RepetitionLaw.{no_byte}
 use Rattle.grammar.proofs.StartLaw.{starts_one_of, starts_then, begins_from, starts_weaker}
 
 module _ {V : Type 0} where
@@ -17,10 +17,6 @@ module _ {V : Type 0} where
 
   pub good_byte : (after : ℕ → Bool) (c : ℕ) → Good V after (byte c)
   good_byte after c = good_one_of (λ b. b == c) after c (eq-eqb c c refl)
-
-  pub good_when : {A : Type 0} {after : ℕ → Bool} (b : Bool) (p q : Part A) → Good V after p → Good V after q → Good V after (when b p q)
-  good_when true p q g h = g
-  good_when false p q g h = h
 
   -- a byte and a part behind it
   pub good_behind : {B : Type 0} {after : ℕ → Bool} (c : ℕ) (q : Part B) → Good V after q → Good V after (byte c then λ _. q)
@@ -75,36 +71,3 @@ begins_then {A} {B} {starts} {middle} {after} p f b c = record {
         → (f a).lang back w → starts d ≡ true
     full d tail w [] back a e l m = b.empty a l d ((c a).full d tail w (subst (λ s. (f a).lang s w) (sym e) m))
     full d tail w (x ∷ front) back a e l m = let same : d ≡ x = cc in ap starts same ∙ b.full x front a l
-
-module _ {V S : Type 0} (after between : ℕ → Bool) (turn : S → Part S) (g : (s : S) → Good V between (turn s)) (space : between 32 ≡ true)
-    (close : between 41 ≡ true) where
-  closing : S → Part S
-  closing last = map (λ _. last) (byte 41)
-
-  begins_closing : (last : S) → Begins (λ c. c == 41) after (closing last)
-  unfolding closing
-  begins_closing last = begins_from after (map (λ _. last) (byte 41)) (starts_then (byte 41) (λ _. give last) (starts_one_of (λ c. c == 41)))
-
-  starts_spaced : (s : S) → StartsWith (λ c. c == 32) (spaced turn s)
-  starts_spaced s = starts_then (byte 32) (λ _. turn s) (starts_one_of (λ c. c == 32))
-
-  apart : (c : ℕ) → (c == 41) ≡ true → (c == 32) ≡ false
-  apart c e = ap (λ d. d == 32) (eqb-true c 41 e)
-
-  space_next : (c : ℕ) → (c == 32) ≡ true → between c ≡ true
-  space_next c e = ap between (eqb-true c 32 e) ∙ space
-
-  close_next : (c : ℕ) → (c == 41) ≡ true → between c ≡ true
-  close_next c e = ap between (eqb-true c 41 e) ∙ close
-
-  -- a list in parentheses, of turns that a space or the closing parenthesis may follow
-  pub good_listed : (s : S) → Good V after (listed turn s)
-  unfolding closing listed
-  good_listed s =
-      good_behind 40 _ (good_then (turn s) (λ t. repeat (λ c. c == 32) (spaced turn) t then closing) (g s)
-      (λ t. good_then (repeat (λ c. c == 32) (spaced turn) t) closing
-      (good_repeat (λ c. c == 32) (λ c. c == 41) between (spaced turn) (λ s. good_behind 32 (turn s) (g s)) starts_spaced apart space_next close_next t)
-      (λ last. good_map (λ _. last) (byte 41) (good_byte after 41)) begins_closing)
-      (λ t. begins_then (repeat (λ c. c == 32) (spaced turn) t) closing
-      (begins_repeat (λ c. c == 32) (λ c. c == 41) between (spaced turn)
-      (λ s. good_behind 32 (turn s) (g s)) starts_spaced apart space_next close_next t) begins_closing))

@@ -1,5 +1,6 @@
 -- Numbers in decimal digits.
-use Rattle.std.specs.Prelude.{ℕ, ◌+◌, ◌-◌, ◌*◌, Bool, true, ◌&&◌, ◌||◌, not, ◌==◌, nat_le, List, [], ◌∷◌}
+use Rattle.std.specs.Prelude.{ℕ, zero, suc, ◌+◌, ◌-◌, ◌*◌, ◌/◌, ◌%◌, Bool, true, ◌&&◌, ◌||◌, not, ◌==◌, nat_le, nat_lt, if◌then◌else◌}
+use Rattle.std.specs.Prelude.{List, [], ◌∷◌, ◌++◌}
 use Rattle.std.specs.List.{list_all}
 use Rattle.mur_base.specs.Ascii.{digit_zero}
 use Rattle.mur_base.specs.Number.{is_digit, digits_behind}
@@ -26,6 +27,15 @@ numerals zeros most = record {
 -- a number of at most `most`
 abbrev pub number : Bool → ℕ → Part ℕ
 number zeros most = map value_of (word (numerals zeros most))
+
+-- the digits of a number that is at most `most`, without a zero first
+unfoldable pub digits_within : ℕ → ℕ → List ℕ
+digits_within zero n = (digit_zero + n % 10) ∷ []
+digits_within (suc most) n = if nat_lt n 10 then (digit_zero + n) ∷ [] else digits_within most (n / 10) ++ (digit_zero + n % 10) ∷ []
+
+-- a number in decimal digits
+unfoldable pub decimal_text : ℕ → List ℕ
+decimal_text n = digits_within n n
 
 -- behind digits that stand for n, the byte is a digit that keeps the number at `most` and is no zero that may not stand first
 abbrev pub is_next_digit : Bool → ℕ → ℕ → Bool → ℕ → Bool

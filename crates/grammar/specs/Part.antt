@@ -1,7 +1,7 @@
 -- Parts of a grammar: which bytes spell which value, and what a reader makes of bytes that begin with a part.
 use Rattle.std.specs.Prelude.{◌≡◌, ℕ, zero, suc, ◌⊎◌, Bool, true, false, cond, ◌==◌, ◌&&◌, nat_le, List, [], ◌∷◌, ◌++◌, length}
 use Rattle.std.specs.Prelude.{Result, Ok, Err}
-use Rattle.mur_base.specs.Ascii.{space, open_paren, close_paren}
+use Rattle.mur_base.specs.Ascii.{space}
 
 infixl 20 ◌>>=◌
 infixr 15 ◌then◌
@@ -79,11 +79,6 @@ between low high c = nat_le low c && nat_le c high
 abbrev pub ◌sp◌ : {A B : Type 0} → Part A → (A → Part B) → Part B
 p sp f = p then λ a. byte space then λ _. f a
 
--- the one part where the test holds, else the other
-abbrev pub when : {A : Type 0} → Bool → Part A → Part A → Part A
-when true p q = p
-when false p q = q
-
 -- exactly n bytes that pass the test
 unfoldable pub exactly : (ℕ → Bool) → ℕ → Part (List ℕ)
 exactly test zero = give []
@@ -108,8 +103,3 @@ optional c = choose (λ b. b == c) (map (λ _. true) (byte c)) (give false)
 -- a space and a turn
 abbrev pub spaced : {S : Type 0} → (S → Part S) → S → Part S
 spaced turn s = byte space then λ _. turn s
-
--- one turn or more in parentheses, a space between any two (the RFCs' "(" X *(SP X) ")")
-unfoldable pub listed : {S : Type 0} → (S → Part S) → S → Part S
-listed turn s =
-    byte open_paren then λ _. turn s then λ t. repeat (λ b. b == space) (spaced turn) t then λ last. map (λ _. last) (byte close_paren)

@@ -4,18 +4,26 @@ use Rattle.std.specs.List.{list_all, list_any}
 use Rattle.std.specs.Char.{eq_ignore_ascii_case}
 use Rattle.grammar.specs.Words.{Words}
 
+-- the name begins with the text, letter by letter
+abbrev pub starts_by : (ℕ → ℕ → Bool) → List ℕ → List ℕ → Bool
+starts_by same name [] = true
+starts_by same [] (c ∷ text) = false
+starts_by same (n ∷ name) (c ∷ text) = same n c && starts_by same name text
+
+-- the name is the text, letter by letter
+abbrev pub is_by : (ℕ → ℕ → Bool) → List ℕ → List ℕ → Bool
+is_by same [] [] = true
+is_by same [] (c ∷ text) = false
+is_by same (n ∷ name) [] = false
+is_by same (n ∷ name) (c ∷ text) = same n c && is_by same name text
+
 -- the name begins with the text, in any case
 abbrev pub starts_name : List ℕ → List ℕ → Bool
-starts_name name [] = true
-starts_name [] (c ∷ text) = false
-starts_name (n ∷ name) (c ∷ text) = eq_ignore_ascii_case n c && starts_name name text
+starts_name = starts_by eq_ignore_ascii_case
 
 -- the name is the text, in any case
 abbrev pub is_name : List ℕ → List ℕ → Bool
-is_name [] [] = true
-is_name [] (c ∷ text) = false
-is_name (n ∷ name) [] = false
-is_name (n ∷ name) (c ∷ text) = eq_ignore_ascii_case n c && is_name name text
+is_name = is_by eq_ignore_ascii_case
 
 -- some name begins with the text, in any case
 abbrev pub begins_some : List (List ℕ) → List ℕ → Bool

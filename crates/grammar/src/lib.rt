@@ -6,39 +6,41 @@
 //! turns that change a state, lists. The law of each, that it is good before whatever follows, is a public function of
 //! `laws`, and stands in `proofs` for the laws of productions. The readers of the code give what their part says.
 //!
+//! A [`Form`](specs/Forms.antt) is a part and the text that a value is printed as. Its one law says that it is read exactly
+//! before what follows, what it begins with, and that each value that some bytes spell is spelled as it is printed. Each
+//! combinator of forms has one law (`proofs/FormLaw`, `NamesLaw`, `SeveralLaw`, `NumeralLaw`), so that the law of a
+//! production names those of its parts, and nothing else is proved of it.
+//!
 //! # A production, from grammar to code
 //!
-//! `login = "LOGIN" SP userid SP password`, both of them an `astring` (RFC 9051, 9). Behind the name it is
+//! `copy = "COPY" SP sequence-set SP mailbox` (RFC 9051, 9). Behind the name it is
 //!
 //! ```text
-//! -- specs/Login.antt
-//! unfoldable pub login : Part Command
-//! login = byte space then λ _. astring sp λ user. map (λ password. Login user password) astring
+//! -- specs/Copy.antt
+//! abbrev pub copy : Form (List SetPart × List ℕ)
+//! copy = behind space (set spaced argument)
 //! ```
 //!
-//! where `p sp f` is one part, a space and another. Its reader is the same text as code, and needs no proof file:
+//! Its reader and its printer are the same text as code, and need no proof file:
 //!
 //! ```text
-//! // src/login.rt
-//! #[tactic(auto, unfolding(crate::specs::Login::login))]
-//! pub fn login_of(alloc: Global, bytes: &[u8]) -> Result<(Command, &[u8]), ReadError>
-//!     ensures { Gives (λ x. (x.0, x.1.now)) result (login.at bytes.now) }
+//! // src/copy.rt
+//! pub fn copy_of(alloc: Global, bytes: &[u8]) -> Result<((SetParts, Bytes), &[u8]), ReadError>
+//!     ensures { Gives (λ x. (x.0, x.1.now)) result (copy.part.at bytes.now) }
 //! {
 //!     let rest = byte_of(b' ', bytes)?;
-//!     let (user, rest) = astring_of(alloc, rest)?;
+//!     let (set, rest) = set_of(alloc, rest)?;
 //!     let rest = byte_of(b' ', rest)?;
-//!     let (password, rest) = astring_of(alloc, rest)?;
-//!     Ok((Command::Login(user, password), rest))
+//!     let (mailbox, rest) = astring_of(alloc, rest)?;
+//!     Ok(((set, mailbox), rest))
 //! }
 //! ```
 //!
-//! Its law names the laws of its parts, and the bytes that follow each:
+//! Its law names the laws of its parts; that each may stand before what follows it is `refl`:
 //!
 //! ```text
-//! -- proofs/LoginLaw.antt
-//! pub good_login : {V : Type 0} → Good V (among (cr ∷ [])) login
-//! unfolding login
-//! good_login = good_behind space _ (good_sp astring _ refl good_astring (λ user. good_map _ astring good_astring_end))
+//! law_copy : Law ends_atom ends_line copy
+//! law_copy = arguments_behind _ refl (law_spaced set argument refl law_set law_argument)
 //! ```
 //!
 //! At the top [`whole_of`] reads a frame by a [`Grammar`]: its contract is that of the whole language.
@@ -48,8 +50,11 @@
 
 mod class;
 mod error;
+mod form;
 mod laws;
+mod members;
 mod number;
+mod rows;
 mod run;
 mod table;
 mod turn;
@@ -58,13 +63,16 @@ mod word;
 
 pub use class::{Between, Class, Digit, Only, begins, byte_in, byte_of, exactly_of, optional_of};
 pub use error::{ReadError, Stop};
+pub use form::{Production, put_several, several_of};
 pub use laws::{
     Rule, Rules, bytes_are_good, choice_is_good, repetition_is_good, sequence_is_good,
     whole_is_exact, words_are_good,
 };
-pub use number::{counted_of, number_of};
+pub use members::Members;
+pub use number::{counted_of, number_of, put_decimal};
+pub use rows::{begins_row, table_of};
 pub use run::{Run, RunUpTo};
 pub use table::{AnyCase, names};
-pub use turn::{Turn, listed_of, repeated_of};
+pub use turn::{Turn, repeated_of};
 pub use whole::{Grammar, ended, whole_of};
 pub use word::{Kind, word_of};

@@ -1,17 +1,18 @@
 // Numbers in decimal digits.
 ghost use Rattle.std.specs.Prelude.{◌≡◌, ◌+◌, ◌-◌, ◌*◌, ◌≤◌, ◌<◌, ◌&&◌, ◌||◌, not, nat_le, ◌==◌, true, [], ◌++◌};
-ghost use Rattle.std.specs.Prelude.{◌∷◌, length, take, drop, min};
+ghost use Rattle.std.specs.Prelude.{◌∷◌, length, take, drop, min, IfOk, OnOk};
 ghost use Rattle.std.specs.Option.{SomeIff};
 ghost use Rattle.grammar.specs.Words.{scan, halt};
 ghost use Rattle.mur_base.specs.Ascii.{digit_zero};
 ghost use Rattle.mur_base.specs.Number.{is_digit};
-ghost use Rattle.grammar.specs.Numbers.{number, numerals, value_of, is_next_digit};
+ghost use Rattle.grammar.specs.Numbers.{number, numerals, value_of, is_next_digit, decimal_text};
 ghost use Rattle.std.specs.List.{list_all};
 ghost use Rattle.grammar.specs.Part.{exactly};
 ghost use Rattle.grammar.specs.Gives.{Finds};
 
 use crate::class::{Class, exactly_of};
 use crate::error::Stop;
+use mur_base::{Bytes, Memory, put_number};
 
 /// The number with one digit more, where it is at most `most` and no zero stands first that may not.
 #[tactic(auto, unfolding(mur_base::specs::Number::is_digit))]
@@ -45,8 +46,10 @@ fn numeral_scan(zeros: bool, most: u64, bytes: &[u8]) -> (u64, usize)
 }
 
 /// Reads a number of at most `most`, in which a zero stands first only where `zeros` is true.
+#[tactic(auto, using(crate::proofs::NumberLaw::numeral_small))]
 pub fn number_of(zeros: bool, most: u64, bytes: &[u8]) -> Result<(u64, &[u8]), Stop>
-    ensures { Finds (λ x. (x.0, x.1.now)) result ((number zeros most).at bytes.now) }
+    ensures reads { Finds (λ x. (x.0, x.1.now)) result ((number zeros most).at bytes.now) }
+    ensures small { IfOk result (λ x. x.0 ≤ most) }
 {
     let (number, len) = numeral_scan(zeros, most, bytes);
     if len > 0 {
@@ -83,4 +86,12 @@ pub fn counted_of<'a, C: Class>(
     ensures { Finds (λ x. (x.0.now, x.1.now)) result ((exactly (C.test class.now) (value_of digits.now)).at bytes.now) }
 {
     exactly_of(class, number_upto(bytes.len() + 1, digits), bytes)
+}
+
+/// Prints a number in decimal digits.
+#[tactic(auto, using(crate::proofs::DecimalLaw::decimal_is_text))]
+pub fn put_decimal(n: u64, out: &mut Bytes) -> Result<(), Memory>
+    ensures { OnOk result (out.new ≡ out.old ++ decimal_text n) }
+{
+    put_number(n, out)
 }

@@ -26,7 +26,7 @@ fn begins_name(name: &[u8], text: &[u8]) -> bool
 
 /// Whether a name begins with a text and one byte more, in any case.
 #[tactic(auto, using(crate::proofs::NameSteps::name_steps))]
-fn begins_name_with(name: &[u8], text: &[u8], byte: u8) -> bool
+pub fn begins_name_with(name: &[u8], text: &[u8], byte: u8) -> bool
     ensures { result ≡ starts_name name.now (text.now ++ byte ∷ []) }
 {
     text.len() < name.len()

@@ -1,10 +1,8 @@
-// Turns of a part that changes a state: repetitions and lists.
-ghost use Rattle.std.specs.Prelude.{◌≡◌, ◌==◌, ℕ, Bool};
-ghost use Rattle.mur_base.specs.Ascii.{space};
-ghost use Rattle.grammar.specs.Part.{Part, repeat, listed, spaced, starts};
+// Turns of a part that changes a state: repetitions.
+ghost use Rattle.std.specs.Prelude.{◌≡◌, ℕ, Bool};
+ghost use Rattle.grammar.specs.Part.{Part, repeat, starts};
 ghost use Rattle.grammar.specs.Gives.{Gives};
 
-use crate::class::byte_of;
 use crate::error::ReadError;
 
 /// A part that is read again and again, each time with the state that the turn before left.
@@ -55,53 +53,5 @@ pub fn repeated_of<'a, T: Turn>(
         }
         (state, rest) = turn.turn(state, rest)?;
     }
-    Ok((state, rest))
-}
-
-/// A turn behind a space.
-struct Spaced<'t, T> {
-    turn: &'t T,
-}
-
-impl<T> Drop for Spaced<'_, T> {
-    fn drop(self) {
-        let Spaced { turn: _ } = self;
-    }
-}
-
-impl<T: Turn> Turn for Spaced<'_, T> {
-    type State = T::State;
-
-    ghost starts = { λ _ c. c == space };
-
-    ghost part = { λ behind. spaced (T.part behind.turn.now) };
-
-    fn starts(&self, byte: u8) -> bool {
-        byte == b' '
-    }
-
-    fn turn<'a>(
-        &self,
-        state: T::State,
-        bytes: &'a [u8],
-    ) -> Result<(T::State, &'a [u8]), ReadError> {
-        let rest = byte_of(b' ', bytes)?;
-        self.turn.turn(state, rest)
-    }
-}
-
-/// Reads one turn or more in parentheses, a space between any two, and gives the last state and the bytes behind.
-#[tactic(auto, unfolding(crate::specs::Part::listed))]
-pub fn listed_of<'a, T: Turn>(
-    turn: &T,
-    state: T::State,
-    bytes: &'a [u8],
-) -> Result<(T::State, &'a [u8]), ReadError>
-    ensures { Gives (λ x. (x.0, x.1.now)) result ((listed (T.part turn.now) state).at bytes.now) }
-{
-    let rest = byte_of(b'(', bytes)?;
-    let (state, rest) = turn.turn(state, rest)?;
-    let (state, rest) = repeated_of(&Spaced { turn }, state, rest)?;
-    let rest = byte_of(b')', rest)?;
     Ok((state, rest))
 }

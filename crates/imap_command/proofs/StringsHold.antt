@@ -14,14 +14,14 @@ use Rattle.imap_command.proofs.StringsLaw.{escaped, plain, unescaped}
 use Rattle.imap_command.proofs.Values.{Only, only_then, only_map, only_behind, only_choose, only_exactly, only_repeat}
 
 -- a set without NUL
-abbrev HasNoNul : (ℕ → Bool) → Type 0
+abbrev pub HasNoNul : (ℕ → Bool) → Type 0
 HasNoNul test = (c : ℕ) → test c ≡ true → is_char8 c ≡ true
 
 from_one : (low c : ℕ) → 1 ≤ low → nat_le low c ≡ true → is_char8 c ≡ true
 unfolding is_char8
 from_one low c some h = let above : low ≤ c = leb-true low c h in ap not (ne_eqb c 0 (λ e. absurd (omega arith)))
 
-all_char8 : (test : ℕ → Bool) → HasNoNul test → (text : List ℕ) → list_all test text ≡ true → IsString text
+pub all_char8 : (test : ℕ → Bool) → HasNoNul test → (text : List ℕ) → list_all test text ≡ true → IsString text
 all_char8 test to [] h = refl
 all_char8 test to (c ∷ text) h = and_both _ _ (to c (and_left _ _ h)) (all_char8 test to text (and_right (test c) _ h))
 
@@ -44,7 +44,7 @@ special_char8 c h = by_case (c == 34) refl h
     by_case true e h = ap (λ d. not (d == 0)) (eqb-true c 34 e)
     by_case false e h = ap (λ d. not (d == 0)) (eqb-true c 92 h)
 
-atom_char8 : HasNoNul is_astring_char
+pub atom_char8 : HasNoNul is_astring_char
 unfolding is_astring_char
 atom_char8 c h = from_one 33 c (omega arith) (and_left _ _ (and_left _ _ h))
 
@@ -123,8 +123,12 @@ only_literal bytes value j =
     let line = brace.goes_on in
     only_exactly is_char8 (value_of digits.between) line.back value line.goes_on
 
+pub only_string : Only string IsString
+unfolding string
+only_string = only_choose IsString (λ c. c == 34) quoted literal only_quoted only_literal
+
 pub only_astring : Only astring IsString
-unfolding astring string
+unfolding astring
 only_astring =
-    only_choose IsString is_astring_char (word (run is_astring_char)) (choose (λ c. c == 34) quoted literal)
-    (λ bytes text l. all_char8 is_astring_char atom_char8 text (and_left _ _ l.1)) (only_choose IsString (λ c. c == 34) quoted literal only_quoted only_literal)
+    only_choose IsString is_astring_char (word (run is_astring_char)) string
+    (λ bytes text l. all_char8 is_astring_char atom_char8 text (and_left _ _ l.1)) only_string

@@ -91,10 +91,10 @@ unfolding literal
 starts_literal = starts_then (byte 123) (λ _. word (run is_digit) then behind_length) (starts_byte 123)
 
 -- the bytes that strings begin with
-abbrev string_starts : ℕ → Bool
+abbrev pub string_starts : ℕ → Bool
 string_starts = among (34 ∷ 123 ∷ [])
 
-starts_string : StartsWith string_starts string
+pub starts_string : StartsWith string_starts string
 unfolding string
 starts_string =
     starts_choose (λ c. c == 34) quoted literal (starts_weaker quoted (λ c h. ap string_starts (eqb-true c 34 h)) starts_quoted)
@@ -173,7 +173,7 @@ module _ {V : Type 0} (after : ℕ → Bool) where
       (good_word (run is_digit) (lawful_run is_digit 48 refl) behind_digits (apart_run is_digit behind_digits no_digit))
       good_behind_length (begins_behind_length after))
 
-  good_string : Good V after string
+  pub good_string : Good V after string
   unfolding string
   good_string =
       good_choose (λ c. c == 34) quoted literal good_quoted good_literal starts_quoted

@@ -1,34 +1,20 @@
 -- A printed string is a spelling of it.
-use Rattle.std.proofs.Common.{◌≡◌, ℕ, ◌+◌, ◌^◌, ◌<◌, List, [], ◌∷◌, ◌++◌, length, Bool, true, false, cond, ◌||◌, inl, inr, Some, None, nat_lt, nat_le, refl}
-use Rattle.std.proofs.Common.{sym, ap, ◌∙◌, subst, append-nil, append_assoc, decimal, drop, drop-cons, add-one, get_or}
+use Rattle.std.proofs.Common.{◌≡◌, ℕ, ◌+◌, ◌<◌, List, [], ◌∷◌, ◌++◌, length, Bool, true, false, cond, ◌||◌, inl, inr, nat_le, refl, sym, ap, ◌∙◌, subst}
+use Rattle.std.proofs.Common.{append-nil, append_assoc, drop, drop-cons, add-one, get_or}
 use Rattle.std.specs.List.{list_all}
-use Rattle.mur_base.specs.Number.{number_of, is_numeral, is_digit}
+use Rattle.mur_base.specs.Number.{is_digit}
 use Rattle.grammar.specs.Part.{◌then◌, map, byte, exactly, optional, turns, repeat}
 use Rattle.grammar.specs.Words.{word}
 use Rattle.grammar.specs.Runs.{run}
-use Rattle.grammar.specs.Numbers.{value_of}
+use Rattle.grammar.specs.Numbers.{value_of, decimal_text}
 use Rattle.grammar.proofs.Conditions.{and_left, and_right, and_both}
 use Rattle.imap_command.specs.Characters.{is_quoted_plain, is_quoted_special, is_text_char, is_char8}
 use Rattle.imap_command.specs.Strings.{crlf_part, quoted_char, is_no_quote, quoted, literal, string, astring, IsString, escaped, escaped_text, quoted_text}
-use Rattle.imap_command.specs.Strings.{literal_text, is_astring_atom, is_quotable}
+use Rattle.imap_command.specs.Strings.{literal_text, is_astring_atom, is_quotable, astring_text}
 use Rattle.imap_command.proofs.StringsLaw.{octets, behind_length}
-use Rattle.imap_command.proofs.Spelling.{spell_then, spell_map, spell_byte, spell_one, spell_exactly}
-
--- digits that are read back as a number
-record Digits (n : ℕ) (text : List ℕ) : Type 0 where
-  word : (run is_digit).whole text ≡ true
-  value : value_of text ≡ n
-
-digits_from : (n : ℕ) (text : List ℕ) → number_of text ≡ Some n → Digits n text
-unfolding number_of is_numeral
-digits_from n [] e = cc
-digits_from n (c ∷ text) e = by_case (list_all is_digit (c ∷ text)) (nat_lt (value_of (c ∷ text)) (2 ^ 64)) refl e
-  where
-    by_case : (b small : Bool) → list_all is_digit (c ∷ text) ≡ b →
-        cond b (cond small (Some (value_of (c ∷ text))) None) None ≡ Some n → Digits n (c ∷ text)
-    by_case true true is e = record { word = and_both _ _ is refl; value = cc }
-    by_case true false is e = cc
-    by_case false small is e = cc
+use Rattle.imap_command.proofs.StringsHold.{only_astring, only_literal}
+use Rattle.grammar.proofs.NumeralLaw.{decimal_writes}
+use Rattle.grammar.proofs.Spelling.{spell_then, spell_map, spell_byte, spell_one, spell_exactly}
 
 pub spell_crlf : crlf_part.lang (13 ∷ 10 ∷ []) 10
 unfolding crlf_part
@@ -38,13 +24,13 @@ spell_plus : (optional 43).lang (43 ∷ []) true
 unfolding optional
 spell_plus = inl (spell_map (λ _. true) (byte 43) (43 ∷ []) 43 (spell_one 43))
 
-pub spell_literal : (text : List ℕ) → IsString text → number_of (decimal (length text)) ≡ Some (length text) → literal.lang (literal_text text) text
+spell_literal : (text : List ℕ) → IsString text → literal.lang (literal_text text) text
 unfolding literal literal_text
-spell_literal text octets_only read_back =
-    let digits = decimal (length text) in
-    let d = digits_from (length text) digits read_back in
+spell_literal text octets_only =
+    let digits = decimal_text (length text) in
+    let d = decimal_writes (length text) in
     spell_byte 123 (word (run is_digit) then behind_length) (digits ++ (43 ∷ 125 ∷ 13 ∷ 10 ∷ text)) text
-    (spell_then (word (run is_digit)) behind_length digits (43 ∷ 125 ∷ 13 ∷ 10 ∷ text) digits text (refl, d.word)
+    (spell_then (word (run is_digit)) behind_length digits (43 ∷ 125 ∷ 13 ∷ 10 ∷ text) digits text (refl, and_both _ _ d.digits d.there)
     (spell_then (optional 43) (λ _. byte 125 then λ _. octets (value_of digits)) (43 ∷ []) (125 ∷ 13 ∷ 10 ∷ text) true text spell_plus
     (spell_byte 125 (octets (value_of digits)) (13 ∷ 10 ∷ text) text
     (spell_then crlf_part (λ _. exactly is_char8 (value_of digits)) (13 ∷ 10 ∷ []) text 10 text spell_crlf
@@ -90,23 +76,24 @@ spell_quoted text h =
     (spell_then (repeat is_no_quote quoted_char []) (λ text. map (λ _. text) (byte 34)) (escaped_text text) (34 ∷ []) text text
     (length text, spell_chars text [] h) (spell_map (λ _. text) (byte 34) (34 ∷ []) 34 (spell_one 34)))
 
--- a string in each of its forms
-pub astring_as_atom : (text : List ℕ) → is_astring_atom text ≡ true → astring.lang text text
-unfolding astring is_astring_atom
-astring_as_atom text h = inl (refl, h)
+-- a string as it is printed
+pub spell_astring : (text : List ℕ) → IsString text → astring.lang (astring_text text) text
+unfolding astring string astring_text is_astring_atom is_quotable
+spell_astring text octets_only = by_form (is_astring_atom text) (is_quotable text) refl refl
+  where
+    by_form : (atom quotable : Bool) → is_astring_atom text ≡ atom → is_quotable text ≡ quotable
+        → astring.lang (cond atom text (cond quotable (quoted_text text) (literal_text text))) text
+    by_form true quotable a q = inl (refl, a)
+    by_form false true a q = inr (inl (spell_quoted text (and_right (nat_le (length text) 1024) _ q)))
+    by_form false false a q = inr (inr (spell_literal text octets_only))
 
-pub astring_as_quoted : (text : List ℕ) → is_quotable text ≡ true → astring.lang (quoted_text text) text
-unfolding astring string is_quotable
-astring_as_quoted text h = inr (inl (spell_quoted text (and_right (nat_le (length text) 1024) _ h)))
+pub prints_argument : (bytes text : List ℕ) → astring.lang bytes text → astring.lang (astring_text text) text
+prints_argument bytes text l = spell_astring text (only_astring bytes text l)
 
-pub astring_as_literal : (text : List ℕ) → literal.lang (literal_text text) text → astring.lang (literal_text text) text
-unfolding astring string
-astring_as_literal text h = inr (inr h)
+pub prints_message : (bytes text : List ℕ) → literal.lang bytes text → literal.lang (literal_text text) text
+prints_message bytes text l = spell_literal text (only_literal bytes text l)
 
 -- one character more
 pub escaped_step : (text : List ℕ) (i : ℕ) → i < length text → escaped_text (drop i text) ≡ escaped (get_or text i 0) ++ escaped_text (drop (i + 1) text)
 unfolding escaped_text
 escaped_step text i h = ap escaped_text (drop-cons text i 0 h) ∙ ap (λ n. escaped (get_or text i 0) ++ escaped_text (drop n text)) (sym (add-one i))
-
--- a string is printed as an atom, in quotes or as a literal
-pub ruleset as_printed = (astring_as_atom, astring_as_quoted, astring_as_literal)

@@ -1,7 +1,7 @@
 -- What holds of each value that a part spells, from its parts.
 use Rattle.std.proofs.Common.{◌≡◌, ℕ, zero, suc, List, ◌∷◌, Bool, true, ◌==◌, inl, inr, refl, sym, subst}
 use Rattle.std.specs.List.{list_all}
-use Rattle.grammar.specs.Part.{Part, give, ◌then◌, ◌sp◌, map, byte, choose, exactly, turns, repeat, spaced, listed}
+use Rattle.grammar.specs.Part.{Part, give, ◌then◌, map, byte, choose, exactly, turns, repeat}
 use Rattle.grammar.proofs.Conditions.{and_both}
 
 -- each value that the part spells has the property
@@ -14,9 +14,6 @@ module _ {A B : Type 0} where
 
   pub only_map : (f : A → B) (p : Part A) (Q : B → Type 0) → Only p (λ a. Q (f a)) → Only (map f p) Q
   only_map f p Q h = only_then p (λ a. give (f a)) (λ a. Q (f a)) Q h (λ a q bytes value g. subst Q (sym g.1) q)
-
-  pub only_sp : (p : Part A) (f : A → Part B) (P : A → Type 0) (Q : B → Type 0) → Only p P → ((a : A) → P a → Only (f a) Q) → Only (p sp f) Q
-  only_sp p f P Q h k bytes value j = k j.between (h j.front j.between j.begins) j.goes_on.back value j.goes_on.goes_on
 
 module _ {A : Type 0} (P : A → Type 0) where
   pub only_behind : (c : ℕ) (q : Part A) → Only q P → Only (byte c then λ _. q) P
@@ -45,13 +42,3 @@ module _ {S : Type 0} (P : S → Type 0) (test : ℕ → Bool) (turn : S → Par
   pub only_repeat : (s : S) → P s → Only (repeat test turn s) P
   unfolding repeat
   only_repeat s p bytes value l = only_turns l.0 s p bytes value l.1
-
--- a list whose first turn gives the property, and whose others keep it
-pub only_listed : {S : Type 0} (P : S → Type 0) (turn : S → Part S) (s : S) → Only (turn s) P → ((t : S) → P t → Only (turn t) P) → Only (listed turn s) P
-unfolding listed
-only_listed P turn s first keeps =
-    only_behind P 40 (turn s then λ t. repeat (λ b. b == 32) (spaced turn) t then λ last. map (λ _. last) (byte 41))
-    (only_then (turn s) (λ t. repeat (λ b. b == 32) (spaced turn) t then λ last. map (λ _. last) (byte 41)) P P first
-    (λ t p. only_then (repeat (λ b. b == 32) (spaced turn) t) (λ last. map (λ _. last) (byte 41)) P P
-    (only_repeat P (λ b. b == 32) (spaced turn) (λ u q. only_behind P 32 (turn u) (keeps u q)) t p)
-    (λ last q. only_map (λ _. last) (byte 41) P (λ bytes c l. q))))

@@ -1,12 +1,13 @@
 -- Strings (RFC 9051, 4.3 and 9).
-use Rattle.std.specs.Prelude.{◌≡◌, ℕ, Bool, true, ◌&&◌, not, ◌==◌, nat_le, List, [], ◌∷◌, ◌++◌, length, decimal, if◌then◌else◌}
+use Rattle.std.specs.Prelude.{◌≡◌, ℕ, Bool, true, ◌&&◌, not, ◌==◌, nat_le, List, [], ◌∷◌, ◌++◌, length, if◌then◌else◌}
 use Rattle.std.specs.List.{list_all}
 use Rattle.mur_base.specs.Ascii.{lf, cr, quote, plus, backslash, open_brace, close_brace}
 use Rattle.mur_base.specs.Number.{is_digit}
 use Rattle.grammar.specs.Part.{Part, ◌then◌, map, byte, choose, exactly, optional, repeat}
+use Rattle.grammar.specs.Forms.{Form, as_it_stands}
 use Rattle.grammar.specs.Words.{word}
 use Rattle.grammar.specs.Runs.{run, some}
-use Rattle.grammar.specs.Numbers.{value_of}
+use Rattle.grammar.specs.Numbers.{value_of, decimal_text}
 use Rattle.imap_command.specs.Characters.{is_astring_char, is_atom_char, is_quoted_plain, is_quoted_special, is_text_char, is_char8}
 use Rattle.imap_command.specs.Utf8.{utf8_char}
 
@@ -63,7 +64,7 @@ quoted_text text = quote ∷ (escaped_text text ++ quote ∷ [])
 
 -- "{" number64 "+}" CRLF *CHAR8
 unfoldable pub literal_text : List ℕ → List ℕ
-literal_text text = open_brace ∷ (decimal (length text) ++ (plus ∷ close_brace ∷ cr ∷ lf ∷ text))
+literal_text text = open_brace ∷ (decimal_text (length text) ++ (plus ∷ close_brace ∷ cr ∷ lf ∷ text))
 
 -- 1*ASTRING-CHAR
 unfoldable pub is_astring_atom : List ℕ → Bool
@@ -79,3 +80,14 @@ is_quotable text = nat_le (length text) 1024 && list_all is_text_char text
 
 unfoldable pub astring_text : List ℕ → List ℕ
 astring_text text = if is_astring_atom text then text else (if is_quotable text then quoted_text text else literal_text text)
+
+-- an astring as an argument, and a literal as a message, with what is printed of them
+abbrev pub argument : Form (List ℕ)
+argument = record { part = astring; text = astring_text }
+
+abbrev pub message : Form (List ℕ)
+message = record { part = literal; text = literal_text }
+
+-- atom = 1*ATOM-CHAR
+abbrev pub atom : Form (List ℕ)
+atom = as_it_stands (run is_atom_char)

@@ -4,22 +4,34 @@
 //! takes just these, and tells of each other frame the longest prefix that begins some command. What [`print`] gives
 //! spells just its command, so [`reread`] gives back what it is given.
 //!
-//! A command has one file in `src`, its reader and its printer; one in `specs`, its grammar and its printed text; one in
-//! `proofs`, its laws. Beside these, a new one has a line in `specs/Spells.antt` and its case in `src/reader.rt` and
-//! `src/printer.rt`.
+//! What stands behind the name of a command is a form of the crate `grammar`. Arguments that several commands have (none,
+//! a mailbox, two strings) are in `arguments`; others have a file in `src`, reader and printer, one in `specs`, the form, and
+//! its law in `proofs`. A new command has a row in `src/verb.rt` and `specs/Verbs.antt`, its line in `src/commands.rt`,
+//! `src/printer.rt` and `specs/Commands.antt`, and a line in `proofs/CommandsLaw.antt`, which says both that it is read exactly
+//! and that it is spelled as it is printed.
 #![tactic(auto)]
 
 mod append;
-mod create;
+mod arguments;
+mod authenticate;
+mod commands;
+mod copy;
 mod fault;
-mod login;
+mod flags;
+mod items;
+mod list;
 mod printer;
 mod reader;
 mod request;
 mod round_trip;
+mod set_acl;
+mod sets;
 mod status;
+mod store;
 mod strings;
 mod utf8;
+mod verb;
+mod xfer;
 
 pub use fault::{Bad, ReadFault};
 pub use printer::print;

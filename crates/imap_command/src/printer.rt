@@ -1,42 +1,111 @@
 // The printer of commands.
 ghost use Rattle.std.specs.Prelude.{◌≡◌, ◌∷◌, ◌++◌, OnOk, IfOk};
-ghost use Rattle.imap_command.specs.Spells.{Spells, IsSpelled, arguments};
-ghost use Rattle.imap_command.specs.Print.{arguments_text, name_text, tag_text, printed, IsPrintable};
+ghost use Rattle.mur_base.specs.Ascii.{space};
+ghost use Rattle.grammar.specs.Forms.{behind, several};
+ghost use Rattle.imap_command.specs.Commands.{arguments_text, behind_text};
+ghost use Rattle.imap_command.specs.Sets.{set as set_form};
+ghost use Rattle.imap_command.specs.Strings.{atom};
+ghost use Rattle.imap_command.specs.Spells.{Spells, IsSpelled, commands};
+ghost use Rattle.imap_command.specs.Print.{tag_text, printed};
 
 use crate::append::put_append;
-use crate::create::put_create;
-use crate::login::put_login;
+use crate::arguments::{put_one_string, put_two_strings};
+use crate::authenticate::{put_authenticate, put_authenticate_with};
+use crate::copy::put_copy;
+use crate::items::put_fetch;
+use crate::set_acl::put_set_acl;
+use crate::sets::put_set;
 use crate::status::put_status;
+use crate::store::put_store;
+use crate::strings::Atom;
+use crate::verb::{Verb, is_uid, name_of, uid_name_of, uid_verb_of, verb_of};
+use crate::xfer::{put_xfer, put_xfer_to};
+use grammar::put_several;
+use mail_message::SetParts;
 use mur_base::{Bytes, Memory};
-use mur_model::{Command, Tag};
+use mur_model::{Atoms, Command, Tag};
 use std::alloc::Global;
 
-/// Prints the name of a command.
-#[tactic(auto, unfolding(crate::specs::Print::name_text))]
-fn put_name(command: &Command, out: &mut Bytes) -> Result<(), Memory>
-    ensures { OnOk result (out.new ≡ out.old ++ name_text command.now) }
+#[tactic(auto, using(std::proofs::lemmas::Grind::common_steps))]
+fn put_names(names: &Atoms, out: &mut Bytes) -> Result<(), Memory>
+    ensures { OnOk result (out.new ≡ out.old ++ (behind space (several space atom)).text names.now) }
+{
+    out.push(b' ')?;
+    put_several(b' ', &Atom, names.as_slice(), out)
+}
+
+#[tactic(auto, using(std::proofs::lemmas::Grind::common_steps))]
+fn put_spaced_set(set: &SetParts, out: &mut Bytes) -> Result<(), Memory>
+    ensures { OnOk result (out.new ≡ out.old ++ (behind space set_form).text set.now) }
+{
+    out.push(b' ')?;
+    put_set(set, out)
+}
+
+/// Prints the arguments of a command.
+#[tactic(auto, unfolding(crate::specs::Commands::arguments_text))]
+fn put_arguments(alloc: Global, command: &Command, out: &mut Bytes) -> Result<(), Memory>
+    ensures { OnOk result (out.new ≡ out.old ++ arguments_text command.now) }
 {
     match command {
-        Command::Login(..) => out.extend_from_slice(b"LOGIN"),
-        Command::Create(_) => out.extend_from_slice(b"CREATE"),
-        Command::Append(..) => out.extend_from_slice(b"APPEND"),
-        Command::Status(..) => out.extend_from_slice(b"STATUS"),
+        Command::Append(mailbox, message) => put_append(mailbox, message, out),
+        Command::Authenticate(Some(response)) => put_authenticate_with(response, out),
+        Command::Authenticate(None) => put_authenticate(out),
+        Command::Copy(_, set, mailbox) => put_copy(set, mailbox, out),
+        Command::Create(mailbox)
+        | Command::Delete(mailbox)
+        | Command::Examine(mailbox)
+        | Command::GetAcl(mailbox)
+        | Command::MyRights(mailbox)
+        | Command::Select(mailbox) => put_one_string(mailbox, out),
+        Command::DeleteAcl(one, other) | Command::List(one, other) | Command::Login(one, other) => {
+            put_two_strings(one, other, out)
+        }
+        Command::Enable(names) => put_names(names, out),
+        Command::Expunge(Some(set)) => put_spaced_set(set, out),
+        Command::Fetch(_, set, items) => put_fetch(set, items, out),
+        Command::SetAcl(mailbox, id, mode, rights) => {
+            put_set_acl(alloc, mailbox, id, *mode, rights, out)
+        }
+        Command::Status(mailbox, items) => put_status(mailbox, items, out),
+        Command::Store(_, set, mode, is_silent, flags) => {
+            put_store(alloc, set, *mode, *is_silent, flags, out)
+        }
+        Command::Xfer(mailbox, server, None) => put_xfer(mailbox, server, out),
+        Command::Xfer(mailbox, server, Some(partition)) => {
+            put_xfer_to(mailbox, server, partition, out)
+        }
+        Command::Capability
+        | Command::Close
+        | Command::Expunge(None)
+        | Command::Idle(_)
+        | Command::Logout
+        | Command::Noop
+        | Command::Unselect => Ok(()),
     }
 }
 
-/// Prints what stands behind the name of a command.
-#[tactic(auto, unfolding(crate::specs::Print::arguments_text, crate::specs::Print::name_text, crate::specs::Spells::arguments))]
-fn put_arguments(command: &Command, out: &mut Bytes) -> Result<(), Memory>
-    requires { IsPrintable command.now }
-    ensures text { OnOk result (out.new ≡ out.old ++ arguments_text command.now) }
-    ensures spells { OnOk result ((arguments (name_text command.now)).lang (arguments_text command.now) command.now) }
+/// Prints what stands behind the first word of a command.
+#[tactic(auto, using(std::proofs::lemmas::Grind::common_steps), unfolding(crate::specs::Commands::behind_text))]
+fn put_behind(alloc: Global, verb: Verb, command: &Command, out: &mut Bytes) -> Result<(), Memory>
+    ensures { OnOk result (out.new ≡ out.old ++ behind_text verb command.now) }
 {
-    match command {
-        Command::Login(user, password) => put_login(user, password, out),
-        Command::Create(mailbox) => put_create(mailbox, out),
-        Command::Append(mailbox, message) => put_append(mailbox, message, out),
-        Command::Status(mailbox, items) => put_status(mailbox, items, out),
+    if is_uid(verb) {
+        out.push(b' ')?;
+        out.extend_from_slice(uid_name_of(uid_verb_of(command)))?;
     }
+    put_arguments(alloc, command, out)
+}
+
+/// Prints a command to its end.
+#[tactic(auto, using(std::proofs::lemmas::Grind::common_steps, crate::proofs::TextLaw::commands_text))]
+fn put_command(alloc: Global, command: &Command, out: &mut Bytes) -> Result<(), Memory>
+    ensures { OnOk result (out.new ≡ out.old ++ commands.text command.now) }
+{
+    let verb = verb_of(command);
+    out.extend_from_slice(name_of(verb))?;
+    put_behind(alloc, verb, command, out)?;
+    out.extend_from_slice(b"\r\n")
 }
 
 /// Prints a tag.
@@ -60,8 +129,6 @@ pub fn print(alloc: Global, tag: &Tag, command: &Command) -> Result<Bytes, Memor
     let mut out = Bytes::new(alloc);
     put_tag(tag, &mut out)?;
     out.push(b' ')?;
-    put_name(command, &mut out)?;
-    put_arguments(command, &mut out)?;
-    out.extend_from_slice(b"\r\n")?;
+    put_command(alloc, command, &mut out)?;
     Ok(out)
 }

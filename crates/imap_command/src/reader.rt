@@ -1,17 +1,15 @@
 // The reader of commands.
 ghost use Rattle.std.specs.Prelude.{◌≡◌, ◌⊎◌, Result, Ok, Err, IfOk};
 ghost use Rattle.grammar.specs.Gives.{Gives};
-ghost use Rattle.imap_command.specs.Spells.{Spells, arguments, tagged_command, tags};
+ghost use Rattle.imap_command.specs.Spells.{Spells, commands, tagged_command, tags};
 ghost use Rattle.imap_command.specs.Bad.{IsBad, IsFirstTag};
 
-use crate::append::append_of;
-use crate::create::create_of;
+use crate::commands::arguments_of;
 use crate::fault::{Bad, ReadFault};
-use crate::login::login_of;
-use crate::status::status_of;
 use crate::strings::crlf_of;
+use crate::verb::{VERBS, Verb};
 use grammar::{
-    AnyCase, Class, Grammar, Only, ReadError, RunUpTo, begins, byte_of, names, whole_of, word_of,
+    Class, Grammar, Only, ReadError, RunUpTo, begins, byte_of, table_of, whole_of, word_of,
 };
 use mur_base::{Bytes, Memory};
 use mur_model::{Command, Tag};
@@ -36,27 +34,14 @@ impl Class for TagByte {
 /// The greatest length of a tag in bytes.
 const TAG_MOST: usize = 32;
 
-/// The names of the commands.
-const COMMAND_NAMES: [&[u8]; 4] = [b"LOGIN", b"CREATE", b"APPEND", b"STATUS"];
-
-/// Reads what stands behind the name of a command.
-#[tactic(auto, unfolding(crate::specs::Spells::arguments))]
-fn arguments_of<'a>(
-    alloc: Global,
-    name: &[u8],
-    bytes: &'a [u8],
-) -> Result<(Command, &'a [u8]), ReadError>
-    ensures { Gives (λ x. (x.0, x.1.now)) result ((arguments name.now).at bytes.now) }
+/// Reads a command behind its tag, to its end.
+fn command_of(alloc: Global, bytes: &[u8]) -> Result<(Command, &[u8]), ReadError>
+    ensures { Gives (λ x. (x.0, x.1.now)) result (commands.part.at bytes.now) }
 {
-    if names(b"LOGIN", name) {
-        login_of(alloc, bytes)
-    } else if names(b"CREATE", name) {
-        create_of(alloc, bytes)
-    } else if names(b"APPEND", name) {
-        append_of(alloc, bytes)
-    } else {
-        status_of(alloc, bytes)
-    }
+    let (verb, rest) = table_of(Verb::Uid, &VERBS, bytes)?;
+    let (command, rest) = arguments_of(alloc, verb, rest)?;
+    let rest = crlf_of(rest)?;
+    Ok((command, rest))
 }
 
 /// The commands under their tags.
@@ -82,14 +67,7 @@ impl Grammar for Commands {
             bytes,
         )?;
         let rest = byte_of(b' ', rest)?;
-        let (name, rest) = word_of(
-            &AnyCase {
-                names: &COMMAND_NAMES,
-            },
-            rest,
-        )?;
-        let (command, rest) = arguments_of(alloc, name, rest)?;
-        let rest = crlf_of(rest)?;
+        let (command, rest) = command_of(alloc, rest)?;
         let tag = Tag::Text(Bytes::from_slice(alloc, tag)?);
         Ok(((tag, command), rest))
     }

@@ -1,58 +1,23 @@
 // STATUS (RFC 9051, 6.3.11).
-ghost use Rattle.std.specs.Prelude.{◌≡◌, [], ◌∷◌, ◌<◌, ◌++◌, length, OnOk};
+ghost use Rattle.std.specs.Prelude.{◌≡◌, ◌++◌, OnOk};
 ghost use Rattle.grammar.specs.Gives.{Gives};
-ghost use Rattle.grammar.specs.Tables.{begins_some};
-ghost use Rattle.imap_command.specs.Status.{item_names, status, status_item, item_text, more_items_text, items_text, status_text};
-ghost use Rattle.imap_command.specs.Strings.{IsString};
+ghost use Rattle.imap_command.specs.Status.{item_text, status_item, status_items, status};
 
 use crate::strings::{astring_of, put_astring};
-use grammar::{AnyCase, Kind, ReadError, Turn, byte_of, listed_of, word_of};
-use mur_base::{Bytes, Items, Memory};
-use mur_model::{Command, StatusItem, StatusItems};
+use grammar::{Production, ReadError, byte_of, put_several, several_of, table_of};
+use mur_base::{Bytes, Memory};
+use mur_model::{StatusItem, StatusItems};
 use std::alloc::Global;
 
 /// The names of status-att.
-const ITEM_NAMES: [&[u8]; 1] = [b"MESSAGES"];
-
-/// The items of a STATUS, one behind another.
-#[derive(Clone, Copy)]
-struct ItemList;
-
-impl Turn for ItemList {
-    type State = StatusItems;
-
-    ghost starts = { λ _ c. begins_some item_names (c ∷ []) };
-
-    ghost part = { λ _. status_item };
-
-    fn starts(&self, byte: u8) -> bool {
-        AnyCase { names: &ITEM_NAMES }.goes_on(b"", byte)
-    }
-
-    #[tactic(auto, unfolding(crate::specs::Status::status_item))]
-    fn turn<'a>(
-        &self,
-        state: StatusItems,
-        bytes: &'a [u8],
-    ) -> Result<(StatusItems, &'a [u8]), ReadError> {
-        let mut items = state;
-        let (_, rest) = word_of(&AnyCase { names: &ITEM_NAMES }, bytes)?;
-        items.push(StatusItem::Messages)?;
-        Ok((items, rest))
-    }
-}
-
-/// Reads what stands behind the name STATUS.
-#[tactic(auto, unfolding(crate::specs::Status::status))]
-pub fn status_of(alloc: Global, bytes: &[u8]) -> Result<(Command, &[u8]), ReadError>
-    ensures { Gives (λ x. (x.0, x.1.now)) result (status.at bytes.now) }
-{
-    let rest = byte_of(b' ', bytes)?;
-    let (mailbox, rest) = astring_of(alloc, rest)?;
-    let rest = byte_of(b' ', rest)?;
-    let (items, rest) = listed_of(&ItemList, Items::new(alloc), rest)?;
-    Ok((Command::Status(mailbox, items), rest))
-}
+const ITEM_ROWS: [(&[u8], StatusItem); 6] = [
+    (b"MESSAGES", StatusItem::Messages),
+    (b"UIDNEXT", StatusItem::UidNext),
+    (b"UIDVALIDITY", StatusItem::UidValidity),
+    (b"UNSEEN", StatusItem::Unseen),
+    (b"DELETED", StatusItem::Deleted),
+    (b"SIZE", StatusItem::Size),
+];
 
 /// Prints the name of an item.
 #[tactic(auto, unfolding(crate::specs::Status::item_text))]
@@ -61,48 +26,74 @@ pub fn put_item(item: StatusItem, out: &mut Bytes) -> Result<(), Memory>
 {
     match item {
         StatusItem::Messages => out.extend_from_slice(b"MESSAGES"),
+        StatusItem::UidNext => out.extend_from_slice(b"UIDNEXT"),
+        StatusItem::UidValidity => out.extend_from_slice(b"UIDVALIDITY"),
+        StatusItem::Unseen => out.extend_from_slice(b"UNSEEN"),
+        StatusItem::Deleted => out.extend_from_slice(b"DELETED"),
+        StatusItem::Size => out.extend_from_slice(b"SIZE"),
     }
 }
 
-/// Prints items, a space before each.
-#[tactic(auto, using(std::proofs::lemmas::Grind::common_steps), unfolding(crate::specs::Status::more_items_text))]
-fn put_more_items(items: &[StatusItem], out: &mut Bytes) -> Result<(), Memory>
-    ensures { OnOk result (out.new ≡ out.old ++ more_items_text items.now) }
-{
-    for item in items {
-        out.push(b' ')?;
-        put_item(*item, out)?;
+/// status-att.
+#[derive(Clone, Copy)]
+struct StatusItemForm;
+
+impl Production for StatusItemForm {
+    type Value = StatusItem;
+
+    ghost form = { λ _. status_item };
+
+    fn read<'a>(
+        &self,
+        _alloc: Global,
+        bytes: &'a [u8],
+    ) -> Result<(StatusItem, &'a [u8]), ReadError> {
+        Ok(table_of(StatusItem::Messages, &ITEM_ROWS, bytes)?)
     }
-    Ok(())
+
+    fn put(&self, value: &StatusItem, out: &mut Bytes) -> Result<(), Memory> {
+        put_item(*value, out)
+    }
 }
 
-/// Prints items in parentheses.
-#[tactic(auto, using(std::proofs::lemmas::Grind::common_steps), unfolding(crate::specs::Status::items_text))]
-fn put_items(items: &[StatusItem], out: &mut Bytes) -> Result<(), Memory>
-    ensures { OnOk result (out.new ≡ out.old ++ items_text items.now) }
+/// Reads the items of a STATUS.
+fn status_items_of(alloc: Global, bytes: &[u8]) -> Result<(StatusItems, &[u8]), ReadError>
+    ensures { Gives (λ x. (x.0, x.1.now)) result (status_items.part.at bytes.now) }
 {
-    match items {
-        [] => out.extend_from_slice(b"()"),
-        [item, more @ ..] => {
-            out.push(b'(')?;
-            put_item(*item, out)?;
-            put_more_items(more, out)?;
-            out.push(b')')
-        }
-    }
+    let rest = byte_of(b'(', bytes)?;
+    let (items, rest) = several_of(alloc, b' ', &StatusItemForm, rest)?;
+    let rest = byte_of(b')', rest)?;
+    Ok((items, rest))
+}
+
+/// Prints the items of a STATUS.
+#[tactic(auto, using(std::proofs::lemmas::Grind::common_steps))]
+fn put_status_items(items: &StatusItems, out: &mut Bytes) -> Result<(), Memory>
+    ensures { OnOk result (out.new ≡ out.old ++ status_items.text items.now) }
+{
+    out.push(b'(')?;
+    put_several(b' ', &StatusItemForm, items.as_slice(), out)?;
+    out.push(b')')
+}
+
+/// Reads what stands behind the name STATUS.
+pub fn status_of(alloc: Global, bytes: &[u8]) -> Result<((Bytes, StatusItems), &[u8]), ReadError>
+    ensures { Gives (λ x. (x.0, x.1.now)) result (status.part.at bytes.now) }
+{
+    let rest = byte_of(b' ', bytes)?;
+    let (mailbox, rest) = astring_of(alloc, rest)?;
+    let rest = byte_of(b' ', rest)?;
+    let (items, rest) = status_items_of(alloc, rest)?;
+    Ok(((mailbox, items), rest))
 }
 
 /// Prints what stands behind the name STATUS.
-#[tactic(auto, using(std::proofs::lemmas::Grind::common_steps, crate::proofs::StatusLaws::spell_status), unfolding(crate::specs::Status::status_text))]
+#[tactic(auto, using(std::proofs::lemmas::Grind::common_steps))]
 pub fn put_status(mailbox: &Bytes, items: &StatusItems, out: &mut Bytes) -> Result<(), Memory>
-    requires mailbox { IsString mailbox.now }
-    requires items { 0 < length items.now }
-    ensures text { OnOk result (out.new ≡ out.old ++ status_text mailbox.now items.now) }
-    ensures spells { OnOk result (status.lang (status_text mailbox.now items.now) (Command.Status mailbox.now items.now)) }
+    ensures { OnOk result (out.new ≡ out.old ++ status.text (mailbox.now, items.now)) }
 {
     out.push(b' ')?;
     put_astring(mailbox.as_slice(), out)?;
     out.push(b' ')?;
-    put_items(items.as_slice(), out)?;
-    Ok(())
+    put_status_items(items, out)
 }

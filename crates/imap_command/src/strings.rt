@@ -4,16 +4,16 @@ ghost use Rattle.std.specs.List.{list_all};
 ghost use Rattle.mur_base.specs.Ascii.{lf};
 ghost use Rattle.grammar.specs.Gives.{Finds, Gives};
 ghost use Rattle.imap_command.specs.Characters.{is_astring_char, is_atom_char, is_quoted_plain, is_quoted_special, is_text_char, is_char8};
-ghost use Rattle.imap_command.specs.Strings.{crlf_part, quoted_char, is_no_quote, quoted, literal, string, astring, IsString, escaped, escaped_text};
+ghost use Rattle.imap_command.specs.Strings.{crlf_part, quoted_char, is_no_quote, quoted, literal, string, astring, atom, escaped, escaped_text};
 ghost use Rattle.imap_command.specs.Strings.{quoted_text, literal_text, is_astring_atom, is_atom, is_quotable, astring_text};
 
 use crate::utf8::utf8_of;
 use grammar::{
-    Class, Digit, Only, ReadError, Run, Stop, Turn, begins, byte_of, counted_of, exactly_of,
-    optional_of, repeated_of, word_of,
+    Class, Digit, Only, Production, ReadError, Run, Stop, Turn, begins, byte_of, counted_of,
+    exactly_of, optional_of, put_decimal, repeated_of, word_of,
 };
 use memchr::memchr;
-use mur_base::{Bytes, Memory, put_number};
+use mur_base::{Bytes, Memory};
 use std::alloc::Global;
 
 /// ASTRING-CHAR.
@@ -168,7 +168,7 @@ pub fn literal_of(alloc: Global, bytes: &[u8]) -> Result<(Bytes, &[u8]), ReadErr
 
 /// Reads a quoted string or a literal.
 #[tactic(auto, unfolding(crate::specs::Strings::string))]
-fn string_of(alloc: Global, bytes: &[u8]) -> Result<(Bytes, &[u8]), ReadError>
+pub fn string_of(alloc: Global, bytes: &[u8]) -> Result<(Bytes, &[u8]), ReadError>
     ensures { Gives (λ x. (x.0, x.1.now)) result (string.at bytes.now) }
 {
     if begins(&Only(b'"'), bytes) {
@@ -191,8 +191,27 @@ pub fn astring_of(alloc: Global, bytes: &[u8]) -> Result<(Bytes, &[u8]), ReadErr
     }
 }
 
+/// atom.
+#[derive(Clone, Copy)]
+pub struct Atom;
+
+impl Production for Atom {
+    type Value = Bytes;
+
+    ghost form = { λ _. atom };
+
+    fn read<'a>(&self, alloc: Global, bytes: &'a [u8]) -> Result<(Bytes, &'a [u8]), ReadError> {
+        let (text, rest) = word_of(&Run { of: AtomChar }, bytes)?;
+        Ok((Bytes::from_slice(alloc, text)?, rest))
+    }
+
+    fn put(&self, value: &Bytes, out: &mut Bytes) -> Result<(), Memory> {
+        out.extend_from_slice(value.as_slice())
+    }
+}
+
 /// Whether all bytes of a text are of a set.
-fn are_all<C: Class>(class: &C, text: &[u8]) -> bool
+pub fn are_all<C: Class>(class: &C, text: &[u8]) -> bool
     ensures { result ≡ list_all (C.test class.now) text.now }
 {
     for byte in text {
@@ -265,23 +284,19 @@ pub fn put_quoted(text: &[u8], out: &mut Bytes) -> Result<(), Memory>
 /// Prints a literal that waits for nothing.
 #[tactic(auto, using(std::proofs::lemmas::Grind::common_steps), unfolding(crate::specs::Strings::literal_text))]
 pub fn put_literal(text: &[u8], out: &mut Bytes) -> Result<(), Memory>
-    requires { IsString text.now }
-    ensures text { OnOk result (out.new ≡ out.old ++ literal_text text.now) }
-    ensures spells { OnOk result (literal.lang (literal_text text.now) text.now) }
+    ensures { OnOk result (out.new ≡ out.old ++ literal_text text.now) }
 {
     out.push(b'{')?;
-    put_number(text.len() as u64, out)?;
+    put_decimal(text.len() as u64, out)?;
     out.extend_from_slice(b"+}\r\n")?;
     out.extend_from_slice(text)?;
     Ok(())
 }
 
 /// Prints a string as an atom, in quotes or as a literal, the first of them that it can be.
-#[tactic(auto, using(crate::proofs::StringsPrinted::as_printed), unfolding(crate::specs::Strings::astring_text))]
+#[tactic(auto, unfolding(crate::specs::Strings::astring_text))]
 pub fn put_astring(text: &[u8], out: &mut Bytes) -> Result<(), Memory>
-    requires { IsString text.now }
-    ensures text { OnOk result (out.new ≡ out.old ++ astring_text text.now) }
-    ensures spells { OnOk result (astring.lang (astring_text text.now) text.now) }
+    ensures { OnOk result (out.new ≡ out.old ++ astring_text text.now) }
 {
     if is_astring_atom(text) {
         out.extend_from_slice(text)

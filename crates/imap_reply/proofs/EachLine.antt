@@ -20,7 +20,7 @@ use Rattle.imap_command.specs.Status.{item_text}
 use Rattle.imap_command.specs.Strings.{escaped, escaped_text, quoted_text}
 use Rattle.imap_command.specs.Characters.{is_quoted_special}
 use Rattle.mur_model.specs.declared.command.StatusItem.{StatusItem}
-use Rattle.mur_model.specs.declared.command.StatusItem.TheVariants.{Messages}
+use Rattle.mur_model.specs.declared.command.StatusItem.TheVariants.{Messages, UidNext, UidValidity, Unseen, Deleted as deleted_item, Size}
 use Rattle.mur_model.specs.declared.command.Tag.{Tag}
 use Rattle.mur_model.specs.declared.command.Tag.TheVariants.{Star, Text}
 use Rattle.mur_model.specs.declared.reply.StatusCount.{StatusCount}
@@ -158,6 +158,11 @@ list_is_line NonExistent name sound = before_name (codes "* LIST (\\NonExistent)
 item_plain : (item : StatusItem) → IsPlain (item_text item)
 unfolding item_text
 item_plain Messages = refl
+item_plain UidNext = refl
+item_plain UidValidity = refl
+item_plain Unseen = refl
+item_plain deleted_item = refl
+item_plain Size = refl
 
 count_plain : (count : StatusCount) → IsPlain (count_text count)
 unfolding count_text

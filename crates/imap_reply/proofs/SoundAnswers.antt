@@ -1,7 +1,7 @@
 -- The texts of each answer to the commands that there are today are sound, so a client reads what was meant.
 use Rattle.std.proofs.Common.{◌≡◌, ℕ, Bool, true, false, List, [], ◌∷◌, refl}
 use Rattle.std.proofs.Common.{Option, None, Some}
-use Rattle.std.specs.Prelude.{All, ⊤}
+use Rattle.std.specs.Prelude.{All, ⊤, if◌then◌else◌}
 use Rattle.std.specs.Str.{bytes_eq}
 use Rattle.std.proofs.lemmas.List.Elements.{All-nil, All-cons}
 use Rattle.mur_base.specs.declared.name.NameFault.{NameFault}
@@ -27,13 +27,13 @@ use Rattle.mur_model.specs.declared.session.Sess.{Sess}
 use Rattle.mur_model.specs.declared.session.Sess.TheVariants.{Off, In, Ended}
 use Rattle.mur_model.specs.declared.setting.Setting.{Setting}
 use Rattle.mur_model.specs.declared.store.Store.{Store}
-use Rattle.mur_model.specs.Act.{act_by, act_of, work_on, need_of, need_off, need_in}
+use Rattle.mur_model.specs.Act.{act_by, act_of, work_on, need_of, need_off, need_in, not_yet}
 use Rattle.mur_model.specs.Answer.{answer_of}
 use Rattle.mur_model.specs.Append.{append, append_as, append_by, append_on, append_to, append_reply}
 use Rattle.mur_model.specs.Create.{create, create_meant, create_as, create_by, create_on, make, without_separator, is_inbox}
 use Rattle.mur_model.specs.Login.{login, login_as, login_by}
 use Rattle.mur_model.specs.Rights.{user_named, has_rights, may_create}
-use Rattle.mur_model.specs.Status.{status, status_as, status_by, status_on, status_reply}
+use Rattle.mur_model.specs.Status.{status, status_as, status_by, status_on, status_reply, tells_messages_alone}
 use Rattle.mur_model.specs.Store.{box_at, is_spent}
 use Rattle.imap_reply.specs.Lines.{IsPlain}
 use Rattle.imap_reply.specs.SoundTexts.{IsSoundTag, IsSoundLine, IsSoundVerdict, IsSound}
@@ -105,6 +105,14 @@ off_sound setting (login_of user password) = named_sound (user_named setting.use
 off_sound setting (create_of text) = tt
 off_sound setting (append_of text body) = tt
 off_sound setting (status_of text items) = tt
+off_sound setting it = tt
+
+asked_sound : (setting : Setting) (user text : List ℕ) (items : List StatusItem) (alone : Bool)
+    → SoundNeed (if alone then status setting user text items else not_yet)
+unfolding status SoundNeed IsSoundVerdict
+asked_sound setting user text items true =
+    status_sound setting user (taken_name user text) items (mail_name_fault (taken_name user text)) refl
+asked_sound setting user text items false = tt
 
 in_sound : (setting : Setting) (user : List ℕ) (it : Command) → SoundNeed (need_in setting user it)
 unfolding need_in create create_meant append status SoundNeed IsSoundVerdict
@@ -113,8 +121,8 @@ in_sound setting user (create_of text) =
     let meant = without_separator text in
     create_sound setting user (taken_name user meant) (is_inbox meant) (mail_name_fault (taken_name user meant))
 in_sound setting user (append_of text body) = append_sound setting user (taken_name user text) body (mail_name_fault (taken_name user text))
-in_sound setting user (status_of text items) =
-    status_sound setting user (taken_name user text) items (mail_name_fault (taken_name user text)) refl
+in_sound setting user (status_of text items) = asked_sound setting user text items (tells_messages_alone items)
+in_sound setting user it = tt
 
 need_sound : (setting : Setting) (session : Sess) (it : Command) → SoundNeed (need_of setting session it)
 unfolding need_of SoundNeed IsSoundVerdict

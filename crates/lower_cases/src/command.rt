@@ -1,24 +1,26 @@
 // Frames and the commands that they spell, or where they spell none.
 use crate::field::{bytes_of, number_of};
+use crate::shown::shown;
 use anyhow::Result;
 use imap_command::{ReadFault, print, read, read_request, reread, too_big};
 use mur_base::{Bytes, Memory};
 use mur_model::{Command, Request, Tag};
 use std::alloc::Global;
 
-/// `FRAME | bad | AT | TAG`, or `FRAME | TAG | NAME | FIRST | SECOND | PRINTED`.
+/// `FRAME | bad | AT | TAG`, or `FRAME | TAG | NAME | ARGUMENT | .. | PRINTED`.
 pub fn holds(alloc: Global, fields: &[&str]) -> Result<bool> {
     match fields {
         [frame, "bad", at, tag] => holds_bad(alloc, frame, number_of(at)?, tag),
-        [frame, tag, name, first, second, printed] => {
+        [frame, tag, told @ .., printed] => {
             let frame = bytes_of(alloc, frame)?;
-            let wanted = Wanted {
+            let mut wanted = Wanted {
                 tag: bytes_of(alloc, tag)?,
-                name,
-                first: bytes_of(alloc, first)?,
-                second: bytes_of(alloc, second)?,
+                told: Vec::new(alloc),
                 printed: bytes_of(alloc, printed)?,
             };
+            for field in told {
+                wanted.told.push(bytes_of(alloc, field)?)?;
+            }
             Ok(wanted.is_read(alloc, frame.as_slice())?)
         }
         _ => Ok(false),
@@ -63,50 +65,60 @@ fn is_tag(tag: &Tag, text: &[u8]) -> bool {
     }
 }
 
-/// What is wanted of a frame.
+/// What is wanted of a frame: its tag, the command's name and arguments, and how it is printed.
 #[derive(Drop)]
-struct Wanted<'a> {
+struct Wanted {
     tag: Bytes,
-    name: &'a str,
-    first: Bytes,
-    second: Bytes,
+    told: Vec<Bytes>,
     printed: Bytes,
 }
 
-impl Wanted<'_> {
+impl Wanted {
     /// Whether a frame spells just this, also once it is printed and read again.
     fn is_read(&self, alloc: Global, frame: &[u8]) -> Result<bool, Memory> {
-        let Ok((tag, command)) = read(alloc, frame) else {
+        if !self.is_spelled(alloc, frame)? || !self.is_printed(alloc, frame)? {
             return Ok(false);
-        };
-        let printed = print(alloc, &tag, &command)?;
-        let again = reread(alloc, &tag, &command)?;
-        Ok(
-            self.is_this(&tag, &command)
-                && self.is_this(&again.0, &again.1)
-                && printed.as_slice() == self.printed.as_slice(),
-        )
+        }
+        self.is_read_again(alloc, frame)
     }
 
-    fn is_this(&self, tag: &Tag, command: &Command) -> bool {
-        is_tag(tag, self.tag.as_slice())
-            && match command {
-                Command::Login(user, password) => {
-                    self.name == "LOGIN" && self.has(user, password.as_slice())
-                }
-                Command::Create(mailbox) => self.name == "CREATE" && self.has(mailbox, b""),
-                Command::Append(mailbox, message) => {
-                    self.name == "APPEND" && self.has(mailbox, message.as_slice())
-                }
-                Command::Status(mailbox, items) => {
-                    self.name == "STATUS"
-                        && self.first.as_slice() == mailbox.as_slice()
-                        && self.second.len() == items.len()
-                }
+    fn is_spelled(&self, alloc: Global, frame: &[u8]) -> Result<bool, Memory> {
+        match read(alloc, frame) {
+            Ok((tag, command)) => self.is_this(alloc, &tag, &command),
+            Err(_) => Ok(false),
+        }
+    }
+
+    fn is_printed(&self, alloc: Global, frame: &[u8]) -> Result<bool, Memory> {
+        match read(alloc, frame) {
+            Ok((tag, command)) => {
+                let printed = print(alloc, &tag, &command)?;
+                Ok(printed.as_slice() == self.printed.as_slice())
             }
+            Err(_) => Ok(false),
+        }
     }
 
-    fn has(&self, first: &Bytes, second: &[u8]) -> bool {
-        self.first.as_slice() == first.as_slice() && self.second.as_slice() == second
+    fn is_read_again(&self, alloc: Global, frame: &[u8]) -> Result<bool, Memory> {
+        match read(alloc, frame) {
+            Ok((tag, command)) => {
+                let again = reread(alloc, &tag, &command)?;
+                self.is_this(alloc, &again.0, &again.1)
+            }
+            Err(_) => Ok(false),
+        }
     }
+
+    fn is_this(&self, alloc: Global, tag: &Tag, command: &Command) -> Result<bool, Memory> {
+        let told = shown(alloc, command)?;
+        Ok(is_tag(tag, self.tag.as_slice()) && are_same(&told, &self.told))
+    }
+}
+
+fn are_same(told: &Vec<Bytes>, wanted: &Vec<Bytes>) -> bool {
+    told.len() == wanted.len()
+        && told
+            .iter()
+            .zip(wanted.iter())
+            .all(|(one, other)| one.as_slice() == other.as_slice())
 }

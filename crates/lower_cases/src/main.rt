@@ -9,6 +9,7 @@ mod base;
 mod command;
 mod field;
 mod reply;
+mod shown;
 mod wire;
 
 use anyhow::{Result, anyhow};

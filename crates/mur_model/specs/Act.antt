@@ -1,6 +1,6 @@
 -- What one command does to the store and its session, and its reply (RFC 9051, 6). Refusals are tested in the order state,
 -- what can't be done, rights, missing mailbox, limits; a refused command leaves store and session as they were.
-use Rattle.std.specs.Prelude.{◌≡◌, ℕ, ⊤, Bool, false, List, Option, None, codes}
+use Rattle.std.specs.Prelude.{◌≡◌, ℕ, ⊤, Bool, false, if◌then◌else◌, List, Option, None, codes}
 use Rattle.mail_message.specs.Boxes.{Content}
 use Rattle.mur_model.specs.declared.command.Command.{Command}
 use Rattle.mur_model.specs.declared.command.Command.TheVariants.{Login as login_of, Create as create_of, Append as append_of, Status as status_of}
@@ -8,7 +8,7 @@ use Rattle.mur_model.specs.declared.need.Need.{Need}
 use Rattle.mur_model.specs.declared.need.Need.TheVariants.{Refusal, Login as begins, Mailbox}
 use Rattle.mur_model.specs.declared.need.Work.{Work}
 use Rattle.mur_model.specs.declared.need.Work.TheVariants.{Make, Append as append_work, Status as status_work}
-use Rattle.mur_model.specs.declared.reply.BadText.TheVariants.{State}
+use Rattle.mur_model.specs.declared.reply.BadText.TheVariants.{State, Syntax}
 use Rattle.mur_model.specs.declared.reply.Reply.{Reply}
 use Rattle.mur_model.specs.declared.reply.Verdict.TheVariants.{Bad as bad_reply}
 use Rattle.mur_model.specs.declared.session.Sess.{Sess}
@@ -20,20 +20,28 @@ use Rattle.mur_model.specs.Create.{create, create_on}
 use Rattle.mur_model.specs.Left.{Worked, store_after}
 use Rattle.mur_model.specs.Login.{login}
 use Rattle.mur_model.specs.Reply.{reply_of, completed}
-use Rattle.mur_model.specs.Status.{status, status_on}
+use Rattle.mur_model.specs.Status.{status, status_on, tells_messages_alone}
 use Rattle.mur_model.specs.Store.{box_at, is_spent, IsFree}
+
+-- the refusal of a command that is read and that no state has yet
+abbrev pub not_yet : Need
+not_yet = Refusal (bad_reply Syntax)
 
 -- a command of a session that hasn't begun
 unfoldable pub need_off : Setting → Command → Need
 need_off setting (login_of user password) = login setting.users user password
-need_off setting command = Refusal (bad_reply State)
+need_off setting (create_of text) = Refusal (bad_reply State)
+need_off setting (append_of text body) = Refusal (bad_reply State)
+need_off setting (status_of text items) = Refusal (bad_reply State)
+need_off setting command = not_yet
 
 -- a command of a session of this user
 unfoldable pub need_in : Setting → List ℕ → Command → Need
 need_in setting user (login_of name password) = Refusal (bad_reply State)
 need_in setting user (create_of text) = create setting user text
 need_in setting user (append_of text body) = append setting user text body
-need_in setting user (status_of text items) = status setting user text items
+need_in setting user (status_of text items) = if tells_messages_alone items then status setting user text items else not_yet
+need_in setting user command = not_yet
 
 -- what a command needs of the store
 unfoldable pub need_of : Setting → Sess → Command → Need

@@ -1,5 +1,6 @@
 -- STATUS (RFC 9051, 6.3.11): how much of each item there is, in the order in which they were asked.
 use Rattle.std.specs.Prelude.{ℕ, Bool, true, false, List, [], ◌∷◌, map, length, Option, None, Some, codes}
+use Rattle.std.specs.List.{list_all}
 use Rattle.mail_message.specs.Boxes.{Content}
 use Rattle.mur_base.specs.Inbox.{taken_name, shown_name}
 use Rattle.mur_base.specs.Names.{mail_name_fault}
@@ -31,9 +32,18 @@ status_as setting user name items None = status_by user name items (has_rights s
 unfoldable pub status : Setting → List ℕ → List ℕ → List StatusItem → Need
 status setting user text items = status_as setting user (taken_name user text) items (mail_name_fault (taken_name user text))
 
--- how much of an item there is where there are so many messages
+-- the number of messages
+abbrev pub is_messages : StatusItem → Bool
+is_messages Messages = true
+is_messages item = false
+
+-- nothing but the number of messages is asked for; a home tells no more yet
+abbrev pub tells_messages_alone : List StatusItem → Bool
+tells_messages_alone items = list_all is_messages items
+
+-- how much of an item there is where there are so many messages; another item is refused before it comes here
 unfoldable pub count_of : ℕ → StatusItem → StatusCount
-count_of messages Messages = record { item = Messages; count = messages }
+count_of messages item = record { item = item; count = messages }
 
 -- what is told of a mailbox with so many messages
 unfoldable pub status_reply : List ℕ → List StatusItem → ℕ → Reply

@@ -1,6 +1,7 @@
 // The commands of a mail client (RFC 9051, 6).
 ghost use Rattle.std.specs.Prelude.{◌≡◌, IfOk};
 
+use mail_message::{FetchItems, FlagSet, Mode, SetParts};
 use mur_base::{Bytes, Copied, Items, Memory};
 use std::alloc::Global;
 
@@ -16,6 +17,16 @@ pub enum Tag {
 pub enum StatusItem {
     /// The number of messages.
     Messages,
+    /// The UID that the next message gets.
+    UidNext,
+    /// The UIDVALIDITY.
+    UidValidity,
+    /// The number of messages without `\Seen`.
+    Unseen,
+    /// The number of messages with `\Deleted`.
+    Deleted,
+    /// The bytes of all messages.
+    Size,
 }
 
 impl Copied for StatusItem {
@@ -27,32 +38,131 @@ impl Copied for StatusItem {
 /// What one STATUS asks for, in its order.
 pub type StatusItems = Items<StatusItem>;
 
+/// Names of capabilities (RFC 9051, 6.3.1).
+pub type Atoms = Items<Bytes>;
+
 /// A command as its client spelled it, without its tag.
 #[derive(Drop)]
 pub enum Command {
+    /// CAPABILITY (RFC 9051, 6.1.1).
+    Capability,
+    /// NOOP (RFC 9051, 6.1.2).
+    Noop,
+    /// LOGOUT (RFC 9051, 6.1.3).
+    Logout,
     /// LOGIN of a user with a password (RFC 9051, 6.2.3).
     Login(Bytes, Bytes),
+    /// AUTHENTICATE PLAIN, and the response where it is there (RFC 9051, 6.2.2).
+    Authenticate(Option<Bytes>),
+    /// ENABLE of capabilities (RFC 9051, 6.3.1).
+    Enable(Atoms),
+    /// SELECT of a mailbox (RFC 9051, 6.3.2).
+    Select(Bytes),
+    /// EXAMINE of a mailbox (RFC 9051, 6.3.3).
+    Examine(Bytes),
     /// CREATE of a mailbox (RFC 9051, 6.3.4).
     Create(Bytes),
+    /// DELETE of a mailbox (RFC 9051, 6.3.5).
+    Delete(Bytes),
+    /// LIST of the names behind a reference that a pattern takes (RFC 9051, 6.3.9).
+    List(Bytes, Bytes),
     /// APPEND of a message to a mailbox (RFC 9051, 6.3.12).
     Append(Bytes, Bytes),
     /// STATUS of a mailbox (RFC 9051, 6.3.11).
     Status(Bytes, StatusItems),
+    /// IDLE, and the line behind it where it is there (RFC 9051, 6.3.13).
+    Idle(Option<Bytes>),
+    /// XFER of a mailbox to a server, and a partition of it where one is named.
+    Xfer(Bytes, Bytes, Option<Bytes>),
+    /// CLOSE (RFC 9051, 6.4.1).
+    Close,
+    /// UNSELECT (RFC 9051, 6.4.2).
+    Unselect,
+    /// EXPUNGE, or UID EXPUNGE of a set (RFC 9051, 6.4.3 and 6.4.9).
+    Expunge(Option<SetParts>),
+    /// FETCH of items of messages, or UID FETCH where that is true (RFC 9051, 6.4.5 and 6.4.9).
+    Fetch(bool, SetParts, FetchItems),
+    /// STORE of flags in messages, or UID STORE where that is true; whether it is silent (RFC 9051, 6.4.6 and 6.4.9).
+    Store(bool, SetParts, Mode, bool, FlagSet),
+    /// COPY of messages to a mailbox, or UID COPY where that is true (RFC 9051, 6.4.7 and 6.4.9).
+    Copy(bool, SetParts, Bytes),
+    /// SETACL of a mailbox, an identifier and rights (RFC 4314, 3.1).
+    SetAcl(Bytes, Bytes, Mode, Bytes),
+    /// DELETEACL of a mailbox and an identifier (RFC 4314, 3.2).
+    DeleteAcl(Bytes, Bytes),
+    /// GETACL of a mailbox (RFC 4314, 3.3).
+    GetAcl(Bytes),
+    /// MYRIGHTS of a mailbox (RFC 4314, 3.5).
+    MyRights(Bytes),
 }
 
 impl Copied for Command {
     fn copy(&self, alloc: Global) -> Result<Command, Memory> {
         Ok(match self {
+            Command::Capability => Command::Capability,
+            Command::Noop => Command::Noop,
+            Command::Logout => Command::Logout,
             Command::Login(user, password) => {
                 Command::Login(copy_of(alloc, user)?, copy_of(alloc, password)?)
             }
+            Command::Authenticate(None) => Command::Authenticate(None),
+            Command::Authenticate(Some(response)) => {
+                Command::Authenticate(Some(copy_of(alloc, response)?))
+            }
+            Command::Enable(names) => Command::Enable(copy_of_texts(alloc, names)?),
+            Command::Select(text) => Command::Select(copy_of(alloc, text)?),
+            Command::Examine(text) => Command::Examine(copy_of(alloc, text)?),
             Command::Create(text) => Command::Create(copy_of(alloc, text)?),
+            Command::Delete(text) => Command::Delete(copy_of(alloc, text)?),
+            Command::List(reference, pattern) => {
+                Command::List(copy_of(alloc, reference)?, copy_of(alloc, pattern)?)
+            }
             Command::Append(text, body) => {
                 Command::Append(copy_of(alloc, text)?, copy_of(alloc, body)?)
             }
             Command::Status(text, items) => {
                 Command::Status(copy_of(alloc, text)?, items.copy(alloc)?)
             }
+            Command::Idle(None) => Command::Idle(None),
+            Command::Idle(Some(line)) => Command::Idle(Some(copy_of(alloc, line)?)),
+            Command::Xfer(text, server, None) => {
+                Command::Xfer(copy_of(alloc, text)?, copy_of(alloc, server)?, None)
+            }
+            Command::Xfer(text, server, Some(partition)) => Command::Xfer(
+                copy_of(alloc, text)?,
+                copy_of(alloc, server)?,
+                Some(copy_of(alloc, partition)?),
+            ),
+            Command::Close => Command::Close,
+            Command::Unselect => Command::Unselect,
+            Command::Expunge(None) => Command::Expunge(None),
+            Command::Expunge(Some(set)) => Command::Expunge(Some(copy_of_all(alloc, set)?)),
+            Command::Fetch(by_uid, set, items) => Command::Fetch(
+                *by_uid,
+                copy_of_all(alloc, set)?,
+                copy_of_all(alloc, items)?,
+            ),
+            Command::Store(by_uid, set, mode, is_silent, flags) => Command::Store(
+                *by_uid,
+                copy_of_all(alloc, set)?,
+                *mode,
+                *is_silent,
+                flags.copy(alloc)?,
+            ),
+            Command::Copy(by_uid, set, text) => {
+                Command::Copy(*by_uid, copy_of_all(alloc, set)?, copy_of(alloc, text)?)
+            }
+            Command::SetAcl(text, id, mode, rights) => Command::SetAcl(
+                copy_of(alloc, text)?,
+                copy_of(alloc, id)?,
+                *mode,
+                copy_of(alloc, rights)?,
+            ),
+            Command::DeleteAcl(text, id) => {
+                Command::DeleteAcl(copy_of(alloc, text)?, copy_of(alloc, id)?)
+            }
+            Command::GetAcl(text) => Command::GetAcl(copy_of(alloc, text)?),
+            Command::MyRights(text) => Command::MyRights(copy_of(alloc, text)?),
         })
     }
 }
@@ -61,4 +171,25 @@ fn copy_of(alloc: Global, bytes: &Bytes) -> Result<Bytes, Memory>
     ensures { IfOk result (λ copy. copy ≡ bytes.now) }
 {
     Bytes::from_slice(alloc, bytes.as_slice())
+}
+
+fn copy_of_texts(alloc: Global, texts: &Atoms) -> Result<Atoms, Memory>
+    ensures { IfOk result (λ copy. copy ≡ texts.now) }
+{
+    let mut copy = Atoms::new(alloc);
+    for text in texts.as_slice() {
+        copy.push(copy_of(alloc, text)?)?;
+    }
+    Ok(copy)
+}
+
+/// A copy of a list of values that are copied as they stand.
+fn copy_of_all<T: Copy>(alloc: Global, list: &Items<T>) -> Result<Items<T>, Memory>
+    ensures { IfOk result (λ copy. copy ≡ list.now) }
+{
+    let mut copy = Items::new(alloc);
+    for item in list.as_slice() {
+        copy.push(*item)?;
+    }
+    Ok(copy)
 }

@@ -18,7 +18,7 @@ mod store;
 
 pub use acting::act;
 pub use append::append_reply;
-pub use command::{Command, StatusItem, StatusItems, Tag};
+pub use command::{Atoms, Command, StatusItem, StatusItems, Tag};
 pub use need::{Need, Work, begin};
 pub use reply::{
     Attribute, BadText, Bye, Code, FlagNames, NoText, Parts, Reply, ReplyLine, ReplyLines,

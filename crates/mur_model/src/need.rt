@@ -1,6 +1,6 @@
 // What a command needs of the store (RFC 9051, 6).
 ghost use Rattle.std.specs.Prelude.{◌≡◌, IfOk};
-ghost use Rattle.mur_model.specs.Act.{need_off, need_in, need_of};
+ghost use Rattle.mur_model.specs.Act.{need_off, need_in, need_of, not_yet};
 
 use crate::append::append;
 use crate::command::{Command, StatusItems};
@@ -9,7 +9,7 @@ use crate::login::login;
 use crate::reply::{BadText, Verdict};
 use crate::session::Sess;
 use crate::setting::Setting;
-use crate::status::status;
+use crate::status::{status, tells_messages_alone};
 use mail_message::Message;
 use mur_base::{Bytes, MailName, Memory, UserName};
 use std::alloc::Global;
@@ -52,7 +52,10 @@ fn begin_off(alloc: Global, with: &Setting, command: Command) -> Result<Need, Me
 {
     match command {
         Command::Login(name, password) => login(alloc, &with.users, &name, &password),
-        _ => Ok(Need::Refusal(Verdict::Bad(BadText::State))),
+        Command::Create(_) | Command::Append(_, _) | Command::Status(_, _) => {
+            Ok(Need::Refusal(Verdict::Bad(BadText::State)))
+        }
+        _ => Ok(not_yet()),
     }
 }
 
@@ -69,6 +72,20 @@ fn begin_in(
         Command::Login(_, _) => Ok(Need::Refusal(Verdict::Bad(BadText::State))),
         Command::Create(text) => create(alloc, with, user, text.as_slice()),
         Command::Append(text, body) => append(alloc, with, user, text.as_slice(), body),
-        Command::Status(text, items) => status(alloc, with, user, text.as_slice(), items),
+        Command::Status(text, items) => {
+            if tells_messages_alone(&items) {
+                status(alloc, with, user, text.as_slice(), items)
+            } else {
+                Ok(not_yet())
+            }
+        }
+        _ => Ok(not_yet()),
     }
+}
+
+/// The refusal of a command that is read and that no state has yet.
+fn not_yet() -> Need
+    ensures { result ≡ not_yet }
+{
+    Need::Refusal(Verdict::Bad(BadText::Syntax))
 }

@@ -3,7 +3,7 @@ ghost use Rattle.std.specs.Prelude.{◌≡◌, IfOk, map};
 ghost use Rattle.mur_model.specs.Left.{store_after};
 ghost use Rattle.mur_model.specs.Store.{box_at};
 ghost use Rattle.mur_model.specs.Rights.{has_rights};
-ghost use Rattle.mur_model.specs.Status.{status, status_by, count_of, status_reply, status_on};
+ghost use Rattle.mur_model.specs.Status.{status, status_by, is_messages, tells_messages_alone, count_of, status_reply, status_on};
 
 use crate::command::{StatusItem, StatusItems};
 use crate::need::{Need, Work};
@@ -15,6 +15,19 @@ use crate::setting::Setting;
 use crate::store::Store;
 use mur_base::{Bytes, MailName, Memory, NameFault, UserName, shown, taken};
 use std::alloc::Global;
+
+/// Whether nothing but the number of messages is asked for.
+pub fn tells_messages_alone(items: &StatusItems) -> bool
+    ensures { result ≡ tells_messages_alone items.now }
+{
+    items.as_slice().iter().all(|item| is_messages(*item))
+}
+
+fn is_messages(item: StatusItem) -> bool
+    ensures { result ≡ is_messages item }
+{
+    matches!(item, StatusItem::Messages)
+}
 
 /// What STATUS of a mailbox needs: the mailbox, where the user has rights to it.
 #[tactic(auto, unfolding(crate::specs::Status::status, crate::specs::Status::status_as))]
@@ -84,11 +97,9 @@ fn counts_of(alloc: Global, items: &StatusItems, messages: u64) -> Result<Status
 fn count_of(messages: u64, item: StatusItem) -> StatusCount
     ensures { result ≡ count_of messages item }
 {
-    match item {
-        StatusItem::Messages => StatusCount {
-            item,
-            count: messages,
-        },
+    StatusCount {
+        item,
+        count: messages,
     }
 }
 

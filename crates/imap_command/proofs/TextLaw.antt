@@ -1,0 +1,25 @@
+-- How a command is printed, in one line.
+use Rattle.std.proofs.Common.{◌≡◌, ℕ, List, [], ◌∷◌, ◌++◌, refl, ap}
+use Rattle.mur_model.specs.declared.command.Command.{Command}
+use Rattle.imap_command.specs.declared.verb.Verb.{Verb}
+use Rattle.imap_command.specs.declared.verb.Verb.TheVariants as verb
+use Rattle.imap_command.specs.declared.verb.UidVerb.{UidVerb}
+use Rattle.imap_command.specs.declared.verb.UidVerb.TheVariants as uid
+use Rattle.imap_command.specs.Commands.{arguments, arguments_text, behind_text, uid_arguments}
+use Rattle.imap_command.specs.Spells.{commands}
+use Rattle.imap_command.specs.Verbs.{is_uid, name_text, verb_of, uid_name_text, uid_verb_of}
+
+uid_text : (k : UidVerb) (it : Command) → (uid_arguments k).text it ≡ arguments_text it
+unfolding uid_arguments
+uid_text uid.Copy it = refl
+uid_text uid.Expunge it = refl
+uid_text uid.Fetch it = refl
+uid_text uid.Store it = refl
+
+text_behind : (v : Verb) (it : Command) → (arguments v).text it ≡ behind_text v it
+unfolding arguments behind_text is_uid
+text_behind verb.Uid it = ap (λ s. 32 ∷ (uid_name_text (uid_verb_of it) ++ s)) (uid_text (uid_verb_of it) it)
+text_behind v it = refl
+
+pub commands_text : (it : Command) → commands.text it ≡ name_text (verb_of it) ++ (behind_text (verb_of it) it ++ 13 ∷ 10 ∷ [])
+commands_text it = ap (λ s. name_text (verb_of it) ++ (s ++ 13 ∷ 10 ∷ [])) (text_behind (verb_of it) it)

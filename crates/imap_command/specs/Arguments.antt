@@ -1,0 +1,13 @@
+-- The arguments that several commands have: a mailbox, or two strings, each behind a space (RFC 9051, 9).
+use Rattle.std.specs.Prelude.{ℕ, List}
+use Rattle.mur_base.specs.Ascii.{space}
+use Rattle.grammar.specs.Forms.{Form, behind, ◌spaced◌}
+use Rattle.imap_command.specs.Strings.{argument}
+
+-- SP mailbox
+abbrev pub one_string : Form (List ℕ)
+one_string = behind space argument
+
+-- SP userid SP password, SP mailbox SP identifier
+abbrev pub two_strings : Form (List ℕ × List ℕ)
+two_strings = behind space (argument spaced argument)

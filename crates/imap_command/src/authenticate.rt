@@ -1,0 +1,56 @@
+// AUTHENTICATE PLAIN (RFC 9051, 6.2.2; RFC 4616).
+ghost use Rattle.std.specs.Prelude.{◌≡◌, ◌++◌, OnOk, None, Some};
+ghost use Rattle.grammar.specs.Gives.{Gives};
+ghost use Rattle.imap_command.specs.Authenticate.{is_base64_char, authenticate};
+
+use grammar::{AnyCase, Class, Only, ReadError, Run, begins, byte_of, word_of};
+use mur_base::{Bytes, Memory};
+use std::alloc::Global;
+
+/// A character of base64, or `=`.
+#[derive(Clone, Copy)]
+struct Base64Char;
+
+impl Class for Base64Char {
+    ghost test = { λ _. is_base64_char };
+
+    #[tactic(auto, unfolding(crate::specs::Authenticate::is_base64_char))]
+    fn holds(&self, byte: u8) -> bool {
+        byte.is_ascii_alphanumeric() || (byte == b'+' || (byte == b'/' || byte == b'='))
+    }
+}
+
+/// The one mechanism.
+const MECHANISM: [&[u8]; 1] = [b"PLAIN"];
+
+/// Reads what stands behind the name AUTHENTICATE.
+pub fn authenticate_of(alloc: Global, bytes: &[u8]) -> Result<(Option<Bytes>, &[u8]), ReadError>
+    ensures { Gives (λ x. (x.0, x.1.now)) result (authenticate.part.at bytes.now) }
+{
+    let rest = byte_of(b' ', bytes)?;
+    let (_, rest) = word_of(&AnyCase { names: &MECHANISM }, rest)?;
+    if begins(&Only(b' '), rest) {
+        let rest = byte_of(b' ', rest)?;
+        let (response, rest) = word_of(&Run { of: Base64Char }, rest)?;
+        Ok((Some(Bytes::from_slice(alloc, response)?), rest))
+    } else {
+        Ok((None, rest))
+    }
+}
+
+/// Prints what stands behind the name AUTHENTICATE, with a response.
+#[tactic(auto, using(std::proofs::lemmas::Grind::common_steps))]
+pub fn put_authenticate_with(response: &Bytes, out: &mut Bytes) -> Result<(), Memory>
+    ensures { OnOk result (out.new ≡ out.old ++ authenticate.text (Some response.now)) }
+{
+    out.extend_from_slice(b" PLAIN ")?;
+    out.extend_from_slice(response.as_slice())
+}
+
+/// Prints what stands behind the name AUTHENTICATE, without a response.
+#[tactic(auto, using(std::proofs::lemmas::Grind::common_steps))]
+pub fn put_authenticate(out: &mut Bytes) -> Result<(), Memory>
+    ensures { OnOk result (out.new ≡ out.old ++ authenticate.text None) }
+{
+    out.extend_from_slice(b" PLAIN")
+}

@@ -1,0 +1,259 @@
+// The reader of what stands behind the name of a command: a function a command that has arguments.
+ghost use Rattle.std.specs.Prelude.{◌≡◌};
+ghost use Rattle.grammar.specs.Gives.{Gives};
+ghost use Rattle.imap_command.specs.Commands.{arguments, uid_arguments};
+
+use crate::append::append_of;
+use crate::arguments::{one_string_of, two_strings_of};
+use crate::authenticate::authenticate_of;
+use crate::copy::copy_of;
+use crate::items::fetch_of;
+use crate::list::list_of;
+use crate::set_acl::set_acl_of;
+use crate::sets::set_of;
+use crate::status::status_of;
+use crate::store::store_of;
+use crate::strings::Atom;
+use crate::verb::{UID_VERBS, UidVerb, Verb};
+use crate::xfer::xfer_of;
+use grammar::{ReadError, byte_of, several_of, table_of};
+use mur_model::Command;
+use std::alloc::Global;
+
+#[tactic(auto, unfolding(crate::specs::Commands::arguments))]
+fn append_command(alloc: Global, bytes: &[u8]) -> Result<(Command, &[u8]), ReadError>
+    ensures { Gives (λ x. (x.0, x.1.now)) result ((arguments Verb.Append).part.at bytes.now) }
+{
+    let ((mailbox, message), rest) = append_of(alloc, bytes)?;
+    Ok((Command::Append(mailbox, message), rest))
+}
+
+#[tactic(auto, unfolding(crate::specs::Commands::arguments))]
+fn copy_command(alloc: Global, bytes: &[u8]) -> Result<(Command, &[u8]), ReadError>
+    ensures { Gives (λ x. (x.0, x.1.now)) result ((arguments Verb.Copy).part.at bytes.now) }
+{
+    let ((set, mailbox), rest) = copy_of(alloc, bytes)?;
+    Ok((Command::Copy(false, set, mailbox), rest))
+}
+
+#[tactic(auto, unfolding(crate::specs::Commands::arguments))]
+fn create_command(alloc: Global, bytes: &[u8]) -> Result<(Command, &[u8]), ReadError>
+    ensures { Gives (λ x. (x.0, x.1.now)) result ((arguments Verb.Create).part.at bytes.now) }
+{
+    let (mailbox, rest) = one_string_of(alloc, bytes)?;
+    Ok((Command::Create(mailbox), rest))
+}
+
+#[tactic(auto, unfolding(crate::specs::Commands::arguments))]
+fn delete_command(alloc: Global, bytes: &[u8]) -> Result<(Command, &[u8]), ReadError>
+    ensures { Gives (λ x. (x.0, x.1.now)) result ((arguments Verb.Delete).part.at bytes.now) }
+{
+    let (mailbox, rest) = one_string_of(alloc, bytes)?;
+    Ok((Command::Delete(mailbox), rest))
+}
+
+#[tactic(auto, unfolding(crate::specs::Commands::arguments))]
+fn examine_command(alloc: Global, bytes: &[u8]) -> Result<(Command, &[u8]), ReadError>
+    ensures { Gives (λ x. (x.0, x.1.now)) result ((arguments Verb.Examine).part.at bytes.now) }
+{
+    let (mailbox, rest) = one_string_of(alloc, bytes)?;
+    Ok((Command::Examine(mailbox), rest))
+}
+
+#[tactic(auto, unfolding(crate::specs::Commands::arguments))]
+fn get_acl_command(alloc: Global, bytes: &[u8]) -> Result<(Command, &[u8]), ReadError>
+    ensures { Gives (λ x. (x.0, x.1.now)) result ((arguments Verb.GetAcl).part.at bytes.now) }
+{
+    let (mailbox, rest) = one_string_of(alloc, bytes)?;
+    Ok((Command::GetAcl(mailbox), rest))
+}
+
+#[tactic(auto, unfolding(crate::specs::Commands::arguments))]
+fn my_rights_command(alloc: Global, bytes: &[u8]) -> Result<(Command, &[u8]), ReadError>
+    ensures { Gives (λ x. (x.0, x.1.now)) result ((arguments Verb.MyRights).part.at bytes.now) }
+{
+    let (mailbox, rest) = one_string_of(alloc, bytes)?;
+    Ok((Command::MyRights(mailbox), rest))
+}
+
+#[tactic(auto, unfolding(crate::specs::Commands::arguments))]
+fn select_command(alloc: Global, bytes: &[u8]) -> Result<(Command, &[u8]), ReadError>
+    ensures { Gives (λ x. (x.0, x.1.now)) result ((arguments Verb.Select).part.at bytes.now) }
+{
+    let (mailbox, rest) = one_string_of(alloc, bytes)?;
+    Ok((Command::Select(mailbox), rest))
+}
+
+#[tactic(auto, unfolding(crate::specs::Commands::arguments))]
+fn delete_acl_command(alloc: Global, bytes: &[u8]) -> Result<(Command, &[u8]), ReadError>
+    ensures { Gives (λ x. (x.0, x.1.now)) result ((arguments Verb.DeleteAcl).part.at bytes.now) }
+{
+    let ((one, other), rest) = two_strings_of(alloc, bytes)?;
+    Ok((Command::DeleteAcl(one, other), rest))
+}
+
+#[tactic(auto, unfolding(crate::specs::Commands::arguments))]
+fn login_command(alloc: Global, bytes: &[u8]) -> Result<(Command, &[u8]), ReadError>
+    ensures { Gives (λ x. (x.0, x.1.now)) result ((arguments Verb.Login).part.at bytes.now) }
+{
+    let ((one, other), rest) = two_strings_of(alloc, bytes)?;
+    Ok((Command::Login(one, other), rest))
+}
+
+#[tactic(auto, unfolding(crate::specs::Commands::arguments))]
+fn enable_command(alloc: Global, bytes: &[u8]) -> Result<(Command, &[u8]), ReadError>
+    ensures { Gives (λ x. (x.0, x.1.now)) result ((arguments Verb.Enable).part.at bytes.now) }
+{
+    let rest = byte_of(b' ', bytes)?;
+    let (names, rest) = several_of(alloc, b' ', &Atom, rest)?;
+    Ok((Command::Enable(names), rest))
+}
+
+#[tactic(auto, unfolding(crate::specs::Commands::arguments))]
+fn status_command(alloc: Global, bytes: &[u8]) -> Result<(Command, &[u8]), ReadError>
+    ensures { Gives (λ x. (x.0, x.1.now)) result ((arguments Verb.Status).part.at bytes.now) }
+{
+    let ((mailbox, items), rest) = status_of(alloc, bytes)?;
+    Ok((Command::Status(mailbox, items), rest))
+}
+
+#[tactic(auto, unfolding(crate::specs::Commands::arguments))]
+fn authenticate_command(alloc: Global, bytes: &[u8]) -> Result<(Command, &[u8]), ReadError>
+    ensures { Gives (λ x. (x.0, x.1.now)) result ((arguments Verb.Authenticate).part.at bytes.now) }
+{
+    let (response, rest) = authenticate_of(alloc, bytes)?;
+    Ok((Command::Authenticate(response), rest))
+}
+
+#[tactic(auto, unfolding(crate::specs::Commands::arguments))]
+fn list_command(alloc: Global, bytes: &[u8]) -> Result<(Command, &[u8]), ReadError>
+    ensures { Gives (λ x. (x.0, x.1.now)) result ((arguments Verb.List).part.at bytes.now) }
+{
+    let ((reference, pattern), rest) = list_of(alloc, bytes)?;
+    Ok((Command::List(reference, pattern), rest))
+}
+
+#[tactic(auto, unfolding(crate::specs::Commands::arguments))]
+fn set_acl_command(alloc: Global, bytes: &[u8]) -> Result<(Command, &[u8]), ReadError>
+    ensures { Gives (λ x. (x.0, x.1.now)) result ((arguments Verb.SetAcl).part.at bytes.now) }
+{
+    let ((mailbox, (id, (mode, rights))), rest) = set_acl_of(alloc, bytes)?;
+    Ok((Command::SetAcl(mailbox, id, mode, rights), rest))
+}
+
+#[tactic(auto, unfolding(crate::specs::Commands::arguments))]
+fn xfer_command(alloc: Global, bytes: &[u8]) -> Result<(Command, &[u8]), ReadError>
+    ensures { Gives (λ x. (x.0, x.1.now)) result ((arguments Verb.Xfer).part.at bytes.now) }
+{
+    let ((mailbox, (server, partition)), rest) = xfer_of(alloc, bytes)?;
+    Ok((Command::Xfer(mailbox, server, partition), rest))
+}
+
+#[tactic(auto, unfolding(crate::specs::Commands::arguments))]
+fn fetch_command(alloc: Global, bytes: &[u8]) -> Result<(Command, &[u8]), ReadError>
+    ensures { Gives (λ x. (x.0, x.1.now)) result ((arguments Verb.Fetch).part.at bytes.now) }
+{
+    let ((set, items), rest) = fetch_of(alloc, bytes)?;
+    Ok((Command::Fetch(false, set, items), rest))
+}
+
+#[tactic(auto, unfolding(crate::specs::Commands::arguments))]
+fn store_command(alloc: Global, bytes: &[u8]) -> Result<(Command, &[u8]), ReadError>
+    ensures { Gives (λ x. (x.0, x.1.now)) result ((arguments Verb.Store).part.at bytes.now) }
+{
+    let ((set, ((mode, is_silent), flags)), rest) = store_of(alloc, bytes)?;
+    Ok((Command::Store(false, set, mode, is_silent, flags), rest))
+}
+
+#[tactic(auto, unfolding(crate::specs::Commands::uid_arguments))]
+fn uid_store_command(alloc: Global, bytes: &[u8]) -> Result<(Command, &[u8]), ReadError>
+    ensures { Gives (λ x. (x.0, x.1.now)) result ((uid_arguments UidVerb.Store).part.at bytes.now) }
+{
+    let ((set, ((mode, is_silent), flags)), rest) = store_of(alloc, bytes)?;
+    Ok((Command::Store(true, set, mode, is_silent, flags), rest))
+}
+
+#[tactic(auto, unfolding(crate::specs::Commands::uid_arguments))]
+fn uid_fetch_command(alloc: Global, bytes: &[u8]) -> Result<(Command, &[u8]), ReadError>
+    ensures { Gives (λ x. (x.0, x.1.now)) result ((uid_arguments UidVerb.Fetch).part.at bytes.now) }
+{
+    let ((set, items), rest) = fetch_of(alloc, bytes)?;
+    Ok((Command::Fetch(true, set, items), rest))
+}
+
+#[tactic(auto, unfolding(crate::specs::Commands::uid_arguments))]
+fn uid_copy_command(alloc: Global, bytes: &[u8]) -> Result<(Command, &[u8]), ReadError>
+    ensures { Gives (λ x. (x.0, x.1.now)) result ((uid_arguments UidVerb.Copy).part.at bytes.now) }
+{
+    let ((set, mailbox), rest) = copy_of(alloc, bytes)?;
+    Ok((Command::Copy(true, set, mailbox), rest))
+}
+
+#[tactic(auto, unfolding(crate::specs::Commands::uid_arguments))]
+fn uid_expunge_command(alloc: Global, bytes: &[u8]) -> Result<(Command, &[u8]), ReadError>
+    ensures { Gives (λ x. (x.0, x.1.now)) result ((uid_arguments UidVerb.Expunge).part.at bytes.now) }
+{
+    let rest = byte_of(b' ', bytes)?;
+    let (set, rest) = set_of(alloc, rest)?;
+    Ok((Command::Expunge(Some(set)), rest))
+}
+
+/// Reads what stands behind a word behind UID.
+fn uid_arguments_of(
+    alloc: Global,
+    verb: UidVerb,
+    bytes: &[u8],
+) -> Result<(Command, &[u8]), ReadError>
+    ensures { Gives (λ x. (x.0, x.1.now)) result ((uid_arguments verb).part.at bytes.now) }
+{
+    match verb {
+        UidVerb::Copy => uid_copy_command(alloc, bytes),
+        UidVerb::Expunge => uid_expunge_command(alloc, bytes),
+        UidVerb::Fetch => uid_fetch_command(alloc, bytes),
+        UidVerb::Store => uid_store_command(alloc, bytes),
+    }
+}
+
+#[tactic(auto, unfolding(crate::specs::Commands::arguments))]
+fn uid_command(alloc: Global, bytes: &[u8]) -> Result<(Command, &[u8]), ReadError>
+    ensures { Gives (λ x. (x.0, x.1.now)) result ((arguments Verb.Uid).part.at bytes.now) }
+{
+    let rest = byte_of(b' ', bytes)?;
+    let (verb, rest) = table_of(UidVerb::Copy, &UID_VERBS, rest)?;
+    uid_arguments_of(alloc, verb, rest)
+}
+
+/// Reads what stands behind the name of a command.
+#[tactic(auto, unfolding(crate::specs::Commands::arguments))]
+pub fn arguments_of(alloc: Global, verb: Verb, bytes: &[u8]) -> Result<(Command, &[u8]), ReadError>
+    ensures { Gives (λ x. (x.0, x.1.now)) result ((arguments verb).part.at bytes.now) }
+{
+    match verb {
+        Verb::Append => append_command(alloc, bytes),
+        Verb::Authenticate => authenticate_command(alloc, bytes),
+        Verb::Capability => Ok((Command::Capability, bytes)),
+        Verb::Close => Ok((Command::Close, bytes)),
+        Verb::Copy => copy_command(alloc, bytes),
+        Verb::Create => create_command(alloc, bytes),
+        Verb::Delete => delete_command(alloc, bytes),
+        Verb::DeleteAcl => delete_acl_command(alloc, bytes),
+        Verb::Enable => enable_command(alloc, bytes),
+        Verb::Examine => examine_command(alloc, bytes),
+        Verb::Expunge => Ok((Command::Expunge(None), bytes)),
+        Verb::Fetch => fetch_command(alloc, bytes),
+        Verb::GetAcl => get_acl_command(alloc, bytes),
+        Verb::Idle => Ok((Command::Idle(None), bytes)),
+        Verb::List => list_command(alloc, bytes),
+        Verb::Login => login_command(alloc, bytes),
+        Verb::Logout => Ok((Command::Logout, bytes)),
+        Verb::MyRights => my_rights_command(alloc, bytes),
+        Verb::Noop => Ok((Command::Noop, bytes)),
+        Verb::Select => select_command(alloc, bytes),
+        Verb::SetAcl => set_acl_command(alloc, bytes),
+        Verb::Status => status_command(alloc, bytes),
+        Verb::Store => store_command(alloc, bytes),
+        Verb::Uid => uid_command(alloc, bytes),
+        Verb::Unselect => Ok((Command::Unselect, bytes)),
+        Verb::Xfer => xfer_command(alloc, bytes),
+    }
+}
