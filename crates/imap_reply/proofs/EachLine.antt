@@ -28,7 +28,8 @@ use Rattle.mur_model.specs.declared.reply.Attribute.{Attribute}
 use Rattle.mur_model.specs.declared.reply.Attribute.TheVariants.{None as no_attribute, NoSelect, NonExistent}
 use Rattle.mur_model.specs.declared.reply.Bye as bye
 use Rattle.mur_model.specs.declared.reply.Bye.TheVariants.{Logout, Gone, Lost, LineTooLong, LiteralTooLong}
-use Rattle.imap_reply.specs.Lines.{IsPlain, IsPart, IsLine, is_within, is_announced, after_text, after_byte, Announcing}
+use Rattle.mail_message.specs.Literals.{IsPlain, IsPart, is_within}
+use Rattle.imap_reply.specs.Lines.{IsLine, is_announced, after_text, after_byte, Announcing}
 use Rattle.imap_reply.specs.Lines.Announcing.{nothing}
 use Rattle.imap_reply.specs.SoundTexts.{IsTag, IsSoundTag, IsSoundFlag, IsCalm, is_calm}
 use Rattle.imap_reply.specs.AccessLines.{is_tab, is_create, is_delete, create_text, delete_text, rights_text, entries_text, acl_line, my_rights_line}
@@ -48,7 +49,8 @@ use Rattle.imap_reply.specs.Spaced.{spaced}
 use Rattle.imap_reply.specs.StatusLine.{count_text, more_counts_text, counts_text, status_line}
 use Rattle.imap_reply.specs.Tags.{tag_text}
 use Rattle.imap_reply.proofs.LineLaws.{Fits, line_of, fits_of, parts_fit, end_fits, mailbox_state, after_append, after_calm}
-use Rattle.imap_reply.proofs.Texts.{all_append, all_weaker, one_of, calm_plain, decimal_calm, set_calm, spaced_plain, tag_calm, mailbox_plain}
+use Rattle.mail_message.proofs.PlainTexts.{decimal_plain, keyword_plain, all_append, all_weaker, one_of}
+use Rattle.imap_reply.proofs.Texts.{calm_plain, decimal_calm, set_calm, spaced_plain, tag_calm, mailbox_plain}
 
 -- texts that stand as they are
 
@@ -74,9 +76,6 @@ bye_is_line LiteralTooLong = line_of [] (codes "* BYE literal too long") refl re
 
 -- numbers
 
-decimal_plain : (n : ℕ) → IsPlain (decimal n)
-decimal_plain n = calm_plain (decimal n) (decimal_calm n)
-
 pub exists_is_line : (count : ℕ) → IsLine (exists_line count)
 unfolding exists_line after_text after_byte is_digit
 exists_is_line count = line_of (codes "* " ++ decimal count) (codes " EXISTS") (decimal_plain count) refl (λ state. refl)
@@ -94,22 +93,6 @@ unfolding uid_validity_line after_text after_byte is_digit
 uid_validity_is_line serial = line_of (codes "* OK [UIDVALIDITY " ++ decimal serial) (codes "] validity") (decimal_plain serial) refl (λ state. refl)
 
 -- flags
-
-atom_byte_within : (c : ℕ) → is_atom_byte c ≡ true → is_within c ≡ true
-unfolding is_atom_byte
-atom_byte_within c h = grind (arith, nat_tests, h)
-
-last_rule : (x y z : Bool) → cond x (Some Empty) (cond y (Some TooLong) (cond (not z) (Some BadByte) None)) ≡ None → z ≡ true
-last_rule x y true h = refl
-last_rule true y false h = cc
-last_rule false true false h = cc
-last_rule false false false h = cc
-
-pub keyword_plain : (keyword : List ℕ) → keyword_fault keyword ≡ None → IsPlain keyword
-unfolding keyword_fault is_atom
-keyword_plain keyword h =
-    all_weaker is_atom_byte is_within atom_byte_within keyword
-    (last_rule (length keyword == 0) (nat_lt KEYWORD_LIMIT (length keyword)) (list_all is_atom_byte keyword) h)
 
 flag_plain : (flag : FlagName) → IsSoundFlag flag → IsPlain (flag_text flag)
 unfolding flag_text system_flag_text IsSoundFlag

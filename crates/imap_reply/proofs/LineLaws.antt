@@ -9,14 +9,16 @@ use Rattle.std.proofs.lemmas.List.Elements.{All-head, All-tail}
 use Rattle.mur_base.specs.Ascii.{crlf}
 use Rattle.mur_base.specs.Number.{is_digit}
 use Rattle.imap_command.specs.Strings.{escaped_text, quoted_text, is_atom}
-use Rattle.imap_reply.specs.Lines.{IsPlain, Announcing, after_byte, after_text, is_announced, announces, literal, is_within, IsLine, IsPart}
+use Rattle.mail_message.specs.Literals.{IsPlain, literal, is_within, IsPart}
+use Rattle.imap_reply.specs.Lines.{Announcing, after_byte, after_text, is_announced, announces, IsLine}
 use Rattle.imap_reply.specs.Lines.Announcing.{nothing}
 use Rattle.imap_reply.specs.Lines.IsLine.{ends, goes_on}
-use Rattle.imap_reply.specs.Lines.IsPart.{plain, with_literal}
+use Rattle.mail_message.specs.Literals.IsPart.{plain, with_literal}
 use Rattle.imap_reply.specs.Mailbox.{mailbox_text}
 use Rattle.imap_reply.specs.Spaced.{more_spaced, spaced}
 use Rattle.imap_reply.specs.SoundTexts.{is_calm, IsCalm}
-use Rattle.imap_reply.proofs.Texts.{all_append, calm_plain, atom_calm}
+use Rattle.mail_message.proofs.PlainTexts.{all_append}
+use Rattle.imap_reply.proofs.Texts.{calm_plain, atom_calm}
 
 pub after_append : (state : Announcing) (s t : List ℕ) → after_text state (s ++ t) ≡ after_text (after_text state s) t
 unfolding after_text

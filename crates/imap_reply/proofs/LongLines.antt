@@ -10,7 +10,8 @@ use Rattle.imap_command.specs.Strings.{escaped, escaped_text, quoted_text, is_at
 use Rattle.imap_command.specs.Characters.{is_quoted_special}
 use Rattle.mur_model.specs.declared.command.Tag.{Tag}
 use Rattle.mur_model.specs.declared.command.Tag.TheVariants.{Star, Text}
-use Rattle.imap_reply.specs.Lines.{IsPlain, IsPart, IsLine, is_within, is_announced, after_text, after_byte, Announcing}
+use Rattle.mail_message.specs.Literals.{IsPlain, IsPart, is_within}
+use Rattle.imap_reply.specs.Lines.{IsLine, is_announced, after_text, after_byte, Announcing}
 use Rattle.imap_reply.specs.Lines.Announcing.{nothing}
 use Rattle.imap_reply.specs.SoundTexts.{IsTag, IsSoundTag, IsCalm, is_calm}
 use Rattle.imap_reply.specs.AccessLines.{is_tab, is_create, is_delete, create_text, delete_text, rights_text, entries_text, acl_line, my_rights_line}
@@ -21,7 +22,8 @@ use Rattle.imap_reply.specs.Sets.{set_text}
 use Rattle.imap_reply.specs.Spaced.{spaced}
 use Rattle.imap_reply.specs.Tags.{tag_text}
 use Rattle.imap_reply.proofs.LineLaws.{Fits, line_of, fits_of, parts_fit, end_fits, mailbox_state, after_append, after_calm}
-use Rattle.imap_reply.proofs.Texts.{all_append, one_of, calm_plain, decimal_calm, set_calm, tag_calm, mailbox_plain}
+use Rattle.mail_message.proofs.PlainTexts.{all_append, one_of}
+use Rattle.imap_reply.proofs.Texts.{calm_plain, decimal_calm, set_calm, tag_calm, mailbox_plain}
 
 -- searches
 

@@ -11,11 +11,12 @@ use Rattle.std.proofs.lemmas.List.Folds.{list_all-append}
 use Rattle.std.proofs.lemmas.List.Elements.{All-head, All-tail}
 use Rattle.mur_base.specs.Ascii.{crlf}
 use Rattle.mur_base.specs.Number.{is_digit}
-use Rattle.imap_reply.specs.Lines.{IsPlain, IsLine, is_within, Announcing, after_byte, after_text, is_announced, announces, literal}
+use Rattle.mail_message.specs.Literals.{IsPlain, is_within, literal}
+use Rattle.imap_reply.specs.Lines.{IsLine, Announcing, after_byte, after_text, is_announced, announces}
 use Rattle.imap_reply.specs.Lines.Announcing.{nothing, opened, sized, announced}
 use Rattle.imap_reply.specs.Lines.IsLine.{ends, goes_on}
 use Rattle.imap_reply.proofs.LineLaws.{after_append}
-use Rattle.imap_reply.proofs.Texts.{all_append, all_weaker, decimal_digits}
+use Rattle.mail_message.proofs.PlainTexts.{decimal_plain, all_append, all_weaker, decimal_digits}
 
 -- the first CRLF
 
@@ -124,15 +125,11 @@ same_length (c ∷ one) (d ∷ other) x y len e =
 abbrev announcement : List ℕ → List ℕ → List ℕ
 announcement text octets = text ++ (123 ∷ (decimal (length octets) ++ 125 ∷ []))
 
-digit_within : (c : ℕ) → is_digit c ≡ true → is_within c ≡ true
-unfolding is_digit
-digit_within c h = grind (arith, nat_tests, h)
-
 announcement_plain : (text octets : List ℕ) → IsPlain text → IsPlain (announcement text octets)
 announcement_plain text octets one =
     all_append is_within text (123 ∷ (decimal (length octets) ++ 125 ∷ [])) one
     (all_append is_within (decimal (length octets)) (125 ∷ [])
-    (all_weaker is_digit is_within digit_within (decimal (length octets)) (decimal_digits (length octets))) refl)
+    (decimal_plain (length octets)) refl)
 
 regroup : (text digits octets line x : List ℕ)
     → (text ++ ((codes "{" ++ digits ++ codes "}\r\n" ++ octets) ++ line)) ++ x ≡ (text ++ (123 ∷ (digits ++ 125 ∷ []))) ++ (13 ∷ 10 ∷ (octets ++ (line ++ x)))

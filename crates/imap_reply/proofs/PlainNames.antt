@@ -10,8 +10,8 @@ use Rattle.mur_base.specs.declared.limits.TheConstants.{NAME_LIMIT}
 use Rattle.mur_base.specs.declared.name.NameFault.TheVariants.{Empty, TooLong, BadByte, BadLevel}
 use Rattle.mur_base.specs.Inbox.{own_name, is_level_end, behind, moved, shown_name}
 use Rattle.mur_base.specs.Names.{is_mail_name_byte, has_mail_name_bytes, has_empty_level, mail_name_fault}
-use Rattle.imap_reply.specs.Lines.{IsPlain, is_within}
-use Rattle.imap_reply.proofs.Texts.{all_weaker}
+use Rattle.mail_message.specs.Literals.{IsPlain, is_within}
+use Rattle.mail_message.proofs.PlainTexts.{all_weaker}
 
 name_byte_within : (c : ℕ) → is_mail_name_byte c ≡ true → is_within c ≡ true
 unfolding is_mail_name_byte

@@ -10,7 +10,8 @@ use Rattle.mur_model.specs.declared.reply.NoText.TheVariants.{AuthenticationFail
 use Rattle.mur_model.specs.declared.reply.NoText.TheVariants.{BeingMoved, NotReached}
 use Rattle.mur_model.specs.declared.reply.BadText.{BadText}
 use Rattle.mur_model.specs.declared.reply.BadText.TheVariants.{Syntax, State, Message}
-use Rattle.imap_reply.specs.Lines.{IsPlain, IsLine, is_within, is_announced, after_text, after_byte, Announcing}
+use Rattle.mail_message.specs.Literals.{IsPlain, is_within}
+use Rattle.imap_reply.specs.Lines.{IsLine, is_announced, after_text, after_byte, Announcing}
 use Rattle.imap_reply.specs.Codes.{code_text}
 use Rattle.imap_reply.specs.Sets.{set_text}
 use Rattle.imap_reply.specs.SoundTexts.{IsSoundTag}
@@ -18,7 +19,8 @@ use Rattle.imap_reply.specs.TaggedLine.{no_text, bad_text, ok_text, under}
 use Rattle.imap_reply.specs.Tags.{tag_text}
 use Rattle.imap_reply.proofs.LineLaws.{line_of, after_append}
 use Rattle.imap_reply.proofs.LongLines.{tag_plain}
-use Rattle.imap_reply.proofs.Texts.{all_append, calm_plain, decimal_calm, set_calm}
+use Rattle.mail_message.proofs.PlainTexts.{decimal_plain, all_append}
+use Rattle.imap_reply.proofs.Texts.{calm_plain, decimal_calm, set_calm}
 
 under_is_line : (tag : Tag) (text : List ℕ) → IsSoundTag tag → IsPlain text → ((state : Announcing) → is_announced (after_text state (32 ∷ text)) ≡ false)
     → IsLine (under tag text)
@@ -29,17 +31,14 @@ under_is_line tag text sound plain silent =
     regroup : (a b c : List ℕ) → a ++ (32 ∷ (b ++ c)) ≡ ((a ++ 32 ∷ []) ++ b) ++ c
     regroup a b c = simp append_assoc refl
 
-number_plain : (n : ℕ) → IsPlain (decimal n)
-number_plain n = calm_plain (decimal n) (decimal_calm n)
-
 code_plain : (code : Code) → IsPlain (code_text code)
 unfolding code_text
 code_plain no_code = refl
 code_plain (AppendUid serial uid) =
-    all_append is_within (decimal serial) (32 ∷ (decimal uid ++ codes "] ")) (number_plain serial)
-    (all_append is_within (decimal uid) (codes "] ") (number_plain uid) refl)
+    all_append is_within (decimal serial) (32 ∷ (decimal uid ++ codes "] ")) (decimal_plain serial)
+    (all_append is_within (decimal uid) (codes "] ") (decimal_plain uid) refl)
 code_plain (CopyUid serial uids copies) =
-    all_append is_within (decimal serial) (32 ∷ (set_text uids ++ 32 ∷ (set_text copies ++ codes "] "))) (number_plain serial)
+    all_append is_within (decimal serial) (32 ∷ (set_text uids ++ 32 ∷ (set_text copies ++ codes "] "))) (decimal_plain serial)
     (all_append is_within (set_text uids) (32 ∷ (set_text copies ++ codes "] ")) (calm_plain (set_text uids) (set_calm uids))
     (all_append is_within (set_text copies) (codes "] ") (calm_plain (set_text copies) (set_calm copies)) refl))
 code_plain ExpungeIssued = refl

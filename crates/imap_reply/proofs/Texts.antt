@@ -11,45 +11,17 @@ use Rattle.std.proofs.lemmas.List.Elements.{All-head, All-tail}
 use Rattle.mur_base.specs.Number.{is_digit}
 use Rattle.imap_command.specs.Characters.{is_astring_char, is_atom_char, is_tag_byte, is_quoted_special}
 use Rattle.imap_command.specs.Strings.{escaped, escaped_text, quoted_text, is_atom}
-use Rattle.imap_reply.specs.Lines.{is_within, IsPlain}
+use Rattle.mail_message.specs.Literals.{is_within, IsPlain}
+use Rattle.mail_message.proofs.PlainTexts.{all_append, all_weaker, one_of, decimal_digits}
 use Rattle.imap_reply.specs.Mailbox.{mailbox_text}
 use Rattle.imap_reply.specs.Sets.{Run, before_runs, runs_of, run_text, more_runs_text, runs_text, set_text}
 use Rattle.imap_reply.specs.SoundTexts.{is_calm, IsCalm}
 use Rattle.imap_reply.specs.Spaced.{more_spaced, spaced}
 
-pub all_append : (p : ℕ → Bool) (s t : List ℕ) → list_all p s ≡ true → list_all p t ≡ true → list_all p (s ++ t) ≡ true
-all_append p s t one other = rw (list_all-append p s t, one, other) refl
-
-pub all_weaker : (p q : ℕ → Bool) → ((c : ℕ) → p c ≡ true → q c ≡ true) → (text : List ℕ) → list_all p text ≡ true → list_all q text ≡ true
-all_weaker p q weaker [] all = refl
-all_weaker p q weaker (c ∷ text) all =
-    let both = and_parts (p c) (list_all p text) all in
-    rw (weaker c both.0, all_weaker p q weaker text both.1) refl
-
 pub calm_plain : (text : List ℕ) → IsCalm text → IsPlain text
 calm_plain text calm = all_weaker is_calm is_within (λ c h. (and_parts (is_within c) _ h).0) text calm
 
 -- numbers
-
-digit_is : (n : ℕ) → is_digit (digit_glyph false (n % 10)) ≡ true
-unfolding is_digit
-digit_is n = grind (arith, nat_tests)
-
-pub one_of : (p : ℕ → Bool) (b : Bool) (s t : List ℕ) → list_all p s ≡ true → list_all p t ≡ true → list_all p (cond b s t) ≡ true
-one_of p true s t one other = one
-one_of p false s t one other = other
-
-digits_onto_all : (k n : ℕ) (behind : List ℕ) → list_all is_digit behind ≡ true → list_all is_digit (digits_onto k 10 false n behind) ≡ true
-digits_onto_all zero n behind all = all
-digits_onto_all (suc k) n behind all =
-    let digit = digit_glyph false (n % 10) in
-    let more : list_all is_digit (digit ∷ behind) ≡ true = rw (digit_is n, all) refl in
-    one_of is_digit (n / 10 == 0) (digit ∷ behind) (digits_onto k 10 false (n / 10) (digit ∷ behind)) more
-    (digits_onto_all k (n / 10) (digit ∷ behind) more)
-
-pub decimal_digits : (n : ℕ) → list_all is_digit (decimal n) ≡ true
-unfolding digits
-decimal_digits n = digits_onto_all 64 n [] refl
 
 digit_calm : (c : ℕ) → is_digit c ≡ true → is_calm c ≡ true
 unfolding is_digit

@@ -2,19 +2,9 @@
 -- goes on behind the literal's octets.
 use Rattle.std.specs.Prelude.{◌≡◌, ℕ, ◌<◌, ◌^◌, Bool, true, false, ◌&&◌, not, ◌==◌, if◌then◌else◌, List, [], ◌∷◌, ◌++◌, length, codes, decimal}
 use Rattle.std.specs.List.{list_all}
-use Rattle.mur_base.specs.Ascii.{lf, cr, plus, open_brace, close_brace, crlf}
+use Rattle.mur_base.specs.Ascii.{plus, open_brace, close_brace, crlf}
 use Rattle.mur_base.specs.Number.{is_digit}
-
-abbrev pub is_within : ℕ → Bool
-is_within c = not (c == cr) && not (c == lf)
-
--- neither CR nor LF stands in the text
-abbrev pub IsPlain : List ℕ → Type 0
-IsPlain text = list_all is_within text ≡ true
-
--- literal = "{" number64 "}" CRLF *CHAR8, where the number counts the octets
-unfoldable pub literal : List ℕ → List ℕ
-literal octets = codes "{" ++ decimal (length octets) ++ codes "}\r\n" ++ octets
+use Rattle.mail_message.specs.Literals.{IsPlain, literal}
 
 -- how far the end of a text has come to announce a literal: "{" number64 ["+"] "}"
 pub data Announcing : Type 0 where
@@ -62,8 +52,3 @@ announces text = is_announced (after_text nothing text)
 pub data IsLine : List ℕ → Type 0 where
   ends : (text : List ℕ) → IsPlain text → announces text ≡ false → IsLine (text ++ crlf)
   goes_on : (text octets line : List ℕ) → IsPlain text → length octets < 2 ^ 64 → IsLine line → IsLine (text ++ (literal octets ++ line))
-
--- what may stand within a line: texts with literals between them
-pub data IsPart : List ℕ → Type 0 where
-  plain : (text : List ℕ) → IsPlain text → IsPart text
-  with_literal : (text octets rest : List ℕ) → IsPlain text → length octets < 2 ^ 64 → IsPart rest → IsPart (text ++ (literal octets ++ rest))

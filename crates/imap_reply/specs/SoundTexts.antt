@@ -14,7 +14,7 @@ use Rattle.mur_model.specs.declared.reply.ReplyLine.TheVariants.{UidNext, UidVal
 use Rattle.mur_model.specs.declared.reply.Verdict.{Verdict}
 use Rattle.mur_model.specs.declared.reply.Verdict.TheVariants.{Nothing, Ok as ok_reply, No as no_reply, Bad as bad_reply}
 use Rattle.imap_command.specs.Characters.{is_tag_byte}
-use Rattle.imap_reply.specs.Lines.{IsPlain, IsPart, is_within}
+use Rattle.mail_message.specs.Literals.{IsPlain, IsPart, is_within}
 
 -- tag = 1*<any ASTRING-CHAR except "+">
 pub record IsTag (text : List ℕ) : Type 0 where

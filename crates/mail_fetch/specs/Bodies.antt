@@ -1,11 +1,7 @@
 -- The body of a message, and parts of it, as a FETCH gives them (RFC 9051, 6.4.5 and 7.5.2).
-use Rattle.std.specs.Prelude.{ℕ, List, ◌++◌, length, take, drop, codes, decimal, Option, Some, None}
-use Rattle.mur_base.specs.Ascii.{crlf}
+use Rattle.std.specs.Prelude.{ℕ, List, ◌++◌, take, drop, codes, decimal, Option, Some, None}
 use Rattle.mail_message.specs.declared.item.Partial.{Partial}
-
--- literal: the number of octets, and the octets as they are (RFC 9051, 4.3)
-abbrev pub literal : List ℕ → List ℕ
-literal octets = codes "{" ++ decimal (length octets) ++ codes "}" ++ crlf ++ octets
+use Rattle.mail_message.specs.Literals.{literal}
 
 -- the octets from a place on, at most so many; none where the place is behind the last
 abbrev pub octets_of : Partial → List ℕ → List ℕ

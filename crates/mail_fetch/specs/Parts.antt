@@ -8,9 +8,12 @@ use Rattle.mail_fetch.specs.FlagText.{flags_text}
 use Rattle.mur_base.specs.Ascii.{quote}
 use Rattle.std.specs.Prelude.{[], ◌∷◌}
 
+abbrev pub uid_text : ℕ → List ℕ
+uid_text uid = codes "UID " ++ decimal uid
+
 abbrev pub part_text : Item → Message → List ℕ
 part_text Flags message = flags_text message.flags
-part_text Uid message = codes "UID " ++ decimal message.uid
+part_text Uid message = uid_text message.uid
 part_text InternalDate message = codes "INTERNALDATE " ++ quote ∷ message.date ++ quote ∷ []
 part_text Size message = codes "RFC822.SIZE " ++ decimal (length message.body)
 part_text (Body partial) message = body_text partial message.body

@@ -1,6 +1,7 @@
 // Bodies and parts of them.
 ghost use Rattle.std.specs.Prelude.{◌≡◌, ◌++◌, OnOk};
-ghost use Rattle.mail_fetch.specs.Bodies.{literal, octets_of, body_text};
+ghost use Rattle.mail_message.specs.Literals.{literal};
+ghost use Rattle.mail_fetch.specs.Bodies.{octets_of, body_text};
 
 use mail_message::Partial;
 use mur_base::{Bytes, Memory, put_number};
@@ -23,6 +24,7 @@ pub fn put_body(text: &mut Bytes, partial: Option<Partial>, body: &[u8]) -> Resu
     }
 }
 
+#[tactic(auto, unfolding(mail_message::specs::Literals::literal))]
 fn put_literal(text: &mut Bytes, octets: &[u8]) -> Result<(), Memory>
     ensures { OnOk result (text.new ≡ text.old ++ literal octets.now) }
 {

@@ -1,38 +1,70 @@
 // The text of a fetch item.
 ghost use Rattle.std.specs.Prelude.{◌≡◌, [], ◌∷◌, ◌++◌, codes, decimal, length, IfOk, OnOk};
 ghost use Rattle.mur_base.specs.Ascii.{quote};
-ghost use Rattle.mail_fetch.specs.Parts.{part_text};
+ghost use Rattle.mail_message.specs.FlagSets.{HasRuledKeywords};
+ghost use Rattle.mail_message.specs.Literals.{IsPart};
+ghost use Rattle.mail_fetch.specs.FlagText.{flags_text};
+ghost use Rattle.mail_fetch.specs.Parts.{uid_text, part_text};
 
 use crate::body::put_body;
 use crate::flags::put_flags;
-use mail_message::{Item, Message};
+use mail_message::{FlagSet, Item, Message};
 use mur_base::{Bytes, Memory, put_number};
 use std::alloc::Global;
 
 /// What a fetch item gives of a message: its name, a space and its value.
 pub type PartBytes = Bytes;
 
-/// What an item gives of a message, as a FETCH response has it between its parentheses (RFC 9051, 7.5.2). A body is copied once.
+/// What an item gives of a message, as a FETCH response has it between its parentheses (RFC 9051, 7.5.2): a part of a line, in
+/// which a line ends nowhere but within a literal's octets. A body is copied once.
 pub fn part(alloc: Global, item: &Item, message: &Message) -> Result<PartBytes, Memory>
-    ensures { IfOk result (λ text. text ≡ part_text item.now message.now) }
+    ensures text { IfOk result (λ text. text ≡ part_text item.now message.now) }
+    ensures part { HasRuledKeywords message.now.flags → IfOk result IsPart }
 {
     let mut text = Bytes::new(alloc);
     put_part(&mut text, item, message)?;
     Ok(text)
 }
 
+/// What `UID` gives of a message, where there is no more of it than a row.
+pub fn uid_part(alloc: Global, uid: u32) -> Result<PartBytes, Memory>
+    ensures text { IfOk result (λ text. text ≡ uid_text uid) }
+    ensures part { IfOk result IsPart }
+{
+    let mut text = Bytes::new(alloc);
+    put_uid(&mut text, uid)?;
+    Ok(text)
+}
+
+/// What `FLAGS` gives of a message, where there is no more of it than a row.
+pub fn flags_part(alloc: Global, flags: &FlagSet) -> Result<PartBytes, Memory>
+    ensures text { IfOk result (λ text. text ≡ flags_text flags.now) }
+    ensures part { HasRuledKeywords flags.now → IfOk result IsPart }
+{
+    let mut text = Bytes::new(alloc);
+    put_flags(&mut text, flags)?;
+    Ok(text)
+}
+
 fn put_part(text: &mut Bytes, item: &Item, message: &Message) -> Result<(), Memory>
-    ensures { OnOk result (text.new ≡ text.old ++ part_text item.now message.now) }
+    ensures text { OnOk result (text.new ≡ text.old ++ part_text item.now message.now) }
+    ensures part { HasRuledKeywords message.now.flags → IsPart (part_text item.now message.now) }
 {
     match item {
         Item::Flags => put_flags(text, &message.flags),
-        Item::Uid => put_counted(text, b"UID ", u64::from(message.uid)),
+        Item::Uid => put_uid(text, message.uid),
         Item::InternalDate => put_date(text, message.date.as_bytes()),
         Item::Size => put_size(text, message.body.as_slice()),
         Item::Body(partial) | Item::BodyPeek(partial) => {
             put_body(text, *partial, message.body.as_slice())
         }
     }
+}
+
+fn put_uid(text: &mut Bytes, uid: u32) -> Result<(), Memory>
+    ensures { OnOk result (text.new ≡ text.old ++ uid_text uid) }
+{
+    put_counted(text, b"UID ", u64::from(uid))
 }
 
 fn put_size(text: &mut Bytes, body: &[u8]) -> Result<(), Memory>

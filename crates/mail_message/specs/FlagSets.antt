@@ -1,5 +1,5 @@
 -- The flags of a message (RFC 9051, 2.3.2), and what STORE makes of them (RFC 9051, 6.4.6).
-use Rattle.std.specs.Prelude.{◌≡◌, ◌⊎◌, ℕ, Bool, true, false, nat_lt, if◌then◌else◌, List, [], length, Result, Ok, Err, MatchResult}
+use Rattle.std.specs.Prelude.{◌≡◌, ◌⊎◌, ℕ, Bool, true, false, nat_lt, if◌then◌else◌, List, [], length, Option, None, Result, Ok, Err, MatchResult, All}
 use Rattle.mur_base.specs.declared.limits.TheConstants.{MESSAGE_KEYWORD_LIMIT}
 use Rattle.mail_message.specs.declared.system_flags.SystemFlags.{SystemFlags}
 use Rattle.mail_message.specs.declared.flag_name.FlagName.{FlagName}
@@ -9,12 +9,16 @@ use Rattle.mail_message.specs.declared.flag_name.FlagFault.TheVariants.{TooMany,
 use Rattle.mail_message.specs.declared.mode.Mode.{Mode}
 use Rattle.mail_message.specs.declared.mode.Mode.TheVariants.{Replace, Add, Remove}
 use Rattle.mail_message.specs.SystemFlags.{no_system_flags, system_flag_in, with_system_flag, system_flags_or, system_flags_but}
-use Rattle.mail_message.specs.Keywords.{keyword_in, with_keyword, without_keyword, with_keywords, without_keywords}
+use Rattle.mail_message.specs.Keywords.{keyword_fault, keyword_in, with_keyword, without_keyword, with_keywords, without_keywords}
 
 -- the flags of a message: its keywords stand in byte order
 pub record Flags : Type 0 where
   pub system : SystemFlags
   pub keywords : List (List ℕ)
+
+-- each keyword meets the rule of keywords
+abbrev pub HasRuledKeywords : Flags → Type 0
+HasRuledKeywords flags = All (λ keyword. keyword_fault keyword ≡ None) flags.keywords
 
 abbrev pub no_flags : Flags
 no_flags = record { system = no_system_flags; keywords = [] }

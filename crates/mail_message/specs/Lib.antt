@@ -5,6 +5,7 @@ pub mod FirstAcl
 pub mod FlagNames
 pub mod FlagSets
 pub mod Keywords
+pub mod Literals
 pub mod Partials
 pub mod RowOrder
 pub mod Sets
