@@ -12,7 +12,7 @@ use Rattle.front_core.specs.declared.connection.Connection.{Connection}
 use Rattle.front_core.specs.declared.front.Front.{Front}
 use Rattle.front_core.specs.Front.{Stepped, connection_at, new_connection, connect, connect_at}
 use Rattle.imap_reply.specs.Greeting.{greeting}
-use Rattle.imap_reply.specs.Transcript.{replies_to, replies_till}
+use Rattle.imap_reply.specs.Transcript.{replies_to, told_till}
 use Rattle.imap_reply.proofs.TranscriptGrows.{AreAnswered, none_answered}
 use Rattle.imap_wire.specs.Frames.{frames, begun}
 use Rattle.imap_wire.proofs.FeedLaws.{frames-nil}
@@ -158,7 +158,7 @@ greets world node conn front none =
     (value_at-with_entry nat_cmp numbers_apart world.clients conn (record { at = node; given = [] }))
 
 greeting_alone : (told : List Answer) → told ≡ [] → greeting ≡ greeting ++ replies_to (frames []) told
-unfolding replies_till
+unfolding told_till
 greeting_alone told e = rw (e, ← frames-nil) (sym (append-nil greeting))
 
 all_answered : (told : List Answer) → told ≡ [] → AreAnswered (frames []) told

@@ -28,6 +28,7 @@ pub mod StartLaw
 pub mod OneStoreLaw
 pub mod InTime
 pub mod HomesLaw
+pub mod ReadLaw
 pub mod ToldSoFar
 pub mod AtRestLaw
 pub mod OneNodeLaw

@@ -39,7 +39,7 @@ use Rattle.imap_reply.proofs.EachLine.{capability_is_line, enabled_is_line, clos
 use Rattle.imap_reply.proofs.EachLine.{uid_next_is_line, uid_validity_is_line, flags_is_line, permanent_is_line, list_is_line, status_is_line}
 use Rattle.imap_reply.proofs.LongLines.{search_is_line, fetch_is_line, acl_is_line, my_rights_is_line}
 use Rattle.imap_reply.proofs.TaggedIsLine.{ok_is_line, no_is_line, bad_is_line}
-use Rattle.imap_reply.proofs.OneCut.{same_lines}
+use Rattle.imap_reply.proofs.ReadParts.{read_by}
 
 untagged_is_line : (tag : Tag) → IsSoundTag tag → (line : ReplyLine) → IsSoundLine line → IsLine (line_text tag line)
 unfolding line_text IsSoundLine
@@ -158,12 +158,8 @@ are_lines tag reply sound =
 
 pub read_as_meant : (tag : Tag) (reply : Reply) → IsSound tag reply → IsReadAsMeant tag reply
 read_as_meant tag reply sound =
-    let whole : concat (meant_lines tag reply) ≡ reply_text tag reply = whole_text tag reply in
-    let lines : All IsLine (meant_lines tag reply) = are_lines tag reply sound in
     record {
-      whole = whole;
-      lines = lines;
-      only = λ others all text. same_lines others (meant_lines tag reply) all lines (text ∙ sym whole);
+      read = read_by (reply_text tag reply) (meant_lines tag reply) (whole_text tag reply) (are_lines tag reply sound);
       untagged = untagged_are tag reply;
       tagged = last_are tag reply.verdict;
     }
