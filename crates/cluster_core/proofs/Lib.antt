@@ -1,4 +1,5 @@
 pub mod Wires
+pub mod OnWay
 pub mod Ways
 pub mod ServedAlike
 pub mod CreateLaw

@@ -131,22 +131,22 @@ unfolding hangs
 hangs_commands world conn n None have = have
 hangs_commands world conn n (Some client) have = hang_at_commands world conn client.at n (front_at world client.at) refl have
 
-home_takes_fronts : (world : World) (node : List ℕ) (home : Backend) (input : Option BackInput) → (home_takes world node home input).fronts ≡ world.fronts
+home_takes_carried : (world : World) (node : List ℕ) (home : Backend) (input : Option BackInput) → IsCarried world (home_takes world node home input)
 unfolding home_takes
-home_takes_fronts world node home None = refl
-home_takes_fronts world node home (Some input) = (all_carried node _ _).fronts
+home_takes_carried world node home None = record { fronts = refl; steps = refl }
+home_takes_carried world node home (Some input) = let all = all_carried node _ _ in record { fronts = all.fronts; steps = all.steps }
 
-to_home_fronts : (world : World) (from to : List ℕ) (message : LinkMsg) (found : Option Backend)
-    → (comes_to_home world from to message found).fronts ≡ world.fronts
+to_home_carried : (world : World) (from to : List ℕ) (message : LinkMsg) (found : Option Backend)
+    → IsCarried world (comes_to_home world from to message found)
 unfolding comes_to_home
-to_home_fronts world from to message None = refl
-to_home_fronts world from to message (Some home) = home_takes_fronts world to home (input_of from message)
+to_home_carried world from to message None = record { fronts = refl; steps = refl }
+to_home_carried world from to message (Some home) = home_takes_carried world to home (input_of from message)
 
 comes_commands : (world : World) (from to : List ℕ) (message : LinkMsg) (n : ℕ) (found : Option Front) → front_at world to ≡ found → HaveCommands world n
     → HaveCommands (comes_to world from to message found) n
 unfolding comes_to
 comes_commands world from to message n None there have =
-    same_fronts world (comes_to_home world from to message (home_at world to)) n (to_home_fronts world from to message (home_at world to)) have
+    same_fronts world (comes_to_home world from to message (home_at world to)) n (to_home_carried world from to message (home_at world to)).fronts have
 comes_commands world from to message n (Some front) there have =
     front_commands world to front (take_message front message) n n there (omega arith) have (deliver_counts front message n (have to front there))
 
@@ -200,20 +200,9 @@ unfolding hangs
 hangs_steps world conn None = refl
 hangs_steps world conn (Some client) = hang_at_steps world conn client.at (front_at world client.at)
 
-home_takes_steps : (world : World) (node : List ℕ) (home : Backend) (input : Option BackInput) → (home_takes world node home input).steps ≡ world.steps
-unfolding home_takes
-home_takes_steps world node home None = refl
-home_takes_steps world node home (Some input) = (all_carried node _ _).steps
-
-to_home_steps : (world : World) (from to : List ℕ) (message : LinkMsg) (found : Option Backend)
-    → (comes_to_home world from to message found).steps ≡ world.steps
-unfolding comes_to_home
-to_home_steps world from to message None = refl
-to_home_steps world from to message (Some home) = home_takes_steps world to home (input_of from message)
-
 comes_steps : (world : World) (from to : List ℕ) (message : LinkMsg) (found : Option Front) → (comes_to world from to message found).steps ≡ world.steps
 unfolding comes_to
-comes_steps world from to message None = to_home_steps world from to message (home_at world to)
+comes_steps world from to message None = (to_home_carried world from to message (home_at world to)).steps
 comes_steps world from to message (Some front) = (all_carried to _ _).steps
 
 first_steps : (world : World) (from to : List ℕ) (queue : List LinkMsg) → (deliver_first world from to queue).steps ≡ world.steps
