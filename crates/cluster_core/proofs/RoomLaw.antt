@@ -7,6 +7,7 @@ use Rattle.std.specs.Ordering.{nat_cmp}
 use Rattle.std.specs.Cmp.Lexicographic.{slice_cmp}
 use Rattle.backend_core.specs.declared.backend.Backend.{Backend}
 use Rattle.backend_core.specs.declared.input.BackInput.{BackInput}
+use Rattle.backend_core.specs.Plan.{plan_of}
 use Rattle.front_core.specs.declared.front.Front.{Front}
 use Rattle.front_core.specs.Front.{Stepped, new_front, connect, bytes_in, hang, deliver as take_message}
 use Rattle.front_core.specs.Room.{HasCommands, HasRoomAt, HasRoomFor}
@@ -134,7 +135,10 @@ hangs_commands world conn n (Some client) have = hang_at_commands world conn cli
 home_takes_carried : (world : World) (node : List ℕ) (home : Backend) (input : Option BackInput) → IsCarried world (home_takes world node home input)
 unfolding home_takes
 home_takes_carried world node home None = record { fronts = refl; steps = refl }
-home_takes_carried world node home (Some input) = let all = all_carried node _ _ in record { fronts = all.fronts; steps = all.steps }
+home_takes_carried world node home (Some input) =
+    let planned = plan_of home input in
+    let all = all_carried node (record world { homes = with_value (slice_cmp nat_cmp) world.homes node planned.home }) planned.outs in
+    record { fronts = all.fronts; steps = all.steps }
 
 to_home_carried : (world : World) (from to : List ℕ) (message : LinkMsg) (found : Option Backend)
     → IsCarried world (comes_to_home world from to message found)
