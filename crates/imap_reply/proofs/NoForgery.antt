@@ -93,7 +93,7 @@ whole_text tag reply =
 
 -- what the lines begin with
 
-no_star : (c : ℕ) → is_tag_byte c ≡ true → (c == 42) ≡ false
+pub no_star : (c : ℕ) → is_tag_byte c ≡ true → (c == 42) ≡ false
 unfolding is_tag_byte
 no_star c h = grind (arith, nat_tests, h)
 
