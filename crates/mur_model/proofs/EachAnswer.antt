@@ -34,21 +34,18 @@ answered_at setting talk first last points conn number (a_loss course end step o
     answered_at setting talk _ end rest conn number later
     (behind_it (is_about answers conn number) (point_of step other n lost) rest refl some)
 answered_at setting talk first last points conn number (a_reply course end step other n request serial rest takes told later) some =
-    by (other == conn) (n == number) refl refl
+    by (other == conn) (n == number) refl refl (λ more. answered_at setting talk _ end rest conn number later more)
   where
-    by : (same here : Bool) → (other == conn) ≡ same → (n == number) ≡ here → IsItsAnswer setting talk conn number
-    by true true e f =
+    by : (same here : Bool) → (other == conn) ≡ same → (n == number) ≡ here
+        → (0 < count_by (is_about answers conn number) rest → IsItsAnswer setting talk conn number) → IsItsAnswer setting talk conn number
+    by true true e f on =
         let conn_is : other ≡ conn = grind (arith, nat_tests, e) in
         let number_is : n ≡ number = grind (arith, nat_tests, f) in
         subst (λ c. IsItsAnswer setting talk c number) conn_is
         (subst (λ m. IsItsAnswer setting talk other m) number_is
         (record { course = course; request = request; serial = serial; asked = takes.asked; told = told }))
-    by true false e f =
-        answered_at setting talk _ end rest conn number later
-        (behind_it (is_about answers conn number) (point_of step other n replied) rest (rw (e, f) refl) some)
-    by false here e f =
-        answered_at setting talk _ end rest conn number later
-        (behind_it (is_about answers conn number) (point_of step other n replied) rest (rw e refl) some)
+    by true false e f on = on (behind_it (is_about answers conn number) (point_of step other n replied) rest (rw (e, f) refl) some)
+    by false here e f on = on (behind_it (is_about answers conn number) (point_of step other n replied) rest (rw e refl) some)
 
 asked_so : {T : Type 0} (Q : T → Type 0) (items : List T) (k : ℕ) (item : T) → numbered items (suc k) ≡ Some item → All Q items → Q item
 unfolding numbered
