@@ -21,7 +21,7 @@ use Rattle.imap_reply.specs.Sets.{set_text}
 use Rattle.imap_reply.specs.Spaced.{spaced}
 use Rattle.imap_reply.specs.Tags.{tag_text}
 use Rattle.imap_reply.proofs.LineLaws.{Fits, line_of, fits_of, parts_fit, end_fits, mailbox_state, after_append, after_calm}
-use Rattle.imap_reply.proofs.Texts.{all_append, one_of, calm_plain, decimal_calm, set_calm, tag_calm, mailbox_plain}
+use Rattle.imap_reply.proofs.Texts.{all_append, one_of, calm_plain, decimal_calm, set_calm, tag_calm, mailbox_calm, mailbox_plain}
 
 -- searches
 
@@ -67,25 +67,6 @@ rights_calm letters calm =
     all_append is_calm (letters ++ create_text letters) (delete_text letters)
     (all_append is_calm letters (create_text letters) calm (one_of is_calm (list_any is_create letters) (codes "c") [] refl refl))
     (one_of is_calm (list_any is_delete letters) (codes "d") [] refl refl)
-
-escaped_calm : (c : ℕ) → is_calm c ≡ true → IsCalm (escaped c)
-unfolding escaped
-escaped_calm c h = one_of is_calm (is_quoted_special c) (92 ∷ c ∷ []) (c ∷ []) (rw h refl) (rw h refl)
-
-escaped_text_calm : (text : List ℕ) → IsCalm text → IsCalm (escaped_text text)
-unfolding escaped_text
-escaped_text_calm [] calm = refl
-escaped_text_calm (c ∷ text) calm =
-    let both = and_parts (is_calm c) (list_all is_calm text) calm in
-    all_append is_calm (escaped c) (escaped_text text) (escaped_calm c both.0) (escaped_text_calm text both.1)
-
-quoted_calm : (text : List ℕ) → IsCalm text → IsCalm (quoted_text text)
-unfolding quoted_text
-quoted_calm text calm = all_append is_calm (escaped_text text) (34 ∷ []) (escaped_text_calm text calm) refl
-
-mailbox_calm : (name : List ℕ) → IsCalm name → IsCalm (mailbox_text name)
-unfolding mailbox_text
-mailbox_calm name calm = one_of is_calm (is_atom name) name (quoted_text name) calm (quoted_calm name calm)
 
 entries_calm : (fields : List (List ℕ)) → All IsCalm fields → IsCalm (entries_text fields)
 unfolding entries_text
