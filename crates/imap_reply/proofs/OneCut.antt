@@ -1,5 +1,5 @@
 -- A text is cut into lines in one way.
-use Rattle.std.proofs.Common.{◌≡◌, ℕ, suc, ◌+◌, ◌<◌, ◌^◌, ◌==◌, Bool, true, false, ◌&&◌, not, List}
+use Rattle.std.proofs.Common.{◌≡◌, ℕ, ◌<◌, ◌^◌, ◌==◌, Bool, true, false, ◌&&◌, not, List}
 use Rattle.std.proofs.Common.{[], ◌∷◌, ◌++◌, length, codes, decimal, refl, sym, ◌∙◌, ap, subst, append_assoc, arith}
 use Rattle.std.specs.Prelude.{All}
 use Rattle.std.specs.List.{list_all, concat}
@@ -11,8 +11,8 @@ use Rattle.std.proofs.lemmas.List.Folds.{list_all-append}
 use Rattle.std.proofs.lemmas.List.Elements.{All-head, All-tail}
 use Rattle.mur_base.specs.Ascii.{crlf}
 use Rattle.mur_base.specs.Number.{is_digit}
-use Rattle.imap_reply.specs.Lines.{IsPlain, IsLine, is_within, Announcing, after_byte, after_text, is_announced, announces, literal}
-use Rattle.imap_reply.specs.Lines.Announcing.{nothing, opened, sized, announced}
+use Rattle.imap_reply.specs.Lines.{IsPlain, IsLine, is_within, after_byte, after_text, is_announced, announces, literal}
+use Rattle.imap_reply.specs.Lines.Announcing.{nothing, opened, sized}
 use Rattle.imap_reply.specs.Lines.IsLine.{ends, goes_on}
 use Rattle.imap_reply.proofs.LineLaws.{after_append}
 use Rattle.imap_reply.proofs.Texts.{all_append, all_weaker, decimal_digits}

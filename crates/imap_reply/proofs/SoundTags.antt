@@ -1,8 +1,7 @@
 -- The tag of each request that a frame asks for is sound: a tag of the grammar, or `*`.
-use Rattle.std.proofs.Common.{◌≡◌, ℕ, ◌≤◌, ◌<◌, Bool, true, false, ◌&&◌, nat_le, List, [], ◌∷◌, ◌++◌, length, Option, None, Some, refl, sym, ap, subst, arith}
+use Rattle.std.proofs.Common.{◌≡◌, ℕ, true, false, ◌&&◌, nat_le, List, [], ◌∷◌, length, Option, None, Some, sym, ap, subst, arith}
 use Rattle.std.specs.List.{list_all}
 use Rattle.std.proofs.lemmas.Bool.{and_parts}
-use Rattle.grammar.specs.Runs.{some}
 use Rattle.imap_command.specs.Bad.{IsFirstTag}
 use Rattle.imap_command.specs.Characters.{is_tag_byte}
 use Rattle.imap_command.specs.Request.{IsRequest, IsTooBig, tag_or_star}
@@ -10,20 +9,17 @@ use Rattle.imap_command.specs.Request.IsRequest.{spells, spells_nothing}
 use Rattle.imap_command.specs.Spells.{Spells, tags, tagged_command}
 use Rattle.mur_model.specs.declared.command.Command.{Command}
 use Rattle.mur_model.specs.declared.command.Tag.{Tag}
-use Rattle.mur_model.specs.declared.command.Tag.TheVariants.{Star, Text}
+use Rattle.mur_model.specs.declared.command.Tag.TheVariants.{Text}
 use Rattle.mur_model.specs.declared.request.Request.{Request}
-use Rattle.mur_model.specs.declared.request.Request.TheVariants.{Command as a_command, Unknown as unknown, TooBig as too_big}
 use Rattle.imap_reply.specs.SoundTexts.{IsTag, IsSoundTag}
 use Rattle.imap_reply.proofs.SoundAnswers.{tag_asked}
 
-some_length : (text : List ℕ) → some text ≡ true → 0 < length text
-some_length [] e = cc
-some_length (c ∷ text) e = omega arith
-
 whole_tag : (text : List ℕ) → tags.whole text ≡ true → IsTag text
-whole_tag text whole =
-    let all = and_parts (list_all is_tag_byte text) (nat_le (length text) 32 && some text) whole in
-    record { bytes = all.0; some = some_length text (and_parts (nat_le (length text) 32) (some text) all.1).1 }
+whole_tag [] whole = absurd (let none : false ≡ true = whole in cc)
+whole_tag (c ∷ text) whole =
+    let all = list_all is_tag_byte (c ∷ text) in
+    let short = nat_le (length (c ∷ text)) 32 in
+    record { bytes = (and_parts all short (and_parts (all && short) true whole).0).0; some = omega arith }
 
 spelled_tag : (frame : List ℕ) (tag : Tag) (it : Command) → Spells frame (tag, it) → IsSoundTag tag
 unfolding tagged_command IsSoundTag

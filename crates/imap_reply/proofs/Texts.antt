@@ -1,7 +1,7 @@
 -- Which bytes stand in the texts of replies.
-use Rattle.std.proofs.Common.{◌≡◌, ℕ, zero, suc, ◌+◌, ◌<◌, ◌/◌, ◌%◌, ◌==◌, Bool, true, false, ◌&&◌}
-use Rattle.std.proofs.Common.{not, cond, List, [], ◌∷◌, ◌++◌, length, refl, sym, ◌∙◌, ap, subst, arith}
-use Rattle.std.specs.Prelude.{nat_lt, All, map}
+use Rattle.std.proofs.Common.{◌≡◌, ℕ, zero, suc, ◌/◌, ◌%◌, ◌==◌, Bool, true, false}
+use Rattle.std.proofs.Common.{cond, List, [], ◌∷◌, ◌++◌, refl, arith}
+use Rattle.std.specs.Prelude.{All}
 use Rattle.std.specs.List.{list_all}
 use Rattle.std.specs.Fmt.{digits, digits_onto, digit_glyph, decimal}
 use Rattle.std.proofs.lemmas.Bool.{and_parts}
@@ -13,7 +13,7 @@ use Rattle.imap_command.specs.Characters.{is_astring_char, is_atom_char, is_tag_
 use Rattle.imap_command.specs.Strings.{escaped, escaped_text, quoted_text, is_atom}
 use Rattle.imap_reply.specs.Lines.{is_within, IsPlain}
 use Rattle.imap_reply.specs.Mailbox.{mailbox_text}
-use Rattle.imap_reply.specs.Sets.{Run, before_runs, runs_of, run_text, more_runs_text, runs_text, set_text}
+use Rattle.imap_reply.specs.Sets.{Run, runs_of, run_text, more_runs_text, runs_text, set_text}
 use Rattle.imap_reply.specs.SoundTexts.{is_calm, IsCalm}
 use Rattle.imap_reply.specs.Spaced.{more_spaced, spaced}
 

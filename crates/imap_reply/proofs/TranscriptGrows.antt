@@ -67,7 +67,7 @@ pub record Grows (frames next : List Frame) (answers more : List Answer) (text :
   pub answered : AreAnswered next more
   pub text_is : replies_till silent next more ≡ replies_till silent frames answers ++ text
 
-nothing_behind : (is_end : Bool) → behind is_end [] ≡ []
+nothing_behind : (is_end : Bool) → behind {T = ℕ} is_end [] ≡ []
 unfolding behind
 nothing_behind true = refl
 nothing_behind false = refl

@@ -1,5 +1,5 @@
 -- A client reads all that it is given as it was meant, if it reads each reply so: a cut of texts one behind another is the cuts of each.
-use Rattle.std.proofs.Common.{◌≡◌, ℕ, ◌<◌, ◌==◌, Bool, true, false, ◌&&◌, List, [], ◌∷◌, ◌++◌, length, refl, sym, ◌∙◌, ap, subst, codes, Option, None, Some, arith}
+use Rattle.std.proofs.Common.{◌≡◌, ℕ, ◌==◌, Bool, true, false, List, [], ◌∷◌, ◌++◌, refl, sym, ◌∙◌, ap, codes, Option, None, Some, arith}
 use Rattle.std.specs.Prelude.{All}
 use Rattle.std.specs.List.{concat, list_all}
 use Rattle.std.proofs.lemmas.Bool.{and_parts}
@@ -19,12 +19,11 @@ use Rattle.imap_reply.specs.ByeLine.{bye_line, bye_of}
 use Rattle.imap_reply.specs.Continuation.{ready}
 use Rattle.imap_reply.specs.Greeting.{greeting}
 use Rattle.imap_reply.specs.Lines.{IsLine, after_text, after_byte}
-use Rattle.imap_reply.specs.ReadAs.{IsReadAs}
 use Rattle.imap_reply.specs.ReadAsMeant.{begins_with, untagged_lines, meant_lines}
 use Rattle.imap_reply.specs.SoundTexts.{IsTag}
 use Rattle.imap_reply.specs.Transcript.{answer_text, ends, behind, Stop, Telling, stop_told, told_till, all_told_till, as_bytes, transcript_of}
 use Rattle.imap_reply.specs.Transcript.Stop.{silent, is_lost}
-use Rattle.imap_reply.specs.TranscriptRead.{with_lines, as_lines, as_untagged, lines_of, untagged_of, IsAnswerReadAsMeant, IsAllReadAsMeant}
+use Rattle.imap_reply.specs.TranscriptRead.{as_lines, as_untagged, lines_of, untagged_of, IsAnswerReadAsMeant, IsAllReadAsMeant}
 use Rattle.imap_reply.proofs.EachLine.{bye_is_line}
 use Rattle.imap_reply.proofs.LineLaws.{line_of}
 use Rattle.imap_reply.proofs.NoForgery.{no_star}

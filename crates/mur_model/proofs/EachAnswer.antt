@@ -1,5 +1,5 @@
 -- Each answer of a legal history is the one store's to the request of its number.
-use Rattle.std.proofs.Common.{◌≡◌, ℕ, suc, ◌+◌, ◌<◌, ◌==◌, ◌&&◌, Bool, true, false, cond, List, [], ◌∷◌, length, Some, refl, sym, ◌∙◌, ap, subst, arith}
+use Rattle.std.proofs.Common.{◌≡◌, ℕ, suc, ◌+◌, ◌<◌, ◌==◌, Bool, true, false, cond, List, [], ◌∷◌, Some, refl, sym, ◌∙◌, ap, subst, arith}
 use Rattle.std.specs.Prelude.{All, count_by}
 use Rattle.std.proofs.lemmas.Bool.Decides.{nat_tests}
 use Rattle.std.proofs.lemmas.List.Sums.{sum_by-append}
@@ -59,7 +59,7 @@ pub each_answer : (setting : Setting) (first : Course) (talk : Talk) (points : L
 unfolding numbered
 each_answer setting first talk points last legal Q P so conn asked = λ k d within.
     let at = answered_at setting talk first last points conn (suc k) legal.follows
-        (omega (arith, legal.answered_once conn (suc k) (omega arith) (omega (arith, within)))) in
+    (omega (arith, legal.answered_once conn (suc k) (omega arith) (omega (arith, within)))) in
     subst P (sym (get_or_from_slice_get (talk.answers conn) k (carried_out setting at.course conn at.request at.serial).answer d at.told))
     (so at.course conn at.request at.serial
     (asked_so Q (talk.requests conn) k at.request at.asked asked))
