@@ -12,7 +12,7 @@ use Rattle.cluster_core.specs.World.{client_at, stepped, takes, steps_by}
 use Rattle.cluster_core.proofs.ConnectionLaw.{told_of}
 use Rattle.cluster_core.proofs.KeepsData.{data_keeps}
 use Rattle.cluster_core.proofs.KeepsHang.{hang_keeps}
-use Rattle.cluster_core.proofs.KeepsLaw.{KeepsLaw, KeepsOn, LooksAlike}
+use Rattle.cluster_core.proofs.KeepsLaw.{KeepsLaw, KeepsOn, LooksAlike, looks_same}
 use Rattle.cluster_core.proofs.KeepsOpen.{open_keeps}
 use Rattle.cluster_core.proofs.KeepsReply.{deliver_keeps}
 use Rattle.cluster_core.proofs.KeepsStill.{still_kept}
@@ -31,17 +31,7 @@ quiet_event : (config : Config) (heard : ℕ → Heard) (world : World) (event :
     → ((conn : ℕ) (bytes : List ℕ) → of_client conn bytes event ≡ client bytes false)
     → KeepsOn config (told_of law.story) (λ conn. hears config conn (heard conn) event) world
 quiet_event config heard world event law o a =
-    still_kept config heard _ world world
-    (record {
-      fronts = λ any. refl;
-      homes = λ any. refl;
-      clients = λ any. refl;
-      ways = λ c front home asks answers way. way;
-      backends = refl;
-      marks =
-          refl;
-      steps = omega arith;
-    })
+    still_kept config heard _ world world (looks_same world)
     (λ conn. hears_nothing config conn (heard conn) event (o conn) (a conn)) law
 
 takes_keeps : (config : Config) (heard : ℕ → Heard) (world : World) (event : Event) (law : KeepsLaw config heard world)

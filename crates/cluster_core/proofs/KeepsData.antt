@@ -51,24 +51,12 @@ use Rattle.cluster_core.proofs.ConnectionLaw.{StandsOn}
 use Rattle.cluster_core.proofs.ConnectionLaw.OnItsWay.{there, back}
 use Rattle.cluster_core.proofs.ConnectionLaw.Stands.{reads, waits, faulted}
 use Rattle.cluster_core.proofs.FrameLaw.{frames_kept, asked_waits}
-use Rattle.cluster_core.proofs.KeepsLaw.{ConnectionIs, IsAt, KeepsLaw, KeepsOn, LooksAlike, same_put}
+use Rattle.cluster_core.proofs.KeepsLaw.{ConnectionIs, IsAt, KeepsLaw, KeepsOn, LooksAlike, looks_same, same_put}
 use Rattle.cluster_core.proofs.KeepsLaw.ConnectionIs.{is_nobody, is_elsewhere, is_open, is_closed}
 use Rattle.cluster_core.proofs.KeepsFront.{world_after, with_connection, front_keeps, is_at_after, standing_after}
 use Rattle.cluster_core.proofs.KeepsStill.{still_kept}
 use Rattle.cluster_core.proofs.RequestsOf.{requests_of, requests-append, replies_stop}
 use Rattle.cluster_core.proofs.Told.{IsTold, told_asked}
-
--- every look-up finds what it found in the same world
-pub looks_same : (world : World) → LooksAlike world world
-looks_same world = record {
-  fronts = λ any. refl;
-  homes = λ any. refl;
-  clients = λ any. refl;
-  ways = λ c front home asks answers way. way;
-  backends = refl;
-  marks = refl;
-  steps = omega arith;
-}
 
 -- a frontend put in its own place
 pub looks_put : (world : World) (node : List ℕ) (front : Front) → front_at world node ≡ Some front → LooksAlike world (with_front world node (still front))

@@ -49,7 +49,7 @@ use Rattle.cluster_core.proofs.KeepsAnswer.{replied_turn, replied_stands, fits, 
 use Rattle.cluster_core.proofs.KeepsAsk.{IsAnswered, answers_ask, ask_kept, answered_world}
 use Rattle.cluster_core.proofs.KeepsData.{looks_put, frames_keep_reader}
 use Rattle.cluster_core.proofs.KeepsFront.{world_after, with_connection, front_keeps, is_at_after, standing_after, gone_after}
-use Rattle.cluster_core.proofs.KeepsLaw.{ConnectionIs, IsAt, IsGone, KeepsLaw, KeepsOn, LooksAlike, same_put}
+use Rattle.cluster_core.proofs.KeepsLaw.{ConnectionIs, IsAt, IsGone, KeepsLaw, KeepsOn, LooksAlike, looks_same, same_put}
 use Rattle.cluster_core.proofs.KeepsLaw.ConnectionIs.{is_nobody, is_elsewhere, is_open, is_closed}
 use Rattle.cluster_core.proofs.KeepsStill.{still_kept}
 use Rattle.cluster_core.proofs.RequestsOf.{requests_of, requests-append, answered_lengths, next_request}
@@ -89,17 +89,6 @@ home_put world node home at = record {
   homes = same_put (slice_cmp nat_cmp) names_apart world.homes node home at;
   clients = λ any. refl;
   ways = λ c f h asks answers way. way;
-  backends = refl;
-  marks = refl;
-  steps = omega arith;
-}
-
-looks_same : (world : World) → LooksAlike world world
-looks_same world = record {
-  fronts = λ any. refl;
-  homes = λ any. refl;
-  clients = λ any. refl;
-  ways = λ c front home asks answers way. way;
   backends = refl;
   marks = refl;
   steps = omega arith;

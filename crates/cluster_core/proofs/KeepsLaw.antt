@@ -1,5 +1,6 @@
 -- The law that every step keeps: one case for each connection, by what was heard of its client.
 use Rattle.std.proofs.Common.{◌≡◌, ◌≢◌, ◌⊎◌, ℕ, ◌+◌, ◌≤◌, Bool, true, false, List, [], ◌∷◌, ◌++◌, length, Option, None, Some, refl, sym, ◌∙◌, ap, subst}
+use Rattle.std.proofs.Common.{arith}
 use Rattle.std.specs.Prelude.{is_some}
 use Rattle.std.specs.Ordering.{nat_cmp}
 use Rattle.std.specs.Cmp.Lexicographic.{slice_cmp}
@@ -225,3 +226,15 @@ pub record LooksAlike (world next : World) : Type 0 where
   pub backends : next.backends ≡ world.backends
   pub marks : next.marks ≡ world.marks
   pub steps : world.steps ≤ next.steps
+
+-- every look-up finds what it found in the same world
+pub looks_same : (world : World) → LooksAlike world world
+looks_same world = record {
+  fronts = λ any. refl;
+  homes = λ any. refl;
+  clients = λ any. refl;
+  ways = λ c front home asks answers way. way;
+  backends = refl;
+  marks = refl;
+  steps = omega arith;
+}

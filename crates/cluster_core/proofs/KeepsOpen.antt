@@ -12,7 +12,7 @@ use Rattle.front_core.specs.declared.connection.Connection.{Connection}
 use Rattle.front_core.specs.declared.front.Front.{Front}
 use Rattle.front_core.specs.Front.{Stepped, connection_at, new_connection, connect, connect_at}
 use Rattle.imap_reply.specs.Greeting.{greeting}
-use Rattle.imap_reply.specs.Transcript.{replies_to, replies_till}
+use Rattle.imap_reply.specs.Transcript.{replies_to, told_till}
 use Rattle.imap_reply.proofs.TranscriptGrows.{AreAnswered, none_answered}
 use Rattle.imap_wire.specs.Frames.{frames, begun}
 use Rattle.imap_wire.proofs.FeedLaws.{frames-nil}
@@ -31,7 +31,7 @@ use Rattle.cluster_core.specs.World.{start, client_at, front_at, home_of, settin
 use Rattle.cluster_core.proofs.ConnectionLaw.{Story, told_of, client_with, Stands, IsStanding}
 use Rattle.cluster_core.proofs.ConnectionLaw.Stands.{reads}
 use Rattle.cluster_core.proofs.KeepsLaw.{ConnectionIs, IsUntold, IsAt, KeepsLaw, KeepsOn, StaysAt, SameFront, AreNodesOf, LooksAlike, connection_stays}
-use Rattle.cluster_core.proofs.KeepsLaw.{same_front}
+use Rattle.cluster_core.proofs.KeepsLaw.{looks_same, same_front}
 use Rattle.cluster_core.proofs.KeepsLaw.ConnectionIs.{is_nobody, is_elsewhere, is_open, is_closed}
 use Rattle.cluster_core.proofs.KeepsStill.{still_kept, fronts_at_other, nodes_alike, nodes_with_front}
 use Rattle.cluster_core.proofs.RequestsOf.{requests_of}
@@ -158,7 +158,7 @@ greets world node conn front none =
     (value_at-with_entry nat_cmp numbers_apart world.clients conn (record { at = node; given = [] }))
 
 greeting_alone : (told : List Answer) → told ≡ [] → greeting ≡ greeting ++ replies_to (frames []) told
-unfolding replies_till
+unfolding told_till
 greeting_alone told e = rw (e, ← frames-nil) (sym (append-nil greeting))
 
 all_answered : (told : List Answer) → told ≡ [] → AreAnswered (frames []) told
@@ -236,16 +236,7 @@ open_keeps config heard world node conn None at law =
     open_by config heard world node conn (front_at world node) refl law
     (is_new (setting_of config) (home_of config) conn world law.story (heard conn) at (law.connections conn))
 open_keeps config heard world node conn (Some there) at law =
-    still_kept config heard (after_open config heard node conn) world world
-    (record {
-      fronts = λ any. refl;
-      homes = λ any. refl;
-      clients = λ any. refl;
-      ways = λ c front home asks answers way. way;
-      backends = refl;
-      marks = refl;
-      steps = omega arith;
-    })
+    still_kept config heard (after_open config heard node conn) world world (looks_same world)
     (λ other. heard_before config other (heard other) node conn
     (λ e. λ same. has_client (setting_of config) (home_of config) conn world law.story (heard conn) there at (law.connections conn)
     (sym (ap heard same) ∙ e))) law

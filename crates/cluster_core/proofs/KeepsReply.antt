@@ -28,11 +28,11 @@ use Rattle.cluster_core.proofs.ConnectionLaw.Stands.{reads, waits, faulted}
 use Rattle.cluster_core.proofs.ConnectionLaw.IsLeft.{nothing, its_ask, its_answer}
 use Rattle.cluster_core.proofs.StaysLaw.{stays_shown}
 use Rattle.cluster_core.proofs.KeepsAnswer.{replied_turn, replied_stands, fits, ended_drops_answer}
-use Rattle.cluster_core.proofs.KeepsData.{frames_keep_reader, looks_same}
+use Rattle.cluster_core.proofs.KeepsData.{frames_keep_reader}
 use Rattle.cluster_core.proofs.KeepsDeliver.{ask_by, to_front, quiet_keeps, IsQuiet}
 use Rattle.cluster_core.proofs.KeepsDeliver.IsQuiet.{an_up, an_end, a_line}
 use Rattle.cluster_core.proofs.KeepsFront.{world_after, with_connection, front_keeps, is_at_after, standing_after, gone_after}
-use Rattle.cluster_core.proofs.KeepsLaw.{ConnectionIs, IsAt, IsGone, KeepsLaw, KeepsOn, WaysOn}
+use Rattle.cluster_core.proofs.KeepsLaw.{ConnectionIs, IsAt, IsGone, KeepsLaw, KeepsOn, WaysOn, looks_same}
 use Rattle.cluster_core.proofs.KeepsLaw.ConnectionIs.{is_nobody, is_elsewhere, is_open, is_closed}
 use Rattle.cluster_core.proofs.KeepsStill.{still_kept}
 use Rattle.cluster_core.proofs.RequestsOf.{requests_of}

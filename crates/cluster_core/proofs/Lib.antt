@@ -1,4 +1,5 @@
 pub mod Wires
+pub mod OnWay
 pub mod Ways
 pub mod ServedAlike
 pub mod CreateLaw
@@ -28,6 +29,7 @@ pub mod StartLaw
 pub mod OneStoreLaw
 pub mod InTime
 pub mod HomesLaw
+pub mod ReadLaw
 pub mod ToldSoFar
 pub mod AtRestLaw
 pub mod OneNodeLaw

@@ -10,7 +10,7 @@ use Rattle.std.proofs.lemmas.List.{append-nil}
 use Rattle.front_core.specs.declared.connection.Connection.{Connection}
 use Rattle.front_core.specs.declared.front.Front.{Front}
 use Rattle.front_core.specs.Front.{connection_at}
-use Rattle.imap_reply.specs.Transcript.{transcript_of, transcript_till}
+use Rattle.imap_reply.specs.Transcript.{transcript_of, all_told_till}
 use Rattle.imap_wire.specs.Frames.{frames, begun}
 use Rattle.mur_base.specs.declared.point.AskId.{AskId}
 use Rattle.mur_base.specs.declared.point.Point.{Point}
@@ -108,7 +108,7 @@ none_waits setting front home conn bytes connection world told said session empt
 
 pub says_of : (setting : Setting) (home : List ℕ) (conn : ℕ) (world : World) (story : Story) (heard : Heard) → ConnectionIs setting home conn world story heard
     → SaysOf world conn heard (story.told conn) (story.talk.answers conn)
-unfolding transcript_till bytes_heard frames_heard has_closed requests_of
+unfolding all_told_till bytes_heard frames_heard has_closed requests_of
 says_of setting home conn world story heard (is_nobody none fronts untold) = record {
   count = count_none world conn none ∙ ap length (sym untold.told);
   given = given_at world conn None none;

@@ -3,7 +3,7 @@ use Rattle.std.proofs.Common.{◌≡◌, ℕ, ◌+◌, List, [], ◌∷◌, ◌+
 use Rattle.std.proofs.lemmas.List.{append-nil}
 use Rattle.imap_command.specs.Request.{request_of, too_big_request}
 use Rattle.imap_command.proofs.RequestLaws.{request_is, too_big_is}
-use Rattle.imap_reply.specs.Transcript.{stop_text, replies_to}
+use Rattle.imap_reply.specs.Transcript.{stop_told, replies_to}
 use Rattle.imap_reply.specs.Transcript.Stop.{silent}
 use Rattle.imap_reply.specs.Continuation.{ready}
 use Rattle.imap_reply.proofs.TranscriptGrows.{AreAnswered, unanswered_told}
@@ -77,6 +77,6 @@ next_request requests more request answered e =
 -- nothing is told behind a request that has no answer
 pub replies_stop : (frames : List Frame) (answers : List Answer) (bytes : List ℕ) (more : List Frame) → AreAnswered frames answers
     → replies_to frames answers ≡ replies_to (frames ++ Whole bytes ∷ more) answers
-unfolding stop_text
+unfolding stop_told
 replies_stop frames answers bytes more all =
     sym (append-nil (replies_to frames answers)) ∙ sym (unanswered_told silent frames answers bytes more all)

@@ -11,6 +11,7 @@ use Rattle.backend_core.specs.declared.backend.Backend.{Backend}
 use Rattle.backend_core.specs.Plan.{booted}
 use Rattle.front_core.specs.declared.front.Front.{Front}
 use Rattle.front_core.specs.Front.{connection_at, new_front}
+use Rattle.link_msg.specs.declared.message.LinkMsg.{LinkMsg}
 use Rattle.mur_base.specs.Map.{value_at, with_entry}
 use Rattle.mur_base.proofs.MapLaws.{names_apart, same_or_other, value_at-with_entry, value_at-with_entry-other}
 use Rattle.mur_config.specs.declared.config.Config.{Config}
@@ -37,7 +38,8 @@ use Rattle.cluster_core.proofs.Wires.{same_link}
 use Rattle.cluster_core.specs.declared.world.Mark.{Mark}
 use Rattle.cluster_core.proofs.RequestsOf.{requests_of}
 use Rattle.cluster_core.proofs.ServedAlike.{IsStoreOf}
-use Rattle.cluster_core.proofs.Ways.{asks_in, answers_in, alike}
+use Rattle.cluster_core.proofs.OnWay.{picked, alike}
+use Rattle.cluster_core.proofs.Ways.{ask_in, answer_in}
 
 -- nodes that have done nothing
 record IsFresh (home : List ℕ) (setting : Setting) (world : World) : Type 0 where
@@ -285,13 +287,9 @@ no_connection : (home : List ℕ) (setting : Setting) (node : List ℕ) (front :
 unfolding new_front
 no_connection home setting node front conn e = rw e refl
 
-nothing_asked : (links : _) (conn : ℕ) (a b : List ℕ) → links ≡ [] → asks_in conn (on_link links a b) ≡ []
-unfolding on_link asks_in
-nothing_asked links conn a b e = rw e refl
-
-nothing_answered : (links : _) (conn : ℕ) (a b : List ℕ) → links ≡ [] → answers_in conn (on_link links a b) ≡ []
-unfolding on_link answers_in
-nothing_answered links conn a b e = rw e refl
+nothing_picked : {T : Type 0} (pick : LinkMsg → List T) (links : _) (a b : List ℕ) → links ≡ [] → picked pick (on_link links a b) ≡ []
+unfolding on_link picked
+nothing_picked pick links a b e = rw e refl
 
 no_requests : [] ≡ requests_of (frames_heard nobody)
 unfolding requests_of frames_heard
@@ -339,8 +337,8 @@ start_keeps config are =
             said = refl;
             session = refl;
             way = λ f h. record {
-              asks_are = λ a b. nothing_asked (start config).links conn a b fresh.links ∙ sym (alike (same_link a b f h) []);
-              answers_are = λ a b. nothing_answered (start config).links conn a b fresh.links ∙ sym (alike (same_link a b h f) []);
+              asks_are = λ a b. nothing_picked (ask_in conn) (start config).links a b fresh.links ∙ sym (alike (same_link a b f h) []);
+              answers_are = λ a b. nothing_picked (answer_in conn) (start config).links a b fresh.links ∙ sym (alike (same_link a b h f) []);
             };
           });
     }

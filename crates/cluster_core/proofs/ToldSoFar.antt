@@ -6,21 +6,23 @@ use Rattle.std.proofs.lemmas.Bool.Decides.{nat_tests}
 use Rattle.std.proofs.lemmas.List.{append-nil}
 use Rattle.std.proofs.lemmas.List.Elements.{All-append, All-nil, All-cons, All-weaker}
 use Rattle.std.proofs.lemmas.List.Sums.{sum_by-append}
+use Rattle.std.proofs.lemmas.Option.{slice_get_within}
 use Rattle.mur_base.specs.declared.point.AskId.{AskId}
 use Rattle.mur_base.specs.declared.point.Point.{Point}
 use Rattle.mur_config.specs.declared.config.Config.{Config}
 use Rattle.mur_config.specs.Nodes.{AreNodes}
 use Rattle.mur_model.specs.declared.setting.Setting.{Setting}
-use Rattle.mur_model.specs.History.{Course, Talk, numbered}
+use Rattle.mur_model.specs.History.{Course, Talk, IsLegal, numbered}
 use Rattle.mur_model.proofs.HistoryGrows.{one_up_to}
 use Rattle.schedule_text.specs.declared.event.Event.{Event}
 use Rattle.cluster_core.specs.declared.world.Mark.{Mark}
 use Rattle.cluster_core.specs.declared.world.World.{World}
 use Rattle.cluster_core.specs.Flow.{run_steps, unrolled}
-use Rattle.cluster_core.specs.Heard.{Heard, nobody, heard_from, frames_heard}
+use Rattle.cluster_core.specs.Heard.{Heard, nobody, heard_from, bytes_heard, frames_heard}
 use Rattle.cluster_core.specs.History.{answered_of, history_of}
-use Rattle.cluster_core.specs.OneStore.{StandsInTime, IsToldSoFar, IsToldByOneStore}
+use Rattle.cluster_core.specs.OneStore.{first_course, StandsInTime, IsToldSoFar, IsToldByOneStore}
 use Rattle.cluster_core.specs.Requests.{AskFor}
+use Rattle.cluster_core.specs.Shown.{given_to}
 use Rattle.cluster_core.specs.World.{start, home_of, setting_of}
 use Rattle.cluster_core.proofs.ConnectionLaw.{Story, told_of}
 use Rattle.cluster_core.proofs.HomesLaw.{has_boxes}
@@ -30,20 +32,16 @@ use Rattle.cluster_core.proofs.KeepsLaw.{KeepsLaw}
 use Rattle.cluster_core.proofs.Marks.{Carries, conn_of, command_of, is_mark, MarkedOnce, IsOf, all_points}
 use Rattle.cluster_core.proofs.Marks.Carries.{no_marks, a_mark}
 use Rattle.cluster_core.proofs.OneStoreLaw.{SaysOf, says_of, legal_history, steps_rise, IsToldSo}
+use Rattle.cluster_core.proofs.ReadLaw.{read_of_legal}
 use Rattle.cluster_core.proofs.RequestsOf.{requests_of, asks_all}
 use Rattle.cluster_core.proofs.StartLaw.{start_keeps}
 use Rattle.cluster_core.proofs.Told.{IsTold}
 use Rattle.cluster_core.proofs.Unrolled.{run_steps-append}
 
-got_within : {T : Type 0} (items : List T) (k : ℕ) (item : T) → slice_get items k ≡ Some item → k < length items
-got_within [] k item e = cc
-got_within (first ∷ items) zero item e = omega arith
-got_within (first ∷ items) (suc k) item e = omega (arith, got_within items k item e)
-
 numbered_within : {T : Type 0} (items : List T) (number : ℕ) (item : T) → numbered items number ≡ Some item → number ≤ length items
 unfolding numbered
 numbered_within items zero item e = omega arith
-numbered_within items (suc number) item e = omega (arith, got_within items number item e)
+numbered_within items (suc number) item e = omega (arith, slice_get_within items number item e)
 
 -- every mark is of a command that was asked
 marks_asked : (setting : Setting) (talk : Talk) (first last : Course) (marks : List Mark) → Carries setting talk first marks last
@@ -144,13 +142,19 @@ told_so_far config talk before later are now last =
     λ conn. says_of (setting_of config) (home_of config) conn world law.story (heard conn) (law.connections conn) in
     let behind : StandsBehind world (run_steps (start config) (before ++ later)) =
     subst (λ w. StandsBehind world w) (sym (run_steps-append (start config) before later)) (run_behind world later) in
+    let asked : (conn : ℕ) → AskFor (frames_heard (heard conn)) (law.story.talk.requests conn) =
+    λ conn. subst (λ r. AskFor (frames_heard (heard conn)) r) (sym (law.requests conn)) (asks_all (frames_heard (heard conn))) in
+    let legal : IsLegal (setting_of config) first_course (told_of law.story) (history_of world) law.story.course =
+    legal_history (setting_of config) world law.story law.backend law.is_told (λ conn. (says conn).count) (λ conn. (says conn).so) in
     record {
       so_far = told_of law.story;
       goes_on = now.more;
-      asked = λ conn. subst (λ r. AskFor (frames_heard (heard conn)) r) (sym (law.requests conn)) (asks_all (frames_heard (heard conn)));
+      asked = asked;
       given = λ conn. (says conn).given;
+      read = λ conn. read_of_legal (setting_of config) first_course (told_of law.story) (history_of world) law.story.course legal conn
+          (frames_heard (heard conn)) (asked conn) (given_to world conn) (bytes_heard (heard conn)) (says conn).given;
       last = law.story.course;
-      legal = legal_history (setting_of config) world law.story law.backend law.is_told (λ conn. (says conn).count) (λ conn. (says conn).so);
+      legal = legal;
       one_content = has_boxes config world law.backend law.story.course.store are law.nodes law.is_told.same;
       in_time = stands_in_time (setting_of config) world
           (run_steps (start config) (before ++ later)) law.story last.story law.backend last.backend law.is_told last.is_told behind (λ conn. (says conn).so);

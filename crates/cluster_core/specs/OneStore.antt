@@ -4,6 +4,7 @@ use Rattle.std.specs.Ordering.{nat_cmp}
 use Rattle.std.specs.Cmp.Lexicographic.{slice_cmp}
 use Rattle.backend_core.specs.declared.held.Held.{Held}
 use Rattle.imap_reply.specs.Transcript.{transcript_of}
+use Rattle.imap_reply.specs.TranscriptRead.{IsAllReadAsMeant}
 use Rattle.link_msg.specs.declared.message.LinkMsg.{LinkMsg}
 use Rattle.mail_message.specs.Boxes.{Content}
 use Rattle.mur_base.specs.Map.{value_at}
@@ -77,6 +78,8 @@ pub record IsToldSoFar (config : Config) (talk : Talk) (points : List Point) (st
   pub goes_on : TalkGoesOn so_far talk
   pub asked : (conn : ℕ) → AskFor (frames_heard (heard config conn steps)) (so_far.requests conn)
   pub given : (conn : ℕ) → given_to world conn ≡ transcript_of (bytes_heard (heard config conn steps)) (so_far.answers conn)
+  -- no text of a user forges a reply: each client reads just the greeting, the continuations and the lines of these answers
+  pub read : (conn : ℕ) → IsAllReadAsMeant (given_to world conn) (bytes_heard (heard config conn steps)) (so_far.answers conn)
   pub last : Course
   pub legal : IsLegal (setting_of config) first_course so_far (history_of world) last
   pub one_content : HasBoxesOf last.store world

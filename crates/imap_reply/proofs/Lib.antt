@@ -9,7 +9,10 @@ pub mod EachLine
 pub mod LongLines
 pub mod TaggedIsLine
 pub mod OneCut
+pub mod ReadParts
 pub mod NoForgery
+pub mod TranscriptLaw
 pub mod PlainNames
 pub mod AnswersStay
 pub mod SoundAnswers
+pub mod SoundTags

@@ -1,29 +1,26 @@
 -- The lines of a search, of a message and of rights are each one line.
-use Rattle.std.proofs.Common.{◌≡◌, ℕ, ◌==◌, Bool, true, false, not, cond, List, [], ◌∷◌, ◌++◌, codes, decimal, refl, sym, ◌∙◌, ap, subst, append_assoc, arith}
+use Rattle.std.proofs.Common.{◌≡◌, ℕ, Bool, true, false, cond, List, [], ◌∷◌, ◌++◌, codes, decimal, refl, sym, ◌∙◌, ap, subst, append_assoc}
 use Rattle.std.specs.Prelude.{All}
 use Rattle.std.specs.List.{list_all, list_any, slice_split, onto_first}
 use Rattle.std.proofs.lemmas.Bool.{and_parts}
 use Rattle.std.proofs.lemmas.List.Elements.{All-nil, All-cons, All-head, All-tail}
 use Rattle.mur_base.specs.Ascii.{crlf}
 use Rattle.mur_base.specs.Number.{is_digit}
-use Rattle.imap_command.specs.Strings.{escaped, escaped_text, quoted_text, is_atom}
-use Rattle.imap_command.specs.Characters.{is_quoted_special}
 use Rattle.mur_model.specs.declared.command.Tag.{Tag}
 use Rattle.mur_model.specs.declared.command.Tag.TheVariants.{Star, Text}
 use Rattle.mail_message.specs.Literals.{IsPlain, IsPart, is_within}
-use Rattle.imap_reply.specs.Lines.{IsLine, is_announced, after_text, after_byte, Announcing}
+use Rattle.imap_reply.specs.Lines.{IsLine, is_announced, after_text, after_byte}
 use Rattle.imap_reply.specs.Lines.Announcing.{nothing}
-use Rattle.imap_reply.specs.SoundTexts.{IsTag, IsSoundTag, IsCalm, is_calm}
+use Rattle.imap_reply.specs.SoundTexts.{IsSoundTag, IsCalm, is_calm}
 use Rattle.imap_reply.specs.AccessLines.{is_tab, is_create, is_delete, create_text, delete_text, rights_text, entries_text, acl_line, my_rights_line}
 use Rattle.imap_reply.specs.FetchLine.{fetch_line}
 use Rattle.imap_reply.specs.Mailbox.{mailbox_text}
 use Rattle.imap_reply.specs.SearchLine.{uid_text, all_text, search_line}
-use Rattle.imap_reply.specs.Sets.{set_text}
 use Rattle.imap_reply.specs.Spaced.{spaced}
 use Rattle.imap_reply.specs.Tags.{tag_text}
-use Rattle.imap_reply.proofs.LineLaws.{Fits, line_of, fits_of, parts_fit, end_fits, mailbox_state, after_append, after_calm}
 use Rattle.mail_message.proofs.PlainTexts.{all_append, one_of}
-use Rattle.imap_reply.proofs.Texts.{calm_plain, decimal_calm, set_calm, tag_calm, mailbox_plain}
+use Rattle.imap_reply.proofs.LineLaws.{line_of, fits_of, parts_fit, end_fits, mailbox_state, after_append, after_calm}
+use Rattle.imap_reply.proofs.Texts.{calm_plain, decimal_calm, set_calm, tag_calm, mailbox_calm, mailbox_plain}
 
 -- searches
 
@@ -69,25 +66,6 @@ rights_calm letters calm =
     all_append is_calm (letters ++ create_text letters) (delete_text letters)
     (all_append is_calm letters (create_text letters) calm (one_of is_calm (list_any is_create letters) (codes "c") [] refl refl))
     (one_of is_calm (list_any is_delete letters) (codes "d") [] refl refl)
-
-escaped_calm : (c : ℕ) → is_calm c ≡ true → IsCalm (escaped c)
-unfolding escaped
-escaped_calm c h = one_of is_calm (is_quoted_special c) (92 ∷ c ∷ []) (c ∷ []) (rw h refl) (rw h refl)
-
-escaped_text_calm : (text : List ℕ) → IsCalm text → IsCalm (escaped_text text)
-unfolding escaped_text
-escaped_text_calm [] calm = refl
-escaped_text_calm (c ∷ text) calm =
-    let both = and_parts (is_calm c) (list_all is_calm text) calm in
-    all_append is_calm (escaped c) (escaped_text text) (escaped_calm c both.0) (escaped_text_calm text both.1)
-
-quoted_calm : (text : List ℕ) → IsCalm text → IsCalm (quoted_text text)
-unfolding quoted_text
-quoted_calm text calm = all_append is_calm (escaped_text text) (34 ∷ []) (escaped_text_calm text calm) refl
-
-mailbox_calm : (name : List ℕ) → IsCalm name → IsCalm (mailbox_text name)
-unfolding mailbox_text
-mailbox_calm name calm = one_of is_calm (is_atom name) name (quoted_text name) calm (quoted_calm name calm)
 
 entries_calm : (fields : List (List ℕ)) → All IsCalm fields → IsCalm (entries_text fields)
 unfolding entries_text

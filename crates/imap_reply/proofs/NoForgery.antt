@@ -1,6 +1,6 @@
 -- No text forges a reply.
-use Rattle.std.proofs.Common.{◌≡◌, ℕ, ◌<◌, ◌==◌, Bool, true, false, ◌&&◌, List, [], ◌∷◌}
-use Rattle.std.proofs.Common.{◌++◌, length, map, codes, refl, sym, ◌∙◌, ap, subst, append_assoc, arith}
+use Rattle.std.proofs.Common.{◌≡◌, ℕ, ◌==◌, true, false, List, [], ◌∷◌}
+use Rattle.std.proofs.Common.{◌++◌, map, codes, refl, ◌∙◌, ap, append_assoc, arith}
 use Rattle.std.specs.Prelude.{All}
 use Rattle.std.specs.List.{list_all, concat}
 use Rattle.std.proofs.lemmas.Bool.{and_parts}
@@ -10,7 +10,6 @@ use Rattle.std.proofs.lemmas.List.Folds.{concat-append}
 use Rattle.std.proofs.lemmas.List.Elements.{All-nil, All-cons, All-weaker, All-map, All-append}
 use Rattle.imap_command.specs.Characters.{is_tag_byte}
 use Rattle.mur_model.specs.declared.command.Tag.{Tag}
-use Rattle.mur_model.specs.declared.reply.Attribute.TheVariants.{None as no_attribute, NoSelect, NonExistent}
 use Rattle.mur_model.specs.declared.reply.Reply.{Reply}
 use Rattle.mur_model.specs.declared.reply.ReplyLine.{ReplyLine}
 use Rattle.mur_model.specs.declared.reply.ReplyLine.TheVariants.{Capability, Bye, Enabled, Closed, Flags, Exists, Listed, Permanent}
@@ -39,7 +38,7 @@ use Rattle.imap_reply.proofs.EachLine.{capability_is_line, enabled_is_line, clos
 use Rattle.imap_reply.proofs.EachLine.{uid_next_is_line, uid_validity_is_line, flags_is_line, permanent_is_line, list_is_line, status_is_line}
 use Rattle.imap_reply.proofs.LongLines.{search_is_line, fetch_is_line, acl_is_line, my_rights_is_line}
 use Rattle.imap_reply.proofs.TaggedIsLine.{ok_is_line, no_is_line, bad_is_line}
-use Rattle.imap_reply.proofs.OneCut.{same_lines}
+use Rattle.imap_reply.proofs.ReadParts.{read_by}
 
 untagged_is_line : (tag : Tag) → IsSoundTag tag → (line : ReplyLine) → IsSoundLine line → IsLine (line_text tag line)
 unfolding line_text IsSoundLine
@@ -93,7 +92,7 @@ whole_text tag reply =
 
 -- what the lines begin with
 
-no_star : (c : ℕ) → is_tag_byte c ≡ true → (c == 42) ≡ false
+pub no_star : (c : ℕ) → is_tag_byte c ≡ true → (c == 42) ≡ false
 unfolding is_tag_byte
 no_star c h = grind (arith, nat_tests, h)
 
@@ -158,12 +157,8 @@ are_lines tag reply sound =
 
 pub read_as_meant : (tag : Tag) (reply : Reply) → IsSound tag reply → IsReadAsMeant tag reply
 read_as_meant tag reply sound =
-    let whole : concat (meant_lines tag reply) ≡ reply_text tag reply = whole_text tag reply in
-    let lines : All IsLine (meant_lines tag reply) = are_lines tag reply sound in
     record {
-      whole = whole;
-      lines = lines;
-      only = λ others all text. same_lines others (meant_lines tag reply) all lines (text ∙ sym whole);
+      read = read_by (reply_text tag reply) (meant_lines tag reply) (whole_text tag reply) (are_lines tag reply sound);
       untagged = untagged_are tag reply;
       tagged = last_are tag reply.verdict;
     }

@@ -1,5 +1,5 @@
 -- The texts of each answer to the commands that there are today are sound, so a client reads what was meant.
-use Rattle.std.proofs.Common.{◌≡◌, ℕ, Bool, true, false, List, [], ◌∷◌, refl}
+use Rattle.std.proofs.Common.{◌≡◌, ℕ, Bool, true, false, List, [], ◌∷◌, refl, sym, subst}
 use Rattle.std.proofs.Common.{Option, None, Some}
 use Rattle.std.specs.Prelude.{All, ⊤, if◌then◌else◌}
 use Rattle.std.specs.Str.{bytes_eq}
@@ -36,8 +36,8 @@ use Rattle.mur_model.specs.Rights.{user_named, has_rights, may_create}
 use Rattle.mur_model.specs.Status.{status, status_as, status_by, status_on, status_reply, tells_messages_alone}
 use Rattle.mur_model.specs.Store.{box_at, is_spent}
 use Rattle.mail_message.specs.Literals.{IsPlain}
-use Rattle.imap_reply.specs.SoundTexts.{IsSoundTag, IsSoundLine, IsSoundVerdict, IsSound}
-use Rattle.imap_reply.specs.ReadAsMeant.{IsReadAsMeant}
+use Rattle.imap_reply.specs.SoundTexts.{IsSoundTag, IsSoundLine, IsSoundVerdict}
+use Rattle.imap_reply.specs.TranscriptRead.{IsAnswerReadAsMeant}
 use Rattle.imap_reply.proofs.NoForgery.{read_as_meant}
 use Rattle.imap_reply.proofs.PlainNames.{shown_plain}
 
@@ -191,8 +191,12 @@ answer_tag setting store session (too_big tag) serial = refl
 
 -- whatever is asked under a sound tag, the answer is read as it was meant
 pub answer_read : (setting : Setting) (store : Store) (session : Sess) (request : Request) (serial : ℕ) → IsSoundTag (tag_asked request)
-    → IsReadAsMeant (tag_asked request) (answer_of setting store session request serial).answer.reply
+    → IsAnswerReadAsMeant (answer_of setting store session request serial).answer
 answer_read setting store session request serial tagged =
+    let answer = (answer_of setting store session request serial).answer in
     let sound = answer_sound setting store session request serial in
-    read_as_meant (tag_asked request) (answer_of setting store session request serial).answer.reply
-    (record { tag_is = tagged; lines = sound.lines; verdict = sound.verdict })
+    read_as_meant answer.tag answer.reply (record {
+      tag_is = subst IsSoundTag (sym (answer_tag setting store session request serial)) tagged;
+      lines = sound.lines;
+      verdict = sound.verdict;
+    })

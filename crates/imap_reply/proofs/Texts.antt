@@ -1,7 +1,7 @@
 -- Which bytes stand in the texts of replies.
-use Rattle.std.proofs.Common.{◌≡◌, ℕ, zero, suc, ◌+◌, ◌<◌, ◌/◌, ◌%◌, ◌==◌, Bool, true, false, ◌&&◌}
-use Rattle.std.proofs.Common.{not, cond, List, [], ◌∷◌, ◌++◌, length, refl, sym, ◌∙◌, ap, subst, arith}
-use Rattle.std.specs.Prelude.{nat_lt, All, map}
+use Rattle.std.proofs.Common.{◌≡◌, ℕ, zero, suc, ◌/◌, ◌%◌, ◌==◌, Bool, true, false}
+use Rattle.std.proofs.Common.{cond, List, [], ◌∷◌, ◌++◌, refl, arith}
+use Rattle.std.specs.Prelude.{All}
 use Rattle.std.specs.List.{list_all}
 use Rattle.std.specs.Fmt.{digits, digits_onto, digit_glyph, decimal}
 use Rattle.std.proofs.lemmas.Bool.{and_parts}
@@ -14,7 +14,7 @@ use Rattle.imap_command.specs.Strings.{escaped, escaped_text, quoted_text, is_at
 use Rattle.mail_message.specs.Literals.{is_within, IsPlain}
 use Rattle.mail_message.proofs.PlainTexts.{all_append, all_weaker, one_of, decimal_digits}
 use Rattle.imap_reply.specs.Mailbox.{mailbox_text}
-use Rattle.imap_reply.specs.Sets.{Run, before_runs, runs_of, run_text, more_runs_text, runs_text, set_text}
+use Rattle.imap_reply.specs.Sets.{Run, runs_of, run_text, more_runs_text, runs_text, set_text}
 use Rattle.imap_reply.specs.SoundTexts.{is_calm, IsCalm}
 use Rattle.imap_reply.specs.Spaced.{more_spaced, spaced}
 
@@ -83,21 +83,30 @@ pub atom_calm : (text : List ℕ) → is_atom text ≡ true → IsCalm text
 unfolding is_atom
 atom_calm text h = all_weaker is_atom_char is_calm atom_char_calm text (and_parts (list_all is_atom_char text) _ h).0
 
-escaped_plain : (c : ℕ) → is_within c ≡ true → IsPlain (escaped c)
+-- a name holds no other bytes than its own, quotes and backslashes
+
+escaped_all : (test : ℕ → Bool) → test 92 ≡ true → (c : ℕ) → test c ≡ true → list_all test (escaped c) ≡ true
 unfolding escaped
-escaped_plain c h = one_of is_within (is_quoted_special c) (92 ∷ c ∷ []) (c ∷ []) (rw h refl) (rw h refl)
+escaped_all test slash c h = one_of test (is_quoted_special c) (92 ∷ c ∷ []) (c ∷ []) (rw (slash, h) refl) (rw h refl)
 
-escaped_text_plain : (text : List ℕ) → IsPlain text → IsPlain (escaped_text text)
+escaped_text_all : (test : ℕ → Bool) → test 92 ≡ true → (text : List ℕ) → list_all test text ≡ true → list_all test (escaped_text text) ≡ true
 unfolding escaped_text
-escaped_text_plain [] plain = refl
-escaped_text_plain (c ∷ text) plain =
-    let both = and_parts (is_within c) (list_all is_within text) plain in
-    all_append is_within (escaped c) (escaped_text text) (escaped_plain c both.0) (escaped_text_plain text both.1)
+escaped_text_all test slash [] all = refl
+escaped_text_all test slash (c ∷ text) all =
+    let both = and_parts (test c) (list_all test text) all in
+    all_append test (escaped c) (escaped_text text) (escaped_all test slash c both.0) (escaped_text_all test slash text both.1)
 
-quoted_plain : (text : List ℕ) → IsPlain text → IsPlain (quoted_text text)
+quoted_all : (test : ℕ → Bool) → test 92 ≡ true → test 34 ≡ true → (text : List ℕ) → list_all test text ≡ true → list_all test (quoted_text text) ≡ true
 unfolding quoted_text
-quoted_plain text plain = all_append is_within (escaped_text text) (34 ∷ []) (escaped_text_plain text plain) refl
+quoted_all test slash quote text all =
+    rw quote (all_append test (escaped_text text) (34 ∷ []) (escaped_text_all test slash text all) (rw quote refl))
+
+mailbox_all : (test : ℕ → Bool) → test 92 ≡ true → test 34 ≡ true → (name : List ℕ) → list_all test name ≡ true → list_all test (mailbox_text name) ≡ true
+unfolding mailbox_text
+mailbox_all test slash quote name all = one_of test (is_atom name) name (quoted_text name) all (quoted_all test slash quote name all)
 
 pub mailbox_plain : (name : List ℕ) → IsPlain name → IsPlain (mailbox_text name)
-unfolding mailbox_text
-mailbox_plain name plain = one_of is_within (is_atom name) name (quoted_text name) plain (quoted_plain name plain)
+mailbox_plain name plain = mailbox_all is_within refl refl name plain
+
+pub mailbox_calm : (name : List ℕ) → IsCalm name → IsCalm (mailbox_text name)
+mailbox_calm name calm = mailbox_all is_calm refl refl name calm

@@ -8,7 +8,7 @@ use Rattle.imap_wire.specs.declared.frame.Frame.TheVariants.{Whole, NeedLiteral,
 use Rattle.mur_model.specs.declared.request.Answer.{Answer}
 use Rattle.imap_reply.specs.ByeLine.{bye_line, bye_of}
 use Rattle.imap_reply.specs.Continuation.{ready}
-use Rattle.imap_reply.specs.Transcript.{answer_text, ends, behind, Stop, stop_text, replies_till}
+use Rattle.imap_reply.specs.Transcript.{answer_text, ends, behind, Stop, stop_text, told_till, replies_till}
 use Rattle.imap_reply.specs.Transcript.Stop.{silent}
 
 -- every request in the frames has its answer, no answer ends the connection, and no frame is a fault
@@ -38,7 +38,7 @@ goes_on front false text more whole stays e = in_front front text more whole e
 
 pub all_given : (stop : Stop) (frames next : List Frame) (answers more : List Answer) (text : List ℕ) → AreAnswered frames answers
     → replies_till stop next more ≡ text → replies_till stop (frames ++ next) (answers ++ more) ≡ replies_till stop frames answers ++ text
-unfolding AreAnswered replies_till
+unfolding AreAnswered told_till
 all_given stop [] next [] more text all e = e
 all_given stop [] next (a ∷ answers) more text all e = absurd all
 all_given stop (NeedLiteral size ∷ frames) next answers more text all e = in_front ready _ _ _ (all_given stop frames next answers more text all e)
@@ -67,7 +67,7 @@ pub record Grows (frames next : List Frame) (answers more : List Answer) (text :
   pub answered : AreAnswered next more
   pub text_is : replies_till silent next more ≡ replies_till silent frames answers ++ text
 
-nothing_behind : (is_end : Bool) → behind is_end [] ≡ []
+nothing_behind : (is_end : Bool) → behind {T = ℕ} is_end [] ≡ []
 unfolding behind
 nothing_behind true = refl
 nothing_behind false = refl
@@ -78,12 +78,12 @@ one_text answer = ap (λ t. answer_text answer ++ t) (nothing_behind (ends answe
 -- the answer to the last frame is told, whether it ends the connection or not
 pub whole_told : (frames : List Frame) (answers : List Answer) (bytes : List ℕ) (answer : Answer) → AreAnswered frames answers
     → replies_till silent (frames ++ Whole bytes ∷ []) (answers ++ answer ∷ []) ≡ replies_till silent frames answers ++ answer_text answer
-unfolding replies_till
+unfolding told_till
 whole_told frames answers bytes answer all = all_given silent frames (Whole bytes ∷ []) answers (answer ∷ []) (answer_text answer) all (one_text answer)
 
 pub too_big_told : (frames : List Frame) (answers : List Answer) (bytes : List ℕ) (answer : Answer) → AreAnswered frames answers
     → replies_till silent (frames ++ TooBig bytes ∷ []) (answers ++ answer ∷ []) ≡ replies_till silent frames answers ++ answer_text answer
-unfolding replies_till
+unfolding told_till
 too_big_told frames answers bytes answer all = all_given silent frames (TooBig bytes ∷ []) answers (answer ∷ []) (answer_text answer) all (one_text answer)
 
 pub whole_answered : (frames : List Frame) (answers : List Answer) (bytes : List ℕ) (answer : Answer) → AreAnswered frames answers
@@ -107,7 +107,7 @@ no_more answers = append-nil answers
 
 pub literal_awaited : (frames : List Frame) (answers : List Answer) (size : ℕ) → AreAnswered frames answers
     → Grows frames (frames ++ NeedLiteral size ∷ []) answers answers ready
-unfolding AreAnswered replies_till
+unfolding AreAnswered told_till
 literal_awaited frames answers size all =
     let next = frames ++ NeedLiteral size ∷ [] in
     record {
@@ -120,7 +120,7 @@ literal_awaited frames answers size all =
 -- a fault is answered by its line, and then by nothing
 pub fault_told : (frames : List Frame) (answers : List Answer) (fault : FrameFault) → AreAnswered frames answers
     → replies_till silent (frames ++ Fault fault ∷ []) answers ≡ replies_till silent frames answers ++ bye_line (bye_of fault)
-unfolding replies_till
+unfolding told_till
 fault_told frames answers fault all =
     ap (λ a. replies_till silent (frames ++ Fault fault ∷ []) a) (sym (no_more answers))
     ∙ all_given silent frames (Fault fault ∷ []) answers [] (bye_line (bye_of fault)) all refl
@@ -128,7 +128,7 @@ fault_told frames answers fault all =
 -- a request that has no answer stops what is given, whatever stands behind it
 pub unanswered_told : (stop : Stop) (frames : List Frame) (answers : List Answer) (bytes : List ℕ) (more : List Frame) → AreAnswered frames answers
     → replies_till stop (frames ++ Whole bytes ∷ more) answers ≡ replies_till stop frames answers ++ stop_text stop
-unfolding replies_till
+unfolding told_till
 unanswered_told stop frames answers bytes more all =
     ap (λ a. replies_till stop (frames ++ Whole bytes ∷ more) a) (sym (no_more answers))
     ∙ all_given stop frames (Whole bytes ∷ more) answers [] (stop_text stop) all refl
@@ -142,7 +142,7 @@ cut_off text false more e = cc
 pub end_told : (stop : Stop) (frames : List Frame) (answers : List Answer) (bytes : List ℕ) (more : List Frame) (answer : Answer) (others : List Answer)
     → AreAnswered frames answers → ends answer.reply ≡ true
     → replies_till stop (frames ++ Whole bytes ∷ more) (answers ++ answer ∷ others) ≡ replies_till stop frames answers ++ answer_text answer
-unfolding replies_till
+unfolding told_till
 end_told stop frames answers bytes more answer others all is_end =
     all_given stop frames (Whole bytes ∷ more) answers (answer ∷ others) (answer_text answer) all
     (cut_off (answer_text answer) (ends answer.reply) _ is_end)

@@ -22,4 +22,6 @@ pub mod ReplyText
 pub mod Transcript
 pub mod Lines
 pub mod SoundTexts
+pub mod ReadAs
 pub mod ReadAsMeant
+pub mod TranscriptRead

@@ -1,11 +1,10 @@
 -- What a client reads of a reply is what was meant, whatever the texts in it are.
 use Rattle.std.specs.Prelude.{◌≡◌, ℕ, Bool, true, false, ◌&&◌, ◌==◌, List, [], ◌∷◌, ◌++◌, codes, map, All}
-use Rattle.std.specs.List.{concat}
 use Rattle.mur_model.specs.declared.command.Tag.{Tag}
 use Rattle.mur_model.specs.declared.reply.Reply.{Reply}
 use Rattle.mur_model.specs.declared.reply.Verdict.{Verdict}
 use Rattle.mur_model.specs.declared.reply.Verdict.TheVariants.{Nothing, Ok as ok_reply, No as no_reply, Bad as bad_reply}
-use Rattle.imap_reply.specs.Lines.{IsLine}
+use Rattle.imap_reply.specs.ReadAs.{IsReadAs}
 use Rattle.imap_reply.specs.SoundTexts.{IsTag}
 use Rattle.imap_reply.specs.ReplyText.{line_text, reply_text}
 use Rattle.imap_reply.specs.TaggedLine.{tagged_line}
@@ -31,11 +30,7 @@ abbrev pub meant_lines : Tag → Reply → List (List ℕ)
 meant_lines tag reply = untagged_lines tag reply ++ last_line tag reply.verdict
 
 pub record IsReadAsMeant (tag : Tag) (reply : Reply) : Type 0 where
-  -- the lines that are meant make the text, and each of them is one line
-  pub whole : concat (meant_lines tag reply) ≡ reply_text tag reply
-  pub lines : All IsLine (meant_lines tag reply)
-  -- it can be cut into no other lines
-  pub only : (others : List (List ℕ)) → All IsLine others → concat others ≡ reply_text tag reply → others ≡ meant_lines tag reply
+  pub read : IsReadAs (reply_text tag reply) (meant_lines tag reply)
   -- no untagged line begins with a tag, and the tagged one with its own
   pub untagged : (word : List ℕ) → IsTag word → All (λ line. begins_with word line ≡ false) (untagged_lines tag reply)
   pub tagged : All (λ line. begins_with (tag_text tag ++ codes " ") line ≡ true) (last_line tag reply.verdict)

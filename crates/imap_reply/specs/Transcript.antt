@@ -6,6 +6,7 @@ use Rattle.std.specs.List.{list_any}
 use Rattle.imap_wire.specs.declared.frame.Frame.{Frame}
 use Rattle.imap_wire.specs.declared.frame.Frame.TheVariants.{Whole, NeedLiteral, TooBig, Fault}
 use Rattle.imap_wire.specs.Frames.{frames}
+use Rattle.mur_model.specs.declared.reply.Bye as bye
 use Rattle.mur_model.specs.declared.reply.Bye.TheVariants.{Lost}
 use Rattle.mur_model.specs.declared.reply.Reply.{Reply}
 use Rattle.mur_model.specs.declared.reply.ReplyLine.{ReplyLine}
@@ -28,39 +29,59 @@ unfoldable pub ends : Reply → Bool
 ends reply = list_any is_bye reply.lines
 
 -- what is given behind a reply: nothing where it ends the connection
-unfoldable pub behind : Bool → List ℕ → List ℕ
-behind true text = []
-behind false text = text
+unfoldable pub behind : {T : Type 0} → Bool → List T → List T
+behind true told = []
+behind false told = told
 
 -- what stands in place of the first answer that never came: nothing, or the line of a command that is lost
 pub data Stop : Type 0 where
   silent : Stop
   is_lost : Stop
 
-unfoldable pub stop_text : Stop → List ℕ
-stop_text silent = []
-stop_text is_lost = bye_line Lost
+-- how each thing that a client is given is told: as its bytes, or as its lines
+pub record Telling (T : Type 0) : Type 0 where
+  pub greets : List T
+  pub goes_on : List T
+  pub answers : Answer → List T
+  pub ends_by : bye.Bye → List T
+
+unfoldable pub stop_told : {T : Type 0} → Telling T → Stop → List T
+stop_told telling silent = []
+stop_told telling is_lost = telling.ends_by Lost
 
 -- what is given for these frames, whose requests have these answers
-unfoldable pub replies_till : Stop → List Frame → List Answer → List ℕ
-replies_till stop [] answers = []
-replies_till stop (NeedLiteral size ∷ frames) answers = ready ++ replies_till stop frames answers
-replies_till stop (Fault fault ∷ frames) answers = bye_line (bye_of fault)
-replies_till stop (Whole bytes ∷ frames) [] = stop_text stop
-replies_till stop (Whole bytes ∷ frames) (answer ∷ answers) =
-    answer_text answer ++ behind (ends answer.reply) (replies_till stop frames answers)
-replies_till stop (TooBig bytes ∷ frames) [] = stop_text stop
-replies_till stop (TooBig bytes ∷ frames) (answer ∷ answers) =
-    answer_text answer ++ behind (ends answer.reply) (replies_till stop frames answers)
+unfoldable pub told_till : {T : Type 0} → Telling T → Stop → List Frame → List Answer → List T
+told_till telling stop [] answers = []
+told_till telling stop (NeedLiteral size ∷ frames) answers = telling.goes_on ++ told_till telling stop frames answers
+told_till telling stop (Fault fault ∷ frames) answers = telling.ends_by (bye_of fault)
+told_till telling stop (Whole bytes ∷ frames) [] = stop_told telling stop
+told_till telling stop (Whole bytes ∷ frames) (answer ∷ answers) =
+    telling.answers answer ++ behind (ends answer.reply) (told_till telling stop frames answers)
+told_till telling stop (TooBig bytes ∷ frames) [] = stop_told telling stop
+told_till telling stop (TooBig bytes ∷ frames) (answer ∷ answers) =
+    telling.answers answer ++ behind (ends answer.reply) (told_till telling stop frames answers)
+
+-- what is given to a client that has sent these bytes; nothing to one that was never connected
+unfoldable pub all_told_till : {T : Type 0} → Telling T → Stop → Option (List ℕ) → List Answer → List T
+all_told_till telling stop None answers = []
+all_told_till telling stop (Some bytes) answers = telling.greets ++ told_till telling stop (frames bytes) answers
+
+abbrev pub as_bytes : Telling ℕ
+as_bytes = record { greets = greeting; goes_on = ready; answers = answer_text; ends_by = bye_line }
+
+abbrev pub stop_text : Stop → List ℕ
+stop_text stop = stop_told as_bytes stop
+
+abbrev pub replies_till : Stop → List Frame → List Answer → List ℕ
+replies_till stop frames answers = told_till as_bytes stop frames answers
 
 -- the same where no command was lost, or none is told so
 abbrev pub replies_to : List Frame → List Answer → List ℕ
 replies_to frames answers = replies_till silent frames answers
 
--- the bytes given to a client that has sent these bytes; none to one that was never connected
-unfoldable pub transcript_till : Stop → Option (List ℕ) → List Answer → List ℕ
-transcript_till stop None answers = []
-transcript_till stop (Some bytes) answers = greeting ++ replies_till stop (frames bytes) answers
+-- the bytes of all of it
+abbrev pub transcript_till : Stop → Option (List ℕ) → List Answer → List ℕ
+transcript_till stop bytes answers = all_told_till as_bytes stop bytes answers
 
 abbrev pub transcript_of : Option (List ℕ) → List Answer → List ℕ
 transcript_of bytes answers = transcript_till silent bytes answers

@@ -1,0 +1,173 @@
+-- A client reads all that it is given as it was meant, if it reads each reply so: a cut of texts one behind another is the cuts of each.
+use Rattle.std.proofs.Common.{◌≡◌, ℕ, ◌==◌, Bool, true, false, List, [], ◌∷◌, ◌++◌, refl, sym, ◌∙◌, ap, codes, Option, None, Some, arith}
+use Rattle.std.specs.Prelude.{All}
+use Rattle.std.specs.List.{concat, list_all}
+use Rattle.std.proofs.lemmas.Bool.{and_parts}
+use Rattle.std.proofs.lemmas.Bool.Decides.{nat_tests}
+use Rattle.std.proofs.lemmas.List.{append-nil}
+use Rattle.std.proofs.lemmas.List.Folds.{concat-append}
+use Rattle.std.proofs.lemmas.List.Elements.{All-nil, All-cons, All-append, All-head, All-tail, All-weaker}
+use Rattle.mur_base.specs.Number.{is_digit}
+use Rattle.imap_command.specs.Characters.{is_tag_byte}
+use Rattle.imap_wire.specs.declared.frame.Frame.{Frame}
+use Rattle.imap_wire.specs.declared.frame.Frame.TheVariants.{Whole, NeedLiteral, TooBig, Fault}
+use Rattle.imap_wire.specs.Frames.{frames}
+use Rattle.mur_model.specs.declared.reply.Bye as bye
+use Rattle.mur_model.specs.declared.reply.Bye.TheVariants.{Lost}
+use Rattle.mur_model.specs.declared.request.Answer.{Answer}
+use Rattle.imap_reply.specs.ByeLine.{bye_line, bye_of}
+use Rattle.imap_reply.specs.Continuation.{ready}
+use Rattle.imap_reply.specs.Greeting.{greeting}
+use Rattle.imap_reply.specs.Lines.{IsLine, after_text, after_byte}
+use Rattle.imap_reply.specs.ReadAsMeant.{begins_with, untagged_lines, meant_lines}
+use Rattle.imap_reply.specs.SoundTexts.{IsTag}
+use Rattle.imap_reply.specs.Transcript.{answer_text, ends, behind, Stop, Telling, stop_told, told_till, all_told_till, as_bytes, transcript_of}
+use Rattle.imap_reply.specs.Transcript.Stop.{silent, is_lost}
+use Rattle.imap_reply.specs.TranscriptRead.{as_lines, as_untagged, lines_of, untagged_of, IsAnswerReadAsMeant, IsAllReadAsMeant}
+use Rattle.imap_reply.proofs.EachLine.{bye_is_line}
+use Rattle.imap_reply.proofs.LineLaws.{line_of}
+use Rattle.imap_reply.proofs.NoForgery.{no_star}
+use Rattle.imap_reply.proofs.ReadParts.{read_by}
+
+-- what is so of each thing that is told
+
+all_behind : {T : Type 0} (P : T → Type 0) (is_end : Bool) (items : List T) → All P items → All P (behind is_end items)
+unfolding behind
+all_behind P true items all = All-nil P
+all_behind P false items all = all
+
+all_stopped : {T : Type 0} (P : T → Type 0) (telling : Telling T) → ((why : bye.Bye) → All P (telling.ends_by why)) → (stop : Stop)
+    → All P (stop_told telling stop)
+unfolding stop_told
+all_stopped P telling last silent = All-nil P
+all_stopped P telling last is_lost = last Lost
+
+all_answered : {T : Type 0} (P : T → Type 0) (telling : Telling T) (answer : Answer) (items : List T) → All P (telling.answers answer) → All P items
+    → All P (telling.answers answer ++ behind (ends answer.reply) items)
+all_answered P telling answer items one rest =
+    All-append P (telling.answers answer) (behind (ends answer.reply) items) one (all_behind P (ends answer.reply) items rest)
+
+all_till : {T : Type 0} (P : T → Type 0) (telling : Telling T) → All P telling.goes_on → ((why : bye.Bye) → All P (telling.ends_by why))
+    → (stop : Stop) (frames : List Frame) (answers : List Answer) → All (λ answer. All P (telling.answers answer)) answers
+    → All P (told_till telling stop frames answers)
+unfolding told_till
+all_till P telling on last stop [] answers each = All-nil P
+all_till P telling on last stop (NeedLiteral size ∷ frames) answers each =
+    All-append P telling.goes_on (told_till telling stop frames answers) on (all_till P telling on last stop frames answers each)
+all_till P telling on last stop (Fault fault ∷ frames) answers each = last (bye_of fault)
+all_till P telling on last stop (Whole bytes ∷ frames) [] each = all_stopped P telling last stop
+all_till P telling on last stop (Whole bytes ∷ frames) (answer ∷ answers) each =
+    all_answered P telling answer (told_till telling stop frames answers) (All-head (λ a. All P (telling.answers a)) answer answers each)
+    (all_till P telling on last stop frames answers (All-tail (λ a. All P (telling.answers a)) answer answers each))
+all_till P telling on last stop (TooBig bytes ∷ frames) [] each = all_stopped P telling last stop
+all_till P telling on last stop (TooBig bytes ∷ frames) (answer ∷ answers) each =
+    all_answered P telling answer (told_till telling stop frames answers) (All-head (λ a. All P (telling.answers a)) answer answers each)
+    (all_till P telling on last stop frames answers (All-tail (λ a. All P (telling.answers a)) answer answers each))
+
+all_told : {T : Type 0} (P : T → Type 0) (telling : Telling T) → All P telling.greets → All P telling.goes_on
+    → ((why : bye.Bye) → All P (telling.ends_by why)) → (stop : Stop) (bytes : Option (List ℕ)) (answers : List Answer)
+    → All (λ answer. All P (telling.answers answer)) answers → All P (all_told_till telling stop bytes answers)
+unfolding all_told_till
+all_told P telling first on last stop None answers each = All-nil P
+all_told P telling first on last stop (Some bytes) answers each =
+    All-append P telling.greets (told_till telling stop (frames bytes) answers) first (all_till P telling on last stop (frames bytes) answers each)
+
+-- the lines make the bytes
+
+cut_behind : (is_end : Bool) (lines : List (List ℕ)) (bytes : List ℕ) → concat lines ≡ bytes → concat (behind is_end lines) ≡ behind is_end bytes
+unfolding behind
+cut_behind true lines bytes e = refl
+cut_behind false lines bytes e = e
+
+cut_both : (one other : List (List ℕ)) (text more : List ℕ) → concat one ≡ text → concat other ≡ more → concat (one ++ other) ≡ text ++ more
+cut_both one other text more e f = concat-append one other ∙ ap (λ t. t ++ concat other) e ∙ ap (λ t. text ++ t) f
+
+cut_stop : (stop : Stop) → concat (stop_told as_lines stop) ≡ stop_told as_bytes stop
+unfolding stop_told
+cut_stop silent = refl
+cut_stop is_lost = append-nil (bye_line Lost)
+
+cut_answer : (answer : Answer) (lines : List (List ℕ)) (bytes : List ℕ) → IsAnswerReadAsMeant answer → concat lines ≡ bytes
+    → concat (meant_lines answer.tag answer.reply ++ behind (ends answer.reply) lines) ≡ answer_text answer ++ behind (ends answer.reply) bytes
+cut_answer answer lines bytes meant e =
+    cut_both (meant_lines answer.tag answer.reply) (behind (ends answer.reply) lines) (answer_text answer) (behind (ends answer.reply) bytes)
+    meant.read.whole (cut_behind (ends answer.reply) lines bytes e)
+
+cut_till : (stop : Stop) (frames : List Frame) (answers : List Answer) → All IsAnswerReadAsMeant answers
+    → concat (told_till as_lines stop frames answers) ≡ told_till as_bytes stop frames answers
+unfolding told_till
+cut_till stop [] answers meant = refl
+cut_till stop (NeedLiteral size ∷ frames) answers meant = ap (λ t. ready ++ t) (cut_till stop frames answers meant)
+cut_till stop (Fault fault ∷ frames) answers meant = append-nil (bye_line (bye_of fault))
+cut_till stop (Whole bytes ∷ frames) [] meant = cut_stop stop
+cut_till stop (Whole bytes ∷ frames) (answer ∷ answers) meant =
+    cut_answer answer _ _ (All-head IsAnswerReadAsMeant answer answers meant)
+    (cut_till stop frames answers (All-tail IsAnswerReadAsMeant answer answers meant))
+cut_till stop (TooBig bytes ∷ frames) [] meant = cut_stop stop
+cut_till stop (TooBig bytes ∷ frames) (answer ∷ answers) meant =
+    cut_answer answer _ _ (All-head IsAnswerReadAsMeant answer answers meant)
+    (cut_till stop frames answers (All-tail IsAnswerReadAsMeant answer answers meant))
+
+cut_all : (bytes : Option (List ℕ)) (answers : List Answer) → All IsAnswerReadAsMeant answers → concat (lines_of bytes answers) ≡ transcript_of bytes answers
+unfolding all_told_till
+cut_all None answers meant = refl
+cut_all (Some bytes) answers meant = ap (λ t. greeting ++ t) (cut_till silent (frames bytes) answers meant)
+
+-- each of them is one line
+
+greeting_is_line : IsLine greeting
+unfolding greeting after_text after_byte is_digit
+greeting_is_line = line_of [] (codes "* OK [CAPABILITY IMAP4rev2 AUTH=PLAIN] murder ready") refl refl (λ state. refl)
+
+ready_is_line : IsLine ready
+unfolding ready after_text after_byte is_digit
+ready_is_line = line_of [] (codes "+ ready") refl refl (λ state. refl)
+
+one : (P : List ℕ → Type 0) (line : List ℕ) → P line → All P (line ∷ [])
+one P line is = All-cons P line [] is (All-nil P)
+
+lines_are : (bytes : Option (List ℕ)) (answers : List Answer) → All IsAnswerReadAsMeant answers → All IsLine (lines_of bytes answers)
+lines_are bytes answers meant =
+    all_told IsLine as_lines (one IsLine greeting greeting_is_line) (one IsLine ready ready_is_line) (λ why. one IsLine (bye_line why) (bye_is_line why))
+    silent bytes answers
+    (All-weaker IsAnswerReadAsMeant (λ answer. All IsLine (meant_lines answer.tag answer.reply)) (λ answer is. is.read.each) answers meant)
+
+-- none but the last of each reply begins with a tag
+
+no_plus : (c : ℕ) → is_tag_byte c ≡ true → (c == 43) ≡ false
+unfolding is_tag_byte
+no_plus c h = grind (arith, nat_tests, h)
+
+tag_first : (c : ℕ) (word : List ℕ) → IsTag (c ∷ word) → is_tag_byte c ≡ true
+tag_first c word is = (and_parts (is_tag_byte c) (list_all is_tag_byte word) is.bytes).0
+
+greeting_untagged : (word : List ℕ) → IsTag word → begins_with word greeting ≡ false
+unfolding begins_with greeting
+greeting_untagged [] is = absurd (omega (arith, is.some))
+greeting_untagged (c ∷ word) is = rw (no_star c (tag_first c word is)) refl
+
+ready_untagged : (word : List ℕ) → IsTag word → begins_with word ready ≡ false
+unfolding begins_with ready
+ready_untagged [] is = absurd (omega (arith, is.some))
+ready_untagged (c ∷ word) is = rw (no_plus c (tag_first c word is)) refl
+
+bye_untagged : (word : List ℕ) → IsTag word → (why : bye.Bye) → begins_with word (bye_line why) ≡ false
+unfolding begins_with bye_line
+bye_untagged [] is why = absurd (omega (arith, is.some))
+bye_untagged (c ∷ word) is why = rw (no_star c (tag_first c word is)) refl
+
+untagged_are : (word : List ℕ) → IsTag word → (bytes : Option (List ℕ)) (answers : List Answer) → All IsAnswerReadAsMeant answers
+    → All (λ line. begins_with word line ≡ false) (untagged_of bytes answers)
+untagged_are word is bytes answers meant =
+    let P : List ℕ → Type 0 = λ line. begins_with word line ≡ false in
+    all_told P as_untagged (one P greeting (greeting_untagged word is)) (one P ready (ready_untagged word is))
+    (λ why. one P (bye_line why) (bye_untagged word is why)) silent bytes answers
+    (All-weaker IsAnswerReadAsMeant (λ answer. All P (untagged_lines answer.tag answer.reply)) (λ answer so. so.untagged word is) answers meant)
+
+pub all_read_as_meant : (given : List ℕ) (bytes : Option (List ℕ)) (answers : List Answer) → given ≡ transcript_of bytes answers
+    → All IsAnswerReadAsMeant answers → IsAllReadAsMeant given bytes answers
+all_read_as_meant given bytes answers is meant = record {
+  lines = read_by given (lines_of bytes answers) (cut_all bytes answers meant ∙ sym is) (lines_are bytes answers meant);
+  untagged = λ word tagged. untagged_are word tagged bytes answers meant;
+  replies = meant;
+}
