@@ -1,3 +1,4 @@
 mod AppendLaws
 pub mod Numbered
 pub mod HistoryGrows
+mod ClientLaw

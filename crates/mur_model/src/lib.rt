@@ -11,6 +11,7 @@ mod need;
 mod reply;
 mod request;
 mod rights;
+mod scratch;
 mod session;
 mod setting;
 mod status;
@@ -26,6 +27,7 @@ pub use reply::{
 };
 pub use request::{Answer, Answers, Request, Requests};
 pub use session::Sess;
+pub use scratch::scratch_it;
 pub use setting::Setting;
 pub use status::status_reply;
 pub use store::{Pair, Store};
