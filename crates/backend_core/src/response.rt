@@ -3,7 +3,7 @@ ghost use Rattle.std.specs.Prelude.{◌≡◌};
 ghost use Rattle.backend_core.specs.Response.{no_snapshot, bare, done, refused, not_now, moved};
 
 use link_msg::{AnswerBody, Counts, Outcome};
-use mail_message::{MailBox, Rows, Snapshot};
+use mail_message::{MailBox, OrderedRows, Snapshot};
 use mur_base::NodeName;
 use std::alloc::Global;
 
@@ -64,7 +64,7 @@ pub fn no_snapshot(alloc: Global) -> Snapshot
         serial: 0,
         next: 0,
         size: 0,
-        rows: Rows::new(alloc),
+        rows: OrderedRows::new(alloc),
     }
 }
 
@@ -76,6 +76,6 @@ pub fn bare(alloc: Global, content: &MailBox) -> Snapshot
         serial: content.serial(),
         next: content.next(),
         size: 0,
-        rows: Rows::new(alloc),
+        rows: OrderedRows::new(alloc),
     }
 }

@@ -6,6 +6,7 @@ pub mod FlagNames
 pub mod FlagSets
 pub mod Keywords
 pub mod Partials
+pub mod RowOrder
 pub mod Sets
 pub mod Slots
 pub mod SystemFlags

@@ -1,5 +1,5 @@
 // The flags of a message.
-ghost use Rattle.std.specs.Prelude.{◌≡◌, length, IfOk};
+ghost use Rattle.std.specs.Prelude.{◌≡◌, ◌↔◌, length, IfOk, IsTrue};
 ghost use Rattle.mail_message.specs.FlagSets.{no_flags, has_flag, with_flag, without_flag, flags_after, IsMade, limited};
 
 use crate::flag_name::{FlagFault, FlagName};
@@ -61,6 +61,13 @@ impl FlagSet {
             FlagName::System(flag) => self.system.has(*flag),
             FlagName::Keyword(keyword) => self.keywords.contains(keyword),
         }
+    }
+
+    /// Whether the flags are the same as sets, whatever they were made of.
+    pub fn is_same(&self, others: &FlagSet) -> bool
+        ensures { IsTrue result ↔ (self.now ≡ others.now) }
+    {
+        self.system == others.system && self.keywords.is_same(&others.keywords)
     }
 
     /// The flags and this one. `TooMany` exactly where it would be a 17th keyword.

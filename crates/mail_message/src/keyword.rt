@@ -1,5 +1,5 @@
 // Keywords, and sets of them in byte order.
-ghost use Rattle.std.specs.Prelude.{◌≡◌, ◌≤◌, [], length, IfOk, OnOk, OnErr};
+ghost use Rattle.std.specs.Prelude.{◌≡◌, ◌≤◌, ◌↔◌, [], length, IfOk, OnOk, OnErr, IsTrue};
 ghost use Rattle.std.specs.List.{list_any, list_all};
 ghost use Rattle.mail_message.specs.Keywords.{keyword_fault, is_atom_byte, is_atom, keyword_in};
 ghost use Rattle.mail_message.specs.Keywords.{with_keyword, without_keyword, with_keywords, without_keywords, IsInOrder};
@@ -98,6 +98,13 @@ impl Keywords {
         ensures ordered { IsInOrder self.now }
     {
         self.set.iter()
+    }
+
+    /// Whether the other set has just these keywords, byte by byte.
+    pub fn is_same(&self, others: &Keywords) -> bool
+        ensures { IsTrue result ↔ (self.now ≡ others.now) }
+    {
+        self.set == others.set
     }
 
     /// Puts a keyword in, unless it is there; for want of memory the set stays as it was.

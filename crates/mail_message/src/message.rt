@@ -1,6 +1,7 @@
 // Messages, and lists of what a mailbox tells of them.
 use crate::date_text::DateText;
 use crate::flag_set::FlagSet;
+use crate::ordered_rows::OrderedRows;
 use mur_base::{Bytes, Copied, Items, Memory};
 use std::alloc::Global;
 
@@ -82,6 +83,6 @@ pub struct Snapshot {
     pub next: u32,
     /// Bytes of all bodies together, at most the greatest `u64`.
     pub size: u64,
-    /// A row for each message, in rising order of UID.
-    pub rows: Rows,
+    /// A row for each message.
+    pub rows: OrderedRows,
 }

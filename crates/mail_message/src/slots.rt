@@ -9,7 +9,8 @@ ghost use Rattle.mail_message.specs.Slots.{filled, flat, HasPlace, HasPlaceFor, 
 
 use crate::change::Change;
 use crate::flag_set::FlagSet;
-use crate::message::{Message, Rows, Uids};
+use crate::message::{Message, Uids};
+use crate::ordered_rows::OrderedRows;
 use mur_base::{Map, Memory};
 use std::alloc::Global;
 use std::marker::Model;
@@ -47,12 +48,12 @@ impl Slots {
     }
 
     /// The rows of all messages in rising order of UID, and the size of their bodies together.
-    pub fn look(&self, alloc: Global) -> Result<(Rows, u64), Memory>
+    pub fn look(&self, alloc: Global) -> Result<(OrderedRows, u64), Memory>
         ensures rows { IfOk result (λ seen. seen.0 ≡ map row_of (filled self.now)) }
         ensures size { IfOk result (λ seen. seen.1 ≡ size_of (filled self.now)) }
         ensures rising { OnOk result (IsRising (filled self.now)) }
     {
-        let mut rows = Rows::new(alloc);
+        let mut rows = OrderedRows::new(alloc);
         let mut size = 0u64;
         for (_uid, slot) in self.map.iter() {
             if let Some(message) = slot {
