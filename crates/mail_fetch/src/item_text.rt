@@ -1,11 +1,12 @@
 // The text of a fetch item.
 ghost use Rattle.std.specs.Prelude.{◌≡◌, [], ◌∷◌, ◌++◌, codes, decimal, length, IfOk, OnOk};
 ghost use Rattle.mur_base.specs.Ascii.{quote};
+ghost use Rattle.mail_fetch.specs.FlagText.{flags_text};
 ghost use Rattle.mail_fetch.specs.Parts.{part_text};
 
 use crate::body::put_body;
 use crate::flags::put_flags;
-use mail_message::{Item, Message};
+use mail_message::{FlagSet, Item, Message};
 use mur_base::{Bytes, Memory, put_number};
 use std::alloc::Global;
 
@@ -18,6 +19,24 @@ pub fn part(alloc: Global, item: &Item, message: &Message) -> Result<PartBytes, 
 {
     let mut text = Bytes::new(alloc);
     put_part(&mut text, item, message)?;
+    Ok(text)
+}
+
+/// The UID of a message as a FETCH response tells it.
+pub fn uid_part(alloc: Global, uid: u32) -> Result<PartBytes, Memory>
+    ensures { IfOk result (λ text. text ≡ codes "UID " ++ decimal uid) }
+{
+    let mut text = Bytes::new(alloc);
+    put_counted(&mut text, b"UID ", u64::from(uid))?;
+    Ok(text)
+}
+
+/// The flags of a message as a FETCH response tells them.
+pub fn flags_part(alloc: Global, flags: &FlagSet) -> Result<PartBytes, Memory>
+    ensures { IfOk result (λ text. text ≡ flags_text flags.now) }
+{
+    let mut text = Bytes::new(alloc);
+    put_flags(&mut text, flags)?;
     Ok(text)
 }
 

@@ -2,3 +2,5 @@ mod AppendLaws
 pub mod Numbered
 pub mod HistoryGrows
 mod ClientLaw
+mod ViewLaw
+mod FlagLaw

@@ -1,8 +1,13 @@
 -- What a client derives from the lines that it is given (RFC 9051, 7.4.1 and 7.5.1): how many messages there are, and under which number each stands.
-use Rattle.std.specs.Prelude.{◌≡◌, ℕ, zero, suc, ◌-◌, ⊤, replicate, List, [], ◌∷◌, ◌++◌, length, Option, None, Some}
+use Rattle.std.specs.Prelude.{◌≡◌, ℕ, zero, suc, ◌-◌, ⊤, replicate, List, [], ◌∷◌, ◌++◌, length, map, Option, None, Some}
 use Rattle.std.specs.List.{fold}
+use Rattle.mail_message.specs.declared.message.Row.{Row}
 use Rattle.mur_model.specs.declared.reply.ReplyLine.{ReplyLine}
 use Rattle.mur_model.specs.declared.reply.ReplyLine.TheVariants.{Exists, Expunge}
+
+-- the UIDs of a view
+abbrev pub uids : List Row → List ℕ
+uids rows = map (λ row. row.uid) rows
 
 -- for each number the UID of its message, where the client knows it
 abbrev pub Known : Type 0

@@ -9,6 +9,6 @@ pub mod Status
 pub mod Act
 pub mod Answer
 pub mod History
-pub mod Rows
+pub mod SameFlags
 pub mod News
 pub mod ClientView

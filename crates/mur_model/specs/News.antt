@@ -1,12 +1,13 @@
 -- What a client is told of a mailbox that changes while it is selected (RFC 9051, 7.4 and 7.5). A view is the rows that the client was last told.
-use Rattle.std.specs.Prelude.{ℕ, ◌+◌, Bool, true, false, not, ◌&&◌, ◌==◌, nat_lt, if◌then◌else◌, List, [], ◌∷◌, ◌++◌, length, map, Option, None, Some, is_some}
+use Rattle.std.specs.Prelude.{ℕ, zero, suc, ◌+◌, Bool, true, false, not, ◌&&◌, ◌==◌, nat_lt, if◌then◌else◌, List, [], ◌∷◌, ◌++◌, length, map, Option, None, Some, is_some}
 use Rattle.std.specs.Prelude.{codes, decimal}
-use Rattle.std.specs.List.{filter, list_any, fold}
+use Rattle.std.specs.List.{filter, list_all}
 use Rattle.mail_fetch.specs.FlagText.{flags_text}
 use Rattle.mail_message.specs.declared.message.Row.{Row}
 use Rattle.mail_message.specs.FlagSets.{Flags}
 use Rattle.mail_message.specs.RowOrder.{row_at}
-use Rattle.mur_model.specs.Rows.{is_same_flags}
+use Rattle.mur_model.specs.declared.news.Told.{Told}
+use Rattle.mur_model.specs.SameFlags.{is_same_flags}
 use Rattle.mur_model.specs.declared.reply.ReplyLine.{ReplyLine}
 use Rattle.mur_model.specs.declared.reply.ReplyLine.TheVariants.{Exists, Expunge, Fetch}
 
@@ -19,23 +20,23 @@ abbrev pub rows_there : List Row → List Row → List Row
 rows_there now rows = filter (λ row. has_row now row.uid) rows
 
 -- a line for each message of a view that is no more; each is named by its number after the earlier ones (RFC 9051, 7.5.1)
-unfoldable pub expunge_lines : List Row → ℕ → List Row → List ReplyLine
+abbrev pub expunge_lines : List Row → ℕ → List Row → List ReplyLine
 expunge_lines now number [] = []
 expunge_lines now number (row ∷ rows) =
     if has_row now row.uid then expunge_lines now (number + 1) rows else Expunge number ∷ expunge_lines now number rows
 
--- the greatest UID of rows that rise, 0 where there is none
-unfoldable pub last_uid : List Row → ℕ
-last_uid rows = fold (λ uid row. row.uid) 0 rows
+-- a UID is above those of all rows
+abbrev pub is_above : List Row → ℕ → Bool
+is_above rows uid = list_all (λ row. nat_lt row.uid uid) rows
 
 -- the messages behind a view
 abbrev pub rows_behind : List Row → List Row → List Row
-rows_behind rows now = filter (λ row. nat_lt (last_uid rows) row.uid) now
+rows_behind rows now = filter (λ row. is_above rows row.uid) now
 
--- the number of messages, where some came (RFC 9051, 7.4.1)
-abbrev pub exists_lines : List Row → List Row → List ReplyLine
-exists_lines rows [] = []
-exists_lines rows (row ∷ behind) = Exists (length rows + length (row ∷ behind)) ∷ []
+-- how many messages there are, where some came (RFC 9051, 7.4.1)
+abbrev pub exists_lines : ℕ → ℕ → List ReplyLine
+exists_lines before zero = []
+exists_lines before (suc more) = Exists (before + suc more) ∷ []
 
 -- what a FETCH line says of a message's flags; under its UID where that is told too (RFC 9051, 7.5.2)
 abbrev pub flag_parts : Bool → Row → List (List ℕ)
@@ -43,15 +44,15 @@ flag_parts true row = (codes "UID " ++ decimal row.uid) ∷ flags_text row.flags
 flag_parts false row = flags_text row.flags ∷ []
 
 -- a line for a message with other flags than were told
-abbrev pub changed_line : List ℕ → ℕ → Row → Option Row → List ReplyLine
-changed_line told number row None = []
-changed_line told number row (Some it) =
-    if not (is_same_flags row.flags it.flags) && not (list_any (λ uid. uid == row.uid) told) then Fetch number (flag_parts true it) ∷ [] else []
+abbrev pub changed_line : Bool → ℕ → Row → Option Row → List ReplyLine
+changed_line is_told number row None = []
+changed_line is_told number row (Some it) =
+    if not is_told && not (is_same_flags row.flags it.flags) then Fetch number (flag_parts true it) ∷ [] else []
 
 -- the lines of all whose flags aren't told yet
-unfoldable pub changed_lines : List Row → List ℕ → ℕ → List Row → List ReplyLine
+abbrev pub changed_lines : List Row → List Row → ℕ → List Row → List ReplyLine
 changed_lines now told number [] = []
-changed_lines now told number (row ∷ rows) = changed_line told number row (row_at now row.uid) ++ changed_lines now told (number + 1) rows
+changed_lines now told number (row ∷ rows) = changed_line (has_row told row.uid) number row (row_at now row.uid) ++ changed_lines now told (number + 1) rows
 
 -- the row as the mailbox has it, if it is there
 abbrev pub fresh_row : Row → Option Row → Row
@@ -61,20 +62,15 @@ fresh_row row (Some it) = it
 abbrev pub fresh_rows : List Row → List Row → List Row
 fresh_rows now rows = map (λ row. fresh_row row (row_at now row.uid)) rows
 
--- what is told, and the view behind it
-pub record Told : Type 0 where
-  pub lines : List ReplyLine
-  pub rows : List Row
-
 -- the news behind the lines of expunged messages
-abbrev pub told_of : List ReplyLine → List Row → List Row → List ℕ → Told
+abbrev pub told_of : List ReplyLine → List Row → List Row → List Row → Told
 told_of lines rows now told = record {
-  lines = lines ++ (exists_lines rows (rows_behind rows now) ++ changed_lines now told 1 rows);
+  lines = lines ++ (exists_lines (length rows) (length (rows_behind rows now)) ++ changed_lines now told 1 rows);
   rows = fresh_rows now rows ++ rows_behind rows now;
 }
 
 -- The news of a view for which a mailbox has these rows now. Expunged messages are told where numbers may change (RFC 9051, 7.5.1); else they
 -- stay in the view. Flags that stand in the reply already, or that this client changed silently, are told no second time.
-unfoldable pub news : List Row → List Row → Bool → List ℕ → Told
+unfoldable pub news : List Row → List Row → Bool → List Row → Told
 news rows now true told = told_of (expunge_lines now 1 rows) (rows_there now rows) now told
 news rows now false told = told_of [] rows now told

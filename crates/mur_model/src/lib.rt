@@ -8,10 +8,10 @@ mod command;
 mod create;
 mod login;
 mod need;
+mod news;
 mod reply;
 mod request;
 mod rights;
-mod scratch;
 mod session;
 mod setting;
 mod status;
@@ -21,13 +21,13 @@ pub use acting::act;
 pub use append::append_reply;
 pub use command::{Atoms, Command, StatusItem, StatusItems, Tag};
 pub use need::{Need, Work, begin};
+pub use news::{Told, flag_parts, news_of};
 pub use reply::{
     Attribute, BadText, Bye, Code, FlagNames, NoText, Parts, Reply, ReplyLine, ReplyLines,
     StatusCount, StatusCounts, Verdict, completed, refused,
 };
 pub use request::{Answer, Answers, Request, Requests};
 pub use session::Sess;
-pub use scratch::scratch_it;
 pub use setting::Setting;
 pub use status::status_reply;
 pub use store::{Pair, Store};
