@@ -3,4 +3,5 @@ pub mod Numbered
 pub mod HistoryGrows
 mod ClientLaw
 mod ViewLaw
+mod StoreLaw
 mod FlagLaw

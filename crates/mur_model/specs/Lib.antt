@@ -12,3 +12,6 @@ pub mod History
 pub mod SameFlags
 pub mod News
 pub mod ClientView
+pub mod Selected
+pub mod Expunge
+pub mod StoreFlags
