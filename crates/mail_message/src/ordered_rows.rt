@@ -37,6 +37,14 @@ impl OrderedRows {
         }
     }
 
+    /// Rows that rise, which aren't copied.
+    pub fn from_rising(rows: Rows) -> OrderedRows
+        requires { AreRising rows }
+        ensures { result ≡ rows }
+    {
+        OrderedRows { rows }
+    }
+
     pub fn len(&self) -> usize
         ensures { result ≡ length self.now }
     {

@@ -1,2 +1,3 @@
 pub mod AppendLaws
+mod RisingLaw
 mod TouchedLaws

@@ -6,7 +6,7 @@ ghost use Rattle.mail_store.specs.Store.{rows_stored, stored_rows, stored, flag_
 
 use crate::fault::StoreFault;
 use crate::named::set_of;
-use mail_message::{Change, Changes, FlagSet, MailBox, Mode, Row, Rows};
+use mail_message::{Change, Changes, FlagSet, MailBox, Mode, OrderedRows, Row, Rows};
 use mur_base::{Copied, Memory};
 use std::alloc::Global;
 use std::collections::BTreeSet;
@@ -20,7 +20,7 @@ pub fn set_flags(
     uids: &[u32],
     mode: Mode,
     flags: &FlagSet,
-) -> Result<Rows, StoreFault>
+) -> Result<OrderedRows, StoreFault>
     ensures answer { IsStored (rows_stored to.old uids.now mode flags.now) result }
     ensures ok { OnOk result (to.new ≡ stored to.old uids.now mode flags.now) }
     ensures others { IfOk result (λ rows. (uid : ℕ) → list_any (λ row. row.uid == uid) rows ≡ false
@@ -41,7 +41,7 @@ fn rows_after(
     named: &BTreeSet<u32>,
     mode: Mode,
     flags: &FlagSet,
-) -> Result<Rows, StoreFault>
+) -> Result<OrderedRows, StoreFault>
     ensures { IsStored (stored_rows from.now.messages mode flags.now named.now.keys) result }
 {
     let mut rows = Rows::new(alloc);
@@ -53,7 +53,7 @@ fn rows_after(
             })?;
         }
     }
-    Ok(rows)
+    Ok(OrderedRows::from_rising(rows))
 }
 
 fn flag_changes(alloc: Global, rows: &[Row]) -> Result<Changes, Memory>

@@ -9,3 +9,9 @@ pub mod Status
 pub mod Act
 pub mod Answer
 pub mod History
+pub mod SameFlags
+pub mod News
+pub mod ClientView
+pub mod Selected
+pub mod Expunge
+pub mod StoreFlags

@@ -6,20 +6,27 @@ mod acting;
 mod append;
 mod command;
 mod create;
+mod expunge;
 mod login;
 mod need;
+mod news;
 mod reply;
 mod request;
 mod rights;
+mod selected;
 mod session;
 mod setting;
 mod status;
 mod store;
+mod store_flags;
+mod view;
 
 pub use acting::act;
 pub use append::append_reply;
 pub use command::{Atoms, Command, StatusItem, StatusItems, Tag};
+pub use expunge::expunge_on;
 pub use need::{Need, Work, begin};
+pub use news::{Told, flag_parts, news_of};
 pub use reply::{
     Attribute, BadText, Bye, Code, FlagNames, NoText, Parts, Reply, ReplyLine, ReplyLines,
     StatusCount, StatusCounts, Verdict, completed, refused,
@@ -29,3 +36,5 @@ pub use session::Sess;
 pub use setting::Setting;
 pub use status::status_reply;
 pub use store::{Pair, Store};
+pub use store_flags::{FlagStore, store_on};
+pub use view::{View, Viewed};

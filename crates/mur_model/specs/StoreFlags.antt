@@ -1,0 +1,68 @@
+-- STORE and UID STORE (RFC 9051, 6.4.6 and 6.4.9): the flags of the named messages that are there change; unless it is silent, a line tells them.
+use Rattle.std.specs.Prelude.{ℕ, ◌+◌, Bool, true, false, not, if◌then◌else◌, List, [], ◌∷◌, ◌++◌, Option, None, Some, codes}
+use Rattle.std.specs.List.{list_any}
+use Rattle.mail_message.specs.Boxes.{Content}
+use Rattle.mail_message.specs.FlagSets.{Flags}
+use Rattle.mail_message.specs.RowOrder.{row_at}
+use Rattle.mail_message.specs.declared.message.Row.{Row}
+use Rattle.mail_message.specs.declared.mode.Mode.{Mode}
+use Rattle.mail_store.specs.Store.{stored, rows_stored, has_too_many_flags}
+use Rattle.mur_model.specs.declared.reply.Code.{Code}
+use Rattle.mur_model.specs.declared.reply.Code.TheVariants.{None as no_code, ExpungeIssued}
+use Rattle.mur_model.specs.declared.reply.NoText.TheVariants.{Limit}
+use Rattle.mur_model.specs.declared.reply.ReplyLine.{ReplyLine}
+use Rattle.mur_model.specs.declared.reply.ReplyLine.TheVariants.{Fetch}
+use Rattle.mur_model.specs.declared.reply.Verdict.{Verdict}
+use Rattle.mur_model.specs.declared.reply.Verdict.TheVariants.{Ok as ok_reply, No as no_reply}
+use Rattle.mur_model.specs.declared.store_flags.FlagStore.{FlagStore}
+use Rattle.mur_model.specs.declared.view.View.{View}
+use Rattle.mur_model.specs.Left.{kept, changed}
+use Rattle.mur_model.specs.News.{news, has_row, flag_parts}
+use Rattle.mur_model.specs.Selected.{Selected, at_view, rows_of, with_news}
+
+abbrev pub store_name : Bool → List ℕ
+store_name false = codes "STORE"
+store_name true = codes "UID STORE"
+
+abbrev pub stored_line : Bool → ℕ → Option Row → List ReplyLine
+stored_line by_uid number None = []
+stored_line by_uid number (Some row) = Fetch number (flag_parts by_uid row) ∷ []
+
+-- a line for each message that was changed, under its number in the view
+abbrev pub stored_lines : Bool → List Row → ℕ → List Row → List ReplyLine
+stored_lines by_uid changes number [] = []
+stored_lines by_uid changes number (row ∷ rows) = stored_line by_uid number (row_at changes row.uid) ++ stored_lines by_uid changes (number + 1) rows
+
+-- the command's own lines
+abbrev pub own_lines : FlagStore → List Row → List Row → List ReplyLine
+own_lines it changes rows = if it.is_silent then [] else stored_lines it.by_uid changes 1 rows
+
+-- some of the named messages are no more
+abbrev pub some_gone : List Row → List ℕ → Bool
+some_gone now uids = list_any (λ uid. not (has_row now uid)) uids
+
+-- a STORE by numbers says so (RFC 9051, 7.1: EXPUNGEISSUED)
+abbrev pub store_code : Bool → List Row → List ℕ → Code
+store_code true now uids = no_code
+store_code false now uids = if some_gone now uids then ExpungeIssued else no_code
+
+abbrev pub store_verdict : FlagStore → Content → Verdict
+store_verdict it box = ok_reply (store_code it.by_uid (rows_of box) it.uids) (store_name it.by_uid)
+
+-- what a STORE does, refused where a message would have too many keywords
+abbrev pub stored_at : View → FlagStore → Content → Bool → Selected
+stored_at view it box true = record { left = kept; viewed = with_news view [] (news view.rows (rows_of box) it.by_uid []) (no_reply Limit) }
+stored_at view it box false =
+    let changes = rows_stored box it.uids it.mode it.flags in
+    let after = stored box it.uids it.mode it.flags in
+    record {
+      left = changed after;
+      viewed = with_news view (own_lines it changes view.rows) (news view.rows (rows_of after) it.by_uid changes) (store_verdict it after);
+    }
+
+abbrev pub store_at : View → FlagStore → Content → Selected
+store_at view it box = stored_at view it box (has_too_many_flags (rows_stored box it.uids it.mode it.flags))
+
+-- a STORE of the messages with some UIDs
+unfoldable pub store_on : View → FlagStore → Option Content → Selected
+store_on view it box = at_view view (store_at view it) box

@@ -1,0 +1,226 @@
+// What a client is told of its view (RFC 9051, 7.4 and 7.5).
+ghost use Rattle.std.specs.Prelude.{◌≡◌, ◌++◌, ℕ, [], length, true, IfOk, OnOk};
+ghost use Rattle.mail_message.specs.RowOrder.{AreRising};
+ghost use Rattle.mur_model.specs.ClientView.{Known, Agrees, known_after_all, uids};
+ghost use Rattle.mur_model.specs.News.{news, told_of, expunge_lines, rows_there, rows_behind, is_above, fresh_rows, exists_lines, changed_lines, changed_line, flag_parts};
+ghost use Rattle.mur_model.specs.SameFlags.{is_same_flags};
+ghost use Rattle.std.specs.Option.{option_copied};
+
+use crate::reply::{Parts, ReplyLine, ReplyLines};
+use mail_fetch::{flags_part, uid_part};
+use mail_message::{FlagSet, OrderedRows, Row, Rows};
+use mur_base::{Copied, Memory};
+use std::alloc::Global;
+
+/// What a client is told, and the rows of its view behind it.
+#[derive(Drop)]
+pub struct Told {
+    pub lines: ReplyLines,
+    pub rows: OrderedRows,
+}
+
+/// The news of a view of a mailbox that has these rows now. Expunged messages are told where numbers may change; the flags of the rows
+/// that are told already stand in no line. Time is linear in both lists of rows.
+pub fn news_of(
+    alloc: Global,
+    rows: &OrderedRows,
+    now: &OrderedRows,
+    expunges: bool,
+    told: &OrderedRows,
+) -> Result<Told, Memory>
+    ensures news { IfOk result (λ it. it ≡ news rows.now now.now expunges told.now) }
+    ensures client { IfOk result (λ it. (known : Known) → Agrees known (uids rows.now) → Agrees (known_after_all known it.lines) (uids it.rows)) }
+{
+    news_by(alloc, rows, now, expunges, told)
+}
+
+#[tactic(auto, unfolding(crate::specs::News::news))]
+fn news_by(
+    alloc: Global,
+    rows: &OrderedRows,
+    now: &OrderedRows,
+    expunges: bool,
+    told: &OrderedRows,
+) -> Result<Told, Memory>
+    ensures { IfOk result (λ it. it ≡ news rows.now now.now expunges told.now) }
+{
+    let mut lines = ReplyLines::new(alloc);
+    if expunges {
+        put_expunged(&mut lines, rows, now)?;
+        let kept = rows_there(alloc, rows, now)?;
+        told_of(alloc, lines, &kept, now, told)
+    } else {
+        told_of(alloc, lines, rows, now, told)
+    }
+}
+
+/// The number of a message. Want of memory where it has more than 32 bits.
+fn number_of(count: usize) -> Result<u32, Memory>
+    ensures { IfOk result (λ number. number ≡ count) }
+{
+    u32::try_from(count).map_err(|_| Memory)
+}
+
+/// Puts a line for each message that is no more.
+fn put_expunged(lines: &mut ReplyLines, rows: &OrderedRows, now: &OrderedRows) -> Result<(), Memory>
+    ensures { OnOk result (lines.new ≡ lines.old ++ expunge_lines now.now 1 rows.now) }
+{
+    let mut near = 0;
+    let mut number = 1u32;
+    for row in rows.as_slice() {
+        if now.find(row.uid, &mut near).is_some() {
+            number = number.checked_add(1).ok_or(Memory)?;
+        } else {
+            lines.push(ReplyLine::Expunge(number))?;
+        }
+    }
+    Ok(())
+}
+
+/// The rows whose messages are there.
+fn rows_there(alloc: Global, rows: &OrderedRows, now: &OrderedRows) -> Result<OrderedRows, Memory>
+    ensures { IfOk result (λ there. there ≡ rows_there now.now rows.now) }
+{
+    let mut there = Rows::new(alloc);
+    let mut near = 0;
+    for row in rows.as_slice() {
+        if now.find(row.uid, &mut near).is_some() {
+            there.push(row.copy(alloc)?)?;
+        }
+    }
+    Ok(OrderedRows::from_rising(there))
+}
+
+fn told_of(
+    alloc: Global,
+    lines: ReplyLines,
+    rows: &OrderedRows,
+    now: &OrderedRows,
+    told: &OrderedRows,
+) -> Result<Told, Memory>
+    ensures { IfOk result (λ it. it ≡ told_of lines rows.now now.now told.now) }
+{
+    let mut lines = lines;
+    let view = view_of(alloc, rows, now)?;
+    put_exists(&mut lines, rows.len(), view.len() - rows.len())?;
+    put_changed(alloc, &mut lines, rows, now, told)?;
+    Ok(Told { lines, rows: view })
+}
+
+/// The rows of a view as the mailbox has them, and those behind them.
+fn view_of(alloc: Global, rows: &OrderedRows, now: &OrderedRows) -> Result<OrderedRows, Memory>
+    ensures { IfOk result (λ view. view ≡ fresh_rows now.now rows.now ++ rows_behind rows.now now.now) }
+{
+    let mut view = fresh_rows(alloc, rows, now)?;
+    put_behind(alloc, &mut view, rows, now)?;
+    Ok(OrderedRows::from_rising(view))
+}
+
+/// The rows of a view as the mailbox has them.
+fn fresh_rows(alloc: Global, rows: &OrderedRows, now: &OrderedRows) -> Result<Rows, Memory>
+    ensures view { IfOk result (λ view. view ≡ fresh_rows now.now rows.now) }
+    ensures rising { OnOk result (AreRising rows.now) }
+{
+    let mut view = Rows::new(alloc);
+    let mut near = 0;
+    for row in rows.as_slice() {
+        let fresh = now.find(row.uid, &mut near).unwrap_or(row);
+        view.push(fresh.copy(alloc)?)?;
+    }
+    Ok(view)
+}
+
+/// Puts the rows behind those of a view.
+fn put_behind(
+    alloc: Global,
+    view: &mut Rows,
+    rows: &OrderedRows,
+    now: &OrderedRows,
+) -> Result<(), Memory>
+    ensures view { OnOk result (view.new ≡ view.old ++ rows_behind rows.now now.now) }
+    ensures rising { OnOk result (AreRising now.now) }
+{
+    for row in now.as_slice() {
+        if is_behind(rows, row.uid) {
+            view.push(row.copy(alloc)?)?;
+        }
+    }
+    Ok(())
+}
+
+fn is_behind(rows: &OrderedRows, uid: u32) -> bool
+    ensures { result ≡ is_above rows.now uid }
+{
+    rows.is_below(uid)
+}
+
+fn put_exists(lines: &mut ReplyLines, before: usize, more: usize) -> Result<(), Memory>
+    ensures { OnOk result (lines.new ≡ lines.old ++ exists_lines before more) }
+{
+    if more == 0 {
+        return Ok(());
+    }
+    let count = before.checked_add(more).ok_or(Memory)?;
+    lines.push(ReplyLine::Exists(number_of(count)?))
+}
+
+/// Puts a line for each message with other flags than were told.
+fn put_changed(
+    alloc: Global,
+    lines: &mut ReplyLines,
+    rows: &OrderedRows,
+    now: &OrderedRows,
+    told: &OrderedRows,
+) -> Result<(), Memory>
+    ensures { OnOk result (lines.new ≡ lines.old ++ changed_lines now.now told.now 1 rows.now) }
+{
+    let mut near = 0;
+    let mut near_told = 0;
+    let mut number = 0u32;
+    for row in rows.as_slice() {
+        number = number.checked_add(1).ok_or(Memory)?;
+        let it = now.find(row.uid, &mut near);
+        let is_told = told.find(row.uid, &mut near_told).is_some();
+        put_changed_line(alloc, lines, number, row, it, is_told)?;
+    }
+    Ok(())
+}
+
+fn is_same_flags(one: &FlagSet, other: &FlagSet) -> bool
+    ensures { result ≡ is_same_flags one.now other.now }
+{
+    one.is_same(other)
+}
+
+fn put_changed_line(
+    alloc: Global,
+    lines: &mut ReplyLines,
+    number: u32,
+    row: &Row,
+    it: Option<&Row>,
+    is_told: bool,
+) -> Result<(), Memory>
+    ensures { OnOk result (lines.new ≡ lines.old ++ changed_line is_told number row.now (option_copied it.entry)) }
+{
+    match it {
+        Some(it) => {
+            if !is_told && !is_same_flags(&row.flags, &it.flags) {
+                lines.push(ReplyLine::Fetch(number, flag_parts(alloc, true, it)?))?;
+            }
+            Ok(())
+        }
+        None => Ok(()),
+    }
+}
+
+/// What a FETCH line says of a message's flags, under its UID where that is told too.
+pub fn flag_parts(alloc: Global, by_uid: bool, row: &Row) -> Result<Parts, Memory>
+    ensures { IfOk result (λ parts. parts ≡ flag_parts by_uid row.now) }
+{
+    let mut parts = Parts::new(alloc);
+    if by_uid {
+        parts.push(uid_part(alloc, row.uid)?)?;
+    }
+    parts.push(flags_part(alloc, &row.flags)?)?;
+    Ok(parts)
+}

@@ -1,0 +1,174 @@
+// STORE and UID STORE (RFC 9051, 6.4.6 and 6.4.9).
+ghost use Rattle.std.specs.Prelude.{◌≡◌, ◌≢◌, [], ◌++◌, IfOk, OnOk, Some};
+ghost use Rattle.std.specs.Option.{option_copied};
+ghost use Rattle.mur_model.specs.Selected.{with_news, rows_of, IsWorked};
+ghost use Rattle.mur_model.specs.News.{news};
+ghost use Rattle.mur_model.specs.StoreFlags.{store_on, store_at, store_name, stored_line, stored_lines, own_lines, some_gone, store_code, store_verdict};
+
+use crate::news::{flag_parts, news_of};
+use crate::reply::{Code, NoText, ReplyLine, ReplyLines, Verdict};
+use crate::selected::{gone, with_news};
+use crate::view::{View, Viewed};
+use mail_message::{FlagSet, MailBox, Mode, OrderedRows, Row, Uids};
+use mail_store::{StoreFault, set_flags};
+use mur_base::{Bytes, Memory};
+use std::alloc::Global;
+
+/// A STORE whose messages are named by their UIDs, whichever way its client named them.
+#[derive(Drop)]
+pub struct FlagStore {
+    pub by_uid: bool,
+    pub uids: Uids,
+    pub mode: Mode,
+    pub is_silent: bool,
+    pub flags: FlagSet,
+}
+
+/// Changes the flags of the named messages in the mailbox of a view, if it is still the mailbox that was selected; those that aren't
+/// there are passed over. For want of memory nothing is said of the mailbox. Time is linear in the view and the mailbox's messages.
+#[tactic(auto, unfolding(crate::specs::StoreFlags::store_on, crate::specs::Selected::at_view, crate::specs::Left::box_after))]
+pub fn store_on(
+    alloc: Global,
+    view: View,
+    mailbox: &mut MailBox,
+    it: &FlagStore,
+) -> Result<Viewed, Memory>
+    ensures { IfOk result (λ viewed. IsWorked mailbox.old (store_on view it.now (Some mailbox.old)) mailbox.new viewed) }
+{
+    if mailbox.serial() == view.serial {
+        store_at(alloc, view, mailbox, it)
+    } else {
+        gone(alloc)
+    }
+}
+
+fn store_at(
+    alloc: Global,
+    view: View,
+    mailbox: &mut MailBox,
+    it: &FlagStore,
+) -> Result<Viewed, Memory>
+    ensures { IfOk result (λ viewed. IsWorked mailbox.old (store_at view it.now mailbox.old) mailbox.new viewed) }
+{
+    match set_flags(alloc, mailbox, it.uids.as_slice(), it.mode, &it.flags) {
+        Ok(changes) => stored(alloc, view, mailbox, it, &changes),
+        Err(fault) => refused_for(alloc, view, mailbox, it, fault),
+    }
+}
+
+/// What is told behind a STORE that changed these rows.
+fn stored(
+    alloc: Global,
+    view: View,
+    mailbox: &MailBox,
+    it: &FlagStore,
+    changes: &OrderedRows,
+) -> Result<Viewed, Memory>
+    ensures { IfOk result (λ viewed. viewed ≡
+        with_news view (own_lines it.now changes.now view.rows) (news view.rows (rows_of mailbox.now) it.now.by_uid changes.now) (store_verdict it.now mailbox.now)) }
+{
+    let now = mailbox.look(alloc)?.rows;
+    let mut lines = ReplyLines::new(alloc);
+    put_own_lines(alloc, &mut lines, it, changes, &view.rows)?;
+    let news = news_of(alloc, &view.rows, &now, it.by_uid, changes)?;
+    let code = store_code(it.by_uid, &now, it.uids.as_slice());
+    let verdict = Verdict::Ok(code, Bytes::from_slice(alloc, store_name(it.by_uid))?);
+    with_news(view, lines, news, verdict)
+}
+
+/// What is told where a message would have too many keywords.
+fn refused_for(
+    alloc: Global,
+    view: View,
+    mailbox: &MailBox,
+    it: &FlagStore,
+    fault: StoreFault,
+) -> Result<Viewed, Memory>
+    ensures { IfOk result (λ viewed. (fault ≢ StoreFault.Memory) ×
+        (viewed ≡ with_news view [] (news view.rows (rows_of mailbox.now) it.now.by_uid []) (Verdict.No NoText.Limit))) }
+{
+    if matches!(fault, StoreFault::Memory) {
+        return Err(Memory);
+    }
+    let now = mailbox.look(alloc)?.rows;
+    let news = news_of(alloc, &view.rows, &now, it.by_uid, &OrderedRows::new(alloc))?;
+    with_news(view, ReplyLines::new(alloc), news, Verdict::No(NoText::Limit))
+}
+
+fn put_own_lines(
+    alloc: Global,
+    lines: &mut ReplyLines,
+    it: &FlagStore,
+    changes: &OrderedRows,
+    rows: &OrderedRows,
+) -> Result<(), Memory>
+    ensures { OnOk result (lines.new ≡ lines.old ++ own_lines it.now changes.now rows.now) }
+{
+    if it.is_silent {
+        return Ok(());
+    }
+    put_stored_lines(alloc, lines, it.by_uid, changes, rows)
+}
+
+/// Puts a line for each message that was changed.
+fn put_stored_lines(
+    alloc: Global,
+    lines: &mut ReplyLines,
+    by_uid: bool,
+    changes: &OrderedRows,
+    rows: &OrderedRows,
+) -> Result<(), Memory>
+    ensures { OnOk result (lines.new ≡ lines.old ++ stored_lines by_uid changes.now 1 rows.now) }
+{
+    let mut near = 0;
+    let mut number = 0u32;
+    for row in rows.as_slice() {
+        number = number.checked_add(1).ok_or(Memory)?;
+        put_stored_line(alloc, lines, by_uid, number, changes.find(row.uid, &mut near))?;
+    }
+    Ok(())
+}
+
+fn put_stored_line(
+    alloc: Global,
+    lines: &mut ReplyLines,
+    by_uid: bool,
+    number: u32,
+    row: Option<&Row>,
+) -> Result<(), Memory>
+    ensures { OnOk result (lines.new ≡ lines.old ++ stored_line by_uid number (option_copied row.entry)) }
+{
+    match row {
+        Some(row) => lines.push(ReplyLine::Fetch(number, flag_parts(alloc, by_uid, row)?)),
+        None => Ok(()),
+    }
+}
+
+/// Whether some of the named messages are no more.
+fn some_gone(now: &OrderedRows, uids: &[u32]) -> bool
+    ensures { result ≡ some_gone now.now uids.now }
+{
+    let mut near = 0;
+    for uid in uids {
+        if now.find(*uid, &mut near).is_none() {
+            return true;
+        }
+    }
+    false
+}
+
+fn store_code(by_uid: bool, now: &OrderedRows, uids: &[u32]) -> Code
+    ensures { result ≡ store_code by_uid now.now uids.now }
+{
+    if !by_uid && some_gone(now, uids) {
+        Code::ExpungeIssued
+    } else {
+        Code::None
+    }
+}
+
+fn store_name(by_uid: bool) -> &'static [u8]
+    ensures { result.now ≡ store_name by_uid }
+{
+    if by_uid { b"UID STORE" } else { b"STORE" }
+}

@@ -1,0 +1,24 @@
+// What a client knows of the mailbox that it selected (RFC 9051, 3.3).
+use crate::reply::Reply;
+use mail_message::OrderedRows;
+use mur_base::{MailName, UserName};
+
+/// A selected mailbox as its client was last told.
+#[derive(Drop)]
+pub struct View {
+    pub user: UserName,
+    pub name: MailName,
+    /// The UIDVALIDITY that it had (RFC 9051, 2.3.1.1).
+    pub serial: u32,
+    /// Whether it was selected to be changed (RFC 9051, 6.3.2 and 6.3.3).
+    pub is_writable: bool,
+    /// UID and flags of each message, as last told; the first has the number 1.
+    pub rows: OrderedRows,
+}
+
+/// What a command of a selected session leaves: its view, or none where the mailbox is gone and the session ends; and its reply.
+#[derive(Drop)]
+pub struct Viewed {
+    pub view: Option<View>,
+    pub reply: Reply,
+}
