@@ -6,7 +6,7 @@ ghost use Rattle.mail_message.specs.Keywords.{keyword_fault};
 use crate::keyword::Keyword;
 use crate::system_flags::SystemFlag;
 use crate::word::is_word;
-use mur_base::{Memory, NameFault};
+use mur_base::{Copied, Memory, NameFault};
 use std::alloc::Global;
 
 /// A flag of a message: a system flag or a keyword (RFC 9051, 2.3.2).
@@ -14,6 +14,15 @@ use std::alloc::Global;
 pub enum FlagName {
     System(SystemFlag),
     Keyword(Keyword),
+}
+
+impl Copied for FlagName {
+    fn copy(&self, alloc: Global) -> Result<FlagName, Memory> {
+        match self {
+            FlagName::System(flag) => Ok(FlagName::System(*flag)),
+            FlagName::Keyword(keyword) => Ok(FlagName::Keyword(keyword.copy(alloc)?)),
+        }
+    }
 }
 
 /// Why a text is no flag, the first rule that it breaks, or why a set of flags has no room.
