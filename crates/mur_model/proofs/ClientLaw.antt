@@ -1,17 +1,17 @@
 -- The numbers that a client derives from the news that it is told are those of its view.
-use Rattle.std.proofs.Common.{◌≡◌, ℕ, zero, suc, ◌+◌, ◌-◌, Bool, true, false, cond, List, [], ◌∷◌, ◌++◌, length, map, filter, replicate, if◌then◌else◌, not, ◌&&◌, ◌==◌, nat_eq, Option, None, Some, refl, ap, ◌∙◌, sym, subst, ap₂, arith, IfOk, Result, Ok, Err}
-use Rattle.std.proofs.Common.{append_assoc, append-nil, length-append, fold}
+use Rattle.std.proofs.Common.{◌≡◌, ℕ, suc, ◌+◌, ◌-◌, Bool, true, false, cond, List, [], ◌∷◌, ◌++◌, length, replicate, if◌then◌else◌, not, ◌&&◌, nat_eq, Option, None, Some, refl, ap, ◌∙◌, sym, subst, ap₂, arith, IfOk, Result, Ok, Err}
+use Rattle.std.proofs.Common.{append_assoc, append-nil, length-append}
 use Rattle.std.proofs.lemmas.Grind.{common_steps}
 use Rattle.std.proofs.lemmas.List.{length-map, map-append}
 use Rattle.mail_message.specs.declared.message.Row.{Row}
 use Rattle.mur_model.specs.declared.reply.ReplyLine.{ReplyLine}
-use Rattle.mur_model.specs.declared.reply.ReplyLine.TheVariants.{Exists, Expunge, Fetch}
+use Rattle.mur_model.specs.declared.reply.ReplyLine.TheVariants.{Expunge, Fetch}
 use Rattle.mur_model.specs.declared.news.Told.{Told}
 use Rattle.mur_model.specs.ClientView.{Known, without_number, known_after, known_after_all, Agrees, uids}
 use Rattle.mur_model.specs.News.{news, told_of, has_row, expunge_lines, rows_there, rows_behind, exists_lines, changed_lines, changed_line, fresh_rows, fresh_row, flag_parts}
 use Rattle.mur_model.specs.SameFlags.{is_same_flags}
 use Rattle.std.proofs.lemmas.Bool.Decides.{nat_tests}
-use Rattle.mail_message.specs.RowOrder.{row_at, is_row_of}
+use Rattle.mail_message.specs.RowOrder.{row_at}
 
 -- lines one behind another
 after_both : (known : Known) (lines more : List ReplyLine) → known_after_all known (lines ++ more) ≡ known_after_all (known_after_all known lines) more
@@ -54,7 +54,7 @@ expunged_by : (now : List Row) (number : ℕ) (front : Known) (list : List ℕ) 
     → Agrees (known_after_all ((front ++ one ∷ []) ++ known) (expunge_lines now (number + 1) rows)) ((list ++ row.uid ∷ []) ++ uids (rows_there now rows))
     → Agrees (known_after_all (front ++ known) (expunge_lines now number rows)) (list ++ uids (rows_there now rows))
     → Agrees (known_after_all (front ++ one ∷ known) (if there then expunge_lines now (number + 1) rows else Expunge number ∷ expunge_lines now number rows))
-        (list ++ uids (cond there (row ∷ rows_there now rows) (rows_there now rows)))
+    (list ++ uids (cond there (row ∷ rows_there now rows) (rows_there now rows)))
 unfolding known_after
 expunged_by now number front list one known row rows true is stays goes =
     rw (append_assoc front (one ∷ []) known) at (rw (append_assoc list (row.uid ∷ []) (uids (rows_there now rows))) at stays)
@@ -76,12 +76,12 @@ expunged_agree now number front list (Some told ∷ known) [] is agree agrees = 
 expunged_agree now number front list (None ∷ known) (row ∷ rows) is agree agrees =
     expunged_by now number front list None known row rows (has_row now row.uid) is
     (expunged_agree now (number + 1) (front ++ None ∷ []) (list ++ row.uid ∷ []) known rows (next_number number front None is)
-        (agrees_both front (None ∷ []) list (row.uid ∷ []) agree tt) agrees)
+    (agrees_both front (None ∷ []) list (row.uid ∷ []) agree tt) agrees)
     (expunged_agree now number front list known rows is agree agrees)
 expunged_agree now number front list (Some told ∷ known) (row ∷ rows) is agree agrees =
     expunged_by now number front list (Some told) known row rows (has_row now row.uid) is
     (expunged_agree now (number + 1) (front ++ Some told ∷ []) (list ++ row.uid ∷ []) known rows (next_number number front (Some told) is)
-        (agrees_both front (Some told ∷ []) list (row.uid ∷ []) agree (agrees.0, tt)) agrees.1)
+    (agrees_both front (Some told ∷ []) list (row.uid ∷ []) agree (agrees.0, tt)) agrees.1)
     (expunged_agree now number front list known rows is agree agrees.1)
 
 -- new messages are counted

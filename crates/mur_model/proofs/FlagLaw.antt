@@ -1,8 +1,8 @@
 -- The test of flags decides whether they are the same.
-use Rattle.std.proofs.Common.{◌≡◌, Bool, true, ◌&&◌, bytes_eq, Decides, refl, sym, ap, arith}
+use Rattle.std.proofs.Common.{◌≡◌, Bool, true, Decides, refl}
 use Rattle.std.specs.Bool.{beq}
 use Rattle.std.specs.Cmp.{booleans_Decides, first_so, second_so}
-use Rattle.std.specs.Cmp.Lexicographic.{pointwise, pointwise_decides, bytes_decides}
+use Rattle.std.specs.Cmp.Lexicographic.{pointwise_decides, bytes_decides}
 use Rattle.mail_message.specs.declared.system_flags.SystemFlags.{SystemFlags}
 use Rattle.mail_message.specs.FlagSets.{Flags}
 use Rattle.mur_model.specs.SameFlags.{is_same_system, is_same_flags}
@@ -29,8 +29,9 @@ flags_self flags = rw (same_self flags.system.answered, same_self flags.system.f
 
 pub same_flags_decide : (one other : Flags) → Decides (is_same_flags one other) (one ≡ other)
 unfolding is_same_flags
-same_flags_decide one other =
-    (λ same. let system = system_is one.system other.system (first_so (is_same_system one.system other.system) _ same) in
-        let keywords = (pointwise_decides bytes_decides one.keywords other.keywords).0 (second_so (is_same_system one.system other.system) _ same) in
-        λ i. record { system = system i; keywords = keywords i },
-    λ same. rw same (flags_self other))
+same_flags_decide one other = (
+  λ same. let system = system_is one.system other.system (first_so (is_same_system one.system other.system) _ same) in
+      let keywords = (pointwise_decides bytes_decides one.keywords other.keywords).0 (second_so (is_same_system one.system other.system) _ same) in
+      λ i. record { system = system i; keywords = keywords i },
+  λ same. rw same (flags_self other),
+)

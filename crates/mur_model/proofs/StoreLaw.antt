@@ -1,5 +1,5 @@
 -- What a STORE leaves, from what mail_store says of it.
-use Rattle.std.proofs.Common.{◌≡◌, ◌≢◌, Bool, true, false, List, [], refl, sym, subst, Ok, Err, inl, inr}
+use Rattle.std.proofs.Common.{◌≡◌, ◌≢◌, Bool, true, false, List, [], subst, Ok, Err, inl, inr}
 use Rattle.mail_message.specs.Boxes.{Content}
 use Rattle.mail_message.specs.declared.message.Row.{Row}
 use Rattle.mail_store.specs.Store.{stored, rows_stored, IsStoredBy}

@@ -1,6 +1,6 @@
 -- The rows of a view rise by UID, before its news and behind them.
-use Rattle.std.proofs.Common.{◌≡◌, ℕ, ◌<◌, nat_lt, Bool, true, false, cond, List, [], ◌∷◌, ◌++◌, map, filter, Decides, refl, ap, ◌∙◌, sym, subst, arith}
-use Rattle.std.specs.List.{AllByRecursion, list_all}
+use Rattle.std.proofs.Common.{◌≡◌, ℕ, ◌<◌, nat_lt, Bool, true, false, cond, List, [], ◌∷◌, ◌++◌, filter, Decides, refl, ap, ◌∙◌, sym, subst, arith}
+use Rattle.std.specs.List.{AllByRecursion}
 use Rattle.std.specs.List.Sorted.{IsStrictlySortedBy}
 use Rattle.std.specs.Ordering.{nat_cmp}
 use Rattle.std.specs.declared.cmp.Ordering.TheVariants.{Less}
@@ -11,7 +11,7 @@ use Rattle.std.proofs.lemmas.List.{map-append}
 use Rattle.mail_message.specs.declared.message.Row.{Row}
 use Rattle.mail_message.specs.RowOrder.{AreRising, IsAbove}
 use Rattle.mur_model.specs.ClientView.{uids}
-use Rattle.mur_model.specs.News.{rows_there, rows_behind, fresh_rows, is_above}
+use Rattle.mur_model.specs.News.{rows_behind, fresh_rows, is_above}
 use Rattle.mur_model.proofs.ClientLaw.{fresh_uids}
 
 -- ---- some of rising rows
@@ -82,6 +82,6 @@ rising-view rows now rising rises =
     let both = rising_both rows (rows_behind rows now) rising (rising-some (λ row. is_above rows row.uid) now rises) (behind_above rows now) in
     let uid_of = λ (row : Row). row.uid in
     let same : uids (fresh_rows now rows ++ rows_behind rows now) ≡ uids (rows ++ rows_behind rows now) =
-        map-append uid_of (fresh_rows now rows) (rows_behind rows now) ∙ ap (λ list. list ++ uids (rows_behind rows now)) (fresh_uids now rows)
-        ∙ sym (map-append uid_of rows (rows_behind rows now)) in
+    map-append uid_of (fresh_rows now rows) (rows_behind rows now) ∙ ap (λ list. list ++ uids (rows_behind rows now)) (fresh_uids now rows)
+    ∙ sym (map-append uid_of rows (rows_behind rows now)) in
     subst (IsStrictlySortedBy nat_cmp) (sym same) both

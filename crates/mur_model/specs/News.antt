@@ -1,10 +1,9 @@
 -- What a client is told of a mailbox that changes while it is selected (RFC 9051, 7.4 and 7.5). A view is the rows that the client was last told.
-use Rattle.std.specs.Prelude.{ℕ, zero, suc, ◌+◌, Bool, true, false, not, ◌&&◌, ◌==◌, nat_lt, if◌then◌else◌, List, [], ◌∷◌, ◌++◌, length, map, Option, None, Some, is_some}
+use Rattle.std.specs.Prelude.{ℕ, zero, suc, ◌+◌, Bool, true, false, not, ◌&&◌, nat_lt, if◌then◌else◌, List, [], ◌∷◌, ◌++◌, length, map, Option, None, Some, is_some}
 use Rattle.std.specs.List.{filter, list_all}
 use Rattle.mail_fetch.specs.FlagText.{flags_text}
 use Rattle.mail_fetch.specs.Parts.{uid_text}
 use Rattle.mail_message.specs.declared.message.Row.{Row}
-use Rattle.mail_message.specs.FlagSets.{Flags}
 use Rattle.mail_message.specs.RowOrder.{row_at}
 use Rattle.mur_model.specs.declared.news.Told.{Told}
 use Rattle.mur_model.specs.SameFlags.{is_same_flags}

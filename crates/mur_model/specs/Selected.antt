@@ -1,5 +1,5 @@
 -- What a command of a selected session does at its mailbox (RFC 9051, 6.4).
-use Rattle.std.specs.Prelude.{◌≡◌, ℕ, ◌==◌, if◌then◌else◌, List, [], ◌∷◌, ◌++◌, map, Option, None, Some}
+use Rattle.std.specs.Prelude.{◌≡◌, ◌==◌, if◌then◌else◌, List, [], ◌∷◌, ◌++◌, map, Option, None, Some}
 use Rattle.mail_message.specs.Boxes.{Content, row_of}
 use Rattle.mail_message.specs.declared.message.Row.{Row}
 use Rattle.mur_model.specs.declared.news.Told.{Told}

@@ -2,10 +2,8 @@
 use Rattle.std.specs.Prelude.{ℕ, ◌+◌, Bool, true, false, not, if◌then◌else◌, List, [], ◌∷◌, ◌++◌, Option, None, Some, codes}
 use Rattle.std.specs.List.{list_any}
 use Rattle.mail_message.specs.Boxes.{Content}
-use Rattle.mail_message.specs.FlagSets.{Flags}
 use Rattle.mail_message.specs.RowOrder.{row_at}
 use Rattle.mail_message.specs.declared.message.Row.{Row}
-use Rattle.mail_message.specs.declared.mode.Mode.{Mode}
 use Rattle.mail_store.specs.Store.{stored, rows_stored, has_too_many_flags}
 use Rattle.mur_model.specs.declared.reply.Code.{Code}
 use Rattle.mur_model.specs.declared.reply.Code.TheVariants.{None as no_code, ExpungeIssued}

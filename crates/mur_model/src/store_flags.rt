@@ -92,7 +92,12 @@ fn refused_for(
     }
     let now = mailbox.look(alloc)?.rows;
     let news = news_of(alloc, &view.rows, &now, it.by_uid, &OrderedRows::new(alloc))?;
-    with_news(view, ReplyLines::new(alloc), news, Verdict::No(NoText::Limit))
+    with_news(
+        view,
+        ReplyLines::new(alloc),
+        news,
+        Verdict::No(NoText::Limit),
+    )
 }
 
 fn put_own_lines(
@@ -124,7 +129,13 @@ fn put_stored_lines(
     let mut number = 0u32;
     for row in rows.as_slice() {
         number = number.checked_add(1).ok_or(Memory)?;
-        put_stored_line(alloc, lines, by_uid, number, changes.find(row.uid, &mut near))?;
+        put_stored_line(
+            alloc,
+            lines,
+            by_uid,
+            number,
+            changes.find(row.uid, &mut near),
+        )?;
     }
     Ok(())
 }

@@ -1,5 +1,4 @@
-use Rattle.std.proofs.Common.{◌≡◌, ◌++◌, sym, subst, arith}
-use Rattle.std.proofs.lemmas.Grind.{common_steps}
+use Rattle.std.proofs.Common.{◌≡◌, ◌++◌, sym, subst}
 use Rattle.mail_message.specs.RowOrder.{AreRising}
 use Rattle.mur_model.specs.News.{fresh_rows, rows_behind}
 use Rattle.mur_model.proofs.ViewLaw.{rising-view}
