@@ -1,7 +1,7 @@
 // The commands of a mail client (RFC 9051, 6).
 ghost use Rattle.std.specs.Prelude.{◌≡◌, IfOk};
 
-use mail_message::{FetchItems, FlagSet, Mode, SetParts};
+use mail_message::{DateText, FetchItems, FlagSet, Mode, SetParts};
 use mur_base::{Bytes, Copied, Items, Memory};
 use std::alloc::Global;
 
@@ -66,8 +66,8 @@ pub enum Command {
     Delete(Bytes),
     /// LIST of the names behind a reference that a pattern takes (RFC 9051, 6.3.9).
     List(Bytes, Bytes),
-    /// APPEND of a message to a mailbox (RFC 9051, 6.3.12).
-    Append(Bytes, Bytes),
+    /// APPEND to a mailbox of a message with flags, and with a date where one is given (RFC 9051, 6.3.12).
+    Append(Bytes, FlagSet, Option<DateText>, Bytes),
     /// STATUS of a mailbox (RFC 9051, 6.3.11).
     Status(Bytes, StatusItems),
     /// IDLE, and the line behind it where it is there (RFC 9051, 6.3.13).
@@ -117,9 +117,12 @@ impl Copied for Command {
             Command::List(reference, pattern) => {
                 Command::List(copy_of(alloc, reference)?, copy_of(alloc, pattern)?)
             }
-            Command::Append(text, body) => {
-                Command::Append(copy_of(alloc, text)?, copy_of(alloc, body)?)
-            }
+            Command::Append(text, flags, date, body) => Command::Append(
+                copy_of(alloc, text)?,
+                flags.copy(alloc)?,
+                *date,
+                copy_of(alloc, body)?,
+            ),
             Command::Status(text, items) => {
                 Command::Status(copy_of(alloc, text)?, items.copy(alloc)?)
             }
