@@ -25,16 +25,18 @@ without_date = made (λ body. (None, body)) dated_text message
 abbrev pub dated : Form Dated
 dated = choice (λ c. c == quote) dated_text with_date without_date
 
--- The flags are always printed, in a list that may be empty.
+abbrev pub without_flags : Form (Flags × Dated)
+without_flags = made (λ x. (no_flags, x)) (λ x. dated_text x.1) dated
+
+-- flags are printed in a list, which may be empty
 unfoldable pub flagged_text : Flags × Dated → List ℕ
 flagged_text x = flags_text x.0 ++ space ∷ dated_text x.1
 
 -- [flag-list SP] [date-time SP] literal
-abbrev pub without_flags : Form (Flags × Dated)
-without_flags = made (λ x. (no_flags, x)) flagged_text dated
 
 abbrev pub flagged : Form (Flags × Dated)
 flagged = choice (λ c. c == open_paren) flagged_text (flag_list spaced dated) without_flags
 
+-- SP mailbox SP [flag-list SP] [date-time SP] literal
 abbrev pub append : Form (List ℕ × (Flags × Dated))
 append = behind space (argument spaced flagged)

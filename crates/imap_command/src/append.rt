@@ -3,7 +3,7 @@ ghost use Rattle.std.specs.Prelude.{◌≡◌, ◌++◌, OnOk};
 ghost use Rattle.grammar.specs.Gives.{Gives};
 ghost use Rattle.imap_command.specs.Append.{dated, dated_text, flagged, flagged_text, append};
 
-use crate::date::{date_time_of, put_date_time};
+use crate::date::{date_named, date_time_of, put_date_time};
 use crate::flags::{flag_list_of, put_flags};
 use crate::strings::{astring_of, literal_of, put_astring, put_literal};
 use grammar::{Only, ReadError, begins, byte_of};
@@ -19,10 +19,10 @@ fn dated_of(alloc: Global, bytes: &[u8]) -> Result<(Dated, &[u8]), ReadError>
     ensures { Gives (λ x. (x.0, x.1.now)) result (dated.part.at bytes.now) }
 {
     if begins(&Only(b'"'), bytes) {
-        let (date, rest) = date_time_of(bytes)?;
+        let (text, rest) = date_time_of(bytes)?;
         let rest = byte_of(b' ', rest)?;
         let (message, rest) = literal_of(alloc, rest)?;
-        Ok(((Some(date), message), rest))
+        Ok(((Some(date_named(text)?), message), rest))
     } else {
         let (message, rest) = literal_of(alloc, bytes)?;
         Ok(((None, message), rest))
