@@ -1,6 +1,6 @@
 -- Dates are words: a text that begins one goes on to one with the rest of a sample, so does each front of a date.
-use Rattle.std.proofs.Common.{◌≡◌, ℕ, zero, suc, ◌<◌, ◌≤◌, List, [], ◌∷◌, ◌++◌, Bool, true, false, ◌&&◌, ◌||◌, ◌==◌, length, drop, slice_set, codes, refl, sym, ap, ◌∙◌}
-use Rattle.std.proofs.Common.{subst, arith, eqb-true, eq-eqb, ne_eqb, append-nil, append_assoc, length-append}
+use Rattle.std.proofs.Common.{◌≡◌, ℕ, zero, suc, ◌<◌, ◌≤◌, List, [], ◌∷◌, ◌++◌, Bool, true, false, ◌&&◌, ◌||◌, ◌==◌, length, drop, slice_set}
+use Rattle.std.proofs.Common.{codes, refl, sym, ap, ◌∙◌, subst, arith, eqb-true, eq-eqb, ne_eqb, append-nil, append_assoc, length-append}
 use Rattle.std.specs.Char.{is_ascii_digit, to_ascii_lowercase}
 use Rattle.std.specs.List.{list_all, list_any}
 use Rattle.std.proofs.lemmas.Bool.{false≢true}
@@ -21,6 +21,7 @@ abbrev at : ℕ → ℕ → ℕ → ℕ
 at zero a x = x
 at (suc n) a x = a
 
+-- so many bytes of the front are left behind one more, and behind k more
 abbrev less : ℕ → ℕ
 less zero = zero
 less (suc n) = n
@@ -143,15 +144,22 @@ zone_mixed : (n a b c d e : ℕ) → is_zone (a ∷ b ∷ c ∷ d ∷ e ∷ []) 
 unfolding is_zone
 zone_mixed n a b c d e is = and_both _ _ (sign_mixed n a (and_left _ _ is)) (digits_mixed (past 1 n) b c d e (and_right _ _ is))
 
--- all of the bytes
+-- all of the bytes: the calendar, the clock and the zone, with a space between any two
 whole_mixed : (n a0 a1 a2 a3 a4 a5 a6 a7 a8 a9 a10 a11 a12 a13 a14 a15 a16 a17 a18 a19 a20 a21 a22 a23 a24 a25 x y z : ℕ)
-    → is_calendar (a0 ∷ a1 ∷ a2 ∷ a3 ∷ a4 ∷ a5 ∷ a6 ∷ a7 ∷ a8 ∷ a9 ∷ a10 ∷ []) ≡ true → (a11 == 32) ≡ true → is_clock (a12 ∷ a13 ∷ a14 ∷ a15 ∷ a16 ∷ a17 ∷ a18 ∷ a19 ∷ []) ≡ true
+    → is_calendar (a0 ∷ a1 ∷ a2 ∷ a3 ∷ a4 ∷ a5 ∷ a6 ∷ a7 ∷ a8 ∷ a9 ∷ a10 ∷ []) ≡ true → (a11 == 32) ≡ true
+    → is_clock (a12 ∷ a13 ∷ a14 ∷ a15 ∷ a16 ∷ a17 ∷ a18 ∷ a19 ∷ []) ≡ true
     → (a20 == 32) ≡ true → is_zone (a21 ∷ a22 ∷ a23 ∷ a24 ∷ a25 ∷ []) ≡ true → is_word (a3 ∷ a4 ∷ a5 ∷ []) (x ∷ y ∷ z ∷ []) ≡ true
     → ((q : List ℕ → Bool) → q (x ∷ y ∷ z ∷ []) ≡ true → list_any q months ≡ true)
-    → Goes n (a0 ∷ a1 ∷ a2 ∷ a3 ∷ a4 ∷ a5 ∷ a6 ∷ a7 ∷ a8 ∷ a9 ∷ a10 ∷ a11 ∷ a12 ∷ a13 ∷ a14 ∷ a15 ∷ a16 ∷ a17 ∷ a18 ∷ a19 ∷ a20 ∷ a21 ∷ a22 ∷ a23 ∷ a24 ∷ a25 ∷ [])
+    → Goes n
+    (a0 ∷ a1 ∷ a2 ∷ a3 ∷ a4 ∷ a5 ∷ a6 ∷ a7 ∷ a8 ∷ a9 ∷ a10 ∷ a11 ∷ a12 ∷ a13 ∷ a14 ∷ a15 ∷ a16 ∷ a17 ∷ a18 ∷ a19 ∷
+    a20 ∷ a21 ∷ a22 ∷ a23 ∷ a24 ∷ a25 ∷ [])
 unfolding is_date
-whole_mixed n a0 a1 a2 a3 a4 a5 a6 a7 a8 a9 a10 a11 a12 a13 a14 a15 a16 a17 a18 a19 a20 a21 a22 a23 a24 a25 x y z calendar space clock gap zone word promote =
-    promote (λ month. is_date (mixed n (a0 ∷ a1 ∷ a2 ∷ a3 ∷ a4 ∷ a5 ∷ a6 ∷ a7 ∷ a8 ∷ a9 ∷ a10 ∷ a11 ∷ a12 ∷ a13 ∷ a14 ∷ a15 ∷ a16 ∷ a17 ∷ a18 ∷ a19 ∷ a20 ∷ a21 ∷ a22 ∷ a23 ∷ a24 ∷ a25 ∷ []) (sample month)))
+whole_mixed n a0 a1 a2 a3 a4 a5 a6 a7 a8 a9 a10 a11 a12 a13 a14 a15 a16 a17 a18 a19 a20 a21 a22 a23 a24 a25 x y z
+    calendar space clock gap zone word promote =
+    promote (λ month. is_date
+    (mixed n
+    (a0 ∷ a1 ∷ a2 ∷ a3 ∷ a4 ∷ a5 ∷ a6 ∷ a7 ∷ a8 ∷ a9 ∷ a10 ∷ a11 ∷ a12 ∷ a13 ∷ a14 ∷ a15 ∷ a16 ∷ a17 ∷ a18 ∷ a19 ∷
+    a20 ∷ a21 ∷ a22 ∷ a23 ∷ a24 ∷ a25 ∷ []) (sample month)))
     (and_both _ _
     (and_both _ _
     (and_both _ _
@@ -160,7 +168,8 @@ whole_mixed n a0 a1 a2 a3 a4 a5 a6 a7 a8 a9 a10 a11 a12 a13 a14 a15 a16 a17 a18 
     (byte_mixed (past 20 n) a20 32 gap))
     (zone_mixed (past 21 n) a21 a22 a23 a24 a25 zone))
 
-month_there : (a0 a1 a2 a3 a4 a5 a6 a7 a8 a9 a10 : ℕ) → is_calendar (a0 ∷ a1 ∷ a2 ∷ a3 ∷ a4 ∷ a5 ∷ a6 ∷ a7 ∷ a8 ∷ a9 ∷ a10 ∷ []) ≡ true → list_any (λ month. is_word (a3 ∷ a4 ∷ a5 ∷ []) month) months ≡ true
+month_there : (a0 a1 a2 a3 a4 a5 a6 a7 a8 a9 a10 : ℕ) → is_calendar (a0 ∷ a1 ∷ a2 ∷ a3 ∷ a4 ∷ a5 ∷ a6 ∷ a7 ∷ a8 ∷ a9 ∷ a10 ∷ []) ≡ true
+    → list_any (λ month. is_word (a3 ∷ a4 ∷ a5 ∷ []) month) months ≡ true
 unfolding is_calendar is_month
 month_there a0 a1 a2 a3 a4 a5 a6 a7 a8 a9 a10 is = and_right (is_day a0 a1 && (a2 == 45)) _ (and_left _ _ (and_left _ _ is))
 
@@ -177,8 +186,12 @@ three_letters a b c (x ∷ y ∷ z ∷ more ∷ m) h =
     (and_right (to_ascii_lowercase b == to_ascii_lowercase y) _ (and_right (to_ascii_lowercase a == to_ascii_lowercase x) _ h))))
 
 date_mixed : (n a0 a1 a2 a3 a4 a5 a6 a7 a8 a9 a10 a11 a12 a13 a14 a15 a16 a17 a18 a19 a20 a21 a22 a23 a24 a25 : ℕ)
-    → is_date (a0 ∷ a1 ∷ a2 ∷ a3 ∷ a4 ∷ a5 ∷ a6 ∷ a7 ∷ a8 ∷ a9 ∷ a10 ∷ a11 ∷ a12 ∷ a13 ∷ a14 ∷ a15 ∷ a16 ∷ a17 ∷ a18 ∷ a19 ∷ a20 ∷ a21 ∷ a22 ∷ a23 ∷ a24 ∷ a25 ∷ []) ≡ true
-    → Goes n (a0 ∷ a1 ∷ a2 ∷ a3 ∷ a4 ∷ a5 ∷ a6 ∷ a7 ∷ a8 ∷ a9 ∷ a10 ∷ a11 ∷ a12 ∷ a13 ∷ a14 ∷ a15 ∷ a16 ∷ a17 ∷ a18 ∷ a19 ∷ a20 ∷ a21 ∷ a22 ∷ a23 ∷ a24 ∷ a25 ∷ [])
+    → is_date
+    (a0 ∷ a1 ∷ a2 ∷ a3 ∷ a4 ∷ a5 ∷ a6 ∷ a7 ∷ a8 ∷ a9 ∷ a10 ∷ a11 ∷ a12 ∷ a13 ∷ a14 ∷ a15 ∷ a16 ∷ a17 ∷ a18 ∷ a19 ∷
+    a20 ∷ a21 ∷ a22 ∷ a23 ∷ a24 ∷ a25 ∷ []) ≡ true
+    → Goes n
+    (a0 ∷ a1 ∷ a2 ∷ a3 ∷ a4 ∷ a5 ∷ a6 ∷ a7 ∷ a8 ∷ a9 ∷ a10 ∷ a11 ∷ a12 ∷ a13 ∷ a14 ∷ a15 ∷ a16 ∷ a17 ∷ a18 ∷ a19 ∷
+    a20 ∷ a21 ∷ a22 ∷ a23 ∷ a24 ∷ a25 ∷ [])
 unfolding is_date
 date_mixed n a0 a1 a2 a3 a4 a5 a6 a7 a8 a9 a10 a11 a12 a13 a14 a15 a16 a17 a18 a19 a20 a21 a22 a23 a24 a25 is =
     let to_gap = and_left _ _ is in
