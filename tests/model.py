@@ -97,6 +97,25 @@ def string_at(text, at):
     return (atom[0], atom.end()) if atom else None
 
 
+FLAGS = re.compile(rb'\((?:(?:FLAG)(?: (?:FLAG))*)?\) '.replace(
+    b'FLAG', rb'\\(?:answered|flagged|deleted|seen|draft)|[!#$&\'+,\-./0-9:;<=>?@A-Z\[^_`a-z|}~]{1,64}'), re.I)
+DATE = re.compile(rb'"(?: [1-9]|0[1-9]|[12]\d|3[01])-(?:jan|feb|mar|apr|may|jun|jul|aug|sep|oct|nov|dec)-\d{4}'
+                  rb' (?:[01]\d|2[0-3]):[0-5]\d:[0-5]\d [+-]\d{4}" ', re.I)
+
+
+def message_at(frame, at):
+    """The place of an APPEND's literal, behind flags and a date."""
+    flags = FLAGS.match(frame, at)
+    if flags:
+        if len({flag for flag in flags[0][1:-2].split(b' ') if flag[:1] not in (b'', b'\\')}) > 16:
+            return None
+        at = flags.end()
+    date = DATE.match(frame, at)
+    if date:
+        at = date.end()
+    return at if frame[at:at + 1] == b'{' else None
+
+
 def first_tag(frame):
     tag = re.match(rb'([!#$&\',\-./0-9:;<=>?@A-Z\[\]^_`a-z|}~]{1,32}) ', frame)
     return tag[1] if tag else None
@@ -124,8 +143,10 @@ def command_of(frame):
     if word == b'STATUS':
         items = re.compile(rb'\(MESSAGES(?: MESSAGES)*\)\r\n$', re.I).match(frame, at)
         return (tag, (word, arguments + [items[0].upper().count(b'MESSAGES')])) if items else (tag, None)
-    if word == b'APPEND' and frame[at:at + 1] != b'{':
-        return tag, None
+    if word == b'APPEND':
+        at = message_at(frame, at)
+        if at is None:
+            return tag, None
     second = string_at(frame, at)
     if not second or frame[second[1]:] != b'\r\n':
         return tag, None

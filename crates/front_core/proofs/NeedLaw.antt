@@ -34,7 +34,7 @@ off-needs : (setting : Setting) (it : Command) → MayNeed Off (need_off setting
 unfolding MayNeed need_off login
 off-needs setting (login_of user password) = login-needs (user_named setting.users user) password
 off-needs setting (create_of text) = tt
-off-needs setting (append_of text body) = tt
+off-needs setting (append_of text flags date body) = tt
 off-needs setting (status_of text items) = tt
 off-needs setting it = tt
 

@@ -24,10 +24,11 @@ use Rattle.imap_command.specs.Sets.{set}
 use Rattle.imap_command.specs.Xfer.{xfer}
 use Rattle.imap_command.specs.Status.{item_rows, item_text, status_item, status_items, status}
 use Rattle.imap_command.specs.Store.{store}
-use Rattle.imap_command.specs.Strings.{argument, message, atom}
+use Rattle.imap_command.specs.Strings.{argument, atom}
 use Rattle.imap_command.specs.Verbs.{verb_of, uid_name_text, uid_verb_form, uid_verb_of, uid_verbs}
-use Rattle.imap_command.proofs.ArgumentsLaw.{ends_atom, ends_line, line_ends_atom, law_argument, law_message, arguments_behind, law_one_string}
+use Rattle.imap_command.proofs.ArgumentsLaw.{ends_atom, ends_line, line_ends_atom, law_argument, arguments_behind, law_one_string}
 use Rattle.imap_command.proofs.ArgumentsLaw.{law_two_strings, law_atoms}
+use Rattle.imap_command.proofs.AppendLaw.{law_append}
 use Rattle.imap_command.proofs.AuthenticateLaw.{law_authenticate}
 use Rattle.imap_command.proofs.FetchLaw.{law_fetch}
 use Rattle.imap_command.proofs.ListLaw.{law_list}
@@ -35,9 +36,6 @@ use Rattle.imap_command.proofs.SetAclLaw.{law_set_acl}
 use Rattle.imap_command.proofs.SetsLaw.{law_set}
 use Rattle.imap_command.proofs.StoreLaw.{law_store}
 use Rattle.imap_command.proofs.XferLaw.{law_xfer}
-
-law_append : Law ends_atom ends_line append
-law_append = arguments_behind _ refl (law_spaced argument message refl law_argument (law_message ends_line))
 
 law_copy : Law ends_atom ends_line copy
 law_copy = arguments_behind _ refl (law_spaced set argument refl law_set law_argument)
@@ -83,7 +81,7 @@ law_uid =
 
 pub branch_of : (v : Verb) → Branch ends_atom ends_line verb_of v (arguments v)
 unfolding arguments arguments_text verb_of
-branch_of verb.Append = branch verb_of verb.Append (λ x. command.Append x.0 x.1) arguments_text append law_append (λ x. (refl, refl))
+branch_of verb.Append = branch verb_of verb.Append (λ x. command.Append x.0 x.1.0 x.1.1.0 x.1.1.1) arguments_text append law_append (λ x. (refl, refl))
 branch_of verb.Authenticate = branch verb_of verb.Authenticate command.Authenticate arguments_text authenticate law_authenticate (λ _. (refl, refl))
 branch_of verb.Capability = branch verb_of verb.Capability (λ _. command.Capability) arguments_text nothing law_none (λ _. (refl, refl))
 branch_of verb.Close = branch verb_of verb.Close (λ _. command.Close) arguments_text nothing law_none (λ _. (refl, refl))

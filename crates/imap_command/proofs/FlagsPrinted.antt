@@ -238,6 +238,9 @@ spell_flags flags kept =
     (steps_append (system_texts flags.system) flags.keywords no_flags (record { system = flags.system; keywords = [] }) flags
     (system_steps flags.system) (keyword_steps flags.system [] flags.keywords kept.sorted kept.few kept.valid))
 
+pub no_flags_printed : flag_list_part.lang (flags_text no_flags) no_flags
+no_flags_printed = spell_flags no_flags kept_none
+
 pub law_flag_list : (after : ℕ → Bool) → Law any after flag_list
 law_flag_list after = record {
   good = λ V. good_list V after;

@@ -22,3 +22,5 @@ pub mod FlagsLaw
 pub mod FlagsPrinted
 pub mod FlagSteps
 pub mod StoreLaw
+pub mod DateLaw
+pub mod AppendLaw

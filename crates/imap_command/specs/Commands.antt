@@ -24,7 +24,7 @@ use Rattle.imap_command.specs.Verbs.{is_uid, uid_verb_form, uid_verb_of, uid_nam
 
 -- how the arguments of a command are printed
 unfoldable pub arguments_text : Command → List ℕ
-arguments_text (command.Append mailbox message) = append.text (mailbox, message)
+arguments_text (command.Append mailbox flags date message) = append.text (mailbox, (flags, (date, message)))
 arguments_text (command.Authenticate response) = authenticate.text response
 arguments_text (command.Copy by_uid set mailbox) = copy.text (set, mailbox)
 arguments_text (command.Create mailbox) = one_string.text mailbox
@@ -56,7 +56,7 @@ abbrev pub uid_command : Form Command
 uid_command = behind space (dispatch uid_verb_form uid_verb_of uid_arguments)
 
 unfoldable pub arguments : Verb → Form Command
-arguments verb.Append = made (λ x. command.Append x.0 x.1) arguments_text append
+arguments verb.Append = made (λ x. command.Append x.0 x.1.0 x.1.1.0 x.1.1.1) arguments_text append
 arguments verb.Authenticate = made command.Authenticate arguments_text authenticate
 arguments verb.Capability = constant command.Capability arguments_text
 arguments verb.Close = constant command.Close arguments_text

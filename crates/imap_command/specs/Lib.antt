@@ -4,6 +4,7 @@ pub mod Bad
 pub mod Characters
 pub mod Commands
 pub mod Copy
+pub mod Date
 pub mod Print
 pub mod Request
 pub mod Sets

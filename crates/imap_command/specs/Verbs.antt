@@ -53,7 +53,7 @@ verb_form = table verb.Uid verbs name_text
 
 -- the first word of a command
 unfoldable pub verb_of : Command → Verb
-verb_of (command.Append mailbox message) = verb.Append
+verb_of (command.Append mailbox flags date message) = verb.Append
 verb_of (command.Authenticate response) = verb.Authenticate
 verb_of command.Capability = verb.Capability
 verb_of command.Close = verb.Close

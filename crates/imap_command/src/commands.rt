@@ -24,8 +24,8 @@ use std::alloc::Global;
 fn append_command(alloc: Global, bytes: &[u8]) -> Result<(Command, &[u8]), ReadError>
     ensures { Gives (λ x. (x.0, x.1.now)) result ((arguments Verb.Append).part.at bytes.now) }
 {
-    let ((mailbox, message), rest) = append_of(alloc, bytes)?;
-    Ok((Command::Append(mailbox, message), rest))
+    let ((mailbox, (flags, (date, message))), rest) = append_of(alloc, bytes)?;
+    Ok((Command::Append(mailbox, flags, date, message), rest))
 }
 
 #[tactic(auto, unfolding(crate::specs::Commands::arguments))]

@@ -16,6 +16,7 @@ mod arguments;
 mod authenticate;
 mod commands;
 mod copy;
+mod date;
 mod fault;
 mod flags;
 mod items;

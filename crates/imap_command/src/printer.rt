@@ -48,7 +48,9 @@ fn put_arguments(alloc: Global, command: &Command, out: &mut Bytes) -> Result<()
     ensures { OnOk result (out.new ≡ out.old ++ arguments_text command.now) }
 {
     match command {
-        Command::Append(mailbox, message) => put_append(mailbox, message, out),
+        Command::Append(mailbox, flags, date, message) => {
+            put_append(alloc, mailbox, flags, date, message, out)
+        }
         Command::Authenticate(Some(response)) => put_authenticate_with(response, out),
         Command::Authenticate(None) => put_authenticate(out),
         Command::Copy(_, set, mailbox) => put_copy(set, mailbox, out),

@@ -29,7 +29,7 @@ use Rattle.mur_model.specs.declared.setting.Setting.{Setting}
 use Rattle.mur_model.specs.declared.store.Store.{Store}
 use Rattle.mur_model.specs.Act.{act_by, act_of, work_on, need_of, need_off, need_in, not_yet}
 use Rattle.mur_model.specs.Answer.{answer_of}
-use Rattle.mur_model.specs.Append.{append, append_as, append_by, append_on, append_to, append_reply}
+use Rattle.mur_model.specs.Append.{new_message, append, append_as, append_by, append_on, append_to, append_reply}
 use Rattle.mur_model.specs.Create.{create, create_meant, create_as, create_by, create_on, make, without_separator, is_inbox}
 use Rattle.mur_model.specs.Login.{login, login_as, login_by}
 use Rattle.mur_model.specs.Rights.{user_named, has_rights, may_create}
@@ -78,15 +78,15 @@ create_sound setting user name true fault = tt
 create_sound setting user name false (Some fault) = tt
 create_sound setting user name false None = may_make_sound name (may_create setting.users user name)
 
-may_append_sound : (setting : Setting) (name body : List ℕ) (may : Bool) → SoundNeed (append_by setting name body may)
+may_append_sound : (name : List ℕ) (message : Message) (may : Bool) → SoundNeed (append_by name message may)
 unfolding append_by SoundNeed SoundWork IsSoundVerdict
-may_append_sound setting name body true = tt
-may_append_sound setting name body false = tt
+may_append_sound name message true = tt
+may_append_sound name message false = tt
 
-append_sound : (setting : Setting) (user name body : List ℕ) (fault : Option NameFault) → SoundNeed (append_as setting user name body fault)
+append_sound : (setting : Setting) (user name : List ℕ) (message : Message) (fault : Option NameFault) → SoundNeed (append_as setting user name message fault)
 unfolding append_as SoundNeed IsSoundVerdict
-append_sound setting user name body (Some fault) = tt
-append_sound setting user name body None = may_append_sound setting name body (has_rights setting.users user name)
+append_sound setting user name message (Some fault) = tt
+append_sound setting user name message None = may_append_sound name message (has_rights setting.users user name)
 
 may_look_sound : (user name : List ℕ) (items : List StatusItem) (may : Bool) → IsPlain (shown_name user name) → SoundNeed (status_by user name items may)
 unfolding status_by SoundNeed SoundWork IsSoundVerdict
@@ -103,7 +103,7 @@ off_sound : (setting : Setting) (it : Command) → SoundNeed (need_off setting i
 unfolding need_off login SoundNeed IsSoundVerdict
 off_sound setting (login_of user password) = named_sound (user_named setting.users user) password
 off_sound setting (create_of text) = tt
-off_sound setting (append_of text body) = tt
+off_sound setting (append_of text flags date body) = tt
 off_sound setting (status_of text items) = tt
 off_sound setting it = tt
 
@@ -120,7 +120,8 @@ in_sound setting user (login_of name password) = tt
 in_sound setting user (create_of text) =
     let meant = without_separator text in
     create_sound setting user (taken_name user meant) (is_inbox meant) (mail_name_fault (taken_name user meant))
-in_sound setting user (append_of text body) = append_sound setting user (taken_name user text) body (mail_name_fault (taken_name user text))
+in_sound setting user (append_of text flags date body) =
+    append_sound setting user (taken_name user text) (new_message setting flags date body) (mail_name_fault (taken_name user text))
 in_sound setting user (status_of text items) = asked_sound setting user text items (tells_messages_alone items)
 in_sound setting user it = tt
 

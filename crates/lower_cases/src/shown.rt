@@ -1,5 +1,7 @@
 // A command as texts: its name, and a text for each argument.
-use mail_message::{FetchItems, FlagSet, Item, Mode, Partial, SetEnd, SetPart, SetParts};
+use mail_message::{
+    DateText, FetchItems, FlagSet, Item, Mode, Partial, SetEnd, SetPart, SetParts,
+};
 use mur_base::{Bytes, Memory, put_number};
 use mur_model::{Atoms, Command, StatusItem, StatusItems};
 use std::alloc::Global;
@@ -24,7 +26,6 @@ fn shown_texts(alloc: Global, command: &Command) -> Result<Vec<Bytes>, Memory> {
     match command {
         Command::Login(user, password) => two(alloc, b"LOGIN", user, password),
         Command::Authenticate(Some(response)) => one(alloc, b"AUTHENTICATE", response),
-        Command::Append(mailbox, message) => two(alloc, b"APPEND", mailbox, message),
         Command::List(reference, pattern) => two(alloc, b"LIST", reference, pattern),
         Command::Create(mailbox) => one(alloc, b"CREATE", mailbox),
         Command::Delete(mailbox) => one(alloc, b"DELETE", mailbox),
@@ -51,6 +52,11 @@ fn shown_texts(alloc: Global, command: &Command) -> Result<Vec<Bytes>, Memory> {
 fn shown_lists(alloc: Global, command: &Command) -> Result<Vec<Bytes>, Memory> {
     match command {
         Command::Enable(names) => shown_names(alloc, names),
+        Command::Append(mailbox, flags, date, message) => {
+            let fields = two(alloc, b"APPEND", mailbox, &flags_text(alloc, flags)?)?;
+            let fields = with(alloc, fields, date_text(date))?;
+            with(alloc, fields, message.as_slice())
+        }
         Command::Status(mailbox, items) => {
             let items = status_text(alloc, items)?;
             two(alloc, b"STATUS", mailbox, &items)
@@ -120,6 +126,14 @@ fn with(alloc: Global, fields: Vec<Bytes>, text: &[u8]) -> Result<Vec<Bytes>, Me
     let mut fields = fields;
     fields.push(Bytes::from_slice(alloc, text)?)?;
     Ok(fields)
+}
+
+/// The date, or nothing where none is given.
+fn date_text(date: &Option<DateText>) -> &[u8] {
+    match date {
+        Some(date) => date.as_bytes(),
+        None => b"",
+    }
 }
 
 fn silence_text(is_silent: bool) -> &'static [u8] {

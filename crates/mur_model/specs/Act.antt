@@ -15,7 +15,7 @@ use Rattle.mur_model.specs.declared.session.Sess.{Sess}
 use Rattle.mur_model.specs.declared.session.Sess.TheVariants.{Off, In, Ended}
 use Rattle.mur_model.specs.declared.setting.Setting.{Setting}
 use Rattle.mur_model.specs.declared.store.Store.{Store}
-use Rattle.mur_model.specs.Append.{append, append_on}
+use Rattle.mur_model.specs.Append.{new_message, append, append_on}
 use Rattle.mur_model.specs.Create.{create, create_on}
 use Rattle.mur_model.specs.Left.{Worked, store_after}
 use Rattle.mur_model.specs.Login.{login}
@@ -31,7 +31,7 @@ not_yet = Refusal (bad_reply Syntax)
 unfoldable pub need_off : Setting → Command → Need
 need_off setting (login_of user password) = login setting.users user password
 need_off setting (create_of text) = Refusal (bad_reply State)
-need_off setting (append_of text body) = Refusal (bad_reply State)
+need_off setting (append_of text flags date body) = Refusal (bad_reply State)
 need_off setting (status_of text items) = Refusal (bad_reply State)
 need_off setting command = not_yet
 
@@ -39,7 +39,7 @@ need_off setting command = not_yet
 unfoldable pub need_in : Setting → List ℕ → Command → Need
 need_in setting user (login_of name password) = Refusal (bad_reply State)
 need_in setting user (create_of text) = create setting user text
-need_in setting user (append_of text body) = append setting user text body
+need_in setting user (append_of text flags date body) = append setting user text (new_message setting flags date body)
 need_in setting user (status_of text items) = if tells_messages_alone items then status setting user text items else not_yet
 need_in setting user command = not_yet
 

@@ -1,7 +1,7 @@
 -- APPEND (RFC 9051, 6.3.12): the message gets the next UID of its mailbox, which is told with the UIDVALIDITY.
-use Rattle.std.specs.Prelude.{ℕ, Bool, true, false, List, [], ◌∷◌, Option, None, Some, codes}
+use Rattle.std.specs.Prelude.{ℕ, Bool, true, false, List, [], ◌∷◌, Option, None, Some, unwrap_or, codes}
 use Rattle.mail_message.specs.Boxes.{Content}
-use Rattle.mail_message.specs.FlagSets.{no_flags}
+use Rattle.mail_message.specs.FlagSets.{Flags}
 use Rattle.mail_message.specs.declared.message.Message.{Message}
 use Rattle.mail_store.specs.Append.{appended, append_fault}
 use Rattle.mail_store.specs.declared.fault.StoreFault.{StoreFault}
@@ -20,20 +20,20 @@ use Rattle.mur_model.specs.Left.{Worked, kept, changed}
 use Rattle.mur_model.specs.Reply.{reply_of, refused}
 use Rattle.mur_model.specs.Rights.{has_rights}
 
--- a message that comes without flags and without a date
-abbrev pub new_message : Setting → List ℕ → Message
-new_message setting body = record { uid = 0; flags = no_flags; date = setting.date; body = body }
+-- the message that comes with these flags, and with this date or else the configuration's
+abbrev pub new_message : Setting → Flags → Option (List ℕ) → List ℕ → Message
+new_message setting flags date body = record { uid = 0; flags = flags; date = unwrap_or date setting.date; body = body }
 
-unfoldable pub append_by : Setting → List ℕ → List ℕ → Bool → Need
-append_by setting name body true = Mailbox name (append_work (new_message setting body))
-append_by setting name body false = Refusal (no_reply NoPerm)
+unfoldable pub append_by : List ℕ → Message → Bool → Need
+append_by name message true = Mailbox name (append_work message)
+append_by name message false = Refusal (no_reply NoPerm)
 
-unfoldable pub append_as : Setting → List ℕ → List ℕ → List ℕ → Option NameFault → Need
-append_as setting user name body (Some fault) = Refusal (no_reply TryCreate)
-append_as setting user name body None = append_by setting name body (has_rights setting.users user name)
+unfoldable pub append_as : Setting → List ℕ → List ℕ → Message → Option NameFault → Need
+append_as setting user name message (Some fault) = Refusal (no_reply TryCreate)
+append_as setting user name message None = append_by name message (has_rights setting.users user name)
 
-unfoldable pub append : Setting → List ℕ → List ℕ → List ℕ → Need
-append setting user text body = append_as setting user (taken_name user text) body (mail_name_fault (taken_name user text))
+unfoldable pub append : Setting → List ℕ → List ℕ → Message → Need
+append setting user text message = append_as setting user (taken_name user text) message (mail_name_fault (taken_name user text))
 
 -- the reply to a message that got this UID of a mailbox with this UIDVALIDITY
 unfoldable pub append_reply : ℕ → ℕ → Reply

@@ -1,7 +1,7 @@
 // APPEND (RFC 9051, 6.3.12).
 ghost use Rattle.std.specs.Prelude.{◌≡◌, ◌≢◌, IfOk, [], ◌∷◌};
 ghost use Rattle.mail_store.specs.Append.{append_fault};
-ghost use Rattle.mur_model.specs.Append.{append, append_by, append_on, append_to, append_reply};
+ghost use Rattle.mur_model.specs.Append.{new_message, append, append_by, append_on, append_to, append_reply};
 ghost use Rattle.mur_model.specs.Rights.{has_rights};
 ghost use Rattle.mur_model.specs.Left.{store_after, box_after};
 ghost use Rattle.mur_model.specs.Reply.{refused};
@@ -12,10 +12,22 @@ use crate::reply::{Code, NoText, Reply, ReplyLines, Verdict, refused};
 use crate::rights::has_rights;
 use crate::setting::Setting;
 use crate::store::Store;
-use mail_message::{FlagSet, MailBox, Message, Messages};
+use mail_message::{DateText, FlagSet, MailBox, Message, Messages};
 use mail_store::{StoreFault, append_all};
 use mur_base::{Bytes, MailName, Memory, NameFault, UserName, taken};
 use std::alloc::Global;
+
+/// The message that comes with these flags, and with this date or, where none is given, the configuration's. Its UID isn't told yet.
+pub fn new_message(with: &Setting, flags: FlagSet, date: Option<DateText>, body: Bytes) -> Message
+    ensures { result ≡ new_message with.now flags date body }
+{
+    Message {
+        uid: 0,
+        flags,
+        date: date.unwrap_or(with.date),
+        body,
+    }
+}
 
 /// What APPEND of a message to a mailbox needs: the mailbox, where the user has rights to it. The message isn't copied.
 #[tactic(auto, unfolding(crate::specs::Append::append, crate::specs::Append::append_as))]
@@ -24,30 +36,24 @@ pub fn append(
     with: &Setting,
     user: &UserName,
     text: &[u8],
-    body: Bytes,
+    message: Message,
 ) -> Result<Need, Memory>
-    ensures { IfOk result (λ need. need ≡ append with.now user.now text.now body) }
+    ensures { IfOk result (λ need. need ≡ append with.now user.now text.now message) }
 {
     match taken(alloc, user, text) {
-        Ok(name) => Ok(append_by(alloc, with, user, name, body)),
+        Ok(name) => Ok(append_by(with, user, name, message)),
         Err(NameFault::Memory) => Err(Memory),
         Err(_) => Ok(Need::Refusal(Verdict::No(NoText::TryCreate))),
     }
 }
 
 #[tactic(auto, unfolding(crate::specs::Append::append_by))]
-fn append_by(alloc: Global, with: &Setting, user: &UserName, name: MailName, body: Bytes) -> Need
-    ensures { result ≡ append_by with.now name body (has_rights with.now.users user.now name) }
+fn append_by(with: &Setting, user: &UserName, name: MailName, message: Message) -> Need
+    ensures { result ≡ append_by name message (has_rights with.now.users user.now name) }
 {
     if !has_rights(&with.users, user, &name) {
         return Need::Refusal(Verdict::No(NoText::NoPerm));
     }
-    let message = Message {
-        uid: 0,
-        flags: FlagSet::new(alloc),
-        date: with.date,
-        body,
-    };
     Need::Mailbox(name, Work::Append(message))
 }
 

@@ -1,7 +1,7 @@
 // The commands of a mail client (RFC 9051, 6).
 ghost use Rattle.std.specs.Prelude.{◌≡◌, IfOk};
 
-use mail_message::{FetchItems, FlagSet, Mode, SetParts};
+use mail_message::{DateText, FetchItems, FlagSet, Mode, SetParts};
 use mur_base::{Bytes, Copied, Items, Memory};
 use std::alloc::Global;
 
@@ -66,8 +66,8 @@ pub enum Command {
     Delete(Bytes),
     /// LIST of the names behind a reference that a pattern takes (RFC 9051, 6.3.9).
     List(Bytes, Bytes),
-    /// APPEND of a message to a mailbox (RFC 9051, 6.3.12).
-    Append(Bytes, Bytes),
+    /// APPEND to a mailbox of a message with flags, and with a date where one is given (RFC 9051, 6.3.12).
+    Append(Bytes, FlagSet, Option<DateText>, Bytes),
     /// STATUS of a mailbox (RFC 9051, 6.3.11).
     Status(Bytes, StatusItems),
     /// IDLE, and the line behind it where it is there (RFC 9051, 6.3.13).
@@ -98,72 +98,83 @@ pub enum Command {
 
 impl Copied for Command {
     fn copy(&self, alloc: Global) -> Result<Command, Memory> {
-        Ok(match self {
-            Command::Capability => Command::Capability,
-            Command::Noop => Command::Noop,
-            Command::Logout => Command::Logout,
-            Command::Login(user, password) => {
-                Command::Login(copy_of(alloc, user)?, copy_of(alloc, password)?)
-            }
-            Command::Authenticate(None) => Command::Authenticate(None),
+        match self {
+            Command::Capability => Ok(Command::Capability),
+            Command::Noop => Ok(Command::Noop),
+            Command::Logout => Ok(Command::Logout),
+            Command::Login(user, password) => Ok(Command::Login(
+                copy_of(alloc, user)?,
+                copy_of(alloc, password)?,
+            )),
+            Command::Authenticate(None) => Ok(Command::Authenticate(None)),
             Command::Authenticate(Some(response)) => {
-                Command::Authenticate(Some(copy_of(alloc, response)?))
+                Ok(Command::Authenticate(Some(copy_of(alloc, response)?)))
             }
-            Command::Enable(names) => Command::Enable(copy_of_texts(alloc, names)?),
-            Command::Select(text) => Command::Select(copy_of(alloc, text)?),
-            Command::Examine(text) => Command::Examine(copy_of(alloc, text)?),
-            Command::Create(text) => Command::Create(copy_of(alloc, text)?),
-            Command::Delete(text) => Command::Delete(copy_of(alloc, text)?),
-            Command::List(reference, pattern) => {
-                Command::List(copy_of(alloc, reference)?, copy_of(alloc, pattern)?)
-            }
-            Command::Append(text, body) => {
-                Command::Append(copy_of(alloc, text)?, copy_of(alloc, body)?)
-            }
-            Command::Status(text, items) => {
-                Command::Status(copy_of(alloc, text)?, items.copy(alloc)?)
-            }
-            Command::Idle(None) => Command::Idle(None),
-            Command::Idle(Some(line)) => Command::Idle(Some(copy_of(alloc, line)?)),
-            Command::Xfer(text, server, None) => {
-                Command::Xfer(copy_of(alloc, text)?, copy_of(alloc, server)?, None)
-            }
-            Command::Xfer(text, server, Some(partition)) => Command::Xfer(
+            Command::Enable(names) => Ok(Command::Enable(copy_of_texts(alloc, names)?)),
+            Command::Select(text) => Ok(Command::Select(copy_of(alloc, text)?)),
+            Command::Examine(text) => Ok(Command::Examine(copy_of(alloc, text)?)),
+            Command::Create(text) => Ok(Command::Create(copy_of(alloc, text)?)),
+            Command::Delete(text) => Ok(Command::Delete(copy_of(alloc, text)?)),
+            Command::List(reference, pattern) => Ok(Command::List(
+                copy_of(alloc, reference)?,
+                copy_of(alloc, pattern)?,
+            )),
+            Command::Append(text, flags, date, body) => Ok(Command::Append(
+                copy_of(alloc, text)?,
+                flags.copy(alloc)?,
+                *date,
+                copy_of(alloc, body)?,
+            )),
+            Command::Status(text, items) => Ok(Command::Status(
+                copy_of(alloc, text)?,
+                items.copy(alloc)?,
+            )),
+            Command::Idle(None) => Ok(Command::Idle(None)),
+            Command::Idle(Some(line)) => Ok(Command::Idle(Some(copy_of(alloc, line)?))),
+            Command::Xfer(text, server, None) => Ok(Command::Xfer(
+                copy_of(alloc, text)?,
+                copy_of(alloc, server)?,
+                None,
+            )),
+            Command::Xfer(text, server, Some(partition)) => Ok(Command::Xfer(
                 copy_of(alloc, text)?,
                 copy_of(alloc, server)?,
                 Some(copy_of(alloc, partition)?),
-            ),
-            Command::Close => Command::Close,
-            Command::Unselect => Command::Unselect,
-            Command::Expunge(None) => Command::Expunge(None),
-            Command::Expunge(Some(set)) => Command::Expunge(Some(copy_of_all(alloc, set)?)),
-            Command::Fetch(by_uid, set, items) => Command::Fetch(
+            )),
+            Command::Close => Ok(Command::Close),
+            Command::Unselect => Ok(Command::Unselect),
+            Command::Expunge(None) => Ok(Command::Expunge(None)),
+            Command::Expunge(Some(set)) => Ok(Command::Expunge(Some(copy_of_all(alloc, set)?))),
+            Command::Fetch(by_uid, set, items) => Ok(Command::Fetch(
                 *by_uid,
                 copy_of_all(alloc, set)?,
                 copy_of_all(alloc, items)?,
-            ),
-            Command::Store(by_uid, set, mode, is_silent, flags) => Command::Store(
+            )),
+            Command::Store(by_uid, set, mode, is_silent, flags) => Ok(Command::Store(
                 *by_uid,
                 copy_of_all(alloc, set)?,
                 *mode,
                 *is_silent,
                 flags.copy(alloc)?,
-            ),
-            Command::Copy(by_uid, set, text) => {
-                Command::Copy(*by_uid, copy_of_all(alloc, set)?, copy_of(alloc, text)?)
-            }
-            Command::SetAcl(text, id, mode, rights) => Command::SetAcl(
+            )),
+            Command::Copy(by_uid, set, text) => Ok(Command::Copy(
+                *by_uid,
+                copy_of_all(alloc, set)?,
+                copy_of(alloc, text)?,
+            )),
+            Command::SetAcl(text, id, mode, rights) => Ok(Command::SetAcl(
                 copy_of(alloc, text)?,
                 copy_of(alloc, id)?,
                 *mode,
                 copy_of(alloc, rights)?,
-            ),
-            Command::DeleteAcl(text, id) => {
-                Command::DeleteAcl(copy_of(alloc, text)?, copy_of(alloc, id)?)
-            }
-            Command::GetAcl(text) => Command::GetAcl(copy_of(alloc, text)?),
-            Command::MyRights(text) => Command::MyRights(copy_of(alloc, text)?),
-        })
+            )),
+            Command::DeleteAcl(text, id) => Ok(Command::DeleteAcl(
+                copy_of(alloc, text)?,
+                copy_of(alloc, id)?,
+            )),
+            Command::GetAcl(text) => Ok(Command::GetAcl(copy_of(alloc, text)?)),
+            Command::MyRights(text) => Ok(Command::MyRights(copy_of(alloc, text)?)),
+        }
     }
 }
 

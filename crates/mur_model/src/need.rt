@@ -2,7 +2,7 @@
 ghost use Rattle.std.specs.Prelude.{◌≡◌, IfOk};
 ghost use Rattle.mur_model.specs.Act.{need_off, need_in, need_of, not_yet};
 
-use crate::append::append;
+use crate::append::{append, new_message};
 use crate::command::{Command, StatusItems};
 use crate::create::create;
 use crate::login::login;
@@ -52,7 +52,7 @@ fn begin_off(alloc: Global, with: &Setting, command: Command) -> Result<Need, Me
 {
     match command {
         Command::Login(name, password) => login(alloc, &with.users, &name, &password),
-        Command::Create(_) | Command::Append(_, _) | Command::Status(_, _) => {
+        Command::Create(_) | Command::Append(_, _, _, _) | Command::Status(_, _) => {
             Ok(Need::Refusal(Verdict::Bad(BadText::State)))
         }
         _ => Ok(not_yet()),
@@ -71,7 +71,10 @@ fn begin_in(
     match command {
         Command::Login(_, _) => Ok(Need::Refusal(Verdict::Bad(BadText::State))),
         Command::Create(text) => create(alloc, with, user, text.as_slice()),
-        Command::Append(text, body) => append(alloc, with, user, text.as_slice(), body),
+        Command::Append(text, flags, date, body) => {
+            let message = new_message(with, flags, date, body);
+            append(alloc, with, user, text.as_slice(), message)
+        }
         Command::Status(text, items) => {
             if tells_messages_alone(&items) {
                 status(alloc, with, user, text.as_slice(), items)
