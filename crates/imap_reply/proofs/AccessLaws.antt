@@ -1,6 +1,6 @@
 -- The first part of a list that is split, and what is left.
-use Rattle.std.proofs.Common.{◌≡◌, ℕ, ◌+◌, ◌<◌, ◌≤◌, Bool, true, false, cond, List, [], ◌∷◌}
-use Rattle.std.proofs.Common.{length, take, drop, Option, None, Some, sym, ◌∙◌, ap, subst, ◌++◌, append_assoc, arith}
+use Rattle.std.proofs.Common.{◌≡◌, ℕ, ◌+◌, ◌<◌, ◌≤◌, Bool, cond, List, [], ◌∷◌}
+use Rattle.std.proofs.Common.{length, take, drop, None, Some, sym, ◌∙◌, ap, subst, ◌++◌, append_assoc, arith}
 use Rattle.std.proofs.lemmas.List.{append-nil}
 use Rattle.mur_base.specs.Ascii.{space}
 use Rattle.imap_reply.specs.Mailbox.{mailbox_text}

@@ -1,26 +1,14 @@
 -- No answer of the commands that there are today ends its connection.
-use Rattle.std.proofs.Common.{◌≡◌, ℕ, Bool, true, false, List, [], ◌∷◌, ◌++◌, codes, map, length, refl, sym, subst}
+use Rattle.std.proofs.Common.{◌≡◌, ℕ, Bool, true, false, List, [], ◌∷◌, refl}
 use Rattle.std.proofs.Common.{Option, None, Some}
-use Rattle.std.specs.Prelude.{All, ⊤}
-use Rattle.std.proofs.lemmas.List.Elements.{All-nil, All-cons}
-use Rattle.mur_base.specs.declared.name.NameFault.{NameFault}
-use Rattle.mur_base.specs.Inbox.{taken_name, shown_name}
-use Rattle.mur_base.specs.Names.{mail_name_fault}
 use Rattle.mail_message.specs.Boxes.{Content}
 use Rattle.mail_message.specs.declared.message.Message.{Message}
 use Rattle.mail_store.specs.declared.fault.StoreFault.{StoreFault}
-use Rattle.mur_model.specs.declared.command.Command.{Command}
-use Rattle.mur_model.specs.declared.command.Command.TheVariants.{Login as login_of, Create as create_of, Append as append_of, Status as status_of}
 use Rattle.mur_model.specs.declared.command.StatusItem.{StatusItem}
-use Rattle.mur_model.specs.declared.command.Tag.{Tag}
 use Rattle.mur_model.specs.declared.need.Need.{Need}
 use Rattle.mur_model.specs.declared.need.Need.TheVariants.{Refusal, Login as begins, Mailbox}
 use Rattle.mur_model.specs.declared.need.Work.{Work}
 use Rattle.mur_model.specs.declared.need.Work.TheVariants.{Make, Append as append_work, Status as status_work}
-use Rattle.mur_model.specs.declared.reply.Reply.{Reply}
-use Rattle.mur_model.specs.declared.reply.ReplyLine.TheVariants.{Status as status_told}
-use Rattle.mur_model.specs.declared.reply.Verdict.{Verdict}
-use Rattle.mur_model.specs.declared.reply.Verdict.TheVariants.{Nothing, Ok as ok_reply, No as no_reply, Bad as bad_reply}
 use Rattle.mur_model.specs.declared.request.Request.{Request}
 use Rattle.mur_model.specs.declared.request.Request.TheVariants.{Command as command, Unknown as unknown, TooBig as too_big}
 use Rattle.mur_model.specs.declared.session.Sess.{Sess}
@@ -31,9 +19,7 @@ use Rattle.mur_model.specs.Answer.{answer_of}
 use Rattle.mail_store.specs.Append.{append_fault}
 use Rattle.mur_model.specs.Append.{append_on, append_to, append_reply}
 use Rattle.mur_model.specs.Create.{create_on, make}
-use Rattle.mur_model.specs.Left.{Worked}
-use Rattle.mur_model.specs.Reply.{reply_of}
-use Rattle.mur_model.specs.Status.{status_on, status_reply, count_of}
+use Rattle.mur_model.specs.Status.{status_on, status_reply}
 use Rattle.mur_model.specs.Store.{box_at, is_spent}
 use Rattle.imap_reply.specs.Transcript.{is_bye, ends}
 

@@ -1,56 +1,38 @@
 -- Each line that is written is one line.
-use Rattle.std.proofs.Common.{◌≡◌, ℕ, ◌<◌, ◌==◌, Bool, true, false, not, cond, List, [], ◌∷◌}
-use Rattle.std.proofs.Common.{◌++◌, length, map, codes, decimal, refl, sym, ◌∙◌, ap, subst, append_assoc, arith}
-use Rattle.std.proofs.Common.{Option, None, Some}
-use Rattle.std.specs.Prelude.{All, nat_lt}
-use Rattle.std.specs.List.{list_all, list_any, slice_split, onto_first}
-use Rattle.std.proofs.lemmas.Bool.{and_parts}
-use Rattle.std.proofs.lemmas.Bool.Decides.{nat_tests}
-use Rattle.std.proofs.lemmas.List.Elements.{All-nil, All-cons, All-head, All-tail, All-weaker, All-map, All-append}
-use Rattle.mur_base.specs.Ascii.{crlf, tab}
+use Rattle.std.proofs.Common.{◌≡◌, ℕ, Bool, true, false, List, [], ◌∷◌}
+use Rattle.std.proofs.Common.{◌++◌, map, codes, decimal, refl, subst, append_assoc}
+use Rattle.std.specs.Prelude.{All}
+use Rattle.std.proofs.lemmas.List.Elements.{All-nil, All-cons, All-weaker, All-map, All-append}
+use Rattle.mur_base.specs.Ascii.{crlf}
 use Rattle.mur_base.specs.Number.{is_digit}
-use Rattle.mur_base.specs.declared.limits.TheConstants.{KEYWORD_LIMIT}
-use Rattle.mur_base.specs.declared.name.NameFault.{NameFault}
-use Rattle.mur_base.specs.declared.name.NameFault.TheVariants.{Empty, TooLong, BadByte}
-use Rattle.mail_message.specs.Keywords.{keyword_fault, is_atom, is_atom_byte}
 use Rattle.mail_message.specs.declared.flag_name.FlagName.{FlagName}
 use Rattle.mail_message.specs.declared.flag_name.FlagName.TheVariants.{System, Keyword}
 use Rattle.mail_message.specs.declared.system_flags.SystemFlag.TheVariants.{Answered, Flagged, Deleted, Seen, Draft}
 use Rattle.imap_command.specs.Status.{item_text}
-use Rattle.imap_command.specs.Strings.{escaped, escaped_text, quoted_text}
-use Rattle.imap_command.specs.Characters.{is_quoted_special}
 use Rattle.mur_model.specs.declared.command.StatusItem.{StatusItem}
 use Rattle.mur_model.specs.declared.command.StatusItem.TheVariants.{Messages, UidNext, UidValidity, Unseen, Deleted as deleted_item, Size}
-use Rattle.mur_model.specs.declared.command.Tag.{Tag}
-use Rattle.mur_model.specs.declared.command.Tag.TheVariants.{Star, Text}
 use Rattle.mur_model.specs.declared.reply.StatusCount.{StatusCount}
 use Rattle.mur_model.specs.declared.reply.Attribute.{Attribute}
 use Rattle.mur_model.specs.declared.reply.Attribute.TheVariants.{None as no_attribute, NoSelect, NonExistent}
 use Rattle.mur_model.specs.declared.reply.Bye as bye
 use Rattle.mur_model.specs.declared.reply.Bye.TheVariants.{Logout, Gone, Lost, LineTooLong, LiteralTooLong}
-use Rattle.mail_message.specs.Literals.{IsPlain, IsPart, is_within}
-use Rattle.imap_reply.specs.Lines.{IsLine, is_announced, after_text, after_byte, Announcing}
-use Rattle.imap_reply.specs.Lines.Announcing.{nothing}
-use Rattle.imap_reply.specs.SoundTexts.{IsTag, IsSoundTag, IsSoundFlag, IsCalm, is_calm}
-use Rattle.imap_reply.specs.AccessLines.{is_tab, is_create, is_delete, create_text, delete_text, rights_text, entries_text, acl_line, my_rights_line}
+use Rattle.mail_message.specs.Literals.{IsPlain, is_within}
+use Rattle.imap_reply.specs.Lines.{IsLine, after_text, after_byte}
+use Rattle.imap_reply.specs.SoundTexts.{IsSoundFlag}
 use Rattle.imap_reply.specs.ByeLine.{bye_text, bye_line}
 use Rattle.imap_reply.specs.Capability.{capability_line}
 use Rattle.imap_reply.specs.Enabled.{enabled_line}
 use Rattle.imap_reply.specs.ExistsLine.{exists_line}
 use Rattle.imap_reply.specs.ExpungeLine.{expunge_line}
-use Rattle.imap_reply.specs.FetchLine.{fetch_line}
 use Rattle.imap_reply.specs.FlagsLine.{system_flag_text, flag_text, flags_text, flags_line}
 use Rattle.imap_reply.specs.ListLine.{attribute_text, list_line}
 use Rattle.imap_reply.specs.Mailbox.{mailbox_text}
 use Rattle.imap_reply.specs.OkLines.{closed_line, new_keywords, permanent_texts, permanent_line, uid_next_line, uid_validity_line}
-use Rattle.imap_reply.specs.SearchLine.{uid_text, all_text, search_line}
-use Rattle.imap_reply.specs.Sets.{set_text}
 use Rattle.imap_reply.specs.Spaced.{spaced}
 use Rattle.imap_reply.specs.StatusLine.{count_text, more_counts_text, counts_text, status_line}
-use Rattle.imap_reply.specs.Tags.{tag_text}
-use Rattle.imap_reply.proofs.LineLaws.{Fits, line_of, fits_of, parts_fit, end_fits, mailbox_state, after_append, after_calm}
-use Rattle.mail_message.proofs.PlainTexts.{decimal_plain, keyword_plain, all_append, all_weaker, one_of}
-use Rattle.imap_reply.proofs.Texts.{calm_plain, decimal_calm, set_calm, spaced_plain, tag_calm, mailbox_plain}
+use Rattle.imap_reply.proofs.LineLaws.{line_of, end_fits, mailbox_state}
+use Rattle.mail_message.proofs.PlainTexts.{decimal_plain, keyword_plain, all_append}
+use Rattle.imap_reply.proofs.Texts.{spaced_plain, mailbox_plain}
 
 -- texts that stand as they are
 

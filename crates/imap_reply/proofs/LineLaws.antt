@@ -1,6 +1,6 @@
 -- How texts make lines.
-use Rattle.std.proofs.Common.{◌≡◌, ℕ, ◌<◌, ◌^◌, ◌==◌, Bool, true, false, ◌&&◌, not, cond}
-use Rattle.std.proofs.Common.{List, [], ◌∷◌, ◌++◌, length, refl, sym, ◌∙◌, ap, subst, append_assoc, arith}
+use Rattle.std.proofs.Common.{◌≡◌, ℕ, ◌==◌, Bool, true, false, cond}
+use Rattle.std.proofs.Common.{List, [], ◌∷◌, ◌++◌, refl, sym, ◌∙◌, ap, subst, append_assoc, arith}
 use Rattle.std.proofs.lemmas.Bool.{and_parts}
 use Rattle.std.proofs.lemmas.Bool.Decides.{nat_tests}
 use Rattle.std.specs.List.{list_all}
@@ -10,7 +10,7 @@ use Rattle.mur_base.specs.Ascii.{crlf}
 use Rattle.mur_base.specs.Number.{is_digit}
 use Rattle.imap_command.specs.Strings.{escaped_text, quoted_text, is_atom}
 use Rattle.mail_message.specs.Literals.{IsPlain, literal, is_within, IsPart}
-use Rattle.imap_reply.specs.Lines.{Announcing, after_byte, after_text, is_announced, announces, IsLine}
+use Rattle.imap_reply.specs.Lines.{Announcing, after_byte, after_text, is_announced, IsLine}
 use Rattle.imap_reply.specs.Lines.Announcing.{nothing}
 use Rattle.imap_reply.specs.Lines.IsLine.{ends, goes_on}
 use Rattle.mail_message.specs.Literals.IsPart.{plain, with_literal}
@@ -18,7 +18,7 @@ use Rattle.imap_reply.specs.Mailbox.{mailbox_text}
 use Rattle.imap_reply.specs.Spaced.{more_spaced, spaced}
 use Rattle.imap_reply.specs.SoundTexts.{is_calm, IsCalm}
 use Rattle.mail_message.proofs.PlainTexts.{all_append}
-use Rattle.imap_reply.proofs.Texts.{calm_plain, atom_calm}
+use Rattle.imap_reply.proofs.Texts.{atom_calm}
 
 pub after_append : (state : Announcing) (s t : List ℕ) → after_text state (s ++ t) ≡ after_text (after_text state s) t
 unfolding after_text

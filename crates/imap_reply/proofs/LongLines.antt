@@ -1,5 +1,5 @@
 -- The lines of a search, of a message and of rights are each one line.
-use Rattle.std.proofs.Common.{◌≡◌, ℕ, ◌==◌, Bool, true, false, not, cond, List, [], ◌∷◌, ◌++◌, codes, decimal, refl, sym, ◌∙◌, ap, subst, append_assoc, arith}
+use Rattle.std.proofs.Common.{◌≡◌, ℕ, Bool, true, false, cond, List, [], ◌∷◌, ◌++◌, codes, decimal, refl, sym, ◌∙◌, ap, subst, append_assoc}
 use Rattle.std.specs.Prelude.{All}
 use Rattle.std.specs.List.{list_all, list_any, slice_split, onto_first}
 use Rattle.std.proofs.lemmas.Bool.{and_parts}
@@ -11,17 +11,16 @@ use Rattle.imap_command.specs.Characters.{is_quoted_special}
 use Rattle.mur_model.specs.declared.command.Tag.{Tag}
 use Rattle.mur_model.specs.declared.command.Tag.TheVariants.{Star, Text}
 use Rattle.mail_message.specs.Literals.{IsPlain, IsPart, is_within}
-use Rattle.imap_reply.specs.Lines.{IsLine, is_announced, after_text, after_byte, Announcing}
+use Rattle.imap_reply.specs.Lines.{IsLine, is_announced, after_text, after_byte}
 use Rattle.imap_reply.specs.Lines.Announcing.{nothing}
-use Rattle.imap_reply.specs.SoundTexts.{IsTag, IsSoundTag, IsCalm, is_calm}
+use Rattle.imap_reply.specs.SoundTexts.{IsSoundTag, IsCalm, is_calm}
 use Rattle.imap_reply.specs.AccessLines.{is_tab, is_create, is_delete, create_text, delete_text, rights_text, entries_text, acl_line, my_rights_line}
 use Rattle.imap_reply.specs.FetchLine.{fetch_line}
 use Rattle.imap_reply.specs.Mailbox.{mailbox_text}
 use Rattle.imap_reply.specs.SearchLine.{uid_text, all_text, search_line}
-use Rattle.imap_reply.specs.Sets.{set_text}
 use Rattle.imap_reply.specs.Spaced.{spaced}
 use Rattle.imap_reply.specs.Tags.{tag_text}
-use Rattle.imap_reply.proofs.LineLaws.{Fits, line_of, fits_of, parts_fit, end_fits, mailbox_state, after_append, after_calm}
+use Rattle.imap_reply.proofs.LineLaws.{line_of, fits_of, parts_fit, end_fits, mailbox_state, after_append, after_calm}
 use Rattle.mail_message.proofs.PlainTexts.{all_append, one_of}
 use Rattle.imap_reply.proofs.Texts.{calm_plain, decimal_calm, set_calm, tag_calm, mailbox_plain}
 

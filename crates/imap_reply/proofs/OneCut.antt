@@ -1,5 +1,5 @@
 -- A text is cut into lines in one way.
-use Rattle.std.proofs.Common.{◌≡◌, ℕ, suc, ◌+◌, ◌<◌, ◌^◌, ◌==◌, Bool, true, false, ◌&&◌, not, List}
+use Rattle.std.proofs.Common.{◌≡◌, ℕ, ◌<◌, ◌^◌, ◌==◌, Bool, true, false, ◌&&◌, not, List}
 use Rattle.std.proofs.Common.{[], ◌∷◌, ◌++◌, length, codes, decimal, refl, sym, ◌∙◌, ap, subst, append_assoc, arith}
 use Rattle.std.specs.Prelude.{All}
 use Rattle.std.specs.List.{list_all, concat}
@@ -12,8 +12,8 @@ use Rattle.std.proofs.lemmas.List.Elements.{All-head, All-tail}
 use Rattle.mur_base.specs.Ascii.{crlf}
 use Rattle.mur_base.specs.Number.{is_digit}
 use Rattle.mail_message.specs.Literals.{IsPlain, is_within, literal}
-use Rattle.imap_reply.specs.Lines.{IsLine, Announcing, after_byte, after_text, is_announced, announces}
-use Rattle.imap_reply.specs.Lines.Announcing.{nothing, opened, sized, announced}
+use Rattle.imap_reply.specs.Lines.{IsLine, after_byte, after_text, is_announced, announces}
+use Rattle.imap_reply.specs.Lines.Announcing.{nothing, opened, sized}
 use Rattle.imap_reply.specs.Lines.IsLine.{ends, goes_on}
 use Rattle.imap_reply.proofs.LineLaws.{after_append}
 use Rattle.mail_message.proofs.PlainTexts.{decimal_plain, all_append, all_weaker, decimal_digits}

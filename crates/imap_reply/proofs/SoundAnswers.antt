@@ -36,7 +36,7 @@ use Rattle.mur_model.specs.Rights.{user_named, has_rights, may_create}
 use Rattle.mur_model.specs.Status.{status, status_as, status_by, status_on, status_reply, tells_messages_alone}
 use Rattle.mur_model.specs.Store.{box_at, is_spent}
 use Rattle.mail_message.specs.Literals.{IsPlain}
-use Rattle.imap_reply.specs.SoundTexts.{IsSoundTag, IsSoundLine, IsSoundVerdict, IsSound}
+use Rattle.imap_reply.specs.SoundTexts.{IsSoundTag, IsSoundLine, IsSoundVerdict}
 use Rattle.imap_reply.specs.ReadAsMeant.{IsReadAsMeant}
 use Rattle.imap_reply.proofs.NoForgery.{read_as_meant}
 use Rattle.imap_reply.proofs.PlainNames.{shown_plain}

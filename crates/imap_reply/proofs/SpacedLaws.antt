@@ -1,5 +1,5 @@
 -- Texts with a space between each two, and one more at the end.
-use Rattle.std.proofs.Common.{◌≡◌, ℕ, List, [], ◌∷◌, ◌++◌, refl, sym, ◌∙◌, ap, append_assoc}
+use Rattle.std.proofs.Common.{◌≡◌, ℕ, List, [], ◌∷◌, ◌++◌, sym, ◌∙◌, ap, append_assoc}
 use Rattle.std.proofs.lemmas.List.{append-nil}
 use Rattle.mur_base.specs.Ascii.{space}
 use Rattle.imap_reply.specs.Spaced.{more_spaced}

@@ -1,12 +1,11 @@
 -- Which bytes stand in the texts of replies.
-use Rattle.std.proofs.Common.{◌≡◌, ℕ, zero, suc, ◌+◌, ◌<◌, ◌/◌, ◌%◌, ◌==◌, Bool, true, false, ◌&&◌}
-use Rattle.std.proofs.Common.{not, cond, List, [], ◌∷◌, ◌++◌, length, refl, sym, ◌∙◌, ap, subst, arith}
-use Rattle.std.specs.Prelude.{nat_lt, All, map}
+use Rattle.std.proofs.Common.{◌≡◌, ℕ, ◌==◌, true}
+use Rattle.std.proofs.Common.{List, [], ◌∷◌, ◌++◌, refl, arith}
+use Rattle.std.specs.Prelude.{All}
 use Rattle.std.specs.List.{list_all}
-use Rattle.std.specs.Fmt.{digits, digits_onto, digit_glyph, decimal}
+use Rattle.std.specs.Fmt.{decimal}
 use Rattle.std.proofs.lemmas.Bool.{and_parts}
 use Rattle.std.proofs.lemmas.Bool.Decides.{nat_tests}
-use Rattle.std.proofs.lemmas.List.Folds.{list_all-append}
 use Rattle.std.proofs.lemmas.List.Elements.{All-head, All-tail}
 use Rattle.mur_base.specs.Number.{is_digit}
 use Rattle.imap_command.specs.Characters.{is_astring_char, is_atom_char, is_tag_byte, is_quoted_special}
@@ -14,7 +13,7 @@ use Rattle.imap_command.specs.Strings.{escaped, escaped_text, quoted_text, is_at
 use Rattle.mail_message.specs.Literals.{is_within, IsPlain}
 use Rattle.mail_message.proofs.PlainTexts.{all_append, all_weaker, one_of, decimal_digits}
 use Rattle.imap_reply.specs.Mailbox.{mailbox_text}
-use Rattle.imap_reply.specs.Sets.{Run, before_runs, runs_of, run_text, more_runs_text, runs_text, set_text}
+use Rattle.imap_reply.specs.Sets.{Run, runs_of, run_text, more_runs_text, runs_text, set_text}
 use Rattle.imap_reply.specs.SoundTexts.{is_calm, IsCalm}
 use Rattle.imap_reply.specs.Spaced.{more_spaced, spaced}
 

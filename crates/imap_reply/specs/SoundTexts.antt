@@ -1,5 +1,5 @@
 -- The texts of a reply, as their types make them: none but a part of a message holds the end of a line.
-use Rattle.std.specs.Prelude.{◌≡◌, ℕ, ◌<◌, Bool, true, ◌&&◌, not, ◌==◌, List, length, Option, None, All, ⊤}
+use Rattle.std.specs.Prelude.{◌≡◌, ℕ, ◌<◌, Bool, true, ◌&&◌, not, ◌==◌, List, length, None, All, ⊤}
 use Rattle.std.specs.List.{list_all}
 use Rattle.mur_base.specs.Ascii.{open_brace}
 use Rattle.mail_message.specs.Keywords.{keyword_fault}

@@ -1,6 +1,5 @@
-use Rattle.std.proofs.Common.{◌≡◌, ◌+◌, ◌-◌, ℕ, List, length, take, drop, sym, ◌∙◌, ap, ◌∷◌, arith}
+use Rattle.std.proofs.Common.{◌≡◌, ◌+◌, ◌-◌, ℕ, List, length, take, drop, sym, ◌∙◌, arith}
 use Rattle.std.proofs.lemmas.Grind.{common_steps}
-use Rattle.std.specs.List.{slice_split}
 use Rattle.imap_reply.specs.AccessLines.{is_tab}
 use Rattle.imap_reply.proofs.AccessLaws.{split_none, split_some}
 use Rattle.imap_reply.proofs.access.cut.Goals as goal
