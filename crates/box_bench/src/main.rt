@@ -1,82 +1,36 @@
 //! Times what a mailbox does: `box_bench ROUNDS` does each operation so many times on boxes of 10,000 and of 20,000 messages
-//! of 1 KiB, and says how long a message took in the fastest round, and how many times as long as a plain copy of the bodies of
-//! as many messages, in its fastest round too. Without a number each is done once, and only the messages that it touched are
-//! counted.
+//! of 1 KiB, and says how much of a processor a message took in the least round of each size, how that rises when the box
+//! doubles, and how many times as long it is as a plain copy of the bodies of as many messages, in its least round too. It fails
+//! where a change costs a fifth more for each message, or a reading a fifth more beside the copy. Without a number each
+//! operation is done once, and only the messages that it touched are counted.
 #![tactic(auto)]
 
+mod cost;
 mod operation;
 mod work;
 
+use crate::cost::{Cost, Costs};
 use crate::operation::Operation;
-use crate::work::{BODY_LENGTH, Work};
-use anyhow::Result;
-use mur_base::Memory;
-use std::alloc::Global;
+use anyhow::{Result, anyhow};
 use std::env;
-use std::time::Instant;
 
-/// Messages of the boxes.
-const SIZES: [u32; 2] = [10_000, 20_000];
+/// Messages of the smaller boxes; the larger ones have twice as many.
+const SIZE: u32 = 10_000;
 
-/// What a round of an operation touches, and the nanoseconds of the fastest round and of the fastest plain copy.
-#[derive(Clone, Copy)]
-struct Cost {
-    touched: u64,
-    took: u128,
-    copied: u128,
-}
-
-/// Does an operation on a box that is made anew for each round, and copies as many bodies beside it.
-fn cost_of(
+/// Does an operation on boxes of both sizes in turn, so that they meet the same machine.
+fn costs_of(
     rt: &HostRuntime,
     operation: Operation,
-    size: u32,
     bodies: &[u8],
     rounds: u32,
-) -> Result<Cost> {
-    let alloc = rt.alloc();
-    let mut cost = Cost {
-        touched: 0,
-        took: u128::MAX,
-        copied: u128::MAX,
-    };
+) -> Result<Costs> {
+    let mut single = Cost::NONE;
+    let mut double = Cost::NONE;
     for _ in 0..rounds {
-        let mut work = Work::prepared(alloc, operation, size)?;
-        let start = Instant::now(rt)?;
-        let touched = work.done(alloc, operation)?;
-        let took = start.elapsed(rt)?.as_nanos();
-        let start = Instant::now(rt)?;
-        let length = copied_length(alloc, bodies, touched.saturating_mul(BODY_LENGTH))?;
-        let copied = start.elapsed(rt)?.as_nanos();
-        cost.touched = (length / BODY_LENGTH) as u64;
-        cost.took = cost.took.min(took);
-        cost.copied = cost.copied.min(copied);
+        single = single.with_round(rt, operation, SIZE, bodies)?;
+        double = double.with_round(rt, operation, 2 * SIZE, bodies)?;
     }
-    Ok(cost)
-}
-
-/// Copies so many bytes, and gives how many there were.
-fn copied_length(alloc: Global, bytes: &[u8], length: usize) -> Result<usize, Memory> {
-    let Some(front) = bytes.get(..length) else {
-        return Ok(0);
-    };
-    let copy = Vec::from_slice(alloc, front)?;
-    Ok(match copy.last() {
-        Some(b'x') => copy.len(),
-        _ => 0,
-    })
-}
-
-fn print_cost(rt: &HostRuntime, operation: Operation, size: u32, cost: Cost) -> Result<()> {
-    let name = operation.name();
-    let touched = u128::from(cost.touched).max(1);
-    let each = cost.took / touched;
-    let tenths = cost.took.saturating_mul(10) / cost.copied.max(1);
-    let (whole, tenth) = (tenths / 10, tenths % 10);
-    println!(rt;
-        "{name}, {size} messages: {each} ns a message, {whole}.{tenth} times a copy of the bodies"
-    )?;
-    Ok(())
+    Ok(Costs { single, double })
 }
 
 fn main(rt: HostRuntime) -> Result<()> {
@@ -85,17 +39,23 @@ fn main(rt: HostRuntime) -> Result<()> {
         None => None,
     };
     let bodies = work::bodies(rt.alloc(), 20_000)?;
+    let mut is_met = true;
     for operation in Operation::ALL {
-        for size in SIZES {
-            let cost = cost_of(&rt, operation, size, bodies.as_slice(), rounds.unwrap_or(1))?;
-            match rounds {
-                Some(_) => print_cost(&rt, operation, size, cost)?,
-                None => {
-                    let name = operation.name();
-                    println!(rt; "{name}, {size} messages: {} touched", cost.touched)?;
-                }
+        let costs = costs_of(&rt, operation, bodies.as_slice(), rounds.unwrap_or(1))?;
+        match rounds {
+            Some(_) => {
+                costs.print(&rt, operation)?;
+                is_met = is_met && costs.rise(operation) < cost::BOUND;
+            }
+            None => {
+                let (name, few, many) = (operation.name(), costs.single.touched, costs.double.touched);
+                println!(rt; "{name}: {few} and {many} touched")?;
             }
         }
     }
-    Ok(())
+    if is_met {
+        Ok(())
+    } else {
+        Err(anyhow!("an operation rises by a fifth or more when the box doubles"))
+    }
 }

@@ -1,8 +1,11 @@
 // What is done to a box.
 
-/// An operation that is timed. Those on one or a hundred messages are done until a thousand are touched.
+/// An operation that is timed. Those on one or a hundred messages are done until a tenth of the box is touched, appends until
+/// a thousand messages are put.
 #[derive(Clone, Copy, PartialEq, Eq)]
 pub enum Operation {
+    PutOne,
+    SetFlagsOne,
     AppendOne,
     AppendThousand,
     StoreOne,
@@ -16,7 +19,9 @@ pub enum Operation {
 }
 
 impl Operation {
-    pub const ALL: [Operation; 10] = [
+    pub const ALL: [Operation; 12] = [
+        Operation::PutOne,
+        Operation::SetFlagsOne,
         Operation::AppendOne,
         Operation::AppendThousand,
         Operation::StoreOne,
@@ -31,6 +36,8 @@ impl Operation {
 
     pub fn name(self) -> &'static str {
         match self {
+            Operation::PutOne => "put one by one",
+            Operation::SetFlagsOne => "set flags one by one",
             Operation::AppendOne => "append one by one",
             Operation::AppendThousand => "append 1000",
             Operation::StoreOne => "store one by one",
@@ -47,15 +54,18 @@ impl Operation {
     /// Messages that are appended to a box of 1,000 messages less.
     pub fn appended(self) -> u32 {
         match self {
-            Operation::AppendOne | Operation::AppendThousand => 1_000,
+            Operation::PutOne | Operation::AppendOne | Operation::AppendThousand => 1_000,
             _ => 0,
         }
     }
 
-    /// How far apart the UIDs stand that it touches of a box of so many messages.
-    pub fn step(self, size: u32) -> u32 {
+    /// How far apart the UIDs stand that it touches, in a box of any size.
+    pub fn step(self) -> u32 {
         match self {
-            Operation::StoreOne | Operation::StoreHundred | Operation::ExpungeOne => size / 1_000,
+            Operation::SetFlagsOne
+            | Operation::StoreOne
+            | Operation::StoreHundred
+            | Operation::ExpungeOne => 10,
             Operation::ExpungeHalf => 2,
             _ => 1,
         }
@@ -64,10 +74,19 @@ impl Operation {
     /// Messages that one call touches.
     pub fn batch(self) -> usize {
         match self {
-            Operation::AppendOne | Operation::StoreOne | Operation::ExpungeOne => 1,
+            Operation::PutOne
+            | Operation::SetFlagsOne
+            | Operation::AppendOne
+            | Operation::StoreOne
+            | Operation::ExpungeOne => 1,
             Operation::StoreHundred => 100,
             _ => usize::MAX,
         }
+    }
+
+    /// Whether its cost stands in proportion to what is copied, as far as memory gives it.
+    pub fn is_reading(self) -> bool {
+        matches!(self, Operation::Look | Operation::Read)
     }
 
     /// Whether the messages that it touches have `\Deleted` before.

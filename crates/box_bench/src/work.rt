@@ -1,9 +1,9 @@
 // A box, and what an operation is done with.
 use crate::operation::Operation;
 use anyhow::{Result, anyhow};
-use mail_message::{FlagSet, MailBox, Message, Messages, Mode, Uids, date, flag};
+use mail_message::{Change, FlagSet, MailBox, Message, Messages, Mode, Uids, date, flag};
 use mail_store::{StoreFault, append_all, expunge, set_flags};
-use mur_base::{Bytes, Items, Memory};
+use mur_base::{Bytes, Copied, Items, Memory};
 use std::alloc::Global;
 use std::mem;
 
@@ -22,16 +22,21 @@ pub struct Work {
 }
 
 impl Work {
-    /// A box of so many messages, less those that are appended, and all that the operation takes.
+    /// A box of so many messages, less those that are appended, and all that the operation takes. The box has been looked at once,
+    /// so that none is met in cold memory.
     pub fn prepared(alloc: Global, operation: Operation, size: u32) -> Result<Work> {
         let appended = operation.appended();
         let mut mailbox = MailBox::make(alloc, 1, Bytes::new(alloc));
         let filling = messages(alloc, size.saturating_sub(appended))?;
         append(alloc, &mut mailbox, filling)?;
-        let uids = every(alloc, operation.step(size), size)?;
+        let uids = every(alloc, operation.step(), size)?;
         let deleted = flags(alloc, b"\\Deleted")?;
         if operation.is_expunge() {
             store(alloc, &mut mailbox, uids.as_slice(), &deleted)?;
+        }
+        let seen = mailbox.look(alloc)?;
+        if seen.rows.len() != mailbox.len() {
+            return Err(anyhow!("a message is missing"));
         }
         Ok(Work {
             mailbox,
@@ -44,6 +49,8 @@ impl Work {
     /// Does the operation, and gives how many messages it touched.
     pub fn done(&mut self, alloc: Global, operation: Operation) -> Result<usize> {
         match operation {
+            Operation::PutOne => self.put(alloc),
+            Operation::SetFlagsOne => self.set_flags(alloc),
             Operation::AppendOne | Operation::AppendThousand => self.append(alloc),
             Operation::StoreOne | Operation::StoreHundred | Operation::StoreAll => {
                 self.store(alloc)
@@ -55,6 +62,33 @@ impl Work {
             Operation::Look => Ok(self.mailbox.look(alloc)?.rows.len()),
             Operation::Read => self.read(alloc),
         }
+    }
+
+    fn put(&mut self, alloc: Global) -> Result<usize> {
+        let mut uid = self.mailbox.next();
+        let mut touched: usize = 0;
+        for list in mem::replace(&mut self.lists, Vec::new(alloc)) {
+            for message in list.into_vec() {
+                let mut message = message;
+                message.uid = uid;
+                uid = uid.wrapping_add(1);
+                self.mailbox.apply(Change::Put(message))?;
+                touched = touched.wrapping_add(1);
+            }
+        }
+        Ok(touched)
+    }
+
+    fn set_flags(&mut self, alloc: Global) -> Result<usize> {
+        let mut touched: usize = 0;
+        for uids in &self.named {
+            for uid in uids.as_slice() {
+                let flags = self.flags.copy(alloc)?;
+                self.mailbox.apply(Change::SetFlags(*uid, flags))?;
+                touched = touched.wrapping_add(1);
+            }
+        }
+        Ok(touched)
     }
 
     fn append(&mut self, alloc: Global) -> Result<usize> {

@@ -1,7 +1,5 @@
 -- Each line that is written is one line.
-use Rattle.std.proofs.Common.{◌≡◌, ℕ, ◌==◌, Bool, true, false, not, cond, List, [], ◌∷◌}
-use Rattle.std.proofs.Common.{◌++◌, length, map, codes, decimal, refl, subst, append_assoc, arith}
-use Rattle.std.proofs.Common.{None, Some}
+use Rattle.std.proofs.Common.{◌≡◌, ℕ, ◌==◌, Bool, true, false, not, cond, List, [], ◌∷◌, ◌++◌, length, map, codes, decimal, refl, subst, append_assoc, arith, None, Some}
 use Rattle.std.specs.Prelude.{All, nat_lt}
 use Rattle.std.specs.List.{list_all}
 use Rattle.std.proofs.lemmas.Bool.Decides.{nat_tests}
@@ -36,7 +34,7 @@ use Rattle.imap_reply.specs.Mailbox.{mailbox_text}
 use Rattle.imap_reply.specs.OkLines.{closed_line, new_keywords, permanent_texts, permanent_line, uid_next_line, uid_validity_line}
 use Rattle.imap_reply.specs.Spaced.{spaced}
 use Rattle.imap_reply.specs.StatusLine.{count_text, more_counts_text, counts_text, status_line}
-use Rattle.mail_message.proofs.PlainTexts.{all_append, all_weaker}
+use Rattle.mail_message.proofs.PlainTexts.{all_append, all_weaker, decimal_plain, keyword_plain}
 use Rattle.imap_reply.proofs.LineLaws.{line_of, end_fits, mailbox_state}
 use Rattle.imap_reply.proofs.Texts.{calm_plain, decimal_calm, spaced_plain, mailbox_plain}
 

@@ -38,6 +38,7 @@ use Rattle.mur_model.specs.Store.{box_at, is_spent}
 use Rattle.mail_message.specs.Literals.{IsPlain}
 use Rattle.imap_reply.specs.SoundTexts.{IsSoundTag, IsSoundLine, IsSoundVerdict}
 use Rattle.imap_reply.specs.TranscriptRead.{IsAnswerReadAsMeant}
+use Rattle.imap_reply.specs.ReadAsMeant.{IsReadAsMeant}
 use Rattle.imap_reply.proofs.NoForgery.{read_as_meant}
 use Rattle.imap_reply.proofs.PlainNames.{shown_plain}
 

@@ -20,7 +20,7 @@ use Rattle.imap_reply.specs.Tags.{tag_text}
 use Rattle.imap_reply.proofs.LineLaws.{line_of, after_append}
 use Rattle.imap_reply.proofs.LongLines.{tag_plain}
 use Rattle.mail_message.proofs.PlainTexts.{decimal_plain, all_append}
-use Rattle.imap_reply.proofs.Texts.{calm_plain, decimal_calm, set_calm}
+use Rattle.imap_reply.proofs.Texts.{calm_plain, set_calm}
 
 under_is_line : (tag : Tag) (text : List ℕ) → IsSoundTag tag → IsPlain text → ((state : Announcing) → is_announced (after_text state (32 ∷ text)) ≡ false)
     → IsLine (under tag text)

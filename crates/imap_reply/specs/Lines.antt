@@ -1,7 +1,6 @@
 -- How what a client is given is cut into lines (RFC 9051, 2.2.2 and 4.3): a line ends at its CRLF, but where it announces a literal there it
 -- goes on behind the literal's octets.
-use Rattle.std.specs.Prelude.{◌≡◌, ℕ, ◌<◌, ◌^◌, Bool, true, false, ◌&&◌, not, ◌==◌, if◌then◌else◌, List, [], ◌∷◌, ◌++◌, length, codes, decimal}
-use Rattle.std.specs.List.{list_all}
+use Rattle.std.specs.Prelude.{◌≡◌, ℕ, ◌<◌, ◌^◌, Bool, true, false, ◌==◌, if◌then◌else◌, List, [], ◌∷◌, ◌++◌, length}
 use Rattle.mur_base.specs.Ascii.{plus, open_brace, close_brace, crlf}
 use Rattle.mur_base.specs.Number.{is_digit}
 use Rattle.mail_message.specs.Literals.{IsPlain, literal}

@@ -1,5 +1,5 @@
 -- The flags of a message (RFC 9051, 2.3.2), and what STORE makes of them (RFC 9051, 6.4.6).
-use Rattle.std.specs.Prelude.{◌≡◌, ◌⊎◌, ℕ, Bool, true, false, nat_lt, if◌then◌else◌, List, [], length, Option, None, Result, Ok, Err, MatchResult, All}
+use Rattle.std.specs.Prelude.{◌≡◌, ◌⊎◌, ℕ, Bool, true, false, nat_lt, if◌then◌else◌, List, [], length, None, Result, Ok, Err, MatchResult, All}
 use Rattle.mur_base.specs.declared.limits.TheConstants.{MESSAGE_KEYWORD_LIMIT}
 use Rattle.mail_message.specs.declared.system_flags.SystemFlags.{SystemFlags}
 use Rattle.mail_message.specs.declared.flag_name.FlagName.{FlagName}
