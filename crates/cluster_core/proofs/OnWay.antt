@@ -99,7 +99,10 @@ none_first pick links from to f t message rest item e p way =
     (let k = first.2 in cc)
 
 none_left : {T : Type 0} (item mine : T) (left : List T) (same : Bool) → cond same (item ∷ []) [] ++ left ≡ cond same (mine ∷ []) [] → left ≡ cond same [] []
-none_left item mine left true e = cc
+none_left item mine left true e =
+    let whole : item ∷ left ≡ mine ∷ [] = e in
+    let none : left ≡ [] = cc in
+    none
 none_left item mine left false e = e
 
 pub own_taken : {T : Type 0} (pick : LinkMsg → List T) (links : Links) (from to f t : List ℕ) (message : LinkMsg) (rest : List LinkMsg) (item mine : T)
