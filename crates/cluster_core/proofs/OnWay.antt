@@ -82,7 +82,7 @@ another_taken pick links from to f t message rest items e none way = λ a b.
 first_by : {T : Type 0} (f t from to : List ℕ) (item : T) (more items : List T) (same : Bool) → same_link f t from to ≡ same
     → item ∷ more ≡ cond same items [] → (f ≡ from) × (t ≡ to) × (items ≡ item ∷ more)
 first_by f t from to item more items true h e = let is = same_names f t from to h in (is.0, is.1, sym e)
-first_by f t from to item more items false h e = cc
+first_by f t from to item more items false h e = absurd (let none : item ∷ more ≡ [] = e in cc)
 
 -- the first of a link that has one is the first on its way
 own_first : {T : Type 0} (pick : LinkMsg → List T) (links : Links) (from to f t : List ℕ) (message : LinkMsg) (rest : List LinkMsg) (item : T) (items : List T)
@@ -99,7 +99,10 @@ none_first pick links from to f t message rest item e p way =
     (let k = first.2 in cc)
 
 none_left : {T : Type 0} (item mine : T) (left : List T) (same : Bool) → cond same (item ∷ []) [] ++ left ≡ cond same (mine ∷ []) [] → left ≡ cond same [] []
-none_left item mine left true e = cc
+none_left item mine left true e =
+    let whole : item ∷ left ≡ mine ∷ [] = e in
+    let none : left ≡ [] = cc in
+    none
 none_left item mine left false e = e
 
 pub own_taken : {T : Type 0} (pick : LinkMsg → List T) (links : Links) (from to f t : List ℕ) (message : LinkMsg) (rest : List LinkMsg) (item mine : T)
