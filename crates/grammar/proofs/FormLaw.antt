@@ -16,7 +16,7 @@ use Rattle.grammar.proofs.ToolLaws.{good_weaker, good_byte, good_behind, begins_
 abbrev pub Within : (ℕ → Bool) → (ℕ → Bool) → Type 0
 Within few many = (c : ℕ) → few c ≡ true → many c ≡ true
 
-begins_give : {A : Type 0} (after : ℕ → Bool) (a : A) → Begins after after (give a)
+pub begins_give : {A : Type 0} (after : ℕ → Bool) (a : A) → Begins after after (give a)
 begins_give after a = record { full = λ c tail b e. absurd (no_byte e.0); empty = λ _ _ _ h. h }
 
 pub begins_map : {A B : Type 0} {starts after : ℕ → Bool} (f : A → B) (p : Part A) → Begins starts after p → Begins starts after (map f p)

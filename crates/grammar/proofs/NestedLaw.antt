@@ -7,7 +7,7 @@ use Rattle.grammar.specs.Forms.{Form, Law, choice, made}
 use Rattle.grammar.specs.Nested.{nested_part, nested, told, after_maybe}
 use Rattle.grammar.proofs.ChoiceLaw.{good_choose}
 use Rattle.grammar.proofs.Conditions.{or_left, or_right}
-use Rattle.grammar.proofs.FormLaw.{begins_map, law_choice}
+use Rattle.grammar.proofs.FormLaw.{begins_give, begins_map, law_choice}
 use Rattle.grammar.proofs.SequenceLaw.{good_give, good_map, good_then}
 use Rattle.grammar.proofs.Spelling.{spell_then, spell_map}
 use Rattle.grammar.proofs.StartLaw.{starts_then, begins_from, without_from}
@@ -43,6 +43,15 @@ pub record Told {A : Type 0} (starts after : ℕ → Bool) (text : A → List �
   pub good : (V : Type 0) → Good V after p
   pub begins : Begins starts after p
   pub prints : (bytes : List ℕ) (a : A) → p.lang bytes a → (s : List ℕ) × p.lang s a × (text a ≡ front ++ s)
+
+-- a value behind which nothing stands
+pub told_give : {A : Type 0} (after : ℕ → Bool) (text : A → List ℕ) (front : List ℕ) (a : A) → text a ≡ front ++ []
+    → Told after after text front (give a)
+told_give after text front a same = record {
+  good = λ V. good_give after a;
+  begins = begins_give after a;
+  prints = λ bytes b l. ([], (refl, l.1), subst (λ b. text b ≡ front ++ []) (sym l.1) same);
+}
 
 -- values made of a form's
 pub told_made : {X A : Type 0} {starts after : ℕ → Bool} (text : A → List ℕ) (front : List ℕ) (make : X → A) (p : Form X) → Law starts after p

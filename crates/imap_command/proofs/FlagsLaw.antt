@@ -53,7 +53,7 @@ pub record AreKeywords (w : Words) : Type 0 where
   pub first : (c : ℕ) → w.begins (c ∷ []) ≡ true → is_atom_byte c ≡ true
   pub valid : (k : List ℕ) → w.whole k ≡ true → any_keyword.whole k ≡ true
 
-any_are : AreKeywords any_keyword
+pub any_are : AreKeywords any_keyword
 unfolding is_atom_byte
 any_are = record {
   lawful = lawful_run_upto is_atom_byte 64 97 refl (lit< tt);

@@ -22,3 +22,7 @@ pub mod FlagsLaw
 pub mod FlagsPrinted
 pub mod FlagSteps
 pub mod StoreLaw
+pub mod KeySteps
+pub mod DatesLaw
+pub mod KeysLaw
+pub mod SearchLaw

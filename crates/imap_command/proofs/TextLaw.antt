@@ -14,6 +14,7 @@ unfolding uid_arguments
 uid_text uid.Copy it = refl
 uid_text uid.Expunge it = refl
 uid_text uid.Fetch it = refl
+uid_text uid.Search it = refl
 uid_text uid.Store it = refl
 
 text_behind : (v : Verb) (it : Command) → (arguments v).text it ≡ behind_text v it

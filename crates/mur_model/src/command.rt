@@ -100,73 +100,82 @@ pub enum Command {
 
 impl Copied for Command {
     fn copy(&self, alloc: Global) -> Result<Command, Memory> {
-        Ok(match self {
-            Command::Capability => Command::Capability,
-            Command::Noop => Command::Noop,
-            Command::Logout => Command::Logout,
-            Command::Login(user, password) => {
-                Command::Login(copy_of(alloc, user)?, copy_of(alloc, password)?)
-            }
-            Command::Authenticate(None) => Command::Authenticate(None),
+        match self {
+            Command::Capability => Ok(Command::Capability),
+            Command::Noop => Ok(Command::Noop),
+            Command::Logout => Ok(Command::Logout),
+            Command::Login(user, password) => Ok(Command::Login(
+                copy_of(alloc, user)?,
+                copy_of(alloc, password)?,
+            )),
+            Command::Authenticate(None) => Ok(Command::Authenticate(None)),
             Command::Authenticate(Some(response)) => {
-                Command::Authenticate(Some(copy_of(alloc, response)?))
+                Ok(Command::Authenticate(Some(copy_of(alloc, response)?)))
             }
-            Command::Enable(names) => Command::Enable(copy_of_texts(alloc, names)?),
-            Command::Select(text) => Command::Select(copy_of(alloc, text)?),
-            Command::Examine(text) => Command::Examine(copy_of(alloc, text)?),
-            Command::Create(text) => Command::Create(copy_of(alloc, text)?),
-            Command::Delete(text) => Command::Delete(copy_of(alloc, text)?),
-            Command::List(reference, pattern) => {
-                Command::List(copy_of(alloc, reference)?, copy_of(alloc, pattern)?)
-            }
-            Command::Append(text, body) => {
-                Command::Append(copy_of(alloc, text)?, copy_of(alloc, body)?)
-            }
-            Command::Status(text, items) => {
-                Command::Status(copy_of(alloc, text)?, items.copy(alloc)?)
-            }
-            Command::Idle(None) => Command::Idle(None),
-            Command::Idle(Some(line)) => Command::Idle(Some(copy_of(alloc, line)?)),
-            Command::Xfer(text, server, None) => {
-                Command::Xfer(copy_of(alloc, text)?, copy_of(alloc, server)?, None)
-            }
-            Command::Xfer(text, server, Some(partition)) => Command::Xfer(
+            Command::Enable(names) => Ok(Command::Enable(copy_of_texts(alloc, names)?)),
+            Command::Select(text) => Ok(Command::Select(copy_of(alloc, text)?)),
+            Command::Examine(text) => Ok(Command::Examine(copy_of(alloc, text)?)),
+            Command::Create(text) => Ok(Command::Create(copy_of(alloc, text)?)),
+            Command::Delete(text) => Ok(Command::Delete(copy_of(alloc, text)?)),
+            Command::List(reference, pattern) => Ok(Command::List(
+                copy_of(alloc, reference)?,
+                copy_of(alloc, pattern)?,
+            )),
+            Command::Append(text, body) => Ok(Command::Append(
+                copy_of(alloc, text)?,
+                copy_of(alloc, body)?,
+            )),
+            Command::Status(text, items) => Ok(Command::Status(
+                copy_of(alloc, text)?,
+                items.copy(alloc)?,
+            )),
+            Command::Idle(None) => Ok(Command::Idle(None)),
+            Command::Idle(Some(line)) => Ok(Command::Idle(Some(copy_of(alloc, line)?))),
+            Command::Xfer(text, server, None) => Ok(Command::Xfer(
+                copy_of(alloc, text)?,
+                copy_of(alloc, server)?,
+                None,
+            )),
+            Command::Xfer(text, server, Some(partition)) => Ok(Command::Xfer(
                 copy_of(alloc, text)?,
                 copy_of(alloc, server)?,
                 Some(copy_of(alloc, partition)?),
-            ),
-            Command::Close => Command::Close,
-            Command::Unselect => Command::Unselect,
-            Command::Expunge(None) => Command::Expunge(None),
-            Command::Expunge(Some(set)) => Command::Expunge(Some(copy_of_all(alloc, set)?)),
-            Command::Search(by_uid, keys) => Command::Search(*by_uid, keys.copy(alloc)?),
-            Command::Fetch(by_uid, set, items) => Command::Fetch(
+            )),
+            Command::Close => Ok(Command::Close),
+            Command::Unselect => Ok(Command::Unselect),
+            Command::Expunge(None) => Ok(Command::Expunge(None)),
+            Command::Expunge(Some(set)) => Ok(Command::Expunge(Some(copy_of_all(alloc, set)?))),
+            Command::Search(by_uid, keys) => Ok(Command::Search(*by_uid, keys.copy(alloc)?)),
+            Command::Fetch(by_uid, set, items) => Ok(Command::Fetch(
                 *by_uid,
                 copy_of_all(alloc, set)?,
                 copy_of_all(alloc, items)?,
-            ),
-            Command::Store(by_uid, set, mode, is_silent, flags) => Command::Store(
+            )),
+            Command::Store(by_uid, set, mode, is_silent, flags) => Ok(Command::Store(
                 *by_uid,
                 copy_of_all(alloc, set)?,
                 *mode,
                 *is_silent,
                 flags.copy(alloc)?,
-            ),
-            Command::Copy(by_uid, set, text) => {
-                Command::Copy(*by_uid, copy_of_all(alloc, set)?, copy_of(alloc, text)?)
-            }
-            Command::SetAcl(text, id, mode, rights) => Command::SetAcl(
+            )),
+            Command::Copy(by_uid, set, text) => Ok(Command::Copy(
+                *by_uid,
+                copy_of_all(alloc, set)?,
+                copy_of(alloc, text)?,
+            )),
+            Command::SetAcl(text, id, mode, rights) => Ok(Command::SetAcl(
                 copy_of(alloc, text)?,
                 copy_of(alloc, id)?,
                 *mode,
                 copy_of(alloc, rights)?,
-            ),
-            Command::DeleteAcl(text, id) => {
-                Command::DeleteAcl(copy_of(alloc, text)?, copy_of(alloc, id)?)
-            }
-            Command::GetAcl(text) => Command::GetAcl(copy_of(alloc, text)?),
-            Command::MyRights(text) => Command::MyRights(copy_of(alloc, text)?),
-        })
+            )),
+            Command::DeleteAcl(text, id) => Ok(Command::DeleteAcl(
+                copy_of(alloc, text)?,
+                copy_of(alloc, id)?,
+            )),
+            Command::GetAcl(text) => Ok(Command::GetAcl(copy_of(alloc, text)?)),
+            Command::MyRights(text) => Ok(Command::MyRights(copy_of(alloc, text)?)),
+        }
     }
 }
 
