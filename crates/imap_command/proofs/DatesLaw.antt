@@ -110,7 +110,7 @@ small_digit : (bytes : List ℕ) (d : ℕ) → digit.part.lang bytes d → d < 1
 unfolding is_digit
 small_digit bytes d l =
     let s = spelled_digit bytes d l in
-    let most : s.0 ≤ 57 = leb-true s.0 57 (and_right _ _ s.1) in
+    let most : s.0 ≤ 57 = leb-true s.0 57 (and_right (leb 48 s.0) _ s.1) in
     omega (arith, s.2)
 
 law_digit : (after : ℕ → Bool) → Law is_digit after digit
@@ -150,10 +150,10 @@ law_year : (after : ℕ → Bool) → Law is_digit after date_year
 law_year after =
     law_made_of year_of year_text (digit and (digit and (digit and digit)))
     (λ bytes x l.
-    let s = both_of digit (digit and (digit and digit)) Small (λ y. Small y.0 × Small y.1.0 × Small y.1.1) small_digit
+    let s = both_of digit (digit and (digit and digit)) Small (λ y. Small y.0 × (Small y.1.0 × Small y.1.1)) small_digit
         (both_of digit (digit and digit) Small (λ y. Small y.0 × Small y.1) small_digit (both_of digit digit Small Small small_digit small_digit))
         bytes x l in
-    four x.0 x.1.0 x.1.1.0 x.1.1.1 s.0 s.1 s.2 s.3)
+    four x.0 x.1.0 x.1.1.0 x.1.1.1 s.0 s.1.0 s.1.1.0 s.1.1.1)
     (law_and digit (digit and (digit and digit)) (law_digit is_digit)
     (law_and digit (digit and digit) (law_digit is_digit) (law_and digit digit (law_digit is_digit) (law_digit after))))
 

@@ -1,5 +1,5 @@
 -- search-key (RFC 9051, 6.4.4 and 9): how each key is spelled and printed, to the depth to which keys nest.
-use Rattle.std.specs.Prelude.{ℕ, true, ◌==◌, List, [], ◌∷◌, ◌++◌, map, codes}
+use Rattle.std.specs.Prelude.{ℕ, zero, suc, true, ◌==◌, List, [], ◌∷◌, ◌++◌, map, codes}
 use Rattle.mur_base.specs.Ascii.{space, open_paren, close_paren, star, backslash}
 use Rattle.mur_base.specs.Number.{is_digit}
 use Rattle.grammar.specs.Forms.{Form, Row, as_it_stands, behind, closed, made, numeral, one_more, several, ◌spaced◌, table, list_text}
@@ -163,3 +163,8 @@ more_keys depth so_far = repeat (λ c. c == space) (one_more space (key depth).p
 -- search-key *(SP search-key)
 abbrev pub keys : ℕ → Form (List Key)
 keys depth = several space (key depth)
+
+-- what stands before a key that so many keys stand before
+unfoldable pub separator : ℕ → List ℕ
+separator zero = []
+separator (suc before) = space ∷ []

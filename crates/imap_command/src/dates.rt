@@ -1,7 +1,7 @@
 // Days (RFC 9051, 9: date).
 ghost use Rattle.std.specs.Prelude.{◌≡◌, ◌+◌, ◌*◌, ◌≤◌, ◌<◌, ◌++◌, map, IfOk, OnOk};
 ghost use Rattle.grammar.specs.Gives.{Finds};
-ghost use Rattle.imap_command.specs.Dates.{date_day, date_month, month_text, name_in, digit, date_year, year_text, date_text, date};
+ghost use Rattle.imap_command.specs.Dates.{date_day, month_text, name_in, digit, date_year, year_text, date_text, date};
 
 use grammar::{Digit, Only, Stop, begins, byte_in, byte_of, number_of, put_decimal, table_of};
 use mail_message::Day;
@@ -90,17 +90,24 @@ pub fn date_of(bytes: &[u8]) -> Result<(Day, &[u8]), Stop>
     }
 }
 
-/// The name of a month.
+/// The name of the first row with this number.
 #[tactic(auto, unfolding(crate::specs::Dates::name_in))]
-fn month_name(month: u8) -> &'static [u8]
-    ensures { result.now ≡ month_text month }
+fn name_in<'a>(rows: &[(&'a [u8], u8)], number: u8) -> &'a [u8]
+    ensures { result.now ≡ name_in (map (λ row. (row.0.now, row.1)) rows.now) number }
 {
-    for row in &MONTH_ROWS {
-        if row.1 == month {
+    for row in rows {
+        if row.1 == number {
             return row.0;
         }
     }
     b""
+}
+
+/// The name of a month.
+fn month_name(month: u8) -> &'static [u8]
+    ensures { result.now ≡ month_text month }
+{
+    name_in(&MONTH_ROWS, month)
 }
 
 /// Prints four digits.

@@ -5,7 +5,7 @@ ghost use Rattle.grammar.specs.Forms.{behind, one_more, list_text};
 ghost use Rattle.grammar.specs.Gives.{Finds, Gives};
 ghost use Rattle.imap_command.specs.Dates.{date};
 ghost use Rattle.imap_command.specs.Keys.{keyword, size as size_form, key_text, behind_flat, flat_key, behind_key, deep_key, group, key};
-ghost use Rattle.imap_command.specs.Keys.{more_keys, keys};
+ghost use Rattle.imap_command.specs.Keys.{more_keys, keys, separator};
 ghost use Rattle.imap_command.specs.Sets.{set as set_form};
 
 use crate::dates::{date_of, put_date};
@@ -401,15 +401,21 @@ fn put_key(key: &Key, out: &mut Bytes) -> Result<(), Memory>
     }
 }
 
+/// Prints a space, unless it would stand first.
+#[tactic(auto, unfolding(crate::specs::Keys::separator))]
+fn put_separator(at: usize, out: &mut Bytes) -> Result<(), Memory>
+    ensures { OnOk result (out.new ≡ out.old ++ separator at) }
+{
+    if at == 0 { Ok(()) } else { out.push(b' ') }
+}
+
 /// Prints keys, a space between any two.
 #[cycle(printing)]
 pub fn put_keys(keys: &[Key], out: &mut Bytes) -> Result<(), Memory>
     ensures { OnOk result (out.new ≡ out.old ++ list_text space key_text keys.now) }
 {
     for (i, key) in keys.iter().enumerate() {
-        if i > 0 {
-            out.push(b' ')?;
-        }
+        put_separator(i, out)?;
         put_key(key, out)?;
     }
     Ok(())
