@@ -1,6 +1,7 @@
 -- Search keys: the law of their form, by induction on the depth.
 use Rattle.std.proofs.Common.{◌≡◌, ℕ, List, [], ◌∷◌, ◌++◌, Bool, true, false, not, ◌||◌, ◌==◌, refl, sym, ap, ◌∙◌, eqb-true, arith}
 use Rattle.std.proofs.lemmas.Bool.Decides.{nat_tests}
+use Rattle.std.specs.List.{list_all}
 use Rattle.mur_base.specs.Number.{is_digit, digits_behind}
 use Rattle.grammar.specs.Exact.{among, StartsWith}
 use Rattle.grammar.specs.Forms.{Form, Law, behind, begins_row, closed, several, ◌spaced◌}
@@ -114,18 +115,19 @@ told_flat flat.Uid =
 -- ---- a set or a named key
 
 -- the bytes of digits, one by one
-digit_among : (c : ℕ) → is_digit c ≡ true → among (48 ∷ 49 ∷ 50 ∷ 51 ∷ 52 ∷ 53 ∷ 54 ∷ 55 ∷ 56 ∷ 57 ∷ []) c ≡ true
+abbrev digits : List ℕ
+digits = 48 ∷ 49 ∷ 50 ∷ 51 ∷ 52 ∷ 53 ∷ 54 ∷ 55 ∷ 56 ∷ 57 ∷ []
+
+digit_among : (c : ℕ) → is_digit c ≡ true → among digits c ≡ true
 unfolding is_digit
 digit_among c h = grind (arith, nat_tests)
 
 -- what a set begins with begins no name
-set_apart : (test : ℕ → Bool) → test 42 ≡ false
-    → ((c : ℕ) → among (48 ∷ 49 ∷ 50 ∷ 51 ∷ 52 ∷ 53 ∷ 54 ∷ 55 ∷ 56 ∷ 57 ∷ []) c ≡ true → not (test c) ≡ true)
-    → (c : ℕ) → test c ≡ true → is_set_start c ≡ false
-set_apart test star digits c h = or_none (c == 42) (is_digit c) (apart_byte 42 test star c h) (by_case (is_digit c) refl)
+set_apart : (test : ℕ → Bool) → test 42 ≡ false → list_all (λ c. not (test c)) digits ≡ true → (c : ℕ) → test c ≡ true → is_set_start c ≡ false
+set_apart test star none c h = or_none (c == 42) (is_digit c) (apart_byte 42 test star c h) (by_case (is_digit c) refl)
   where
     by_case : (b : Bool) → is_digit c ≡ b → b ≡ false
-    by_case true e = let no : false ≡ true = sym (ap not h) ∙ digits c (digit_among c e) in cc
+    by_case true e = let no : false ≡ true = sym (ap not h) ∙ among_all (λ c. not (test c)) digits none c (digit_among c e) in cc
     by_case false e = refl
 
 law_numbers : Law is_set_start ends_set (with_text key_text (map key_is.Numbers set.part))
@@ -142,7 +144,7 @@ law_flat : Law (λ c. is_set_start c || begins_row flat_rows c) ends_set (with_t
 unfolding flat_key flat_name_text
 law_flat =
     law_apart is_set_start key_text (map key_is.Numbers set.part) (told flat_name behind_flat key_text).part starts_numbers
-    (set_apart (begins_row flat_rows) refl (among_all (λ c. not (begins_row flat_rows c)) _ refl)) law_numbers
+    (set_apart (begins_row flat_rows) refl refl) law_numbers
     (law_told flat_name behind_flat key_text (law_table flat.All flat_rows flat_name_text refl refl (32 ∷ 13 ∷ 41 ∷ []) refl refl) told_flat)
 
 -- ---- keys that hold keys
@@ -182,7 +184,7 @@ module _ (p : Part Key) (g : Law starts_key ends_set (with_text key_text p)) whe
   unfolding flat_name_text
   law_named =
       law_apart is_set_start key_text (map key_is.Numbers set.part) (told key_name (behind_key (with_text key_text p)) key_text).part starts_numbers
-      (set_apart (begins_row key_rows) refl (among_all (λ c. not (begins_row key_rows c)) _ refl)) law_numbers
+      (set_apart (begins_row key_rows) refl refl) law_numbers
       (law_told key_name (behind_key (with_text key_text p)) key_text
       (law_table deep.Not key_rows key_name_text refl refl (32 ∷ 13 ∷ 41 ∷ []) refl refl) told_key)
 
