@@ -1,8 +1,8 @@
 -- The law of each combinator of forms.
 use Rattle.std.proofs.Common.{◌≡◌, ℕ, List, [], ◌∷◌, ◌++◌, Bool, true, false, ◌||◌, ◌==◌, inl, inr, ⊎_elim, refl, sym, ap, ◌∙◌, subst}
-use Rattle.std.proofs.Common.{eqb-true, Option, None, Some}
+use Rattle.std.proofs.Common.{eqb-true, None, Some}
 use Rattle.grammar.specs.Part.{Part, ◌then◌, give, map, byte, choose}
-use Rattle.grammar.specs.Exact.{Good, Begins, StartsWith, StartsWithout}
+use Rattle.grammar.specs.Exact.{Begins, StartsWith}
 use Rattle.grammar.specs.Forms.{Form, Law, nothing, ◌and◌, behind, followed, ◌spaced◌, made, choice, constant, maybe, maybe_text, given_text, closed, dispatch}
 use Rattle.grammar.proofs.SequenceLaw.{good_give, good_map, good_then}
 use Rattle.grammar.proofs.ChoiceLaw.{good_choose}

@@ -1,16 +1,16 @@
 -- Forms whose values nest, and parts that a word tells or that say nothing: the law of each.
-use Rattle.std.proofs.Common.{◌≡◌, ℕ, zero, suc, ◌-◌, ◌<◌, List, [], ◌∷◌, ◌++◌, Bool, true, false, ◌||◌, ◌==◌, inl, inr, ⊎_elim, refl, sym, ap, ◌∙◌}
+use Rattle.std.proofs.Common.{◌≡◌, ℕ, zero, suc, ◌-◌, List, [], ◌++◌, Bool, true, false, ◌||◌, inl, inr, ⊎_elim, refl, sym, ap, ◌∙◌}
 use Rattle.std.proofs.Common.{subst, arith}
 use Rattle.grammar.specs.Part.{Part, ◌then◌, ◌sp◌, give, map, byte, choose}
-use Rattle.grammar.specs.Exact.{Good, Begins, StartsWith, StartsWithout}
-use Rattle.grammar.specs.Forms.{Form, Law, choice, made}
+use Rattle.grammar.specs.Exact.{Good, Begins, StartsWith}
+use Rattle.grammar.specs.Forms.{Form, Law, made}
 use Rattle.grammar.specs.Nested.{nested_part, nested, told, after_maybe}
 use Rattle.grammar.proofs.ChoiceLaw.{good_choose}
 use Rattle.grammar.proofs.Conditions.{or_left, or_right}
 use Rattle.grammar.proofs.FormLaw.{begins_give, begins_map, law_choice}
 use Rattle.grammar.proofs.SequenceLaw.{good_give, good_map, good_then}
 use Rattle.grammar.proofs.Spelling.{spell_then, spell_map}
-use Rattle.grammar.proofs.StartLaw.{starts_then, begins_from, without_from}
+use Rattle.grammar.proofs.StartLaw.{starts_then, without_from}
 use Rattle.grammar.proofs.ToolLaws.{good_sp, begins_then}
 
 -- the part of a form with this text
@@ -60,8 +60,7 @@ told_made text front make p g same = record {
   good = λ V. good_map make p.part (g.good V);
   begins = begins_map make p.part g.begins;
   prints = λ bytes a j.
-      let x = j.between in
-      (
+      let x = j.between in (
         p.text x,
         subst (λ a. (map make p.part).lang (p.text x) a) (sym j.goes_on.1) (spell_map make p.part (p.text x) x (g.prints j.front x j.begins)),
         subst (λ a. text a ≡ front ++ p.text x) (sym j.goes_on.1) (same x),

@@ -1,7 +1,7 @@
 -- What stands behind the name of each command: its law, and that it is of that name.
-use Rattle.std.proofs.Common.{◌≡◌, ℕ, true, false, List, [], ◌∷◌, ◌++◌, ◌==◌, None, Some, refl, ap, ◌∙◌}
+use Rattle.std.proofs.Common.{◌≡◌, ℕ, true, false, List, [], ◌∷◌, ◌==◌, None, Some, refl, ap}
 use Rattle.grammar.specs.Exact.{among}
-use Rattle.grammar.specs.Forms.{Form, Law, behind, closed, constant, dispatch, made, nothing, several}
+use Rattle.grammar.specs.Forms.{Law, behind, dispatch, nothing, several}
 use Rattle.grammar.proofs.FormLaw.{Branch, branch, one_byte, apart_byte, law_closed, law_dispatch, law_nothing, law_spaced, law_weaker}
 use Rattle.grammar.proofs.NamesLaw.{law_table}
 use Rattle.grammar.proofs.SeveralLaw.{law_several}

@@ -1,15 +1,12 @@
 -- Dates: the law of their form.
-use Rattle.std.proofs.Common.{◌≡◌, ℕ, ◌+◌, ◌-◌, ◌*◌, ◌/◌, ◌%◌, ◌<◌, ◌≤◌, List, [], ◌∷◌, ◌++◌, Bool, true, false, not, ◌&&◌, ◌||◌, ◌==◌, inl, inr, refl, sym}
+use Rattle.std.proofs.Common.{◌≡◌, ℕ, ◌+◌, ◌-◌, ◌*◌, ◌/◌, ◌%◌, ◌<◌, ◌≤◌, List, [], ◌∷◌, ◌++◌, Bool, true, false, not, ◌&&◌, ◌||◌, ◌==◌, inr, refl, sym}
 use Rattle.std.proofs.Common.{ap, ◌∙◌, subst, arith, leb, leb-true, le-leb, eqb-true}
-use Rattle.std.proofs.lemmas.Bool.Decides.{nat_tests}
 use Rattle.std.specs.List.{list_all}
 use Rattle.mur_base.specs.Number.{is_digit, digits_behind}
-use Rattle.grammar.specs.Exact.{any, among, StartsWith}
+use Rattle.grammar.specs.Exact.{any, among}
 use Rattle.grammar.specs.Forms.{Form, Law, ◌and◌, behind, begins_row, closed, numeral}
-use Rattle.grammar.specs.Numbers.{value_of, numerals, decimal_text, no_zero_first}
-use Rattle.grammar.specs.Part.{give, map, byte, one_of}
-use Rattle.grammar.specs.Runs.{some}
-use Rattle.grammar.specs.Words.{word}
+use Rattle.grammar.specs.Numbers.{value_of, numerals, decimal_text}
+use Rattle.grammar.specs.Part.{give, byte, one_of}
 use Rattle.grammar.proofs.ChoiceLaw.{good_one_of}
 use Rattle.grammar.proofs.Conditions.{and_both, and_left, and_right}
 use Rattle.grammar.proofs.FormLaw.{one_byte, apart_byte, law_and, law_behind, law_choice, law_closed, law_made, law_weaker}
@@ -19,7 +16,6 @@ use Rattle.grammar.proofs.NumeralLaw.{law_numeral}
 use Rattle.grammar.proofs.SequenceLaw.{good_map}
 use Rattle.grammar.proofs.Spelling.{spell_map}
 use Rattle.grammar.proofs.StartLaw.{starts_then, starts_byte, starts_one_of, begins_from}
-use Rattle.mail_message.specs.declared.day.Day.{Day}
 use Rattle.imap_command.specs.Dates.{date_day, month_rows, month_text, name_in, date_month, digit, year_of, year_text, date_year, day_at, date_text_of}
 use Rattle.imap_command.specs.Dates.{date_text, date}
 
@@ -151,8 +147,8 @@ law_year after =
     law_made_of year_of year_text (digit and (digit and (digit and digit)))
     (λ bytes x l.
     let s = both_of digit (digit and (digit and digit)) Small (λ y. Small y.0 × (Small y.1.0 × Small y.1.1)) small_digit
-        (both_of digit (digit and digit) Small (λ y. Small y.0 × Small y.1) small_digit (both_of digit digit Small Small small_digit small_digit))
-        bytes x l in
+    (both_of digit (digit and digit) Small (λ y. Small y.0 × Small y.1) small_digit (both_of digit digit Small Small small_digit small_digit))
+    bytes x l in
     four x.0 x.1.0 x.1.1.0 x.1.1.1 s.0 s.1.0 s.1.1.0 s.1.1.1)
     (law_and digit (digit and (digit and digit)) (law_digit is_digit)
     (law_and digit (digit and digit) (law_digit is_digit) (law_and digit digit (law_digit is_digit) (law_digit after))))

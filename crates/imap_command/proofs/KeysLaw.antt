@@ -1,22 +1,21 @@
 -- Search keys: the law of their form, by induction on the depth.
-use Rattle.std.proofs.Common.{◌≡◌, ℕ, List, [], ◌∷◌, ◌++◌, Bool, true, false, not, ◌||◌, ◌==◌, refl, sym, ap, ◌∙◌, eqb-true, arith}
+use Rattle.std.proofs.Common.{◌≡◌, ℕ, List, [], ◌∷◌, Bool, true, false, not, ◌||◌, ◌==◌, refl, sym, ap, ◌∙◌, arith}
 use Rattle.std.proofs.lemmas.Bool.Decides.{nat_tests}
 use Rattle.std.specs.List.{list_all}
 use Rattle.mur_base.specs.Number.{is_digit, digits_behind}
 use Rattle.grammar.specs.Exact.{among, StartsWith}
-use Rattle.grammar.specs.Forms.{Form, Law, behind, begins_row, closed, several, ◌spaced◌}
+use Rattle.grammar.specs.Forms.{Form, Law, behind, begins_row, several, ◌spaced◌}
 use Rattle.grammar.specs.Nested.{told}
-use Rattle.grammar.specs.Part.{Part, ◌then◌, give, map, byte, choose}
+use Rattle.grammar.specs.Part.{Part, give, map, byte}
 use Rattle.grammar.specs.Words.{word}
 use Rattle.grammar.proofs.Conditions.{among_all, not_true, or_right, or_none}
 use Rattle.grammar.proofs.FormLaw.{Within, one_byte, apart_byte, law_behind, law_closed, law_made, law_spaced, law_weaker}
-use Rattle.grammar.proofs.NamesLaw.{law_table, starts_table}
+use Rattle.grammar.proofs.NamesLaw.{law_table}
 use Rattle.grammar.proofs.NestedLaw.{with_text, Told, told_give, told_made, law_told, law_nested, law_apart, starts_from}
 use Rattle.grammar.proofs.NumeralLaw.{law_numeral}
 use Rattle.grammar.proofs.SeveralLaw.{law_several}
 use Rattle.grammar.proofs.StartLaw.{starts_then, starts_byte, starts_word, begins_from}
 use Rattle.grammar.proofs.WordLaw.{good_word}
-use Rattle.mail_message.specs.declared.flag_name.FlagName.{FlagName}
 use Rattle.mail_message.specs.declared.flag_name.FlagName.TheVariants.{Keyword}
 use Rattle.mail_message.specs.declared.key.Key.{Key}
 use Rattle.mail_message.specs.declared.key.Key.TheVariants as key_is

@@ -1,5 +1,5 @@
 -- Sets of message numbers: the law of their form.
-use Rattle.std.proofs.Common.{◌≡◌, ℕ, List, [], ◌∷◌, ◌++◌, Bool, true, false, not, ◌==◌, ◌||◌, Option, None, Some, refl}
+use Rattle.std.proofs.Common.{◌≡◌, ℕ, List, [], ◌∷◌, ◌++◌, Bool, true, false, not, Option, None, Some, refl}
 use Rattle.grammar.specs.Exact.{among}
 use Rattle.grammar.specs.Forms.{Law, constant, made, maybe, maybe_text, nothing}
 use Rattle.grammar.proofs.Conditions.{not_true, among_all}

@@ -1,5 +1,5 @@
 -- How a command is printed, in one line.
-use Rattle.std.proofs.Common.{◌≡◌, ℕ, List, [], ◌∷◌, ◌++◌, refl, ap}
+use Rattle.std.proofs.Common.{◌≡◌, [], ◌∷◌, ◌++◌, refl, ap}
 use Rattle.mur_model.specs.declared.command.Command.{Command}
 use Rattle.imap_command.specs.declared.verb.Verb.{Verb}
 use Rattle.imap_command.specs.declared.verb.Verb.TheVariants as verb

@@ -1,7 +1,7 @@
 -- What stands behind the name of each command (RFC 9051, 9; RFC 4314, 4).
 use Rattle.std.specs.Prelude.{ℕ, true, false, List, [], ◌∷◌, ◌++◌, if◌then◌else◌, None, Some}
 use Rattle.mur_base.specs.Ascii.{space}
-use Rattle.grammar.specs.Forms.{Form, behind, constant, dispatch, made, nothing, several}
+use Rattle.grammar.specs.Forms.{Form, behind, constant, dispatch, made, several}
 use Rattle.mur_model.specs.declared.command.Command.{Command}
 use Rattle.mur_model.specs.declared.command.Command.TheVariants as command
 use Rattle.imap_command.specs.declared.verb.Verb.{Verb}

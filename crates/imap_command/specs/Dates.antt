@@ -1,5 +1,5 @@
 -- date = date-text / DQUOTE date-text DQUOTE (RFC 9051, 9): a day, a month and a year.
-use Rattle.std.specs.Prelude.{ℕ, ◌+◌, ◌-◌, ◌*◌, ◌/◌, ◌%◌, Bool, ◌==◌, false, List, [], ◌∷◌, codes, if◌then◌else◌}
+use Rattle.std.specs.Prelude.{ℕ, ◌+◌, ◌-◌, ◌*◌, ◌/◌, ◌%◌, ◌==◌, false, List, [], ◌∷◌, codes, if◌then◌else◌}
 use Rattle.mur_base.specs.Ascii.{digit_zero, dash, quote}
 use Rattle.mur_base.specs.Number.{is_digit}
 use Rattle.grammar.specs.Forms.{Form, Row, ◌and◌, behind, choice, closed, made, numeral, table}

@@ -1,11 +1,9 @@
 -- search-key (RFC 9051, 6.4.4 and 9): how each key is spelled and printed, to the depth to which keys nest.
 use Rattle.std.specs.Prelude.{ℕ, zero, suc, true, ◌==◌, List, [], ◌∷◌, ◌++◌, map, codes}
-use Rattle.mur_base.specs.Ascii.{space, open_paren, close_paren, star, backslash}
-use Rattle.mur_base.specs.Number.{is_digit}
+use Rattle.mur_base.specs.Ascii.{space, open_paren, close_paren, backslash}
 use Rattle.grammar.specs.Forms.{Form, Row, as_it_stands, behind, closed, made, numeral, one_more, several, ◌spaced◌, table, list_text}
 use Rattle.grammar.specs.Nested.{nested, told}
-use Rattle.grammar.specs.Numbers.{decimal_text}
-use Rattle.grammar.specs.Part.{Part, ◌then◌, choose, give, map as map_part, repeat}
+use Rattle.grammar.specs.Part.{Part, choose, give, map as map_part, repeat}
 use Rattle.mail_message.specs.declared.flag_name.FlagName.{FlagName}
 use Rattle.mail_message.specs.declared.flag_name.FlagName.TheVariants.{System, Keyword}
 use Rattle.mail_message.specs.declared.key.Key.{Key}

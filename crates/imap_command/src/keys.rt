@@ -128,11 +128,7 @@ fn spaced_set_of(alloc: Global, bytes: &[u8]) -> Result<(SetParts, &[u8]), ReadE
 
 /// Reads what stands behind the name of a key that holds no key, but has an argument.
 #[tactic(auto, unfolding(crate::specs::Keys::behind_flat))]
-fn behind_flat_of(
-    alloc: Global,
-    name: FlatName,
-    bytes: &[u8],
-) -> Result<(Key, &[u8]), ReadError>
+fn behind_flat_of(alloc: Global, name: FlatName, bytes: &[u8]) -> Result<(Key, &[u8]), ReadError>
     ensures { Gives (λ x. (x.0, x.1.now)) result ((behind_flat name).at bytes.now) }
 {
     match name {

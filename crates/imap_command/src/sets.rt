@@ -4,8 +4,8 @@ ghost use Rattle.grammar.specs.Gives.{Finds, Gives};
 ghost use Rattle.imap_command.specs.Sets.{end_text, part_text, set_end, set_part, set};
 
 use grammar::{
-    Class, Digit, Only, Production, ReadError, Stop, begins, byte_of, number_of, put_decimal, put_several,
-    several_of,
+    Class, Digit, Only, Production, ReadError, Stop, begins, byte_of, number_of, put_decimal,
+    put_several, several_of,
 };
 use mail_message::{SetEnd, SetPart, SetParts};
 use mur_base::{Bytes, Memory};

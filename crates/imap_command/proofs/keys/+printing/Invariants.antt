@@ -1,5 +1,4 @@
 use Rattle.std.proofs.Common.{◌≡◌, ◌++◌, drop}
-use Rattle.imap_command.specs.Keys.{key_text}
 use Rattle.imap_command.proofs.KeySteps.{left_text}
 use Rattle.imap_command.proofs.keys.+printing.Given as goal
 
