@@ -1,8 +1,8 @@
 -- The law of each combinator of forms.
 use Rattle.std.proofs.Common.{◌≡◌, ℕ, List, [], ◌∷◌, ◌++◌, Bool, true, false, ◌||◌, ◌==◌, inl, inr, ⊎_elim, refl, sym, ap, ◌∙◌, subst}
-use Rattle.std.proofs.Common.{eqb-true, Option, None, Some}
+use Rattle.std.proofs.Common.{eqb-true, None, Some}
 use Rattle.grammar.specs.Part.{Part, ◌then◌, give, map, byte, choose}
-use Rattle.grammar.specs.Exact.{Good, Begins, StartsWith, StartsWithout}
+use Rattle.grammar.specs.Exact.{Begins, StartsWith}
 use Rattle.grammar.specs.Forms.{Form, Law, nothing, ◌and◌, behind, followed, ◌spaced◌, made, choice, constant, maybe, maybe_text, given_text, closed, dispatch}
 use Rattle.grammar.proofs.SequenceLaw.{good_give, good_map, good_then}
 use Rattle.grammar.proofs.ChoiceLaw.{good_choose}
@@ -16,7 +16,7 @@ use Rattle.grammar.proofs.ToolLaws.{good_weaker, good_byte, good_behind, begins_
 abbrev pub Within : (ℕ → Bool) → (ℕ → Bool) → Type 0
 Within few many = (c : ℕ) → few c ≡ true → many c ≡ true
 
-begins_give : {A : Type 0} (after : ℕ → Bool) (a : A) → Begins after after (give a)
+pub begins_give : {A : Type 0} (after : ℕ → Bool) (a : A) → Begins after after (give a)
 begins_give after a = record { full = λ c tail b e. absurd (no_byte e.0); empty = λ _ _ _ h. h }
 
 pub begins_map : {A B : Type 0} {starts after : ℕ → Bool} (f : A → B) (p : Part A) → Begins starts after p → Begins starts after (map f p)

@@ -22,3 +22,4 @@ pub mod SeveralLaw
 pub mod NumeralLaw
 pub mod DecimalLaw
 pub mod MembersLaw
+pub mod NestedLaw

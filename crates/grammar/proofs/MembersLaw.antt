@@ -1,5 +1,5 @@
 -- The words that are one of some texts are lawful, and end before a byte that none may have.
-use Rattle.std.proofs.Common.{◌≡◌, ℕ, List, [], ◌∷◌, ◌++◌, Bool, true, false, ◌&&◌, ◌||◌, ◌==◌, refl, sym, ap, ◌∙◌, subst, eq-eqb, eqb-true}
+use Rattle.std.proofs.Common.{◌≡◌, ℕ, List, [], ◌∷◌, ◌++◌, Bool, true, false, ◌&&◌, ◌||◌, ◌==◌, refl, ap, ◌∙◌, subst, eq-eqb, eqb-true}
 use Rattle.std.specs.List.{list_all, list_any}
 use Rattle.grammar.specs.Members.{begins_with, begins_some_of, is_same, members}
 use Rattle.grammar.specs.Runs.{some}

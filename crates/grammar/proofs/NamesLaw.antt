@@ -1,8 +1,8 @@
 -- A table of names: the law of its form.
-use Rattle.std.proofs.Common.{◌≡◌, ℕ, List, [], ◌∷◌, ◌++◌, Bool, true, false, ◌||◌, cond, refl, sym, ap, ◌∙◌, subst, eq-eqb, eqb-true}
+use Rattle.std.proofs.Common.{◌≡◌, ℕ, List, [], ◌∷◌, Bool, true, false, ◌||◌, cond, refl, sym, ap, ◌∙◌, subst, eq-eqb, eqb-true}
 use Rattle.std.specs.List.{list_all, list_any}
 use Rattle.std.specs.Char.{eq_ignore_ascii_case, to_ascii_lowercase}
-use Rattle.grammar.specs.Part.{◌then◌, map, give}
+use Rattle.grammar.specs.Part.{give}
 use Rattle.grammar.specs.Exact.{StartsWith, among}
 use Rattle.grammar.specs.Words.{word, Lawful}
 use Rattle.grammar.specs.Tables.{any_case, begins_some, starts_name, is_name, lacks}

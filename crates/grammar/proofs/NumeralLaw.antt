@@ -4,7 +4,7 @@ use Rattle.std.proofs.Common.{refl, sym, ap, ◌∙◌, subst, arith, leb, leb-t
 use Rattle.std.proofs.lemmas.Bool.Decides.{nat_tests}
 use Rattle.std.specs.List.{list_all}
 use Rattle.mur_base.specs.Number.{is_digit, digits_behind}
-use Rattle.grammar.specs.Part.{map, give}
+use Rattle.grammar.specs.Part.{give}
 use Rattle.grammar.specs.Words.{word, Lawful}
 use Rattle.grammar.specs.Numbers.{value_of, no_zero_first, numerals, digits_within, decimal_text}
 use Rattle.grammar.specs.Runs.{some}

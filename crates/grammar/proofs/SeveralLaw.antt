@@ -2,7 +2,7 @@
 use Rattle.std.proofs.Common.{◌≡◌, ℕ, zero, suc, List, [], ◌∷◌, ◌++◌, length, Bool, true, false, ◌==◌, inl, inr, refl, sym, ap, subst}
 use Rattle.std.proofs.Common.{append-nil, append_assoc}
 use Rattle.std.specs.Prelude.{⊤}
-use Rattle.grammar.specs.Part.{Part, ◌then◌, map, byte, turns, repeat}
+use Rattle.grammar.specs.Part.{Part, map, byte, turns, repeat}
 use Rattle.grammar.specs.Exact.{Good, Begins, StartsWith}
 use Rattle.grammar.specs.Forms.{Form, Law, several, one_more, more_text, list_text}
 use Rattle.grammar.proofs.SequenceLaw.{good_map, good_then}

@@ -2,7 +2,7 @@
 use Rattle.std.proofs.Common.{◌≡◌, ℕ, List, [], ◌∷◌, ◌++◌, Bool, true, false, ◌==◌, refl, sym, ap, ⊎_elim, subst, ◌∙◌, eq-eqb}
 use Rattle.std.proofs.Common.{eqb-true}
 use Rattle.grammar.specs.Part.{Part, ◌then◌, ◌sp◌, give, map, byte, optional}
-use Rattle.grammar.specs.Exact.{Begins, StartsWith, Good, any}
+use Rattle.grammar.specs.Exact.{Begins, Good, any}
 use Rattle.grammar.proofs.Reading.{empty_halves}
 use Rattle.grammar.proofs.SequenceLaw.{good_give, good_map, good_then}
 use Rattle.grammar.proofs.ChoiceLaw.{good_choose, good_one_of}

@@ -1,5 +1,5 @@
 -- Forms: parts of a grammar that are printed too, and the one law of each.
-use Rattle.std.specs.Prelude.{◌≡◌, ℕ, ⊤, Bool, ◌==◌, List, [], ◌∷◌, ◌++◌, map, Option, None, Some, if◌then◌else◌}
+use Rattle.std.specs.Prelude.{ℕ, ⊤, Bool, ◌==◌, List, [], ◌∷◌, ◌++◌, map, Option, None, Some, if◌then◌else◌}
 use Rattle.std.specs.List.{list_all}
 use Rattle.mur_base.specs.Ascii.{space}
 use Rattle.grammar.specs.Part.{Part, ◌then◌, give, map as map_part, byte, choose, repeat}

@@ -2,6 +2,7 @@ pub mod Exact
 pub mod Forms
 pub mod Gives
 pub mod Members
+pub mod Nested
 pub mod Numbers
 pub mod Part
 pub mod Runs

@@ -1,6 +1,6 @@
 -- Arguments of commands: strings and atoms, which a space or the end of the line ends, and what stands behind a space.
-use Rattle.std.proofs.Common.{◌≡◌, ℕ, List, [], ◌∷◌, Bool, true, false, not, ◌==◌, refl}
-use Rattle.grammar.specs.Exact.{Good, any, among}
+use Rattle.std.proofs.Common.{◌≡◌, ℕ, [], ◌∷◌, Bool, true, false, not, ◌==◌, refl}
+use Rattle.grammar.specs.Exact.{any, among}
 use Rattle.grammar.specs.Forms.{Form, Law, behind, several}
 use Rattle.grammar.specs.Runs.{run}
 use Rattle.grammar.proofs.Conditions.{not_true, among_all}

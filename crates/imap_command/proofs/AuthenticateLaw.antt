@@ -1,5 +1,5 @@
 -- AUTHENTICATE: the law of its arguments.
-use Rattle.std.proofs.Common.{◌≡◌, ℕ, [], ◌∷◌, ◌==◌, true, false, not, refl, codes}
+use Rattle.std.proofs.Common.{◌≡◌, ℕ, [], ◌∷◌, true, false, not, refl, codes}
 use Rattle.grammar.specs.Exact.{any, among}
 use Rattle.grammar.specs.Forms.{Law, maybe, worded}
 use Rattle.grammar.specs.Runs.{run}

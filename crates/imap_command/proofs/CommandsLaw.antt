@@ -1,7 +1,7 @@
 -- What stands behind the name of each command: its law, and that it is of that name.
-use Rattle.std.proofs.Common.{◌≡◌, ℕ, true, false, List, [], ◌∷◌, ◌++◌, ◌==◌, None, Some, refl, ap, ◌∙◌}
+use Rattle.std.proofs.Common.{◌≡◌, ℕ, true, false, List, [], ◌∷◌, ◌==◌, None, Some, refl, ap}
 use Rattle.grammar.specs.Exact.{among}
-use Rattle.grammar.specs.Forms.{Form, Law, behind, closed, constant, dispatch, made, nothing, several}
+use Rattle.grammar.specs.Forms.{Law, behind, dispatch, nothing, several}
 use Rattle.grammar.proofs.FormLaw.{Branch, branch, one_byte, apart_byte, law_closed, law_dispatch, law_nothing, law_spaced, law_weaker}
 use Rattle.grammar.proofs.NamesLaw.{law_table}
 use Rattle.grammar.proofs.SeveralLaw.{law_several}
@@ -19,6 +19,7 @@ use Rattle.imap_command.specs.Authenticate.{authenticate}
 use Rattle.imap_command.specs.Copy.{copy}
 use Rattle.imap_command.specs.Fetch.{fetch}
 use Rattle.imap_command.specs.List.{list}
+use Rattle.imap_command.specs.Search.{search}
 use Rattle.imap_command.specs.SetAcl.{set_acl}
 use Rattle.imap_command.specs.Sets.{set}
 use Rattle.imap_command.specs.Xfer.{xfer}
@@ -32,6 +33,7 @@ use Rattle.imap_command.proofs.AppendLaw.{law_append}
 use Rattle.imap_command.proofs.AuthenticateLaw.{law_authenticate}
 use Rattle.imap_command.proofs.FetchLaw.{law_fetch}
 use Rattle.imap_command.proofs.ListLaw.{law_list}
+use Rattle.imap_command.proofs.SearchLaw.{law_search}
 use Rattle.imap_command.proofs.SetAclLaw.{law_set_acl}
 use Rattle.imap_command.proofs.SetsLaw.{law_set}
 use Rattle.imap_command.proofs.StoreLaw.{law_store}
@@ -63,6 +65,7 @@ uid_branch uid.Copy = branch uid_verb_of uid.Copy (λ x. command.Copy true x.0 x
 uid_branch uid.Expunge =
     branch uid_verb_of uid.Expunge (λ parts. command.Expunge (Some parts)) arguments_text (behind 32 set) law_spaced_set (λ parts. (refl, refl))
 uid_branch uid.Fetch = branch uid_verb_of uid.Fetch (λ x. command.Fetch true x.0 x.1) arguments_text fetch law_fetch (λ x. (refl, refl))
+uid_branch uid.Search = branch uid_verb_of uid.Search (command.Search true) arguments_text search law_search (λ _. (refl, refl))
 uid_branch uid.Store = branch uid_verb_of uid.Store (λ x. command.Store true x.0 x.1.0.0 x.1.0.1 x.1.1) arguments_text store law_store (λ x. (refl, refl))
 
 -- a command behind UID
@@ -71,6 +74,7 @@ unfolding uid_arguments verb_of
 is_uid_command uid.Copy bytes it j = ap verb_of j.goes_on.1
 is_uid_command uid.Expunge bytes it j = ap verb_of j.goes_on.1
 is_uid_command uid.Fetch bytes it j = ap verb_of j.goes_on.1
+is_uid_command uid.Search bytes it j = ap verb_of j.goes_on.1
 is_uid_command uid.Store bytes it j = ap verb_of j.goes_on.1
 
 law_uid : Law ends_atom ends_line uid_command
@@ -100,6 +104,7 @@ branch_of verb.Login = branch verb_of verb.Login (λ x. command.Login x.0 x.1) a
 branch_of verb.Logout = branch verb_of verb.Logout (λ _. command.Logout) arguments_text nothing law_none (λ _. (refl, refl))
 branch_of verb.MyRights = branch verb_of verb.MyRights command.MyRights arguments_text one_string law_one_string (λ _. (refl, refl))
 branch_of verb.Noop = branch verb_of verb.Noop (λ _. command.Noop) arguments_text nothing law_none (λ _. (refl, refl))
+branch_of verb.Search = branch verb_of verb.Search (command.Search false) arguments_text search law_search (λ _. (refl, refl))
 branch_of verb.Select = branch verb_of verb.Select command.Select arguments_text one_string law_one_string (λ _. (refl, refl))
 branch_of verb.SetAcl =
     branch verb_of verb.SetAcl (λ x. command.SetAcl x.0 x.1.0 x.1.1.0 x.1.1.1) arguments_text set_acl law_set_acl (λ x. (refl, refl))

@@ -1,10 +1,10 @@
 -- FETCH: the law of its items and its arguments.
 use Rattle.std.proofs.Common.{◌≡◌, ℕ, List, [], ◌∷◌, ◌++◌, Bool, true, false, ◌==◌, ◌||◌, Option, None, Some, inl, refl, sym, ap, ◌∙◌, subst, eqb-true}
-use Rattle.grammar.specs.Part.{◌then◌, give, byte}
+use Rattle.grammar.specs.Part.{give, byte}
 use Rattle.grammar.specs.Exact.{among}
-use Rattle.grammar.specs.Forms.{Law, ◌and◌, behind, begins_row, closed, dispatch, made, nothing, numeral, several, table}
+use Rattle.grammar.specs.Forms.{Law, ◌and◌, behind, begins_row, made, nothing, numeral, several, table}
 use Rattle.grammar.proofs.Conditions.{among_all}
-use Rattle.grammar.proofs.FormLaw.{Branch, branch, Within, one_byte, apart_byte, law_and, law_behind, law_choice, law_closed, law_dispatch, law_followed}
+use Rattle.grammar.proofs.FormLaw.{Branch, branch, one_byte, apart_byte, law_and, law_behind, law_choice, law_closed, law_dispatch, law_followed}
 use Rattle.grammar.proofs.FormLaw.{law_made, law_maybe, law_nothing, law_spaced, law_weaker, spell_closed}
 use Rattle.grammar.proofs.NamesLaw.{law_table, spell_name}
 use Rattle.grammar.proofs.NumeralLaw.{law_numeral}

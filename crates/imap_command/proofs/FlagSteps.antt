@@ -1,14 +1,11 @@
 -- What the code of a flag rests on.
-use Rattle.std.proofs.Common.{◌≡◌, ◌⊎◌, ℕ, List, [], ◌∷◌, length, Bool, true, false, ◌&&◌, not, nat_le, nat_lt, ◌==◌, cond, Option, None, Some, Result, Ok}
-use Rattle.std.proofs.Common.{Err, ⊎_elim, refl, sym, ap, ◌∙◌, arith}
+use Rattle.std.proofs.Common.{◌≡◌, ℕ, List, [], ◌∷◌, length, Bool, true, false, nat_le, nat_lt, ◌==◌, cond, None, Ok}
+use Rattle.std.proofs.Common.{Err, ⊎_elim, refl, arith}
 use Rattle.std.proofs.lemmas.Bool.Decides.{nat_tests}
 use Rattle.std.specs.List.{list_all}
-use Rattle.grammar.specs.Runs.{some}
 use Rattle.grammar.proofs.Conditions.{and_left, and_right}
-use Rattle.mur_base.specs.declared.name.NameFault.{NameFault}
 use Rattle.mail_message.specs.FlagSets.{Flags, with_flag, has_too_many, IsMade, IsMadeBy}
 use Rattle.mail_message.specs.Keywords.{is_atom_byte, is_atom, keyword_fault}
-use Rattle.mail_message.specs.declared.flag_name.FlagFault.{FlagFault}
 use Rattle.mail_message.specs.declared.flag_name.FlagFault.TheVariants.{TooMany}
 use Rattle.mail_message.specs.declared.flag_name.FlagName.{FlagName}
 use Rattle.imap_command.specs.Flags.{any_keyword, put_flag}

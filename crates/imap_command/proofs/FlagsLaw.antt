@@ -1,8 +1,8 @@
 -- Flags are read exactly.
-use Rattle.std.proofs.Common.{◌≡◌, ℕ, List, [], ◌∷◌, Bool, true, false, ◌&&◌, ◌||◌, not, ◌==◌, nat_le, length, cond, refl, sym, ap, ◌∙◌, subst, lit<}
+use Rattle.std.proofs.Common.{◌≡◌, ℕ, List, [], ◌∷◌, Bool, true, false, ◌&&◌, ◌||◌, not, ◌==◌, nat_le, length, cond, refl, subst, lit<}
 use Rattle.std.specs.List.{list_all, list_any}
-use Rattle.grammar.specs.Part.{Part, ◌then◌, give, map, byte, choose, repeat, spaced}
-use Rattle.grammar.specs.Exact.{Good, Begins, StartsWith, any, among}
+use Rattle.grammar.specs.Part.{Part, ◌then◌, give, map, byte, repeat, spaced}
+use Rattle.grammar.specs.Exact.{Good, StartsWith, among}
 use Rattle.grammar.specs.Forms.{Law, table}
 use Rattle.grammar.specs.Members.{begins_with, is_same, members}
 use Rattle.grammar.specs.Runs.{some}
@@ -20,7 +20,6 @@ use Rattle.grammar.proofs.ToolLaws.{good_byte, good_behind}
 use Rattle.grammar.proofs.WordLaw.{good_word}
 use Rattle.mail_message.specs.FlagSets.{Flags, no_flags}
 use Rattle.mail_message.specs.declared.flag_name.FlagName.TheVariants.{System, Keyword}
-use Rattle.mail_message.specs.declared.system_flags.SystemFlag.{SystemFlag}
 use Rattle.mail_message.specs.declared.system_flags.SystemFlag.TheVariants.{Answered}
 use Rattle.mail_message.specs.Keywords.{is_atom_byte}
 use Rattle.imap_command.specs.Flags.{system_rows, system_text, system_flag, any_keyword, is_full, keywords_beside, put_flag, flag, some_flags}
@@ -53,7 +52,7 @@ pub record AreKeywords (w : Words) : Type 0 where
   pub first : (c : ℕ) → w.begins (c ∷ []) ≡ true → is_atom_byte c ≡ true
   pub valid : (k : List ℕ) → w.whole k ≡ true → any_keyword.whole k ≡ true
 
-any_are : AreKeywords any_keyword
+pub any_are : AreKeywords any_keyword
 unfolding is_atom_byte
 any_are = record {
   lawful = lawful_run_upto is_atom_byte 64 97 refl (lit< tt);

@@ -1,10 +1,10 @@
 -- Flags that some bytes spell are spelled as they are printed: their keywords stand in order, and are not too many.
-use Rattle.std.proofs.Common.{◌≡◌, ℕ, ◌+◌, ◌<◌, ◌≤◌, List, [], ◌∷◌, ◌++◌, length, Bool, true, false, ◌&&◌, ◌==◌, nat_le, nat_lt, cond, inl, inr, refl, sym}
+use Rattle.std.proofs.Common.{◌≡◌, ℕ, ◌<◌, ◌≤◌, List, [], ◌∷◌, ◌++◌, length, Bool, true, false, ◌==◌, nat_le, nat_lt, cond, inl, inr, refl, sym}
 use Rattle.std.proofs.Common.{ap, ◌∙◌, subst}
-use Rattle.std.proofs.Common.{append-nil, append_assoc, length-append, arith, leb-true}
+use Rattle.std.proofs.Common.{append-nil, append_assoc, length-append, arith}
 use borrow.Author.Tests.{lt-leb}
 use Rattle.std.proofs.lemmas.Bool.Decides.{nat_tests}
-use Rattle.std.specs.List.{list_all, list_any}
+use Rattle.std.specs.List.{list_all}
 use Rattle.std.specs.List.Sorted.{IsStrictlySortedBy}
 use Rattle.std.specs.Ordering.{nat_cmp}
 use Rattle.std.specs.Cmp.Lexicographic.{slice_cmp}
@@ -17,7 +17,7 @@ use Rattle.grammar.specs.Members.{is_same, members}
 use Rattle.grammar.specs.Runs.{some}
 use Rattle.grammar.specs.Words.{word}
 use Rattle.grammar.proofs.Conditions.{and_both, and_left, and_right, and_false}
-use Rattle.grammar.proofs.FormLaw.{Within, one_byte, apart_byte}
+use Rattle.grammar.proofs.FormLaw.{one_byte, apart_byte}
 use Rattle.grammar.proofs.MembersLaw.{same_is}
 use Rattle.grammar.proofs.NamesLaw.{spell_name}
 use Rattle.grammar.proofs.RepetitionLaw.{begins_any}

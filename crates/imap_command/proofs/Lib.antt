@@ -24,3 +24,7 @@ pub mod FlagSteps
 pub mod StoreLaw
 pub mod DateLaw
 pub mod AppendLaw
+pub mod KeySteps
+pub mod DatesLaw
+pub mod KeysLaw
+pub mod SearchLaw

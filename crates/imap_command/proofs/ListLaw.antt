@@ -1,14 +1,13 @@
 -- LIST: the law of its arguments.
 use Rattle.std.proofs.Common.{◌≡◌, ℕ, List, [], ◌∷◌, Bool, true, false, ◌||◌, not, ◌==◌, inl, inr, ⊎_elim, refl, ap, eqb-true}
 use Rattle.std.specs.List.{list_all}
-use Rattle.grammar.specs.Part.{choose}
-use Rattle.grammar.specs.Exact.{any, among}
+use Rattle.grammar.specs.Exact.{any}
 use Rattle.grammar.specs.Forms.{Law}
-use Rattle.grammar.specs.Runs.{run, some}
+use Rattle.grammar.specs.Runs.{run}
 use Rattle.grammar.specs.Words.{word}
 use Rattle.grammar.proofs.ChoiceLaw.{good_choose}
 use Rattle.grammar.proofs.Conditions.{and_both, and_left, and_right, or_left, not_true, among_all}
-use Rattle.grammar.proofs.FormLaw.{one_byte, law_spaced}
+use Rattle.grammar.proofs.FormLaw.{law_spaced}
 use Rattle.grammar.proofs.RepetitionLaw.{begins_any}
 use Rattle.grammar.proofs.RunLaw.{lawful_run, apart_run}
 use Rattle.grammar.proofs.StartLaw.{starts_word, without_from}

@@ -1,6 +1,6 @@
 -- What is printed of a command is a spelling of it, where it has one.
-use Rattle.std.proofs.Common.{◌≡◌, ℕ, List, ◌∷◌, ◌++◌, refl, sym, subst}
-use Rattle.grammar.specs.Part.{◌sp◌, map}
+use Rattle.std.proofs.Common.{refl, sym, subst}
+use Rattle.grammar.specs.Part.{map}
 use Rattle.grammar.specs.Words.{word}
 use Rattle.grammar.proofs.Spelling.{spell_sp, spell_map}
 use Rattle.imap_command.specs.Print.{tag_text, printed}

@@ -3,7 +3,6 @@ use Rattle.std.proofs.Common.{◌≡◌, ℕ, List, [], ◌∷◌, Bool, true, f
 use Rattle.grammar.specs.Exact.{any}
 use Rattle.grammar.specs.Forms.{Law, ◌spaced◌}
 use Rattle.grammar.proofs.FormLaw.{law_made, law_spaced}
-use Rattle.mail_message.specs.declared.mode.Mode.{Mode}
 use Rattle.mail_message.specs.declared.mode.Mode.TheVariants.{Replace, Add, Remove}
 use Rattle.imap_command.specs.SetAcl.{rights_of, signed, mod_rights, set_acl}
 use Rattle.imap_command.specs.Strings.{argument, astring_text}

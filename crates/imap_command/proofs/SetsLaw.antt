@@ -1,5 +1,5 @@
 -- Sets of message numbers: the law of their form.
-use Rattle.std.proofs.Common.{◌≡◌, ℕ, List, [], ◌∷◌, ◌++◌, Bool, true, false, not, ◌==◌, ◌||◌, Option, None, Some, refl}
+use Rattle.std.proofs.Common.{◌≡◌, ℕ, List, [], ◌∷◌, ◌++◌, Bool, true, false, not, Option, None, Some, refl}
 use Rattle.grammar.specs.Exact.{among}
 use Rattle.grammar.specs.Forms.{Law, constant, made, maybe, maybe_text, nothing}
 use Rattle.grammar.proofs.Conditions.{not_true, among_all}
@@ -9,7 +9,7 @@ use Rattle.grammar.proofs.SeveralLaw.{law_several}
 use Rattle.mur_base.specs.Number.{is_digit, digits_behind}
 use Rattle.mail_message.specs.declared.set.SetEnd.{SetEnd}
 use Rattle.mail_message.specs.declared.set.SetEnd.TheVariants.{Number, Last}
-use Rattle.imap_command.specs.Sets.{set_number, end_text, star_text, set_end, part_of, part_text, set_part, set}
+use Rattle.imap_command.specs.Sets.{set_number, end_text, star_text, set_end, is_set_start, part_of, part_text, set_part, set}
 
 -- a space, the end of the line or a closing parenthesis
 abbrev pub ends_set : ℕ → Bool
@@ -19,11 +19,8 @@ ends_set = among (32 ∷ 13 ∷ 41 ∷ [])
 abbrev ends_part : ℕ → Bool
 ends_part = among (44 ∷ 32 ∷ 13 ∷ 41 ∷ [])
 
-abbrev starts_set : ℕ → Bool
-starts_set c = (c == 42) || is_digit c
-
 module _ (after : List ℕ) (apart : (c : ℕ) → among after c ≡ true → is_digit c ≡ false) where
-  law_end : Law starts_set (among after) set_end
+  law_end : Law is_set_start (among after) set_end
   unfolding is_digit digits_behind
   law_end =
       law_either 42 end_text (constant Last star_text) (made Number end_text set_number) refl
@@ -43,11 +40,11 @@ same_text : (x : SetEnd × Option SetEnd) → part_text (part_of x) ≡ end_text
 same_text (one, None) = refl
 same_text (one, Some other) = refl
 
-law_part : Law starts_set ends_part set_part
+law_part : Law is_set_start ends_part set_part
 law_part =
     law_made part_of part_text _ same_text
     (law_and set_end (maybe 58 set_end) (law_end (58 ∷ 44 ∷ 32 ∷ 13 ∷ 41 ∷ []) no_digit)
     (law_maybe ends_part 58 set_end refl (law_end (44 ∷ 32 ∷ 13 ∷ 41 ∷ []) no_part_digit)))
 
-pub law_set : Law starts_set ends_set set
+pub law_set : Law is_set_start ends_set set
 law_set = law_several ends_set 44 set_part law_part refl (apart_byte 44 ends_set refl) (among_all ends_part (32 ∷ 13 ∷ 41 ∷ []) refl)

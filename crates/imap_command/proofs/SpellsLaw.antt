@@ -1,10 +1,10 @@
 -- Commands are read exactly.
-use Rattle.std.proofs.Common.{◌≡◌, ℕ, List, [], ◌∷◌, ◌++◌, Bool, true, false, ◌==◌, Result, Ok, refl, sym, ap, ◌∙◌, subst, eqb-true, lit<}
-use Rattle.grammar.specs.Part.{Part, give, ◌then◌, map, byte}
-use Rattle.grammar.specs.Exact.{Good, Begins, Exact, among, whole_at}
+use Rattle.std.proofs.Common.{◌≡◌, ℕ, List, [], ◌∷◌, ◌++◌, Bool, false, ◌==◌, Result, Ok, refl, sym, ap, ◌∙◌, subst, eqb-true, lit<}
+use Rattle.grammar.specs.Part.{Part, give, map, byte}
+use Rattle.grammar.specs.Exact.{Good, Begins, Exact, whole_at}
 use Rattle.grammar.specs.Forms.{Form, Law, begins_row}
 use Rattle.grammar.specs.Words.{word, Lawful, Apart}
-use Rattle.grammar.proofs.FormLaw.{Branch, one_byte, law_dispatch}
+use Rattle.grammar.proofs.FormLaw.{Branch, law_dispatch}
 use Rattle.grammar.proofs.NamesLaw.{law_table}
 use Rattle.grammar.proofs.SequenceLaw.{good_then, good_map, exact_whole}
 use Rattle.grammar.proofs.Spelling.{spell_then, spell_map}

@@ -1,5 +1,5 @@
 -- STORE: the law of its arguments.
-use Rattle.std.proofs.Common.{◌≡◌, ℕ, [], ◌∷◌, true, false, refl}
+use Rattle.std.proofs.Common.{[], ◌∷◌, false, refl}
 use Rattle.grammar.specs.Forms.{Law, ◌spaced◌}
 use Rattle.grammar.proofs.FormLaw.{law_spaced}
 use Rattle.grammar.proofs.NamesLaw.{law_table}

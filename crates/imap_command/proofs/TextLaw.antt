@@ -1,5 +1,5 @@
 -- How a command is printed, in one line.
-use Rattle.std.proofs.Common.{◌≡◌, ℕ, List, [], ◌∷◌, ◌++◌, refl, ap}
+use Rattle.std.proofs.Common.{◌≡◌, [], ◌∷◌, ◌++◌, refl, ap}
 use Rattle.mur_model.specs.declared.command.Command.{Command}
 use Rattle.imap_command.specs.declared.verb.Verb.{Verb}
 use Rattle.imap_command.specs.declared.verb.Verb.TheVariants as verb
@@ -14,6 +14,7 @@ unfolding uid_arguments
 uid_text uid.Copy it = refl
 uid_text uid.Expunge it = refl
 uid_text uid.Fetch it = refl
+uid_text uid.Search it = refl
 uid_text uid.Store it = refl
 
 text_behind : (v : Verb) (it : Command) → (arguments v).text it ≡ behind_text v it

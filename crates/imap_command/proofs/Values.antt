@@ -1,5 +1,5 @@
 -- What holds of each value that a part spells, from its parts.
-use Rattle.std.proofs.Common.{◌≡◌, ℕ, zero, suc, List, ◌∷◌, Bool, true, ◌==◌, inl, inr, refl, sym, subst}
+use Rattle.std.proofs.Common.{◌≡◌, ℕ, zero, suc, List, ◌∷◌, Bool, true, inl, inr, refl, sym, subst}
 use Rattle.std.specs.List.{list_all}
 use Rattle.grammar.specs.Part.{Part, give, ◌then◌, map, byte, choose, exactly, turns, repeat}
 use Rattle.grammar.proofs.Conditions.{and_both}

@@ -1,5 +1,5 @@
 -- XFER: the law of its arguments.
-use Rattle.std.proofs.Common.{◌≡◌, ℕ, [], ◌∷◌, true, false, refl}
+use Rattle.std.proofs.Common.{◌≡◌, ℕ, [], ◌∷◌, true, refl}
 use Rattle.grammar.specs.Exact.{among}
 use Rattle.grammar.specs.Forms.{Law, ◌and◌, maybe}
 use Rattle.grammar.proofs.Conditions.{among_all}

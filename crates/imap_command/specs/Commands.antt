@@ -1,7 +1,7 @@
 -- What stands behind the name of each command (RFC 9051, 9; RFC 4314, 4).
 use Rattle.std.specs.Prelude.{ℕ, true, false, List, [], ◌∷◌, ◌++◌, if◌then◌else◌, None, Some}
 use Rattle.mur_base.specs.Ascii.{space}
-use Rattle.grammar.specs.Forms.{Form, behind, constant, dispatch, made, nothing, several}
+use Rattle.grammar.specs.Forms.{Form, behind, constant, dispatch, made, several}
 use Rattle.mur_model.specs.declared.command.Command.{Command}
 use Rattle.mur_model.specs.declared.command.Command.TheVariants as command
 use Rattle.imap_command.specs.declared.verb.Verb.{Verb}
@@ -14,6 +14,7 @@ use Rattle.imap_command.specs.Authenticate.{authenticate}
 use Rattle.imap_command.specs.Copy.{copy}
 use Rattle.imap_command.specs.Fetch.{fetch}
 use Rattle.imap_command.specs.List.{list}
+use Rattle.imap_command.specs.Search.{search}
 use Rattle.imap_command.specs.SetAcl.{set_acl}
 use Rattle.imap_command.specs.Sets.{set}
 use Rattle.imap_command.specs.Status.{status}
@@ -38,6 +39,7 @@ arguments_text (command.GetAcl mailbox) = one_string.text mailbox
 arguments_text (command.List reference pattern) = list.text (reference, pattern)
 arguments_text (command.Login user password) = two_strings.text (user, password)
 arguments_text (command.MyRights mailbox) = one_string.text mailbox
+arguments_text (command.Search by_uid keys) = search.text keys
 arguments_text (command.Select mailbox) = one_string.text mailbox
 arguments_text (command.SetAcl mailbox id mode rights) = set_acl.text (mailbox, (id, (mode, rights)))
 arguments_text (command.Status mailbox items) = status.text (mailbox, items)
@@ -49,9 +51,10 @@ unfoldable pub uid_arguments : UidVerb → Form Command
 uid_arguments uid.Copy = made (λ x. command.Copy true x.0 x.1) arguments_text copy
 uid_arguments uid.Expunge = made (λ parts. command.Expunge (Some parts)) arguments_text (behind space set)
 uid_arguments uid.Fetch = made (λ x. command.Fetch true x.0 x.1) arguments_text fetch
+uid_arguments uid.Search = made (command.Search true) arguments_text search
 uid_arguments uid.Store = made (λ x. command.Store true x.0 x.1.0.0 x.1.0.1 x.1.1) arguments_text store
 
--- SP (copy / uid-expunge / fetch / store)
+-- SP (copy / uid-expunge / fetch / search / store)
 abbrev pub uid_command : Form Command
 uid_command = behind space (dispatch uid_verb_form uid_verb_of uid_arguments)
 
@@ -75,6 +78,7 @@ arguments verb.Login = made (λ x. command.Login x.0 x.1) arguments_text two_str
 arguments verb.Logout = constant command.Logout arguments_text
 arguments verb.MyRights = made command.MyRights arguments_text one_string
 arguments verb.Noop = constant command.Noop arguments_text
+arguments verb.Search = made (command.Search false) arguments_text search
 arguments verb.Select = made command.Select arguments_text one_string
 arguments verb.SetAcl = made (λ x. command.SetAcl x.0 x.1.0 x.1.1.0 x.1.1.1) arguments_text set_acl
 arguments verb.Status = made (λ x. command.Status x.0 x.1) arguments_text status

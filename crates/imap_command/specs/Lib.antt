@@ -20,3 +20,6 @@ pub mod Authenticate
 pub mod Fetch
 pub mod Flags
 pub mod Store
+pub mod Dates
+pub mod Keys
+pub mod Search

@@ -1,6 +1,7 @@
 -- sequence-set = (seq-number / seq-range) ["," sequence-set] (RFC 9051, 9).
-use Rattle.std.specs.Prelude.{ℕ, false, ◌==◌, List, [], ◌∷◌, ◌++◌, Option, None, Some}
+use Rattle.std.specs.Prelude.{ℕ, Bool, false, ◌||◌, ◌==◌, List, [], ◌∷◌, ◌++◌, Option, None, Some}
 use Rattle.mur_base.specs.Ascii.{comma, colon, star}
+use Rattle.mur_base.specs.Number.{is_digit}
 use Rattle.grammar.specs.Forms.{Form, ◌and◌, behind, choice, constant, made, maybe, numeral, several}
 use Rattle.grammar.specs.Numbers.{decimal_text}
 use Rattle.mail_message.specs.declared.set.SetEnd.{SetEnd}
@@ -31,6 +32,10 @@ part_of (one, Some other) = Range one other
 abbrev pub part_text : SetPart → List ℕ
 part_text (One one) = end_text one ++ []
 part_text (Range one other) = end_text one ++ colon ∷ end_text other
+
+-- what a set begins with
+abbrev pub is_set_start : ℕ → Bool
+is_set_start c = (c == star) || is_digit c
 
 -- seq-number / seq-range, in which the ends may stand in either order
 abbrev pub set_part : Form SetPart

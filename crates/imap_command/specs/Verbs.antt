@@ -16,7 +16,7 @@ verbs =
     ∷ (codes "EXAMINE", verb.Examine) ∷ (codes "EXPUNGE", verb.Expunge) ∷ (codes "FETCH", verb.Fetch)
     ∷ (codes "GETACL", verb.GetAcl) ∷ (codes "IDLE", verb.Idle) ∷ (codes "LIST", verb.List)
     ∷ (codes "LOGIN", verb.Login) ∷ (codes "LOGOUT", verb.Logout) ∷ (codes "MYRIGHTS", verb.MyRights)
-    ∷ (codes "NOOP", verb.Noop) ∷ (codes "SELECT", verb.Select) ∷ (codes "SETACL", verb.SetAcl)
+    ∷ (codes "NOOP", verb.Noop) ∷ (codes "SEARCH", verb.Search) ∷ (codes "SELECT", verb.Select) ∷ (codes "SETACL", verb.SetAcl)
     ∷ (codes "STATUS", verb.Status) ∷ (codes "STORE", verb.Store) ∷ (codes "UID", verb.Uid)
     ∷ (codes "UNSELECT", verb.Unselect) ∷ (codes "XFER", verb.Xfer) ∷ []
 
@@ -40,6 +40,7 @@ name_text verb.Login = codes "LOGIN"
 name_text verb.Logout = codes "LOGOUT"
 name_text verb.MyRights = codes "MYRIGHTS"
 name_text verb.Noop = codes "NOOP"
+name_text verb.Search = codes "SEARCH"
 name_text verb.Select = codes "SELECT"
 name_text verb.SetAcl = codes "SETACL"
 name_text verb.Status = codes "STATUS"
@@ -75,6 +76,8 @@ verb_of (command.Login user password) = verb.Login
 verb_of command.Logout = verb.Logout
 verb_of (command.MyRights mailbox) = verb.MyRights
 verb_of command.Noop = verb.Noop
+verb_of (command.Search false keys) = verb.Search
+verb_of (command.Search true keys) = verb.Uid
 verb_of (command.Select mailbox) = verb.Select
 verb_of (command.SetAcl mailbox id mode rights) = verb.SetAcl
 verb_of (command.Status mailbox items) = verb.Status
@@ -83,14 +86,16 @@ verb_of (command.Store true set mode is_silent flags) = verb.Uid
 verb_of command.Unselect = verb.Unselect
 verb_of (command.Xfer mailbox server partition) = verb.Xfer
 
--- uid = "UID" SP (copy / uid-expunge / fetch / store)
+-- uid = "UID" SP (copy / uid-expunge / fetch / search / store)
 abbrev pub uid_verbs : List (Row UidVerb)
-uid_verbs = (codes "COPY", uid.Copy) ∷ (codes "EXPUNGE", uid.Expunge) ∷ (codes "FETCH", uid.Fetch) ∷ (codes "STORE", uid.Store) ∷ []
+uid_verbs =
+    (codes "COPY", uid.Copy) ∷ (codes "EXPUNGE", uid.Expunge) ∷ (codes "FETCH", uid.Fetch) ∷ (codes "SEARCH", uid.Search) ∷ (codes "STORE", uid.Store) ∷ []
 
 unfoldable pub uid_name_text : UidVerb → List ℕ
 uid_name_text uid.Copy = codes "COPY"
 uid_name_text uid.Expunge = codes "EXPUNGE"
 uid_name_text uid.Fetch = codes "FETCH"
+uid_name_text uid.Search = codes "SEARCH"
 uid_name_text uid.Store = codes "STORE"
 
 abbrev pub uid_verb_form : Form UidVerb
@@ -100,6 +105,7 @@ uid_verb_form = table uid.Copy uid_verbs uid_name_text
 unfoldable pub uid_verb_of : Command → UidVerb
 uid_verb_of (command.Expunge set) = uid.Expunge
 uid_verb_of (command.Fetch by_uid set items) = uid.Fetch
+uid_verb_of (command.Search by_uid keys) = uid.Search
 uid_verb_of (command.Store by_uid set mode is_silent flags) = uid.Store
 uid_verb_of it = uid.Copy
 

@@ -9,6 +9,7 @@ use crate::authenticate::authenticate_of;
 use crate::copy::copy_of;
 use crate::items::fetch_of;
 use crate::list::list_of;
+use crate::search::search_of;
 use crate::set_acl::set_acl_of;
 use crate::sets::set_of;
 use crate::status::status_of;
@@ -158,6 +159,22 @@ fn fetch_command(alloc: Global, bytes: &[u8]) -> Result<(Command, &[u8]), ReadEr
 }
 
 #[tactic(auto, unfolding(crate::specs::Commands::arguments))]
+fn search_command(alloc: Global, bytes: &[u8]) -> Result<(Command, &[u8]), ReadError>
+    ensures { Gives (λ x. (x.0, x.1.now)) result ((arguments Verb.Search).part.at bytes.now) }
+{
+    let (keys, rest) = search_of(alloc, bytes)?;
+    Ok((Command::Search(false, keys), rest))
+}
+
+#[tactic(auto, unfolding(crate::specs::Commands::uid_arguments))]
+fn uid_search_command(alloc: Global, bytes: &[u8]) -> Result<(Command, &[u8]), ReadError>
+    ensures { Gives (λ x. (x.0, x.1.now)) result ((uid_arguments UidVerb.Search).part.at bytes.now) }
+{
+    let (keys, rest) = search_of(alloc, bytes)?;
+    Ok((Command::Search(true, keys), rest))
+}
+
+#[tactic(auto, unfolding(crate::specs::Commands::arguments))]
 fn store_command(alloc: Global, bytes: &[u8]) -> Result<(Command, &[u8]), ReadError>
     ensures { Gives (λ x. (x.0, x.1.now)) result ((arguments Verb.Store).part.at bytes.now) }
 {
@@ -210,6 +227,7 @@ fn uid_arguments_of(
         UidVerb::Copy => uid_copy_command(alloc, bytes),
         UidVerb::Expunge => uid_expunge_command(alloc, bytes),
         UidVerb::Fetch => uid_fetch_command(alloc, bytes),
+        UidVerb::Search => uid_search_command(alloc, bytes),
         UidVerb::Store => uid_store_command(alloc, bytes),
     }
 }
@@ -248,6 +266,7 @@ pub fn arguments_of(alloc: Global, verb: Verb, bytes: &[u8]) -> Result<(Command,
         Verb::Logout => Ok((Command::Logout, bytes)),
         Verb::MyRights => my_rights_command(alloc, bytes),
         Verb::Noop => Ok((Command::Noop, bytes)),
+        Verb::Search => search_command(alloc, bytes),
         Verb::Select => select_command(alloc, bytes),
         Verb::SetAcl => set_acl_command(alloc, bytes),
         Verb::Status => status_command(alloc, bytes),

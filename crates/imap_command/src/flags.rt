@@ -124,6 +124,20 @@ fn keyword_named(alloc: Global, text: &[u8]) -> Result<Keyword, Memory>
     }
 }
 
+/// Reads a keyword that stands alone.
+pub fn lone_keyword_of(alloc: Global, bytes: &[u8]) -> Result<(Keyword, &[u8]), ReadError>
+    ensures { Gives (λ x. (x.0, x.1.now)) result ((word any_keyword).at bytes.now) }
+{
+    let (text, rest) = word_of(
+        &RunUpTo {
+            of: KeywordByte,
+            most: KEYWORD_LIMIT,
+        },
+        bytes,
+    )?;
+    Ok((keyword_named(alloc, text)?, rest))
+}
+
 /// Reads a keyword that may stand beside others.
 fn keyword_of<'a>(
     alloc: Global,
@@ -227,7 +241,7 @@ pub fn store_flags_of(alloc: Global, bytes: &[u8]) -> Result<(FlagSet, &[u8]), R
 }
 
 #[tactic(auto, unfolding(crate::specs::Flags::system_text))]
-fn system_name(flag: SystemFlag) -> &'static [u8]
+pub fn system_name(flag: SystemFlag) -> &'static [u8]
     ensures { result.now ≡ backslash ∷ system_text flag }
 {
     match flag {

@@ -46,7 +46,7 @@ const SINGLE_ROWS: [(&[u8], Option<ItemName>); 7] = [
 ];
 
 /// The greatest number64, of 63 bits.
-const NUMBER_MOST: u64 = 9_223_372_036_854_775_807;
+pub const NUMBER_MOST: u64 = 9_223_372_036_854_775_807;
 
 /// Reads which part of a body is asked for, if not the whole.
 fn partial_of(bytes: &[u8]) -> Result<(Option<Partial>, &[u8]), Stop>

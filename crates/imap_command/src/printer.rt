@@ -13,6 +13,7 @@ use crate::arguments::{put_one_string, put_two_strings};
 use crate::authenticate::{put_authenticate, put_authenticate_with};
 use crate::copy::put_copy;
 use crate::items::put_fetch;
+use crate::search::put_search;
 use crate::set_acl::put_set_acl;
 use crate::sets::put_set;
 use crate::status::put_status;
@@ -66,6 +67,7 @@ fn put_arguments(alloc: Global, command: &Command, out: &mut Bytes) -> Result<()
         Command::Enable(names) => put_names(names, out),
         Command::Expunge(Some(set)) => put_spaced_set(set, out),
         Command::Fetch(_, set, items) => put_fetch(set, items, out),
+        Command::Search(_, keys) => put_search(keys, out),
         Command::SetAcl(mailbox, id, mode, rights) => {
             put_set_acl(alloc, mailbox, id, *mode, rights, out)
         }

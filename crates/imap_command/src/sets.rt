@@ -4,8 +4,8 @@ ghost use Rattle.grammar.specs.Gives.{Finds, Gives};
 ghost use Rattle.imap_command.specs.Sets.{end_text, part_text, set_end, set_part, set};
 
 use grammar::{
-    Only, Production, ReadError, Stop, begins, byte_of, number_of, put_decimal, put_several,
-    several_of,
+    Class, Digit, Only, Production, ReadError, Stop, begins, byte_of, number_of, put_decimal,
+    put_several, several_of,
 };
 use mail_message::{SetEnd, SetPart, SetParts};
 use mur_base::{Bytes, Memory};
@@ -13,6 +13,20 @@ use std::alloc::Global;
 
 /// The greatest number of a message.
 const NUMBER_MOST: u64 = 4_294_967_295;
+
+/// What a set begins with.
+#[derive(Clone, Copy)]
+pub struct SetStart;
+
+impl Class for SetStart {
+    ghost use Rattle.imap_command.specs.Sets.{is_set_start};
+
+    ghost test = { λ _. is_set_start };
+
+    fn holds(&self, byte: u8) -> bool {
+        byte == b'*' || Digit.holds(byte)
+    }
+}
 
 /// Reads seq-number.
 fn set_end_of(bytes: &[u8]) -> Result<(SetEnd, &[u8]), Stop>

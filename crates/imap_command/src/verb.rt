@@ -26,6 +26,7 @@ pub enum Verb {
     Logout,
     MyRights,
     Noop,
+    Search,
     Select,
     SetAcl,
     Status,
@@ -36,7 +37,7 @@ pub enum Verb {
 }
 
 /// The names of the commands.
-pub const VERBS: [(&[u8], Verb); 26] = [
+pub const VERBS: [(&[u8], Verb); 27] = [
     (b"APPEND", Verb::Append),
     (b"AUTHENTICATE", Verb::Authenticate),
     (b"CAPABILITY", Verb::Capability),
@@ -56,6 +57,7 @@ pub const VERBS: [(&[u8], Verb); 26] = [
     (b"LOGOUT", Verb::Logout),
     (b"MYRIGHTS", Verb::MyRights),
     (b"NOOP", Verb::Noop),
+    (b"SEARCH", Verb::Search),
     (b"SELECT", Verb::Select),
     (b"SETACL", Verb::SetAcl),
     (b"STATUS", Verb::Status),
@@ -71,14 +73,16 @@ pub enum UidVerb {
     Copy,
     Expunge,
     Fetch,
+    Search,
     Store,
 }
 
 /// The names that stand behind UID.
-pub const UID_VERBS: [(&[u8], UidVerb); 4] = [
+pub const UID_VERBS: [(&[u8], UidVerb); 5] = [
     (b"COPY", UidVerb::Copy),
     (b"EXPUNGE", UidVerb::Expunge),
     (b"FETCH", UidVerb::Fetch),
+    (b"SEARCH", UidVerb::Search),
     (b"STORE", UidVerb::Store),
 ];
 
@@ -110,6 +114,8 @@ pub fn verb_of(command: &Command) -> Verb
         Command::Logout => Verb::Logout,
         Command::MyRights(_) => Verb::MyRights,
         Command::Noop => Verb::Noop,
+        Command::Search(false, _) => Verb::Search,
+        Command::Search(true, _) => Verb::Uid,
         Command::Select(_) => Verb::Select,
         Command::SetAcl(..) => Verb::SetAcl,
         Command::Status(..) => Verb::Status,
@@ -152,6 +158,7 @@ pub fn name_of(verb: Verb) -> &'static [u8]
         Verb::Logout => b"LOGOUT",
         Verb::MyRights => b"MYRIGHTS",
         Verb::Noop => b"NOOP",
+        Verb::Search => b"SEARCH",
         Verb::Select => b"SELECT",
         Verb::SetAcl => b"SETACL",
         Verb::Status => b"STATUS",
@@ -170,6 +177,7 @@ pub fn uid_verb_of(command: &Command) -> UidVerb
     match command {
         Command::Expunge(_) => UidVerb::Expunge,
         Command::Fetch(..) => UidVerb::Fetch,
+        Command::Search(..) => UidVerb::Search,
         Command::Store(..) => UidVerb::Store,
         _ => UidVerb::Copy,
     }
@@ -184,6 +192,7 @@ pub fn uid_name_of(verb: UidVerb) -> &'static [u8]
         UidVerb::Copy => b"COPY",
         UidVerb::Expunge => b"EXPUNGE",
         UidVerb::Fetch => b"FETCH",
+        UidVerb::Search => b"SEARCH",
         UidVerb::Store => b"STORE",
     }
 }

@@ -24,7 +24,8 @@ pub fn parts_of<'a>(alloc: Global, text: &'a str, separator: &str) -> Result<Vec
     Ok(parts)
 }
 
-/// The bytes of a field: `\r`, `\n`, `\\`, `\xHH`, and `\*N:B` for N times the byte B; each other byte is itself.
+/// The bytes of a field: `\r`, `\n`, `\\`, `\xHH`, `\*N:B` for N times the byte B, and `\[N:TEXT]` for N times TEXT, which has
+/// no `]`; each other byte is itself.
 pub fn bytes_of(alloc: Global, field: &str) -> Result<Bytes> {
     let mut bytes = Bytes::new(alloc);
     let mut rest = field.as_bytes();
@@ -49,6 +50,7 @@ fn put_escaped<'a>(text: &'a [u8], bytes: &mut Bytes) -> Result<&'a [u8]> {
         [b'\\', rest @ ..] => put(b'\\', rest, bytes),
         [b'x', high, low, rest @ ..] => put(nibble(*high)? << 4 | nibble(*low)?, rest, bytes),
         [b'*', rest @ ..] => put_many(rest, bytes),
+        [b'[', rest @ ..] => put_texts(rest, bytes),
         _ => Err(anyhow!("no such escape")),
     }
 }
@@ -73,6 +75,23 @@ fn put_many<'a>(text: &'a [u8], bytes: &mut Bytes) -> Result<&'a [u8]> {
         }
         _ => Err(anyhow!("no number of bytes")),
     }
+}
+
+/// Puts a text as often as the number before it says.
+fn put_texts<'a>(text: &'a [u8], bytes: &mut Bytes) -> Result<&'a [u8]> {
+    let (Some(colon), Some(end)) = (memchr(b':', text), memchr(b']', text)) else {
+        return Err(anyhow!("no number of texts"));
+    };
+    if colon >= end {
+        return Err(anyhow!("no number of texts"));
+    }
+    let Some(count) = read_number(&text[..colon]) else {
+        return Err(anyhow!("no number of texts"));
+    };
+    for _ in 0..count {
+        bytes.extend_from_slice(&text[colon + 1..end])?;
+    }
+    Ok(&text[end + 1..])
 }
 
 fn nibble(digit: u8) -> Result<u8> {

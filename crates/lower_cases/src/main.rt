@@ -10,6 +10,7 @@ mod command;
 mod field;
 mod reply;
 mod shown;
+mod shown_keys;
 mod wire;
 
 use anyhow::{Result, anyhow};

@@ -1,4 +1,5 @@
 // A command as texts: its name, and a text for each argument.
+use crate::shown_keys::keys_text;
 use mail_message::{
     DateText, FetchItems, FlagSet, Item, Mode, Partial, SetEnd, SetPart, SetParts,
 };
@@ -66,6 +67,12 @@ fn shown_lists(alloc: Global, command: &Command) -> Result<Vec<Bytes>, Memory> {
             two(alloc, b"UID COPY", &set_text(alloc, set)?, mailbox)
         }
         Command::Copy(false, set, mailbox) => two(alloc, b"COPY", &set_text(alloc, set)?, mailbox),
+        Command::Search(true, keys) => {
+            one(alloc, b"UID SEARCH", &keys_text(alloc, keys.as_slice())?)
+        }
+        Command::Search(false, keys) => {
+            one(alloc, b"SEARCH", &keys_text(alloc, keys.as_slice())?)
+        }
         Command::Fetch(true, set, items) => shown_fetch(alloc, b"UID FETCH", set, items),
         Command::Fetch(false, set, items) => shown_fetch(alloc, b"FETCH", set, items),
         Command::Store(by_uid, set, mode, is_silent, flags) => {
@@ -156,7 +163,7 @@ fn put_end(end: SetEnd, out: &mut Bytes) -> Result<(), Memory> {
 }
 
 /// The parts of a set, a space before each.
-fn set_text(alloc: Global, set: &SetParts) -> Result<Bytes, Memory> {
+pub fn set_text(alloc: Global, set: &SetParts) -> Result<Bytes, Memory> {
     let mut out = Bytes::new(alloc);
     for part in set.as_slice() {
         out.push(b' ')?;

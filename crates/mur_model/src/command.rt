@@ -1,7 +1,7 @@
 // The commands of a mail client (RFC 9051, 6).
 ghost use Rattle.std.specs.Prelude.{◌≡◌, IfOk};
 
-use mail_message::{DateText, FetchItems, FlagSet, Mode, SetParts};
+use mail_message::{DateText, FetchItems, FlagSet, Keys, Mode, SetParts};
 use mur_base::{Bytes, Copied, Items, Memory};
 use std::alloc::Global;
 
@@ -80,6 +80,8 @@ pub enum Command {
     Unselect,
     /// EXPUNGE, or UID EXPUNGE of a set (RFC 9051, 6.4.3 and 6.4.9).
     Expunge(Option<SetParts>),
+    /// SEARCH for the messages that all keys match, or UID SEARCH where that is true (RFC 9051, 6.4.4 and 6.4.9).
+    Search(bool, Keys),
     /// FETCH of items of messages, or UID FETCH where that is true (RFC 9051, 6.4.5 and 6.4.9).
     Fetch(bool, SetParts, FetchItems),
     /// STORE of flags in messages, or UID STORE where that is true; whether it is silent (RFC 9051, 6.4.6 and 6.4.9).
@@ -119,10 +121,7 @@ impl Copied for Command {
                 copy_of(alloc, reference)?,
                 copy_of(alloc, pattern)?,
             )),
-            Command::Append(text, flags, date, body) => Ok(Command::Append(
-                copy_of(alloc, text)?,
-                flags.copy(alloc)?,
-                *date,
+use mail_message::{DateText, FetchItems, FlagSet, Keys, Mode, SetParts};
                 copy_of(alloc, body)?,
             )),
             Command::Status(text, items) => Ok(Command::Status(
@@ -145,6 +144,7 @@ impl Copied for Command {
             Command::Unselect => Ok(Command::Unselect),
             Command::Expunge(None) => Ok(Command::Expunge(None)),
             Command::Expunge(Some(set)) => Ok(Command::Expunge(Some(copy_of_all(alloc, set)?))),
+use mail_message::{DateText, FetchItems, FlagSet, Keys, Mode, SetParts};
             Command::Fetch(by_uid, set, items) => Ok(Command::Fetch(
                 *by_uid,
                 copy_of_all(alloc, set)?,
