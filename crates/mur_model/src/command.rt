@@ -121,7 +121,10 @@ impl Copied for Command {
                 copy_of(alloc, reference)?,
                 copy_of(alloc, pattern)?,
             )),
-use mail_message::{DateText, FetchItems, FlagSet, Keys, Mode, SetParts};
+            Command::Append(text, flags, date, body) => Ok(Command::Append(
+                copy_of(alloc, text)?,
+                flags.copy(alloc)?,
+                *date,
                 copy_of(alloc, body)?,
             )),
             Command::Status(text, items) => Ok(Command::Status(
@@ -144,7 +147,7 @@ use mail_message::{DateText, FetchItems, FlagSet, Keys, Mode, SetParts};
             Command::Unselect => Ok(Command::Unselect),
             Command::Expunge(None) => Ok(Command::Expunge(None)),
             Command::Expunge(Some(set)) => Ok(Command::Expunge(Some(copy_of_all(alloc, set)?))),
-use mail_message::{DateText, FetchItems, FlagSet, Keys, Mode, SetParts};
+            Command::Search(by_uid, keys) => Ok(Command::Search(*by_uid, keys.copy(alloc)?)),
             Command::Fetch(by_uid, set, items) => Ok(Command::Fetch(
                 *by_uid,
                 copy_of_all(alloc, set)?,
