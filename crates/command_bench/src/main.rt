@@ -20,7 +20,7 @@ struct Load {
     times: u32,
 }
 
-fn loads(alloc: Global) -> Result<[Load; 10], Memory> {
+fn loads(alloc: Global) -> Result<[Load; 11], Memory> {
     Ok([
         Load {
             name: "LOGIN of 21 bytes",
@@ -40,6 +40,14 @@ fn loads(alloc: Global) -> Result<[Load; 10], Memory> {
         Load {
             name: "UID STORE 1:* +FLAGS.SILENT (\\Seen)",
             frame: Vec::from_slice(alloc, b"a1 UID STORE 1:* +FLAGS.SILENT (\\Seen)\r\n")?,
+            times: 10_000,
+        },
+        Load {
+            name: "UID SEARCH of five keys",
+            frame: Vec::from_slice(
+                alloc,
+                b"a1 UID SEARCH UNSEEN NOT DELETED SINCE 1-Jan-2020 LARGER 1024 UID 1:*\r\n",
+            )?,
             times: 10_000,
         },
         Load {
