@@ -179,7 +179,8 @@ module _ (p : Part Key) (g : Law starts_key ends_set (with_text key_text p)) whe
       (law_closed ends_set 40 (several 32 (with_text key_text p)) 41 refl
       (law_several (λ c. c == 41) 32 (with_text key_text p) g refl (apart_byte 32 (λ c. c == 41) refl) (one_byte 41 ends_set refl)))
 
-  law_named : Law (λ c. is_set_start c || begins_row key_rows c) ends_set (with_text key_text (numbers_or (told key_name (behind_key (with_text key_text p)) key_text).part))
+  law_named : Law (λ c. is_set_start c || begins_row key_rows c) ends_set
+      (with_text key_text (numbers_or (told key_name (behind_key (with_text key_text p)) key_text).part))
   unfolding flat_name_text
   law_named =
       law_apart is_set_start key_text (map key_is.Numbers set.part) (told key_name (behind_key (with_text key_text p)) key_text).part starts_numbers

@@ -1,5 +1,6 @@
 -- Each line that is written is one line.
-use Rattle.std.proofs.Common.{◌≡◌, ℕ, ◌==◌, Bool, true, false, not, cond, List, [], ◌∷◌, ◌++◌, length, map, codes, decimal, refl, subst, append_assoc, arith, None, Some}
+use Rattle.std.proofs.Common.{◌≡◌, ℕ, ◌==◌, Bool, true, false, not, cond, List, [], ◌∷◌, ◌++◌, length, map}
+use Rattle.std.proofs.Common.{codes, decimal, refl, subst, append_assoc, arith, None, Some}
 use Rattle.std.specs.Prelude.{All, nat_lt}
 use Rattle.std.specs.List.{list_all}
 use Rattle.std.proofs.lemmas.Bool.Decides.{nat_tests}

@@ -25,7 +25,8 @@ abbrev IsOf : ℕ → Option Message → Type 0
 IsOf uid None = Unit {0}
 IsOf uid (Some message) = message.uid ≡ uid
 
-of_by : (uid : ℕ) (message : Message) (rest : Option Message) (same : Bool) → nat_eq message.uid uid ≡ same → IsOf uid rest → IsOf uid (cond same (Some message) rest)
+of_by : (uid : ℕ) (message : Message) (rest : Option Message) (same : Bool) → nat_eq message.uid uid ≡ same → IsOf uid rest
+    → IsOf uid (cond same (Some message) rest)
 of_by uid message rest true is found = grind (arith, nat_tests, is)
 of_by uid message rest false is found = found
 
@@ -33,7 +34,8 @@ found_is : (messages : List Message) (uid : ℕ) → IsOf uid (message_at messag
 found_is [] uid = tt
 found_is (message ∷ messages) uid = of_by uid message (message_at messages uid) (nat_eq message.uid uid) refl (found_is messages uid)
 
-below_row : (least uid : ℕ) (mode : Mode) (flags : Flags) (message : Option Message) → nat_cmp least uid ≡ Less → IsOf uid message → Below least (stored_row mode flags message)
+below_row : (least uid : ℕ) (mode : Mode) (flags : Flags) (message : Option Message) → nat_cmp least uid ≡ Less → IsOf uid message
+    → Below least (stored_row mode flags message)
 below_row least uid mode flags None less is = tt
 below_row least uid mode flags (Some message) less is = (subst (λ n. nat_cmp least n ≡ Less) (sym is) less, tt)
 

@@ -1,5 +1,6 @@
 -- The numbers that a client derives from the news that it is told are those of its view.
-use Rattle.std.proofs.Common.{◌≡◌, ℕ, suc, ◌+◌, ◌-◌, Bool, true, false, cond, List, [], ◌∷◌, ◌++◌, length, replicate, if◌then◌else◌, not, ◌&&◌, nat_eq, Option, None, Some, refl, ap, ◌∙◌, sym, subst, ap₂, arith, IfOk, Result, Ok, Err}
+use Rattle.std.proofs.Common.{◌≡◌, ℕ, suc, ◌+◌, ◌-◌, Bool, true, false, cond, List, [], ◌∷◌, ◌++◌, length, replicate, if◌then◌else◌, not, ◌&&◌}
+use Rattle.std.proofs.Common.{nat_eq, Option, None, Some, refl, ap, ◌∙◌, sym, subst, ap₂, arith, IfOk, Result, Ok, Err}
 use Rattle.std.proofs.Common.{append_assoc, append-nil, length-append}
 use Rattle.std.proofs.lemmas.Grind.{common_steps}
 use Rattle.std.proofs.lemmas.List.{length-map, map-append}
@@ -8,7 +9,8 @@ use Rattle.mur_model.specs.declared.reply.ReplyLine.{ReplyLine}
 use Rattle.mur_model.specs.declared.reply.ReplyLine.TheVariants.{Expunge, Fetch}
 use Rattle.mur_model.specs.declared.news.Told.{Told}
 use Rattle.mur_model.specs.ClientView.{Known, without_number, known_after, known_after_all, Agrees, uids}
-use Rattle.mur_model.specs.News.{news, told_of, has_row, expunge_lines, rows_there, rows_behind, exists_lines, changed_lines, changed_line, fresh_rows, fresh_row, flag_parts}
+use Rattle.mur_model.specs.News.{news, told_of, has_row, expunge_lines, rows_there, rows_behind}
+use Rattle.mur_model.specs.News.{exists_lines, changed_lines, changed_line, fresh_rows, fresh_row, flag_parts}
 use Rattle.mur_model.specs.SameFlags.{is_same_flags}
 use Rattle.std.proofs.lemmas.Bool.Decides.{nat_tests}
 use Rattle.mail_message.specs.RowOrder.{row_at}
@@ -67,7 +69,8 @@ next_number number front one is = grind (arith, common_steps, is, length-append 
 
 -- expunged messages behind a front that is told already
 expunged_agree : (now : List Row) (number : ℕ) (front : Known) (list : List ℕ) (known : Known) (rows : List Row) → number ≡ suc (length front)
-    → Agrees front list → Agrees known (uids rows) → Agrees (known_after_all (front ++ known) (expunge_lines now number rows)) (list ++ uids (rows_there now rows))
+    → Agrees front list → Agrees known (uids rows)
+    → Agrees (known_after_all (front ++ known) (expunge_lines now number rows)) (list ++ uids (rows_there now rows))
 unfolding Agrees
 expunged_agree now number front list [] [] is agree agrees = agrees_both front [] list [] agree tt
 expunged_agree now number front list [] (row ∷ rows) is agree agrees = elim agrees [ ]
@@ -113,7 +116,8 @@ line_same is_told number row (Some it) known lines = test_same (not is_told && n
 changed_same : (now told : List Row) (number : ℕ) (known : Known) (rows : List Row) → known_after_all known (changed_lines now told number rows) ≡ known
 changed_same now told number known [] = refl
 changed_same now told number known (row ∷ rows) =
-    line_same (has_row told row.uid) number row (row_at now row.uid) known (changed_lines now told (number + 1) rows) ∙ changed_same now told (number + 1) known rows
+    line_same (has_row told row.uid) number row (row_at now row.uid) known (changed_lines now told (number + 1) rows)
+    ∙ changed_same now told (number + 1) known rows
 
 -- a row of the mailbox in the place of one of the view has its UID
 fresh_by : (other row : Row) (it : Option Row) (same : Bool) → nat_eq other.uid row.uid ≡ same → (fresh_row row it).uid ≡ row.uid
@@ -136,13 +140,15 @@ told_agree lines rows now told known agrees =
     rw (after_both known lines (exists_lines (length rows) (length behind) ++ changed_lines now told 1 rows))
     (rw (after_both (known_after_all known lines) (exists_lines (length rows) (length behind)) (changed_lines now told 1 rows))
     (rw (changed_same now told 1 (known_after_all (known_after_all known lines) (exists_lines (length rows) (length behind))) rows)
-    (rw (map-append (λ (row : Row). row.uid) (fresh_rows now rows) behind) (rw (fresh_uids now rows) (exists_agree (known_after_all known lines) rows behind agrees)))))
+    (rw (map-append (λ (row : Row). row.uid) (fresh_rows now rows) behind)
+    (rw (fresh_uids now rows) (exists_agree (known_after_all known lines) rows behind agrees)))))
 
 -- a client that knew the numbers of its view knows those of the view behind the news
 news_agree : (rows now : List Row) (expunges : Bool) (told : List Row) (known : Known) → Agrees known (uids rows)
     → Agrees (known_after_all known (news rows now expunges told).lines) (uids (news rows now expunges told).rows)
 unfolding news Agrees
-news_agree rows now true told known agrees = told_agree (expunge_lines now 1 rows) (rows_there now rows) now told known (expunged_agree now 1 [] [] known rows refl tt agrees)
+news_agree rows now true told known agrees =
+    told_agree (expunge_lines now 1 rows) (rows_there now rows) now told known (expunged_agree now 1 [] [] known rows refl tt agrees)
 news_agree rows now false told known agrees = told_agree [] rows now told known agrees
 
 pub client_of : {E : Type 0} (result : Result Told E) (rows now : List Row) (expunges : Bool) (told : List Row)

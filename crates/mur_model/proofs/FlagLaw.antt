@@ -24,7 +24,9 @@ same_self b = (booleans_Decides b b).1 refl
 
 flags_self : (flags : Flags) → is_same_flags flags flags ≡ true
 unfolding is_same_flags
-flags_self flags = rw (same_self flags.system.answered, same_self flags.system.flagged, same_self flags.system.deleted, same_self flags.system.seen, same_self flags.system.draft)
+flags_self flags =
+    let it = flags.system in
+    rw (same_self it.answered, same_self it.flagged, same_self it.deleted, same_self it.seen, same_self it.draft)
     ((pointwise_decides bytes_decides flags.keywords flags.keywords).1 refl)
 
 pub same_flags_decide : (one other : Flags) → Decides (is_same_flags one other) (one ≡ other)

@@ -16,12 +16,14 @@ use Rattle.mur_model.proofs.ClientLaw.{fresh_uids}
 
 -- ---- some of rising rows
 
-less_filter : (k : ℕ) (test : Row → Bool) (rows : List Row) → AllByRecursion (λ q. nat_cmp k q ≡ Less) (uids rows) → AllByRecursion (λ q. nat_cmp k q ≡ Less) (uids (filter test rows))
+abbrev Below : ℕ → List Row → Type 0
+Below uid rows = AllByRecursion (λ other. nat_cmp uid other ≡ Less) (uids rows)
+
+less_filter : (k : ℕ) (test : Row → Bool) (rows : List Row) → Below k rows → Below k (filter test rows)
 less_filter k test [] all = tt
 less_filter k test (row ∷ rows) all = by (test row) (less_filter k test rows all.1)
   where
-    by : (there : Bool) → AllByRecursion (λ q. nat_cmp k q ≡ Less) (uids (filter test rows))
-        → AllByRecursion (λ q. nat_cmp k q ≡ Less) (uids (cond there (row ∷ filter test rows) (filter test rows)))
+    by : (there : Bool) → Below k (filter test rows) → Below k (cond there (row ∷ filter test rows) (filter test rows))
     by true rest = (all.0, rest)
     by false rest = rest
 
@@ -38,7 +40,9 @@ rising-some test (row ∷ rows) rising = by (test row) (rising-some test rows ri
 
 above_is : (rows : List Row) (uid : ℕ) → is_above rows uid ≡ true → IsAbove rows uid
 above_is [] uid above = tt
-above_is (row ∷ rows) uid above = (ltb-true row.uid uid (first_so (nat_lt row.uid uid) (is_above rows uid) above), above_is rows uid (second_so (nat_lt row.uid uid) (is_above rows uid) above))
+above_is (row ∷ rows) uid above =
+    let lower = nat_lt row.uid uid in
+    (ltb-true row.uid uid (first_so lower (is_above rows uid) above), above_is rows uid (second_so lower (is_above rows uid) above))
 
 is_above_of : (rows : List Row) (uid : ℕ) → IsAbove rows uid → is_above rows uid ≡ true
 is_above_of [] uid above = refl
@@ -60,12 +64,12 @@ firsts : (row : Row) (rows more : List Row) → AllByRecursion (λ other. IsAbov
 firsts row rows [] above = tt
 firsts row rows (other ∷ more) above = (above.0.0, firsts row rows more above.1)
 
-others : (row : Row) (rows more : List Row) → AllByRecursion (λ other. IsAbove (row ∷ rows) other.uid) more → AllByRecursion (λ other. IsAbove rows other.uid) more
+others : (row : Row) (rows more : List Row) → AllByRecursion (λ other. IsAbove (row ∷ rows) other.uid) more
+    → AllByRecursion (λ other. IsAbove rows other.uid) more
 others row rows [] above = tt
 others row rows (other ∷ more) above = (above.0.1, others row rows more above.1)
 
-less_more : (k : ℕ) (rows more : List Row) → AllByRecursion (λ q. nat_cmp k q ≡ Less) (uids rows) → AllByRecursion (λ other. k < other.uid) more
-    → AllByRecursion (λ q. nat_cmp k q ≡ Less) (uids (rows ++ more))
+less_more : (k : ℕ) (rows more : List Row) → Below k rows → AllByRecursion (λ other. k < other.uid) more → Below k (rows ++ more)
 less_more k [] [] all above = tt
 less_more k [] (other ∷ more) all above = (grind (arith, nat_tests, above.0), less_more k [] more all above.1)
 less_more k (row ∷ rows) more all above = (all.0, less_more k rows more all.1 above)

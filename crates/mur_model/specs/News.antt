@@ -1,5 +1,6 @@
 -- What a client is told of a mailbox that changes while it is selected (RFC 9051, 7.4 and 7.5). A view is the rows that the client was last told.
-use Rattle.std.specs.Prelude.{ℕ, zero, suc, ◌+◌, Bool, true, false, not, ◌&&◌, nat_lt, if◌then◌else◌, List, [], ◌∷◌, ◌++◌, length, map, Option, None, Some, is_some}
+use Rattle.std.specs.Prelude.{ℕ, zero, suc, ◌+◌, Bool, true, false, not, ◌&&◌, nat_lt}
+use Rattle.std.specs.Prelude.{if◌then◌else◌, List, [], ◌∷◌, ◌++◌, length, map, Option, None, Some, is_some}
 use Rattle.std.specs.List.{filter, list_all}
 use Rattle.mail_fetch.specs.FlagText.{flags_text}
 use Rattle.mail_fetch.specs.Parts.{uid_text}

@@ -7,7 +7,8 @@ use Rattle.mail_message.specs.FlagSets.{Flags}
 
 abbrev pub is_same_system : SystemFlags → SystemFlags → Bool
 is_same_system one other =
-    beq one.answered other.answered && (beq one.flagged other.flagged && (beq one.deleted other.deleted && (beq one.seen other.seen && beq one.draft other.draft)))
+    beq one.answered other.answered && (beq one.flagged other.flagged
+    && (beq one.deleted other.deleted && (beq one.seen other.seen && beq one.draft other.draft)))
 
 -- the same system flags, and the same keywords, byte by byte
 unfoldable pub is_same_flags : Flags → Flags → Bool

@@ -14,6 +14,7 @@ use Rattle.mur_model.specs.declared.reply.Verdict.{Verdict}
 use Rattle.mur_model.specs.declared.reply.Verdict.TheVariants.{Ok as ok_reply, No as no_reply}
 use Rattle.mur_model.specs.declared.store_flags.FlagStore.{FlagStore}
 use Rattle.mur_model.specs.declared.view.View.{View}
+use Rattle.mur_model.specs.declared.view.Viewed.{Viewed}
 use Rattle.mur_model.specs.Left.{kept, changed}
 use Rattle.mur_model.specs.News.{news, has_row, flag_parts}
 use Rattle.mur_model.specs.Selected.{Selected, at_view, rows_of, with_news}
@@ -47,16 +48,22 @@ store_code false now uids = if some_gone now uids then ExpungeIssued else no_cod
 abbrev pub store_verdict : FlagStore → Content → Verdict
 store_verdict it box = ok_reply (store_code it.by_uid (rows_of box) it.uids) (store_name it.by_uid)
 
+-- what is told where these rows were changed and the mailbox is left so
+abbrev pub told_of : View → FlagStore → List Row → Content → Viewed
+told_of view it changes left =
+    with_news view (own_lines it changes view.rows) (news view.rows (rows_of left) it.by_uid changes) (store_verdict it left)
+
+-- what is told where a message would have too many keywords
+abbrev pub refused_for : View → FlagStore → Content → Viewed
+refused_for view it box = with_news view [] (news view.rows (rows_of box) it.by_uid []) (no_reply Limit)
+
 -- what a STORE does, refused where a message would have too many keywords
 abbrev pub stored_at : View → FlagStore → Content → Bool → Selected
-stored_at view it box true = record { left = kept; viewed = with_news view [] (news view.rows (rows_of box) it.by_uid []) (no_reply Limit) }
+stored_at view it box true = record { left = kept; viewed = refused_for view it box }
 stored_at view it box false =
     let changes = rows_stored box it.uids it.mode it.flags in
     let after = stored box it.uids it.mode it.flags in
-    record {
-      left = changed after;
-      viewed = with_news view (own_lines it changes view.rows) (news view.rows (rows_of after) it.by_uid changes) (store_verdict it after);
-    }
+    record { left = changed after; viewed = told_of view it changes after }
 
 abbrev pub store_at : View → FlagStore → Content → Selected
 store_at view it box = stored_at view it box (has_too_many_flags (rows_stored box it.uids it.mode it.flags))

@@ -2,7 +2,8 @@
 ghost use Rattle.std.specs.Prelude.{◌≡◌, ◌++◌, ℕ, [], length, true, IfOk, OnOk};
 ghost use Rattle.mail_message.specs.RowOrder.{AreRising};
 ghost use Rattle.mur_model.specs.ClientView.{Known, Agrees, known_after_all, uids};
-ghost use Rattle.mur_model.specs.News.{news, told_of, expunge_lines, rows_there, rows_behind, is_above, fresh_rows, exists_lines, changed_lines, changed_line, flag_parts};
+ghost use Rattle.mur_model.specs.News.{news, told_of, expunge_lines, rows_there, rows_behind, is_above};
+ghost use Rattle.mur_model.specs.News.{fresh_rows, exists_lines, changed_lines, changed_line, flag_parts};
 ghost use Rattle.mur_model.specs.SameFlags.{is_same_flags};
 ghost use Rattle.std.specs.Option.{option_copied};
 

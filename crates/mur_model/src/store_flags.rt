@@ -1,9 +1,9 @@
 // STORE and UID STORE (RFC 9051, 6.4.6 and 6.4.9).
-ghost use Rattle.std.specs.Prelude.{◌≡◌, ◌≢◌, [], ◌++◌, IfOk, OnOk, Some};
+ghost use Rattle.std.specs.Prelude.{◌≡◌, ◌≢◌, ◌++◌, IfOk, OnOk, Some};
 ghost use Rattle.std.specs.Option.{option_copied};
-ghost use Rattle.mur_model.specs.Selected.{with_news, rows_of, IsWorked};
-ghost use Rattle.mur_model.specs.News.{news};
-ghost use Rattle.mur_model.specs.StoreFlags.{store_on, store_at, store_name, stored_line, stored_lines, own_lines, some_gone, store_code, store_verdict};
+ghost use Rattle.mur_model.specs.Selected.{IsWorked};
+ghost use Rattle.mur_model.specs.StoreFlags.{store_on, store_at, told_of, refused_for};
+ghost use Rattle.mur_model.specs.StoreFlags.{store_name, stored_line, stored_lines, own_lines, some_gone, store_code};
 
 use crate::news::{flag_parts, news_of};
 use crate::reply::{Code, NoText, ReplyLine, ReplyLines, Verdict};
@@ -64,8 +64,7 @@ fn stored(
     it: &FlagStore,
     changes: &OrderedRows,
 ) -> Result<Viewed, Memory>
-    ensures { IfOk result (λ viewed. viewed ≡
-        with_news view (own_lines it.now changes.now view.rows) (news view.rows (rows_of mailbox.now) it.now.by_uid changes.now) (store_verdict it.now mailbox.now)) }
+    ensures { IfOk result (λ viewed. viewed ≡ told_of view it.now changes.now mailbox.now) }
 {
     let now = mailbox.look(alloc)?.rows;
     let mut lines = ReplyLines::new(alloc);
@@ -85,7 +84,7 @@ fn refused_for(
     fault: StoreFault,
 ) -> Result<Viewed, Memory>
     ensures { IfOk result (λ viewed. (fault ≢ StoreFault.Memory) ×
-        (viewed ≡ with_news view [] (news view.rows (rows_of mailbox.now) it.now.by_uid []) (Verdict.No NoText.Limit))) }
+        (viewed ≡ refused_for view it.now mailbox.now)) }
 {
     if matches!(fault, StoreFault::Memory) {
         return Err(Memory);

@@ -19,7 +19,8 @@ pub returns-in-Err : goal.returns-in-Err
 returns-in-Err c =
     let it = c.args.it.now in
     let box = c.args.mailbox.now in
-    let answered = subst (λ (uids : List ℕ). IsStored (rows_stored box uids it.mode it.flags) (Err c.in-Err.fault)) c.as_slice.ensures c.in-Err.ensures.answer in
+    let is_stored = λ (uids : List ℕ). IsStored (rows_stored box uids it.mode it.flags) (Err c.in-Err.fault) in
+    let answered = subst is_stored c.as_slice.ensures c.in-Err.ensures.answer in
     IfOk-weaker c.refused_for.result _ _
     (λ viewed tells. refused_worked c.args.view it box c.set_flags.new.to c.in-Err.fault viewed
     (has_too_many_flags (rows_stored box it.uids it.mode it.flags)) answered c.in-Err.ensures.err tells)
