@@ -1,5 +1,6 @@
 mod DecimalReadBack
 mod EmptyLevels
+mod PatternMarks
 mod ReadDigits
 pub mod MapLaws
 pub mod MapOrder
