@@ -1,5 +1,6 @@
 mod DecimalReadBack
 mod EmptyLevels
+pub mod NamesFit
 mod PatternMarks
 mod ReadDigits
 pub mod MapLaws

@@ -1,5 +1,5 @@
 // Patterns of names, as LIST has them (RFC 9051, 6.3.9).
-ghost use Rattle.std.specs.Prelude.{◌≡◌, ℕ, ◌≤◌, Bool, List, length};
+ghost use Rattle.std.specs.Prelude.{◌≡◌, ℕ, ◌≤◌, Bool, List, [], length};
 ghost use Rattle.mur_base.specs.Patterns.{matches, covers, is_wildcard, behind_some, behind_one, behind_byte, AreMarked};
 
 use crate::limits::NAME_LIMIT;
@@ -8,18 +8,27 @@ use crate::limits::NAME_LIMIT;
 type Marks = [bool; NAME_LIMIT + 1];
 
 /// Whether a text of at most `NAME_LIMIT` bytes matches a pattern of LIST (RFC 9051, 6.3.9): `*` stands for any bytes, `%`
-/// for any without `.`, each other byte for itself. It takes no memory, and time at most as the product of the lengths.
-/// Only names are listed, so a longer text is nobody's, and the marks have room on the stack.
+/// for any without `.`, each other byte for itself. It takes no memory, and its time grows as the product of the lengths.
+/// No name is longer, nor what a user is shown of one, so the marks of a text's places lie on the stack.
 pub fn matches(pattern: &[u8], text: &[u8]) -> bool
     requires { length text.now ≤ NAME_LIMIT }
     ensures { result ≡ matches pattern.now text.now }
 {
-    let mut marks = [false; NAME_LIMIT + 1];
-    marks[text.len()] = true;
+    let mut marks = end_marked(text);
     for i in (0..pattern.len()).rev() {
         mark_byte(pattern[i], text, &mut marks);
     }
     marks[0]
+}
+
+// The end alone is marked.
+fn end_marked(text: &[u8]) -> Marks
+    requires { length text.now ≤ NAME_LIMIT }
+    ensures { AreMarked (matches []) text.now result }
+{
+    let mut marks = [false; NAME_LIMIT + 1];
+    marks[text.len()] = true;
+    marks
 }
 
 #[tactic(auto, unfolding(crate::specs::Patterns::behind_byte))]
