@@ -1,7 +1,5 @@
 // A command as texts: its name, and a text for each argument.
-use mail_message::{
-    DateText, FetchItems, FlagSet, Item, Mode, Partial, SetEnd, SetPart, SetParts,
-};
+use mail_message::{DateText, FetchItems, FlagSet, Item, Mode, Partial, SetEnd, SetPart, SetParts};
 use mur_base::{Bytes, Memory, put_number};
 use mur_model::{Atoms, Command, StatusItem, StatusItems};
 use std::alloc::Global;
