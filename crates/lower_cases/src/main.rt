@@ -1,6 +1,7 @@
 //! Reads worked cases from text files, and compares what the lowest crates make of each with what the case wants:
-//! `lower_cases WIRE COMMAND REPLY BASE` takes the frames of connections, the commands of frames, the bytes of replies, and
-//! names, numbers, lists, queues and maps. It prints how many cases of each file passed, or ends with status 1 at the first one that differs.
+//! `lower_cases WIRE COMMAND REPLY BASE PATTERN` takes the frames of connections, the commands of frames, the bytes of replies,
+//! names, numbers, lists, queues and maps, and patterns of names. It prints how many cases of each file passed, or ends with
+//! status 1 at the first one that differs.
 //!
 //! A case is a line of fields with ` | ` between them. A file's first lines, which begin with `#`, say what the fields are.
 #![tactic(auto)]
@@ -8,6 +9,7 @@
 mod base;
 mod command;
 mod field;
+mod pattern;
 mod reply;
 mod shown;
 mod shown_keys;
@@ -24,6 +26,7 @@ enum Subject {
     Command,
     Reply,
     Base,
+    Pattern,
 }
 
 impl Subject {
@@ -34,6 +37,7 @@ impl Subject {
             Subject::Command => command::holds(alloc, fields),
             Subject::Reply => reply::holds(alloc, fields),
             Subject::Base => base::holds(alloc, fields),
+            Subject::Pattern => pattern::holds(alloc, fields),
         }
     }
 
@@ -60,9 +64,10 @@ fn main(rt: HostRuntime) -> Result<()> {
         Subject::Command,
         Subject::Reply,
         Subject::Base,
+        Subject::Pattern,
     ] {
         let Some(file) = files.next() else {
-            return Err(anyhow!("lower_cases WIRE COMMAND REPLY BASE"));
+            return Err(anyhow!("lower_cases WIRE COMMAND REPLY BASE PATTERN"));
         };
         let text = fs::read_to_string(&rt, file.as_str())?;
         let passed = subject.passed(rt.alloc(), text.as_str())?;

@@ -13,7 +13,7 @@ is_inbox rest h =
     let long : nat_le 5 (length (codes "INBOX" ++ rest)) ≡ true = le-leb _ _ (omega arith) in
     rw (h, long) refl
 
-starts_with-parts : (name top : List ℕ) → starts_with nat_eq name top ≡ true → name ≡ top ++ drop (length top) name
+pub starts_with-parts : (name top : List ℕ) → starts_with nat_eq name top ≡ true → name ≡ top ++ drop (length top) name
 starts_with-parts name [] h = refl
 starts_with-parts [] (t ∷ top) h = absurd (first_of (cc (h), grind (arith, h)))
 starts_with-parts (x ∷ name) (t ∷ top) h =

@@ -1,5 +1,7 @@
 mod DecimalReadBack
 mod EmptyLevels
+pub mod NamesFit
+mod PatternMarks
 mod ReadDigits
 pub mod MapLaws
 pub mod MapOrder

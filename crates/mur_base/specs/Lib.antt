@@ -4,5 +4,6 @@ pub mod Map
 pub mod MapLoan
 pub mod Names
 pub mod Number
+pub mod Patterns
 pub mod Users
 pub mod formers

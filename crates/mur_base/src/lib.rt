@@ -13,6 +13,7 @@ mod memory;
 mod name;
 mod name_rules;
 mod number;
+mod pattern;
 mod point;
 mod queue;
 mod user;
@@ -29,6 +30,7 @@ pub use name_rules::{
     MailName, MailRule, NodeName, NodeRule, UserName, UserRule, mail_name, node_name, user_name,
 };
 pub use number::{put_number, read_number};
+pub use pattern::matches;
 pub use point::{AskId, Point, What};
 pub use queue::Queue;
 pub use user::{PASSWORD_LIMIT, User, Users, UsersFault};
