@@ -84,7 +84,10 @@ impl Costs {
         let (one, other) = (self.single.beside() / 100, self.double.beside() / 100);
         println!(rt;
             "{name}: {few} and {many} ns a message, {whole}.{rest:02} times; {}.{} and {}.{} times a copy of the bodies",
-            one / 10, one % 10, other / 10, other % 10
+            one / 10,
+            one % 10,
+            other / 10,
+            other % 10
         )?;
         Ok(())
     }

@@ -18,12 +18,7 @@ use std::env;
 const SIZE: u32 = 10_000;
 
 /// Does an operation on boxes of both sizes in turn, so that they meet the same machine.
-fn costs_of(
-    rt: &HostRuntime,
-    operation: Operation,
-    bodies: &[u8],
-    rounds: u32,
-) -> Result<Costs> {
+fn costs_of(rt: &HostRuntime, operation: Operation, bodies: &[u8], rounds: u32) -> Result<Costs> {
     let mut single = Cost::NONE;
     let mut double = Cost::NONE;
     for _ in 0..rounds {
@@ -48,7 +43,11 @@ fn main(rt: HostRuntime) -> Result<()> {
                 is_met = is_met && costs.rise(operation) < cost::BOUND;
             }
             None => {
-                let (name, few, many) = (operation.name(), costs.single.touched, costs.double.touched);
+                let (name, few, many) = (
+                    operation.name(),
+                    costs.single.touched,
+                    costs.double.touched,
+                );
                 println!(rt; "{name}: {few} and {many} touched")?;
             }
         }
