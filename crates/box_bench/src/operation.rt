@@ -84,7 +84,7 @@ impl Operation {
         }
     }
 
-    /// Whether its cost stands in proportion to what is copied, as far as memory gives it.
+    /// Whether it changes nothing, so that its cost stands beside a plain copy.
     pub fn is_reading(self) -> bool {
         matches!(self, Operation::Look | Operation::Read)
     }
