@@ -19,7 +19,8 @@ unfolding box_after
 stored_worked view it box left given viewed true is leaves tells = elim is [ inl e ↦ cc | inr e ↦ cc ]
 stored_worked view it box left given viewed false is leaves tells =
     let after = stored box it.uids it.mode it.flags in
-    (leaves, subst (λ (rows : List Row). viewed ≡ told_of view it rows after) is (subst (λ (content : Content). viewed ≡ told_of view it given content) leaves tells))
+    let tells_after = subst (λ (content : Content). viewed ≡ told_of view it given content) leaves tells in
+    (leaves, subst (λ (rows : List Row). viewed ≡ told_of view it rows after) is tells_after)
 
 pub refused_worked : (view : View) (it : FlagStore) (box left : Content) (why : StoreFault) (viewed : Viewed) (many : Bool)
     → IsStoredBy many (rows_stored box it.uids it.mode it.flags) (Err why) → left ≡ box
