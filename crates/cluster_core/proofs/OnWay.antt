@@ -115,8 +115,8 @@ own_taken pick links from to f t message rest item mine e p way =
       first.1,
       only,
       λ a b.
-      let link : same_link a b f t ≡ same_link a b from to = ap (λ x. same_link a b x t) first.0 ∙ ap (λ x. same_link a b from x) first.1 in
-      none_left item mine (picked pick (on_link (without_first links f t) a b)) (same_link a b from to)
-      (ap (λ s. cond s (item ∷ []) [] ++ picked pick (on_link (without_first links f t) a b)) (sym link)
-      ∙ sym (picked_taken pick links f t a b message rest (item ∷ []) e p) ∙ way a b),
+          let link : same_link a b f t ≡ same_link a b from to = ap (λ x. same_link a b x t) first.0 ∙ ap (λ x. same_link a b from x) first.1 in
+          none_left item mine (picked pick (on_link (without_first links f t) a b)) (same_link a b from to)
+          (ap (λ s. cond s (item ∷ []) [] ++ picked pick (on_link (without_first links f t) a b)) (sym link)
+          ∙ sym (picked_taken pick links f t a b message rest (item ∷ []) e p) ∙ way a b),
     )
