@@ -7,7 +7,6 @@ use Rattle.std.specs.Ordering.{nat_cmp}
 use Rattle.std.specs.Cmp.Lexicographic.{slice_cmp}
 use Rattle.backend_core.specs.declared.backend.Backend.{Backend}
 use Rattle.backend_core.specs.declared.input.BackInput.{BackInput}
-use Rattle.backend_core.specs.Plan.{plan_of}
 use Rattle.front_core.specs.declared.front.Front.{Front}
 use Rattle.front_core.specs.Front.{Stepped, new_front, connect, bytes_in, hang, deliver as take_message}
 use Rattle.front_core.specs.Room.{HasCommands, HasRoomAt, HasRoomFor}
@@ -36,29 +35,39 @@ use Rattle.cluster_core.specs.Links.{on_link}
 use Rattle.cluster_core.specs.Room.{HaveCommands, HasRoom}
 
 -- carrying out touches no frontend, and no count of steps
-record IsCarried (world next : World) : Type 0 where
-  fronts : next.fronts ≡ world.fronts
-  steps : next.steps ≡ world.steps
-
-give_carried : (world : World) (conn : ℕ) (bytes : List ℕ) (found : Option Client) → IsCarried world (given_more world conn bytes found)
+give_fronts : (world : World) (conn : ℕ) (bytes : List ℕ) (found : Option Client) → (given_more world conn bytes found).fronts ≡ world.fronts
 unfolding given_more
-give_carried world conn bytes None = record { fronts = refl; steps = refl }
-give_carried world conn bytes (Some client) = record { fronts = refl; steps = refl }
+give_fronts world conn bytes None = refl
+give_fronts world conn bytes (Some client) = refl
 
-carried : (node : List ℕ) (world : World) (out : Out) → IsCarried world (carry node world out)
+carry_fronts : (node : List ℕ) (world : World) (out : Out) → (carry node world out).fronts ≡ world.fronts
 unfolding carry
-carried node world (to_client conn bytes) = give_carried world conn bytes (client_at world conn)
-carried node world (Close conn) = record { fronts = refl; steps = refl }
-carried node world (to_node other message) = record { fronts = refl; steps = refl }
-carried node world (mark ask counts) = record { fronts = refl; steps = refl }
+carry_fronts node world (to_client conn bytes) = give_fronts world conn bytes (client_at world conn)
+carry_fronts node world (Close conn) = refl
+carry_fronts node world (to_node other message) = refl
+carry_fronts node world (mark ask counts) = refl
 
-all_carried : (node : List ℕ) (world : World) (outs : List Out) → IsCarried world (carry_all node world outs)
+pub carry_all_fronts : (node : List ℕ) (world : World) (outs : List Out) → (carry_all node world outs).fronts ≡ world.fronts
 unfolding carry_all
-all_carried node world [] = record { fronts = refl; steps = refl }
-all_carried node world (out ∷ outs) =
-    let first = carried node world out in
-    let rest = all_carried node (carry node world out) outs in
-    record { fronts = rest.fronts ∙ first.fronts; steps = rest.steps ∙ first.steps }
+carry_all_fronts node world [] = refl
+carry_all_fronts node world (out ∷ outs) = carry_all_fronts node (carry node world out) outs ∙ carry_fronts node world out
+
+give_steps : (world : World) (conn : ℕ) (bytes : List ℕ) (found : Option Client) → (given_more world conn bytes found).steps ≡ world.steps
+unfolding given_more
+give_steps world conn bytes None = refl
+give_steps world conn bytes (Some client) = refl
+
+carry_steps : (node : List ℕ) (world : World) (out : Out) → (carry node world out).steps ≡ world.steps
+unfolding carry
+carry_steps node world (to_client conn bytes) = give_steps world conn bytes (client_at world conn)
+carry_steps node world (Close conn) = refl
+carry_steps node world (to_node other message) = refl
+carry_steps node world (mark ask counts) = refl
+
+pub carry_all_steps : (node : List ℕ) (world : World) (outs : List Out) → (carry_all node world outs).steps ≡ world.steps
+unfolding carry_all
+carry_all_steps node world [] = refl
+carry_all_steps node world (out ∷ outs) = carry_all_steps node (carry node world out) outs ∙ carry_steps node world out
 
 pub more_commands : (world : World) (m n : ℕ) → m ≤ n → HaveCommands world m → HaveCommands world n
 more_commands world m n h have q front is conn connection at = omega (arith, h, have q front is conn connection at)
@@ -90,7 +99,7 @@ front_commands : (world : World) (node : List ℕ) (old : Front) (step : Stepped
     → HasCommands step.front n → HaveCommands (with_front world node step) n
 front_commands world node old step m n there h have has =
     same_fronts (front_changed world node step.front) (with_front world node step) n
-    (all_carried node (front_changed world node step.front) step.outs).fronts
+    (carry_all_fronts node (front_changed world node step.front) step.outs)
     (changed_commands world node old step.front m n there h have has)
 
 open_at_commands : (world : World) (node : List ℕ) (conn n : ℕ) (found : Option Front) → front_at world node ≡ found → HaveCommands world n
@@ -132,25 +141,22 @@ unfolding hangs
 hangs_commands world conn n None have = have
 hangs_commands world conn n (Some client) have = hang_at_commands world conn client.at n (front_at world client.at) refl have
 
-home_takes_carried : (world : World) (node : List ℕ) (home : Backend) (input : Option BackInput) → IsCarried world (home_takes world node home input)
+home_takes_fronts : (world : World) (node : List ℕ) (home : Backend) (input : Option BackInput) → (home_takes world node home input).fronts ≡ world.fronts
 unfolding home_takes
-home_takes_carried world node home None = record { fronts = refl; steps = refl }
-home_takes_carried world node home (Some input) =
-    let planned = plan_of home input in
-    let all = all_carried node (record world { homes = with_value (slice_cmp nat_cmp) world.homes node planned.home }) planned.outs in
-    record { fronts = all.fronts; steps = all.steps }
+home_takes_fronts world node home None = refl
+home_takes_fronts world node home (Some input) = carry_all_fronts node _ _
 
-to_home_carried : (world : World) (from to : List ℕ) (message : LinkMsg) (found : Option Backend)
-    → IsCarried world (comes_to_home world from to message found)
+to_home_fronts : (world : World) (from to : List ℕ) (message : LinkMsg) (found : Option Backend)
+    → (comes_to_home world from to message found).fronts ≡ world.fronts
 unfolding comes_to_home
-to_home_carried world from to message None = record { fronts = refl; steps = refl }
-to_home_carried world from to message (Some home) = home_takes_carried world to home (input_of from message)
+to_home_fronts world from to message None = refl
+to_home_fronts world from to message (Some home) = home_takes_fronts world to home (input_of from message)
 
 comes_commands : (world : World) (from to : List ℕ) (message : LinkMsg) (n : ℕ) (found : Option Front) → front_at world to ≡ found → HaveCommands world n
     → HaveCommands (comes_to world from to message found) n
 unfolding comes_to
 comes_commands world from to message n None there have =
-    same_fronts world (comes_to_home world from to message (home_at world to)) n (to_home_carried world from to message (home_at world to)).fronts have
+    same_fronts world (comes_to_home world from to message (home_at world to)) n (to_home_fronts world from to message (home_at world to)) have
 comes_commands world from to message n (Some front) there have =
     front_commands world to front (take_message front message) n n there (omega arith) have (deliver_counts front message n (have to front there))
 
@@ -177,7 +183,7 @@ step_commands world event n have = takes_commands (stepped world) event n have
 open_at_steps : (world : World) (node : List ℕ) (conn : ℕ) (found : Option Front) → (open_at world node conn found).steps ≡ world.steps
 unfolding open_at
 open_at_steps world node conn None = refl
-open_at_steps world node conn (Some front) = (all_carried node _ _).steps
+open_at_steps world node conn (Some front) = carry_all_steps node _ _
 
 opens_steps : (world : World) (node : List ℕ) (conn : ℕ) (found : Option Client) → (opens world node conn found).steps ≡ world.steps
 unfolding opens
@@ -187,7 +193,7 @@ opens_steps world node conn None = open_at_steps world node conn (front_at world
 bytes_at_steps : (world : World) (conn : ℕ) (bytes node : List ℕ) (found : Option Front) → (bytes_at world conn bytes node found).steps ≡ world.steps
 unfolding bytes_at
 bytes_at_steps world conn bytes node None = refl
-bytes_at_steps world conn bytes node (Some front) = (all_carried node _ _).steps
+bytes_at_steps world conn bytes node (Some front) = carry_all_steps node _ _
 
 bytes_from_steps : (world : World) (conn : ℕ) (bytes : List ℕ) (found : Option Client) → (bytes_from world conn bytes found).steps ≡ world.steps
 unfolding bytes_from
@@ -204,10 +210,21 @@ unfolding hangs
 hangs_steps world conn None = refl
 hangs_steps world conn (Some client) = hang_at_steps world conn client.at (front_at world client.at)
 
+home_takes_steps : (world : World) (node : List ℕ) (home : Backend) (input : Option BackInput) → (home_takes world node home input).steps ≡ world.steps
+unfolding home_takes
+home_takes_steps world node home None = refl
+home_takes_steps world node home (Some input) = carry_all_steps node _ _
+
+to_home_steps : (world : World) (from to : List ℕ) (message : LinkMsg) (found : Option Backend)
+    → (comes_to_home world from to message found).steps ≡ world.steps
+unfolding comes_to_home
+to_home_steps world from to message None = refl
+to_home_steps world from to message (Some home) = home_takes_steps world to home (input_of from message)
+
 comes_steps : (world : World) (from to : List ℕ) (message : LinkMsg) (found : Option Front) → (comes_to world from to message found).steps ≡ world.steps
 unfolding comes_to
-comes_steps world from to message None = (to_home_carried world from to message (home_at world to)).steps
-comes_steps world from to message (Some front) = (all_carried to _ _).steps
+comes_steps world from to message None = to_home_steps world from to message (home_at world to)
+comes_steps world from to message (Some front) = carry_all_steps to _ _
 
 first_steps : (world : World) (from to : List ℕ) (queue : List LinkMsg) → (deliver_first world from to queue).steps ≡ world.steps
 unfolding deliver_first
