@@ -149,7 +149,8 @@ calendar_plain text short h =
     let second : (slice_index text 6 == 45) ≡ true = grind (arith, nat_tests, h) in
     byte_plain 0 text (day_within _ _ day).0 (byte_plain 1 text (day_within _ _ day).1 (byte_plain 2 text (sign_within _ 45 refl first)
     (bytes_plain 3 6 text (month_plain _ month)
-    (byte_plain 6 text (sign_within _ 45 refl second) (bytes_plain 7 11 text (numerals_plain (slice_range text 7 11) year) (end_plain 11 text short) (omega arith)))
+    (byte_plain 6 text (sign_within _ 45 refl second)
+    (bytes_plain 7 11 text (numerals_plain (slice_range text 7 11) year) (end_plain 11 text short) (omega arith)))
     (omega arith))))
 
 clock_plain : (text : List ℕ) → length text ≤ 8 → is_clock text ≡ true → IsPlain text

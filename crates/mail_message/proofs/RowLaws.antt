@@ -67,7 +67,8 @@ unfolding IsStrictlySortedBy
 above-last [] last uid rising at lt = tt
 above-last (row ∷ []) last uid rising at lt = (subst (λ (r : Row). r.uid < uid) (sym (some_is row last at)) lt, tt)
 above-last (row ∷ next ∷ rows) last uid rising at lt =
-    let above = above-last (next ∷ rows) last uid rising.1 (simp unary_clauses (simp unary_clauses at at)) lt in (omega (arith, below row.uid next.uid rising.0.0, above.0), above)
+    let above = above-last (next ∷ rows) last uid rising.1 (simp unary_clauses (simp unary_clauses at at)) lt in
+    (omega (arith, below row.uid next.uid rising.0.0, above.0), above)
 
 pub last-above : (rows : List Row) (last : Row) (uid : ℕ) → slice_get rows (length rows - 1) ≡ Some last → IsAbove rows uid → last.uid < uid
 last-above [] last uid at above = cc

@@ -2,7 +2,7 @@ use Rattle.std.proofs.Common.{◌≡◌, ◌+◌, ◌-◌, ◌^◌, min, [], ◌
 use Rattle.std.specs.List.{sum_by}
 use Rattle.std.specs.Map.Iter.{deref_pair}
 use Rattle.std.proofs.lemmas.Map.Iter.{rest_all, rest_more}
-use Rattle.mail_message.specs.Boxes.{row_of}
+use Rattle.mail_message.specs.Boxes.{row_of, IsRising}
 use Rattle.mail_message.specs.Slots.{filled}
 use Rattle.mail_message.specs.RowOrder.{AreRising}
 use Rattle.mail_message.proofs.RowLaws.{rising-rows, above-next}
@@ -27,6 +27,8 @@ push-requires c =
     rw c.in-Some-slot.is at (rest_more deref_pair _ _ _ (c.in-Some._uid, c.in-Some.slot) c.in-Some.is c.next.ensures.steps) in
     let all : c.loop-uid.rows ++ row_of c.in-Some-slot.message ∷ map row_of (filled c.next.new.self) ≡ map row_of (filled c.args.self.now) =
     rw rest at c.loop-uid.invariant.rows in
-    let rising = rising-rows (filled c.args.self.now) (rw (← c.self.view_is) (rising-filled c.self.inside.map c.self.invariant.ordered c.self.invariant.keyed)) in
+    let messages : IsRising (filled c.args.self.now) =
+    rw (← c.self.view_is) (rising-filled c.self.inside.map c.self.invariant.ordered c.self.invariant.keyed) in
+    let rising = rising-rows (filled c.args.self.now) messages in
     rw c.in_ok-row.ensures
     (above-next c.loop-uid.rows (map row_of (filled c.next.new.self)) (row_of c.in-Some-slot.message) (subst AreRising (sym all) rising))
