@@ -10,7 +10,10 @@ from collections import deque
 
 GREETING = b'* OK [CAPABILITY IMAP4rev2 AUTH=PLAIN] murder ready\r\n'
 LINE_LIMIT, MESSAGE_LIMIT, LITERALS_LIMIT, PLUS_LIMIT = 8_192, 1_048_576, 1_056_768, 4_096
-NAMES = {b'CREATE': 1, b'LOGIN': 2, b'APPEND': 2, b'STATUS': 2}
+SYSTEM = (b'\\Answered', b'\\Flagged', b'\\Deleted', b'\\Seen', b'\\Draft')
+SYNTAX, STATE, MESSAGE = b'BAD syntax error', b'BAD not in this state', b'BAD no such message'
+CANNOT, NO_RIGHT, LIMIT = b'NO [CANNOT] cannot be done', b'NO [NOPERM] not permitted', b'NO [LIMIT] too large or too many'
+CLOSED = b'* OK [CLOSED] closed\r\n'
 
 
 def spelled(data):
@@ -97,23 +100,63 @@ def string_at(text, at):
     return (atom[0], atom.end()) if atom else None
 
 
-FLAGS = re.compile(rb'\((?:(?:FLAG)(?: (?:FLAG))*)?\) '.replace(
-    b'FLAG', rb'\\(?:answered|flagged|deleted|seen|draft)|[!#$&\'+,\-./0-9:;<=>?@A-Z\[^_`a-z|}~]{1,64}'), re.I)
+FLAG = rb'(?:\\(?:answered|flagged|deleted|seen|draft)|[!#$&\'+,\-./0-9:;<=>?@A-Z\[^_`a-z|}~]{1,64})'
+FLAGS = rb'(?:%s(?: %s)*)' % (FLAG, FLAG)
+FLAG_LIST = re.compile(rb'\((%s?)\) ' % FLAGS, re.I)
 DATE = re.compile(rb'"(?: [1-9]|0[1-9]|[12]\d|3[01])-(?:jan|feb|mar|apr|may|jun|jul|aug|sep|oct|nov|dec)-\d{4}'
                   rb' (?:[01]\d|2[0-3]):[0-5]\d:[0-5]\d [+-]\d{4}" ', re.I)
+RANGE = rb'(?:[1-9]\d{0,9}|\*)(?::(?:[1-9]\d{0,9}|\*))?'
+SET = rb'(%s(?:,%s)*)' % (RANGE, RANGE)
+ITEM = rb'(?:FLAGS|UID|BODY\[\]|BODY\.PEEK\[\])'
+FORMS = [re.compile(form, re.I) for form in [
+    rb'(NOOP|CLOSE|UNSELECT|EXPUNGE)\r\n',
+    rb'(UID EXPUNGE) %s\r\n' % SET,
+    rb'((?:UID )?FETCH) %s (%s|\(%s(?: %s)*\))\r\n' % (SET, ITEM, ITEM, ITEM),
+    rb'((?:UID )?STORE) %s ([+-]?)FLAGS(\.SILENT)? (\(%s?\)|%s)\r\n' % (SET, FLAGS, FLAGS)]]
+
+
+def keywords(flags):
+    return sorted(flag for flag in flags if flag[:1] != b'\\')
+
+
+def flags_of(text):
+    """The flags that are written here, each once, or None where more than 16 of them are keywords."""
+    spelled_so = {flag.lower(): flag for flag in SYSTEM}
+    flags = frozenset(spelled_so.get(flag.lower(), flag) for flag in text.split())
+    return flags if len(keywords(flags)) <= 16 else None
+
+
+def printed(flags):
+    return b'(' + b' '.join([flag for flag in SYSTEM if flag in flags] + keywords(flags)) + b')'
+
+
+def set_of(text):
+    """The two ends of each range, `*` being None; or None where a number is too large."""
+    ranges = [part.split(b':') for part in text.split(b',')]
+    ends = [[None if end == b'*' else int(end) for end in (part[0], part[-1])] for part in ranges]
+    return None if any(end and end >= 2**32 for part in ends for end in part) else ends
+
+
+def named(uids, is_uid, ranges):
+    """The UIDs of a view that a set names, or None where it has a message number that isn't there."""
+    numbers = uids if is_uid else range(1, len(uids) + 1)
+    last = numbers[-1] if numbers else 0
+    ranges = [sorted(last if end is None else end for end in part) for part in ranges]
+    if not is_uid and any(low < 1 or high > last for low, high in ranges):
+        return None
+    return [uid for uid, number in zip(uids, numbers) if any(low <= number <= high for low, high in ranges)]
 
 
 def message_at(frame, at):
-    """The place of an APPEND's literal, behind flags and a date."""
-    flags = FLAGS.match(frame, at)
-    if flags:
-        if len({flag for flag in flags[0][1:-2].split(b' ') if flag[:1] not in (b'', b'\\')}) > 16:
-            return None
-        at = flags.end()
+    """The place of an APPEND's literal, behind flags and a date, and the flags."""
+    flags = frozenset()
+    listed = FLAG_LIST.match(frame, at)
+    if listed:
+        flags, at = flags_of(listed[1]), listed.end()
     date = DATE.match(frame, at)
     if date:
         at = date.end()
-    return at if frame[at:at + 1] == b'{' else None
+    return (at, flags) if flags is not None and frame[at:at + 1] == b'{' else None
 
 
 def first_tag(frame):
@@ -126,31 +169,45 @@ def command_of(frame):
     tag = first_tag(frame)
     if tag is None:
         return b'*', None
-    found = re.compile(rb'(LOGIN|CREATE|APPEND|STATUS) ', re.I).match(frame, len(tag) + 1)
+    at = len(tag) + 1
+    return tag, of_a_view(frame[at:]) or of_names(frame, at)
+
+
+def of_a_view(text):
+    """A command that names no mailbox, and what it asks for."""
+    found = next(filter(None, (form.fullmatch(text) for form in FORMS)), None)
     if not found:
-        return tag, None
-    word, at, arguments = found[1].upper(), found.end(), []
-    first = string_at(frame, at)
+        return None
+    word, *parts = found.groups()
+    word = word.upper()
+    asks = dict(zip(('set', 'mode', 'silent', 'flags') if word.endswith(b'STORE') else ('set', 'items'), parts))
+    if 'set' in asks:
+        asks['set'] = set_of(asks['set'])
+    if 'flags' in asks:
+        asks['flags'] = flags_of(asks['flags'].removeprefix(b'(').removesuffix(b')'))
+    if 'items' in asks:
+        asks['items'] = list(dict.fromkeys(asks['items'].upper().strip(b'()').split(b' ')))
+    return (word, asks) if None not in (asks.get('set', []), asks.get('flags', [])) else None
+
+
+def of_names(frame, at):
+    """A command on a mailbox that it names, or a LOGIN."""
+    found = re.compile(rb'(LOGIN|CREATE|APPEND|STATUS|SELECT|EXAMINE) ', re.I).match(frame, at)
+    first = string_at(frame, found.end()) if found else None
     if not first:
-        return tag, None
-    arguments.append(first[0])
-    at = first[1]
-    if word == b'CREATE':
-        return (tag, (word, arguments)) if frame[at:] == b'\r\n' else (tag, None)
+        return None
+    word, (text, at) = found[1].upper(), first
+    if word in (b'CREATE', b'SELECT', b'EXAMINE'):
+        return (word, [text]) if frame[at:] == b'\r\n' else None
     if frame[at:at + 1] != b' ':
-        return tag, None
+        return None
     at += 1
     if word == b'STATUS':
         items = re.compile(rb'\(MESSAGES(?: MESSAGES)*\)\r\n$', re.I).match(frame, at)
-        return (tag, (word, arguments + [items[0].upper().count(b'MESSAGES')])) if items else (tag, None)
-    if word == b'APPEND':
-        at = message_at(frame, at)
-        if at is None:
-            return tag, None
-    second = string_at(frame, at)
-    if not second or frame[second[1]:] != b'\r\n':
-        return tag, None
-    return tag, (word, arguments + [second[0]])
+        return (word, [text, items[0].upper().count(b'MESSAGES')]) if items else None
+    message = message_at(frame, at) if word == b'APPEND' else (at, None)
+    second = string_at(frame, message[0]) if message else None
+    return (word, [text, second[0], message[1]]) if second and frame[second[1]:] == b'\r\n' else None
 
 
 def is_name(name):
@@ -159,6 +216,124 @@ def is_name(name):
     except UnicodeDecodeError:
         return False
     return 0 < len(name) <= 255 and not re.search(rb'[\x00-\x1f\x7f"\\%*]', name) and b'' not in name.split(b'.')
+
+
+def missing(word):
+    return b'NO [TRYCREATE] no such mailbox' if word == b'APPEND' else b'NO [NONEXISTENT] no such mailbox'
+
+
+def printed_name(shown):
+    """A mailbox's name in a reply: an atom where it is one, else quoted."""
+    return shown if re.fullmatch(rb'[!#$&\'+,\-./0-9:;<=>?@A-Z\[^_`a-z|}~]+', shown) else b'"' + shown + b'"'
+
+
+def is_in_state(c, word):
+    if word == b'NOOP':
+        return True
+    if word == b'LOGIN':
+        return c['user'] is None
+    named_alone = word in (b'CREATE', b'APPEND', b'STATUS', b'SELECT', b'EXAMINE')
+    return c['user'] is not None and (named_alone or c['view'] is not None)
+
+
+class Box:
+    """A mailbox: its messages are flags and bytes, by UID."""
+
+    def __init__(self, serial):
+        self.serial, self.next, self.messages = serial, 1, {}
+
+    def append(self, flags, body):
+        self.messages[self.next] = (flags, body)
+        self.next += 1
+        return self.next - 1
+
+    def flags(self):
+        return {uid: flags for uid, (flags, _) in self.messages.items()}
+
+    def read(self, uids, is_seen):
+        """The messages as they are; behind that each of them is seen, if that is asked for."""
+        found = {uid: self.messages[uid] for uid in uids if uid in self.messages}
+        if is_seen:
+            self.messages.update({uid: (flags | {b'\\Seen'}, body) for uid, (flags, body) in found.items()})
+        return found
+
+    def store(self, uids, mode, flags):
+        """Whether no message gets more than 16 keywords; else none of them is changed."""
+        change = {b'': lambda old: flags, b'+': lambda old: old | flags, b'-': lambda old: old - flags}[mode]
+        changed = {uid: (change(self.messages[uid][0]), self.messages[uid][1]) for uid in uids if uid in self.messages}
+        if any(len(keywords(flags)) > 16 for flags, _ in changed.values()):
+            return False
+        self.messages.update(changed)
+        return True
+
+    def expunge(self, uids):
+        for uid in self.messages.copy() if uids is None else uids:
+            if uid in self.messages and b'\\Deleted' in self.messages[uid][0]:
+                del self.messages[uid]
+
+
+class View:
+    """A selected mailbox, as its client was last told of it: flags by UID, in their order."""
+
+    def __init__(self, name, is_writable, rows):
+        self.name, self.is_writable, self.rows = name, is_writable, rows
+
+    def number(self, uid):
+        return list(self.rows).index(uid) + 1
+
+    def reply(self, word, asks, found, now):
+        """The lines of a command, its own and then the news, and its tagged text (RFC 9051, 6.4)."""
+        uids, lines, told, text = asks['uids'], b'', [], b'OK ' + word + b' completed'
+        if word.endswith(b'FETCH'):
+            lines = b''.join(self.fetched(uid, word, asks['items'], *found[uid], now[uid]) for uid in found)
+            told = [uid for uid in found if b'FLAGS' in asks['items'] or found[uid][0] != now[uid]]
+        elif word.endswith(b'STORE') and not found:
+            return self.news(now, word == b'UID STORE', []), LIMIT
+        elif word.endswith(b'STORE'):
+            if not asks['silent']:
+                lines = b''.join(self.stored(uid, word, now[uid]) for uid in uids if uid in now)
+            told = uids
+        if word in (b'FETCH', b'STORE') and any(uid not in now for uid in uids):
+            text = b'OK [EXPUNGEISSUED] ' + word + b' completed'
+        return lines + self.news(now, word not in (b'FETCH', b'STORE'), told), text
+
+    def fetched(self, uid, word, items, before, body, flags):
+        """One message's line: the items in their order, UID first and FLAGS last where they come unasked."""
+        if word == b'UID FETCH' and b'UID' not in items:
+            items = [b'UID'] + items
+        if before != flags and b'FLAGS' not in items:
+            items = items + [b'FLAGS']
+        literal = b'BODY[] {%d}\r\n%s' % (len(body), body)
+        parts = {b'UID': b'UID %d' % uid, b'FLAGS': b'FLAGS ' + printed(flags), b'BODY[]': literal, b'BODY.PEEK[]': literal}
+        return b'* %d FETCH (%s)\r\n' % (self.number(uid), b' '.join(parts[item] for item in items))
+
+    def stored(self, uid, word, flags):
+        named_so = b'UID %d ' % uid if word == b'UID STORE' else b''
+        return b'* %d FETCH (%sFLAGS %s)\r\n' % (self.number(uid), named_so, printed(flags))
+
+    def news(self, now, expunges, told):
+        """The lines that tell of what was changed since (RFC 9051, 7.5.1, 7.4.1 and 7.5.2); of the flags of `told` they tell nothing."""
+        lines, old, last = [], dict(self.rows), max(self.rows, default=0)
+        for uid in old if expunges else []:
+            if uid not in now:
+                lines.append(b'* %d EXPUNGE\r\n' % self.number(uid))
+                del self.rows[uid]
+        self.rows.update({uid: flags for uid, flags in now.items() if uid in old or uid > last})
+        if max(now, default=0) > last:
+            lines.append(b'* %d EXISTS\r\n' % len(self.rows))
+        for uid in old:
+            if uid in now and uid not in told and now[uid] != old[uid]:
+                lines.append(b'* %d FETCH (UID %d FLAGS %s)\r\n' % (self.number(uid), uid, printed(now[uid])))
+        return b''.join(lines)
+
+
+def opened(box_name, is_writable, now, serial, uidnext):
+    """The lines of a SELECT or EXAMINE (RFC 9051, 6.3.2)."""
+    flags = printed(frozenset(SYSTEM).union(*now.values()))
+    permanent = flags[:-1] + b' \\*)' if is_writable else b'()'
+    return b'\r\n'.join([b'* FLAGS ' + flags, b'* %d EXISTS' % len(now), b'* LIST () "." ' + box_name,
+                         b'* OK [PERMANENTFLAGS ' + permanent + b'] flags', b'* OK [UIDNEXT %d] next' % uidnext,
+                         b'* OK [UIDVALIDITY %d] validity' % serial, b''])
 
 
 class Cluster:
@@ -178,7 +353,7 @@ class Cluster:
     def open(self, node, conn):
         self.steps += 1
         front = self.kinds[node] == 'frontend'
-        self.conns[conn] = dict(node=node, front=front, frames=Frames(), waiting=deque(), user=None, asked=None, answered=0,
+        self.conns[conn] = dict(node=node, front=front, frames=Frames(), waiting=deque(), user=None, view=None, asked=None, answered=0,
                                 over=not front, given=[GREETING] if front else [])
 
     def data(self, conn, text):
@@ -201,7 +376,7 @@ class Cluster:
                 c['given'].append(b'* BYE ' + frame[0] + b'\r\n')
                 c['over'] = True
             elif kind == 'big':
-                self.answer(conn, c, first_tag(frame[0]) or b'*', b'NO [LIMIT] too large or too many')
+                self.answer(conn, c, first_tag(frame[0]) or b'*', LIMIT)
             else:
                 self.command(conn, c, *command_of(frame[0]))
 
@@ -211,30 +386,62 @@ class Cluster:
         self.marks.append((self.steps, conn, c['answered'], True))
 
     def command(self, conn, c, tag, command):
-        if command is None:
-            return self.answer(conn, c, tag, b'BAD syntax error')
-        word, arguments = command
-        if (word == b'LOGIN') != (c['user'] is None):
-            return self.answer(conn, c, tag, b'BAD not in this state')
-        if word == b'LOGIN':
+        word, arguments = command or (None, None)
+        if command is None or not is_in_state(c, word):
+            self.answer(conn, c, tag, STATE if command else SYNTAX)
+        elif word == b'LOGIN':
             if arguments[0] not in self.users or self.users[arguments[0]][0] != arguments[1]:
                 return self.answer(conn, c, tag, b'NO [AUTHENTICATIONFAILED] login failed')
             c['user'] = arguments[0]
-            return self.answer(conn, c, tag, b'OK LOGIN completed')
+            self.answer(conn, c, tag, b'OK LOGIN completed')
+        elif word in (b'CREATE', b'APPEND', b'STATUS', b'SELECT', b'EXAMINE'):
+            self.of_name(conn, c, tag, word, arguments)
+        else:
+            self.of_view(conn, c, tag, word, arguments)
+
+    def of_name(self, conn, c, tag, word, arguments):
+        """A command on a mailbox that it names: refused here, or asked of the home."""
         text = arguments[0]
         if word == b'CREATE' and text.endswith(b'.'):
             text = text[:-1]
-        if word == b'CREATE' and text.lower() == b'inbox':
-            return self.answer(conn, c, tag, b'NO [CANNOT] cannot be done')
         own = b'user.' + c['user']
         name = own + text[5:] if text[:5].lower() == b'inbox' and text[5:6] in (b'', b'.') else text
-        if not is_name(name):
-            return self.answer(conn, c, tag, b'NO [TRYCREATE] no such mailbox' if word == b'APPEND' else b'NO [NONEXISTENT] no such mailbox')
         admin, mine = self.users[c['user']][1], (name + b'.').startswith(own + b'.')
-        if not admin and (not mine or word == b'CREATE' and name == own):
-            return self.answer(conn, c, tag, b'NO [NOPERM] not permitted')
-        shown = b'INBOX' + name[len(own):] if mine else name
-        c['asked'] = (tag, word, shown, arguments)
+        if word == b'CREATE' and text.lower() == b'inbox':
+            refusal = CANNOT
+        elif not is_name(name):
+            refusal = missing(word)
+        elif not admin and (not mine or word == b'CREATE' and name == own):
+            refusal = NO_RIGHT
+        else:
+            shown = b'INBOX' + name[len(own):] if mine else name
+            return self.ask(conn, c, tag, word, shown, arguments, name)
+        self.answer(conn, c, tag, refusal, self.closed(c) if word in (b'SELECT', b'EXAMINE') else b'')
+
+    def of_view(self, conn, c, tag, word, asks):
+        """A command of a selected session: refused or answered here, or asked of the home, by UIDs."""
+        view = c['view']
+        if word == b'NOOP' and not view:
+            return self.answer(conn, c, tag, b'OK NOOP completed')
+        asks['uids'] = named(list(view.rows), word.startswith(b'UID '), asks['set']) if 'set' in asks else None
+        if 'set' in asks and asks['uids'] is None:
+            self.answer(conn, c, tag, MESSAGE)
+        elif word.endswith((b'STORE', b'EXPUNGE')) and not view.is_writable:
+            self.answer(conn, c, tag, CANNOT)
+        elif word == b'UNSELECT' or word == b'CLOSE' and not view.is_writable:
+            c['view'] = None
+            self.answer(conn, c, tag, b'OK ' + word + b' completed')
+        else:
+            asks['is_seen'] = view.is_writable and b'BODY[]' in asks.get('items', [])
+            self.ask(conn, c, tag, word, None, asks, view.name)
+
+    def closed(self, c):
+        """What is told of the mailbox that was selected where another one is asked for."""
+        view, c['view'] = c['view'], None
+        return CLOSED if view else b''
+
+    def ask(self, conn, c, tag, word, shown, arguments, name):
+        c['asked'] = (tag, word, shown, arguments, name)
         self.send(c['node'], self.home, ('ask', conn, c['answered'] + 1, name, word, arguments))
 
     def send(self, a, b, message):
@@ -250,40 +457,52 @@ class Cluster:
             done, outcome = self.at_home(*rest)
             self.marks.append((self.steps, conn, number, done))
             self.send(b, a, ('answer', conn, number, outcome))
-        else:
-            self.replied(conn, rest[0])
+        elif not self.conns[conn]['over']:
+            self.replied(conn, self.conns[conn], rest[0])
 
-    def at_home(self, name, word, arguments):
+    def at_home(self, name, word, asks):
+        """Whether the home did the command, and what it answers: a text, or what it found in the mailbox and the mailbox."""
         box = self.boxes.get(name)
         if word == b'CREATE':
             if box:
                 return False, b'NO [ALREADYEXISTS] mailbox exists'
             self.serial += 1
-            self.boxes[name] = [self.serial, 1, 0]
+            self.boxes[name] = Box(self.serial)
             return True, b'OK CREATE completed'
         if box is None:
-            return False, b'NO [TRYCREATE] no such mailbox' if word == b'APPEND' else b'NO [NONEXISTENT] no such mailbox'
-        if word == b'STATUS':
-            return True, box[2]
-        if box[2] >= 20_000:
-            return True, b'NO [LIMIT] too large or too many'
-        box[1] += 1
-        box[2] += 1
-        return True, b'OK [APPENDUID %d %d] APPEND completed' % (box[0], box[1] - 1)
+            return False, missing(word)
+        found = None
+        if word == b'APPEND':
+            if len(box.messages) >= 20_000:
+                return True, LIMIT
+            return True, b'OK [APPENDUID %d %d] APPEND completed' % (box.serial, box.append(asks[2], asks[1]))
+        if word.endswith(b'FETCH'):
+            found = box.read(asks['uids'], asks['is_seen'])
+        elif word.endswith(b'STORE'):
+            found = box.store(asks['uids'], asks['mode'], asks['flags'])
+        elif word in (b'CLOSE', b'EXPUNGE', b'UID EXPUNGE'):
+            box.expunge(asks['uids'])
+        return True, (found, box.flags(), box.serial, box.next)
 
-    def replied(self, conn, outcome):
-        c = self.conns[conn]
-        if c['over']:
-            return
-        tag, word, shown, arguments = c['asked']
-        lines = b''
-        if word == b'STATUS' and isinstance(outcome, int):
-            atom = re.fullmatch(rb'[!#$&\'+,\-./0-9:;<=>?@A-Z\[^_`a-z|}~]+', shown)
-            items = b' '.join([b'MESSAGES %d' % outcome] * arguments[1])
-            lines = b'* STATUS ' + (shown if atom else b'"' + shown + b'"') + b' (' + items + b')\r\n'
-            outcome = b'OK STATUS completed'
+    def replied(self, conn, c, outcome):
+        tag, word, shown, asks, name = c['asked']
+        lines = self.closed(c) if word in (b'SELECT', b'EXAMINE') else b''
+        text = b'OK ' + word + b' completed'
+        if isinstance(outcome, bytes):
+            text = outcome
+        elif word == b'STATUS':
+            lines = b'* STATUS %s (%s)\r\n' % (printed_name(shown), b' '.join([b'MESSAGES %d' % len(outcome[1])] * asks[1]))
+        elif word in (b'SELECT', b'EXAMINE'):
+            is_writable = word == b'SELECT'
+            c['view'] = View(name, is_writable, outcome[1])
+            lines += opened(printed_name(shown), is_writable, *outcome[1:])
+            text = (b'OK [READ-WRITE] ' if is_writable else b'OK [READ-ONLY] ') + word + b' completed'
+        elif word == b'CLOSE':
+            c['view'] = None
+        else:
+            lines, text = c['view'].reply(word, asks, *outcome[:2])
         c['asked'] = None
-        c['given'].append(lines + tag + b' ' + outcome + b'\r\n')
+        c['given'].append(lines + tag + b' ' + text + b'\r\n')
         c['answered'] += 1
         self.work(conn, c)
 
@@ -308,7 +527,8 @@ class Cluster:
                 points.append('point %d %d.%d reply\n' % (step, conn, number))
             elif done:
                 points.append('point %d %d.%d lost\n' % (step, conn, number))
-        boxes = ['box %s %s open %d %d %d\n' % (spelled(name).replace(' ', '\\x20'), self.home, *self.boxes[name]) for name in sorted(self.boxes)]
+        boxes = ['box %s %s open %d %d %d\n' % (spelled(name).replace(' ', '\\x20'), self.home, box.serial, box.next, len(box.messages))
+                 for name, box in sorted(self.boxes.items())]
         return ''.join(out + points + boxes) + 'end %d %d\n' % (self.steps, len(points))
 
     def take(self, line):

@@ -17,29 +17,32 @@ while (my $line = <STDIN>) {
   my %told = (name => $name);
   socketpair(my $client, my $server, AF_UNIX, SOCK_STREAM, PF_UNSPEC) or die "socketpair: $!";
   bless $client, 'IO::Socket::UNIX';
-  my $child = fork();
-  if ($child == 0) {
-    close $client;
-    syswrite($server, "* OK [CAPABILITY IMAP4rev2 AUTH=PLAIN] murder ready\r\n$bytes");
-    exit 0;
-  }
+  # the socket pair holds a whole answer, so that nothing has to be written while it is read
+  my $sent = "* OK [CAPABILITY IMAP4rev2 AUTH=PLAIN] murder ready\r\n$bytes";
+  $server->blocking(0);
+  (syswrite($server, $sent) // 0) == length $sent or die "the socket pair doesn't hold $name\n";
   close $server;
   eval {
     local $SIG{ALRM} = sub { die "waited\n" };
     alarm 5;
-    my $talk = Mail::IMAPTalk->new(Socket => $client, Separator => '.') or die "no greeting: $@\n";
+    my $talk = Mail::IMAPTalk->new(Socket => $client, Separator => '.', PreserveINBOX => 1, ExpectGreeting => 1) or die "no greeting: $@\n";
     $talk->{CmdId} = $tag;
     $talk->{LastCmd} = $bytes =~ / OK LOGOUT / ? 'logout' : 'x';
     $talk->uid(0);
-    my ($status, $result) = $talk->_parse_response('', {});
-    $told{status} = $status;
-    $told{result} = $result;
-    $told{items} = { map { ($_ => $talk->{Cache}{$_}) } grep { $_ ne 'capability' || $bytes =~ /CAPABILITY/ } keys %{ $talk->{Cache} || {} } };
-    $told{left} = length($talk->{ReadBuf} // '');
+    $talk->{Cache} = {};
+    my @messages;
+    # of lines about messages the cache has the last alone: a callback is given each, in their order
+    my $given = sub {
+      my ($kind, $items, $number) = @_;
+      push @messages, [$kind, $number, ref $items ? $items : ()];
+    };
+    @told{qw(status result)} = $talk->_parse_response({ map { ($_ => $given) } qw(exists expunge fetch) }, {});
+    $told{messages} = \@messages;
+    $told{items} = $talk->{Cache};
+    $told{left} = length($talk->{ReadBuf} // '') + (sysread($client, my $rest, 65536) // 0);
     alarm 0;
   };
   $told{error} = "$@" if $@;
   alarm 0;
-  waitpid($child, 0);
   print $json->encode(\%told), "\n";
 }

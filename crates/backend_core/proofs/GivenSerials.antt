@@ -4,8 +4,6 @@ use Rattle.std.proofs.Common.{◌≡◌, ◌≢◌, ℕ, ◌+◌, ◌≤◌, Lis
 use Rattle.std.specs.Ordering.{nat_cmp}
 use Rattle.std.specs.Cmp.Lexicographic.{slice_cmp}
 use Rattle.mur_base.proofs.MapLaws.{names_apart, same_or_other, value_at-with_entry, value_at-with_value}
-use Rattle.mail_store.specs.Append.{appended}
-use Rattle.mail_store.proofs.AppendLaws.{serial-appended}
 use Rattle.link_msg.specs.declared.ask.FrontAsk.{FrontAsk}
 use Rattle.backend_core.specs.declared.backend.Backend.{Backend}
 use Rattle.backend_core.specs.declared.held.Held.{Held}
@@ -13,7 +11,7 @@ use Rattle.backend_core.specs.HomeStep.{held_at}
 use Rattle.backend_core.specs.HomeLaws.{HasGivenSerials}
 use Rattle.backend_core.specs.Create.{new_held}
 use Rattle.backend_core.specs.Step.{home_step}
-use Rattle.backend_core.proofs.Leaves.{Leaves, stays, makes, grows, leaves}
+use Rattle.backend_core.proofs.Leaves.{Leaves, stays, makes, turns, leaves}
 use Rattle.backend_core.proofs.Others.{others_stay}
 
 pub record SerialRises (home after : Backend) : Type 0 where
@@ -23,7 +21,7 @@ pub record SerialRises (home after : Backend) : Type 0 where
 rises_by : (home : Backend) (name : List ℕ) (after : Backend) → Leaves home name after → SerialRises home after
 rises_by home name after (stays is) = subst (SerialRises home) (sym is) (record { not_falls = omega arith; by_one = omega arith })
 rises_by home name after (makes none left is) = subst (SerialRises home) (sym is) (record { not_falls = omega arith; by_one = omega arith })
-rises_by home name after (grows held messages found opened fits is) =
+rises_by home name after (turns held content found opened follows is) =
     subst (SerialRises home) (sym is) (record { not_falls = omega arith; by_one = omega arith })
 
 pub serial_rises : (home : Backend) (ask : FrontAsk) → SerialRises home (home_step home ask).home
@@ -40,12 +38,11 @@ mine_by home name after held given there (makes none left is) =
     let one : new_held (home.last_serial + 1) name ≡ held = cc (found, ap (λ (h : Backend). held_at h name) (sym is) ∙ there) in
     let serial : home.last_serial + 1 ≡ held.content.serial = ap (λ (h : Held). h.content.serial) one in
     let last : after.last_serial ≡ home.last_serial + 1 = ap (λ (h : Backend). h.last_serial) is in omega arith
-mine_by home name after held given there (grows old messages was opened fits is) =
-    let later = record old { content = appended old.content messages } in
+mine_by home name after held given there (turns old content was opened follows is) =
+    let later = record old { content = content } in
     let found = value_at-with_value (slice_cmp nat_cmp) names_apart home.held name later old was in
     let one : later ≡ held = cc (found, ap (λ (h : Backend). held_at h name) (sym is) ∙ there) in
-    let serial : old.content.serial ≡ held.content.serial =
-    sym (serial-appended old.content old.content.next messages) ∙ ap (λ (h : Held). h.content.serial) one in
+    let serial : old.content.serial ≡ held.content.serial = sym follows.0 ∙ ap (λ (h : Held). h.content.serial) one in
     let last : after.last_serial ≡ home.last_serial = ap (λ (h : Backend). h.last_serial) is in
     let before = given name old was in omega arith
 

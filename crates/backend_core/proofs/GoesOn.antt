@@ -1,20 +1,16 @@
 -- A mailbox goes on through every step: it keeps its UIDVALIDITY, and UIDNEXT never falls.
 use Rattle.std.proofs.Math.Logic.{⊎_elim}
-use Rattle.std.proofs.Common.{◌≡◌, ◌≢◌, ℕ, ◌+◌, ◌≤◌, List, length, Option, None, Some, refl, sym, ◌∙◌, ap, subst, arith}
+use Rattle.std.proofs.Common.{◌≡◌, ◌≢◌, ℕ, ◌≤◌, List, Option, None, Some, refl, sym, ◌∙◌, ap, subst, arith}
 use Rattle.std.specs.Ordering.{nat_cmp}
 use Rattle.std.specs.Cmp.Lexicographic.{slice_cmp}
 use Rattle.mur_base.proofs.MapLaws.{names_apart, same_or_other, value_at-with_value}
-use Rattle.mail_message.specs.declared.message.Message.{Message}
-use Rattle.mail_message.specs.Boxes.{Content}
-use Rattle.mail_store.specs.Append.{appended}
-use Rattle.mail_store.proofs.AppendLaws.{next-appended, serial-appended}
 use Rattle.link_msg.specs.declared.ask.FrontAsk.{FrontAsk}
 use Rattle.backend_core.specs.declared.backend.Backend.{Backend}
 use Rattle.backend_core.specs.declared.held.Held.{Held}
 use Rattle.backend_core.specs.HomeStep.{held_at}
 use Rattle.backend_core.specs.HomeLaws.{GoesOn}
 use Rattle.backend_core.specs.Step.{home_step}
-use Rattle.backend_core.proofs.Leaves.{Leaves, stays, makes, grows, leaves}
+use Rattle.backend_core.proofs.Leaves.{Leaves, stays, makes, turns, leaves}
 use Rattle.backend_core.proofs.Others.{others_stay}
 
 goes_to : (held later : Held) (found : Option Held) → found ≡ Some later → later.content.serial ≡ held.content.serial
@@ -24,22 +20,18 @@ goes_to held later found is serial next = subst (GoesOn held) (sym is) (serial, 
 goes_as_it_was : (held : Held) (found : Option Held) → found ≡ Some held → GoesOn held found
 goes_as_it_was held found is = goes_to held held found is refl (omega arith)
 
-next_rises : (box : Content) (messages : List Message) → box.next ≤ (appended box messages).next
-next_rises box messages =
-    let next : (appended box messages).next ≡ box.next + length messages = next-appended box box.next messages in omega arith
-
 -- the mailbox of the name that was asked for
 mine_by : (home : Backend) (name : List ℕ) (after : Backend) (held : Held) → held_at home name ≡ Some held → Leaves home name after
     → GoesOn held (held_at after name)
 mine_by home name after held there (stays is) = goes_as_it_was held _ (ap (λ (h : Backend). held_at h name) is ∙ there)
 mine_by home name after held there (makes none left is) = let no : None ≡ Some held = sym none ∙ there in cc
-mine_by home name after held there (grows same messages found opened fits is) =
-    let later = record same { content = appended same.content messages } in
+mine_by home name after held there (turns same content found opened follows is) =
+    let later = record same { content = content } in
     let one : same ≡ held = cc (found, there) in
     goes_to held later (held_at after name)
     (ap (λ (h : Backend). held_at h name) is ∙ value_at-with_value (slice_cmp nat_cmp) names_apart home.held name later same found)
-    (serial-appended same.content same.content.next messages ∙ ap (λ (h : Held). h.content.serial) one)
-    (subst (λ (h : Held). h.content.next ≤ later.content.next) one (next_rises same.content messages))
+    (follows.0 ∙ ap (λ (h : Held). h.content.serial) one)
+    (subst (λ (h : Held). h.content.next ≤ content.next) one follows.1)
 
 pub goes_on : (home : Backend) (ask : FrontAsk) (name : List ℕ) (held : Held) → held_at home name ≡ Some held
     → GoesOn held (held_at (home_step home ask).home name)

@@ -1,6 +1,9 @@
+pub mod Follows
+pub mod Serves
 pub mod Leaves
 pub mod GoesOn
 pub mod GivenSerials
 pub mod NewUids
-pub mod NotOpen
+pub mod NotServed
 pub mod Others
+pub mod StoreTold

@@ -59,17 +59,17 @@ unfolding append_unless
 unless_new home name held messages (Some response) found refused = refused response refl
 unless_new home name held messages None found refused = to_new home name held messages (append_fault held.content messages) found
 
-append_new : (home : Backend) (name : List ℕ) (serial : ℕ) (messages : List Message) (held : Held) → held_at home name ≡ Some held
-    → GivesNew name held (append_step home name serial messages (Some held))
+append_new : (home : Backend) (name : List ℕ) (selected : Option ℕ) (messages : List Message) (held : Held) → held_at home name ≡ Some held
+    → GivesNew name held (append_step home name selected messages (Some held))
 unfolding append_step refusal
-append_new home name serial messages held found =
-    unless_new home name held messages (refusal serial held) found (λ r is. no_uids name held home held.phase (is_other serial held.content) r is)
+append_new home name selected messages held found =
+    unless_new home name held messages (refusal selected held) found (λ r is. no_uids name held home held.phase (is_other selected held.content) r is)
 
 pub append_gives_new : (home : Backend) (ask : FrontAsk) (messages : List Message) (held : Held) (uids : List ℕ) (seen : Snapshot)
     → ask.op ≡ Append messages → held_at home ask.name ≡ Some held → (home_step home ask).body ≡ Some (Done (Uids uids) seen)
     → AreNewUids uids held (held_at (home_step home ask).home ask.name)
 unfolding home_step op_step GivesNew
 append_gives_new home ask messages held uids seen is found says =
-    let step : home_step home ask ≡ append_step home ask.name ask.serial messages (Some held) =
-    ap (op_step home ask) is ∙ ap (append_step home ask.name ask.serial messages) found in
-    subst (GivesNew ask.name held) (sym step) (append_new home ask.name ask.serial messages held found) uids seen says
+    let step : home_step home ask ≡ append_step home ask.name ask.selected messages (Some held) =
+    ap (op_step home ask) is ∙ ap (append_step home ask.name ask.selected messages) found in
+    subst (GivesNew ask.name held) (sym step) (append_new home ask.name ask.selected messages held found) uids seen says

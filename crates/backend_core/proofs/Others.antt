@@ -5,23 +5,22 @@ use Rattle.std.specs.Cmp.Lexicographic.{slice_cmp}
 use Rattle.std.proofs.lemmas.Cmp.{nat_list_cmp_total}
 use Rattle.mur_base.proofs.MapLaws.{names_apart, value_at-with_entry-other, value_at-with_value-other}
 use Rattle.mur_base.proofs.MapOrder.{with_entry-in_order, with_value-in_order}
-use Rattle.mail_store.specs.Append.{appended}
 use Rattle.link_msg.specs.declared.ask.FrontAsk.{FrontAsk}
 use Rattle.backend_core.specs.declared.backend.Backend.{Backend}
 use Rattle.backend_core.specs.HomeStep.{held_at}
 use Rattle.backend_core.specs.HomeLaws.{HasNamesInOrder}
 use Rattle.backend_core.specs.Create.{new_held}
 use Rattle.backend_core.specs.Step.{home_step}
-use Rattle.backend_core.proofs.Leaves.{Leaves, stays, makes, grows, leaves}
+use Rattle.backend_core.proofs.Leaves.{Leaves, stays, makes, turns, leaves}
 
 other_by : (home : Backend) (name other : List ℕ) (after : Backend) → other ≢ name → Leaves home name after → held_at after other ≡ held_at home other
 other_by home name other after ne (stays is) = ap (λ (h : Backend). held_at h other) is
 other_by home name other after ne (makes none left is) =
     ap (λ (h : Backend). held_at h other) is
     ∙ value_at-with_entry-other (slice_cmp nat_cmp) names_apart home.held name other (new_held (home.last_serial + 1) name) ne
-other_by home name other after ne (grows held messages found opened fits is) =
+other_by home name other after ne (turns held content found opened follows is) =
     ap (λ (h : Backend). held_at h other) is
-    ∙ value_at-with_value-other (slice_cmp nat_cmp) names_apart home.held name other (record held { content = appended held.content messages }) ne
+    ∙ value_at-with_value-other (slice_cmp nat_cmp) names_apart home.held name other (record held { content = content }) ne
 
 -- another name keeps what the home has of it
 pub others_stay : (home : Backend) (ask : FrontAsk) (other : List ℕ) → other ≢ ask.name → held_at (home_step home ask).home other ≡ held_at home other
@@ -32,9 +31,9 @@ order_by home name after ordered (stays is) = subst HasNamesInOrder (sym is) ord
 order_by home name after ordered (makes none left is) =
     subst HasNamesInOrder (sym is)
     (with_entry-in_order (slice_cmp nat_cmp) nat_list_cmp_total home.held name (new_held (home.last_serial + 1) name) ordered)
-order_by home name after ordered (grows held messages found opened fits is) =
+order_by home name after ordered (turns held content found opened follows is) =
     subst HasNamesInOrder (sym is)
-    (with_value-in_order (slice_cmp nat_cmp) home.held name (record held { content = appended held.content messages }) ordered)
+    (with_value-in_order (slice_cmp nat_cmp) home.held name (record held { content = content }) ordered)
 
 pub order_stays : (home : Backend) (ask : FrontAsk) → HasNamesInOrder home → HasNamesInOrder (home_step home ask).home
 order_stays home ask ordered = order_by home ask.name (home_step home ask).home ordered (leaves home ask)

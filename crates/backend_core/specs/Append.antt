@@ -25,6 +25,6 @@ append_unless home name held messages (Some response) = answers home response
 append_unless home name held messages None =
     changes home name held (append_to held.content messages (append_fault held.content messages))
 
-unfoldable pub append_step : Backend → List ℕ → ℕ → List Message → Option Held → HomeStep
-append_step home name serial messages None = answers home not_now
-append_step home name serial messages (Some held) = append_unless home name held messages (refusal serial held)
+unfoldable pub append_step : Backend → List ℕ → Option ℕ → List Message → Option Held → HomeStep
+append_step home name selected messages None = answers home not_now
+append_step home name selected messages (Some held) = append_unless home name held messages (refusal selected held)

@@ -5,6 +5,7 @@ use Rattle.std.specs.Cmp.Lexicographic.{slice_cmp}
 use Rattle.mur_base.specs.Map.{IsInOrder}
 use Rattle.mur_base.specs.declared.home.Phase.{Phase}
 use Rattle.mur_base.specs.declared.home.Phase.TheVariants.{Open}
+use Rattle.mail_message.specs.Boxes.{Content}
 use Rattle.backend_core.specs.declared.backend.Backend.{Backend}
 use Rattle.backend_core.specs.declared.held.Held.{Held}
 use Rattle.backend_core.specs.HomeStep.{held_at}
@@ -22,10 +23,14 @@ is_open_here (Some held) = is_open held.phase
 abbrev pub HasNamesInOrder : Backend → Type 0
 HasNamesInOrder home = IsInOrder (slice_cmp nat_cmp) home.held
 
--- a mailbox goes on: it keeps its UIDVALIDITY, and UIDNEXT never falls (RFC 9051, 2.3.1.1)
+-- a mailbox's content may become this: UIDVALIDITY stays, and UIDNEXT doesn't fall (RFC 9051, 2.3.1.1)
+abbrev pub Follows : Content → Content → Type 0
+Follows content later = (later.serial ≡ content.serial) × (content.next ≤ later.next)
+
+-- a mailbox goes on
 abbrev pub GoesOn : Held → Option Held → Type 0
 GoesOn held None = ⊥
-GoesOn held (Some later) = (later.content.serial ≡ held.content.serial) × (held.content.next ≤ later.content.next)
+GoesOn held (Some later) = Follows held.content later.content
 
 -- UIDs from UIDNEXT on, below the later UIDNEXT
 abbrev pub AreNewUids : List ℕ → Held → Option Held → Type 0

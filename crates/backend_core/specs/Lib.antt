@@ -1,9 +1,13 @@
 pub mod Append
 pub mod Create
+pub mod Expunge
+pub mod Flags
 pub mod HomeLaws
 pub mod HomeStep
 pub mod Look
 pub mod Plan
+pub mod Read
 pub mod Refusal
 pub mod Response
+pub mod Served
 pub mod Step

@@ -14,9 +14,9 @@ look_unless content (Some response) = response
 look_unless content None = done nothing (snapshot_of content)
 
 -- by what the home has of the name
-unfoldable pub look_at : ℕ → Option Held → Response
-look_at serial None = not_now
-look_at serial (Some held) = look_unless held.content (refusal serial held)
+unfoldable pub look_at : Option ℕ → Option Held → Response
+look_at selected None = not_now
+look_at selected (Some held) = look_unless held.content (refusal selected held)
 
-unfoldable pub look_step : Backend → ℕ → Option Held → HomeStep
-look_step home serial found = answers home (look_at serial found)
+unfoldable pub look_step : Backend → Option ℕ → Option Held → HomeStep
+look_step home selected found = answers home (look_at selected found)

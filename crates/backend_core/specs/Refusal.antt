@@ -1,5 +1,5 @@
 -- Which asks for a mailbox's messages its home doesn't carry out.
-use Rattle.std.specs.Prelude.{ℕ, Bool, true, false, ◌&&◌, not, ◌==◌, Option, Some, None}
+use Rattle.std.specs.Prelude.{ℕ, Bool, true, false, not, ◌==◌, Option, Some, None}
 use Rattle.mur_base.specs.declared.home.Phase.{Phase}
 use Rattle.mur_base.specs.declared.home.Phase.TheVariants.{Open, Pointer}
 use Rattle.mail_message.specs.Boxes.{Content}
@@ -9,8 +9,9 @@ use Rattle.backend_core.specs.declared.response.Response.{Response}
 use Rattle.backend_core.specs.Response.{no_snapshot, done, not_now, moved}
 
 -- the session has selected a mailbox of another UIDVALIDITY (RFC 9051, 2.3.1.1)
-unfoldable pub is_other : ℕ → Content → Bool
-is_other serial content = not (serial == 0) && not (serial == content.serial)
+unfoldable pub is_other : Option ℕ → Content → Bool
+is_other None content = false
+is_other (Some serial) content = not (serial == content.serial)
 
 -- by the phase, and by whether the selected mailbox is another one: only where the name is Open are its messages served
 unfoldable pub refusal_in : Phase → Bool → Option Response
@@ -20,5 +21,5 @@ refusal_in (Pointer server) other = Some (moved server)
 refusal_in _ other = Some not_now
 
 -- what is answered instead, where the operation isn't carried out
-unfoldable pub refusal : ℕ → Held → Option Response
-refusal serial held = refusal_in held.phase (is_other serial held.content)
+unfoldable pub refusal : Option ℕ → Held → Option Response
+refusal selected held = refusal_in held.phase (is_other selected held.content)

@@ -20,15 +20,15 @@ pub fn append(
     alloc: Global,
     home: &mut Backend,
     name: &MailName,
-    serial: u32,
+    selected: Option<u32>,
     messages: Messages,
 ) -> Result<Response, Memory>
     ensures { IfOk result (λ response.
-        answers home.new response ≡ append_step home.old name.now serial messages (held_at home.old name.now)) }
+        answers home.new response ≡ append_step home.old name.now selected messages (held_at home.old name.now)) }
 {
     match home.held.get_mut(name) {
         None => Ok(Response::not_now()),
-        Some(held) => match refusal(alloc, serial, held)? {
+        Some(held) => match refusal(alloc, selected, held)? {
             Some(response) => Ok(response),
             None => append_to(alloc, &mut held.content, messages),
         },

@@ -4,7 +4,7 @@ ghost use Rattle.mail_message.specs.declared.message.Message.{Message};
 ghost use Rattle.link_msg.specs.declared.ask.FrontAsk.{FrontAsk};
 ghost use Rattle.mail_message.specs.declared.message.Snapshot.{Snapshot};
 ghost use Rattle.link_msg.specs.declared.answer.AnswerBody.TheVariants.{Done};
-ghost use Rattle.link_msg.specs.declared.op.Op.TheVariants.{Append};
+ghost use Rattle.link_msg.specs.declared.op.Op.TheVariants.{Append, Create};
 ghost use Rattle.link_msg.specs.declared.outcome.Outcome.TheVariants.{Uids};
 ghost use Rattle.backend_core.specs.declared.backend.Backend.{Backend};
 ghost use Rattle.backend_core.specs.declared.held.Held.{Held};
@@ -12,10 +12,16 @@ ghost use Rattle.backend_core.specs.HomeStep.{held_at};
 ghost use Rattle.backend_core.specs.HomeLaws.{is_open_here, HasNamesInOrder, GoesOn, AreNewUids, HasGivenSerials};
 ghost use Rattle.backend_core.specs.Step.{home_step};
 
-/// An APPEND changes nothing where its mailbox isn't Open here.
-pub fn an_append_elsewhere_changes_nothing()
-    ensures { (home : Backend) (ask : FrontAsk) (messages : List Message) → ask.op ≡ Append messages
+/// An ask but a CREATE changes nothing where its mailbox isn't Open here.
+pub fn an_ask_elsewhere_changes_nothing()
+    ensures { (home : Backend) (ask : FrontAsk) → ask.op ≢ Create
         → is_open_here (held_at home ask.name) ≡ false → (home_step home ask).home ≡ home }
+{}
+
+/// An ask of a session that has selected a mailbox of another UIDVALIDITY changes nothing (RFC 9051, 2.3.1.1).
+pub fn an_ask_of_another_mailbox_changes_nothing()
+    ensures { (home : Backend) (ask : FrontAsk) (held : Held) (serial : ℕ) → held_at home ask.name ≡ Some held
+        → ask.selected ≡ Some serial → serial ≢ held.content.serial → (home_step home ask).home ≡ home }
 {}
 
 /// Each mailbox goes on with its UIDVALIDITY, and its UIDNEXT never falls (RFC 9051, 2.3.1.1).

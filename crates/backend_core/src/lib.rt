@@ -4,11 +4,14 @@
 mod append;
 mod backend;
 mod create;
+mod expunge;
+mod flags;
 mod held;
 mod input;
 mod laws;
 mod look;
 mod plan;
+mod read;
 mod refusal;
 mod response;
 mod step;
@@ -17,7 +20,7 @@ pub use backend::Backend;
 pub use held::Held;
 pub use input::BackInput;
 pub use laws::{
-    an_append_elsewhere_changes_nothing, no_uid_is_given_twice, other_names_stay,
-    uidnext_never_falls, uidvalidity_is_not_given_again,
+    an_ask_elsewhere_changes_nothing, an_ask_of_another_mailbox_changes_nothing,
+    no_uid_is_given_twice, other_names_stay, uidnext_never_falls, uidvalidity_is_not_given_again,
 };
 pub use plan::BackPlan;

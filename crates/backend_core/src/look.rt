@@ -12,13 +12,13 @@ use std::alloc::Global;
 
 /// What is told of a mailbox, where it is Open here, in one pass over its messages.
 #[tactic(auto, unfolding(crate::specs::Look::look_at, crate::specs::Look::look_unless))]
-pub fn look(alloc: Global, serial: u32, found: Option<&Held>) -> Result<Response, Memory>
-    ensures { IfOk result (λ response. response ≡ look_at serial (option_copied found.entry)) }
+pub fn look(alloc: Global, selected: Option<u32>, found: Option<&Held>) -> Result<Response, Memory>
+    ensures { IfOk result (λ response. response ≡ look_at selected (option_copied found.entry)) }
 {
     let Some(held) = found else {
         return Ok(Response::not_now());
     };
-    match refusal(alloc, serial, held)? {
+    match refusal(alloc, selected, held)? {
         Some(response) => Ok(response),
         None => Ok(Response::done(Outcome::None, held.content.look(alloc)?)),
     }

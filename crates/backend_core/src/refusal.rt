@@ -12,12 +12,16 @@ use std::alloc::Global;
 /// What is answered instead, where an operation on messages isn't carried out: the name isn't Open here, or the asking
 /// session has selected another mailbox.
 #[tactic(auto, unfolding(crate::specs::Refusal::refusal, crate::specs::Refusal::refusal_in))]
-pub fn refusal(alloc: Global, serial: u32, held: &Held) -> Result<Option<Response>, Memory>
-    ensures { IfOk result (λ response. response ≡ refusal serial held.now) }
+pub fn refusal(
+    alloc: Global,
+    selected: Option<u32>,
+    held: &Held,
+) -> Result<Option<Response>, Memory>
+    ensures { IfOk result (λ response. response ≡ refusal selected held.now) }
 {
     match &held.phase {
         Phase::Open => {
-            if is_other(serial, &held.content) {
+            if is_other(selected, &held.content) {
                 Ok(Some(Response::done(Outcome::Gone, no_snapshot(alloc))))
             } else {
                 Ok(None)
@@ -29,8 +33,11 @@ pub fn refusal(alloc: Global, serial: u32, held: &Held) -> Result<Option<Respons
 }
 
 #[tactic(auto, unfolding(crate::specs::Refusal::is_other))]
-fn is_other(serial: u32, content: &MailBox) -> bool
-    ensures { result ≡ is_other serial content.now }
+fn is_other(selected: Option<u32>, content: &MailBox) -> bool
+    ensures { result ≡ is_other selected content.now }
 {
-    serial != 0 && serial != content.serial()
+    match selected {
+        None => false,
+        Some(serial) => serial != content.serial(),
+    }
 }

@@ -6,7 +6,10 @@ ghost use Rattle.backend_core.specs.HomeStep.{responds};
 use crate::append::append;
 use crate::backend::Backend;
 use crate::create::create;
+use crate::expunge::expunge;
+use crate::flags::set_flags;
 use crate::look::look;
+use crate::read::read;
 use crate::response::Response;
 use link_msg::{FrontAsk, Op};
 use mur_base::Memory;
@@ -21,13 +24,18 @@ pub fn serve(alloc: Global, home: &mut Backend, ask: FrontAsk) -> Result<Option<
         id: _,
         user: _,
         name,
-        serial,
+        selected,
         op,
     } = ask;
     match op {
         Op::Create => Ok(Some(create(alloc, home, name)?)),
-        Op::Append(messages) => Ok(Some(append(alloc, home, &name, serial, messages)?)),
-        Op::Look => Ok(Some(look(alloc, serial, home.held.get(&name))?)),
+        Op::Append(messages) => Ok(Some(append(alloc, home, &name, selected, messages)?)),
+        Op::Look => Ok(Some(look(alloc, selected, home.held.get(&name))?)),
+        Op::Read(uids, sees) => Ok(Some(read(alloc, home, &name, selected, &uids, sees)?)),
+        Op::Flags(uids, mode, flags) => Ok(Some(set_flags(
+            alloc, home, &name, selected, &uids, mode, &flags,
+        )?)),
+        Op::Expunge(only) => Ok(Some(expunge(alloc, home, &name, selected, only)?)),
         _ => Ok(None),
     }
 }

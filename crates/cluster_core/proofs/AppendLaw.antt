@@ -1,40 +1,39 @@
 -- An APPEND at the home is one at the store.
-use Rattle.std.proofs.Common.{◌≡◌, ◌≢◌, ℕ, ◌+◌, ◌-◌, ◌^◌, ◌<◌, ◌≤◌, Bool, true, false, List, [], ◌∷◌, Option, None, Some, refl, sym, ◌∙◌, ap, subst, arith}
-use Rattle.std.specs.Prelude.{⊤}
+use Rattle.std.proofs.Common.{◌≡◌, ◌≢◌, ℕ, List, [], ◌∷◌, Option, None, Some, refl, sym, ◌∙◌, ap, subst}
 use Rattle.std.specs.Ordering.{nat_cmp}
 use Rattle.std.specs.Cmp.Lexicographic.{slice_cmp}
 use Rattle.std.proofs.Math.Logic.{⊎_elim}
 use Rattle.backend_core.specs.declared.backend.Backend.{Backend}
 use Rattle.backend_core.specs.declared.held.Held.{Held}
 use Rattle.backend_core.specs.Append.{append_step, append_unless, append_to}
-use Rattle.backend_core.specs.HomeStep.{HomeStep, held_at, with_content}
+use Rattle.backend_core.specs.HomeStep.{held_at, with_content}
 use Rattle.backend_core.specs.Refusal.{refusal, refusal_in, is_other}
-use Rattle.front_core.specs.Append.{append_reply, reply_to_done, reply_to_uids}
-use Rattle.front_core.specs.Awaited.{awaited_of, reply_shown}
 use Rattle.link_msg.specs.declared.counts.Counts.TheVariants.{Always, IfAnswered}
 use Rattle.mail_message.specs.Boxes.{Content}
 use Rattle.mail_message.specs.declared.message.Message.{Message}
 use Rattle.mail_store.specs.Append.{appended, append_fault}
 use Rattle.mail_store.specs.declared.fault.StoreFault.{StoreFault}
 use Rattle.mur_base.specs.Map.{value_at, with_value}
-use Rattle.mur_base.specs.declared.home.Phase.{Phase}
 use Rattle.mur_base.specs.declared.home.Phase.TheVariants.{Open as open_here}
 use Rattle.mur_base.proofs.MapLaws.{names_apart, same_or_other, value_at-with_value, value_at-with_value-other}
 use Rattle.mur_model.specs.declared.need.Work.TheVariants.{Append as append_work}
 use Rattle.mur_model.specs.declared.store.Store.{Store}
 use Rattle.mur_model.specs.Act.{MayWork}
 use Rattle.mur_model.specs.Append.{append_on, append_to as append_to_box}
-use Rattle.mur_model.specs.Left.{Worked, store_after}
+use Rattle.mur_model.specs.Left.{store_after}
 use Rattle.mur_model.specs.Store.{box_at, with_box}
+use Rattle.session_core.specs.Append.{append_reply, reply_to_done, reply_to_uids}
+use Rattle.session_core.specs.Asking.{asked_for}
+use Rattle.session_core.specs.Finish.{finish}
 use Rattle.cluster_core.specs.OneStore.{open_box, open_content}
 use Rattle.cluster_core.proofs.ServedAlike.{IsStoreOf, ServesAlike}
 
-opened : (held : Held) (content : Content) → held.phase ≡ open_here → open_content (Some (record held { content = content })) ≡ Some content
+pub opened : (held : Held) (content : Content) → held.phase ≡ open_here → open_content (Some (record held { content = content })) ≡ Some content
 unfolding open_box
 opened held content e = rw e refl
 
 -- another content at home and in the store
-changed_alike : (store : Store) (home : Backend) (name : List ℕ) (held : Held) (content : Content) → held_at home name ≡ Some held → held.phase ≡ open_here
+pub changed_alike : (store : Store) (home : Backend) (name : List ℕ) (held : Held) (content : Content) → held_at home name ≡ Some held → held.phase ≡ open_here
     → IsStoreOf store home
     → IsStoreOf (with_box store name content) (with_content home name held content)
 changed_alike store home name held content at e same =
@@ -60,7 +59,7 @@ changed_alike store home name held content at e same =
     }
 
 -- the same content at home
-kept_alike : (store : Store) (home : Backend) (name : List ℕ) (held : Held) → held_at home name ≡ Some held → IsStoreOf store home
+pub kept_alike : (store : Store) (home : Backend) (name : List ℕ) (held : Held) → held_at home name ≡ Some held → IsStoreOf store home
     → IsStoreOf store (with_content home name held held.content)
 kept_alike store home name held at same = record {
   boxes = λ other. same.boxes other ∙ ap open_content (sym (still other));
@@ -80,7 +79,7 @@ kept_alike store home name held at same = record {
 
 abbrev pub AppendsAlike : Store → Backend → List ℕ → Message → Option Held → Type 0
 AppendsAlike store home name message found =
-    ServesAlike store home name (append_work message) (append_on message (open_content found)) (append_step home name 0 (message ∷ []) found)
+    ServesAlike store home name (append_work message) (append_on message (open_content found)) (append_step home name None (message ∷ []) found)
 
 apart : Always ≡ IfAnswered → ⊥
 apart h = cc
@@ -94,7 +93,7 @@ fault_by : (store : Store) (home : Backend) (name : List ℕ) (message : Message
           Some (append_to held.content (message ∷ []) fault).response.body;
       counts = (append_to held.content (message ∷ []) fault).response.counts;
     })
-unfolding append_to append_to_box store_after awaited_of reply_shown append_reply reply_to_done reply_to_uids MayWork
+unfolding append_to append_to_box store_after asked_for finish append_reply reply_to_done reply_to_uids MayWork
 fault_by store home name message held (Some fault) at e same = record {
   free = tt;
   body = _;
@@ -113,7 +112,7 @@ fault_by store home name message held None at e same = record {
 }
 
 -- a home serves a mailbox that is open to a session without one selected
-pub not_refused : (held : Held) → held.phase ≡ open_here → refusal 0 held ≡ None
+pub not_refused : (held : Held) → held.phase ≡ open_here → refusal None held ≡ None
 unfolding refusal refusal_in is_other
 not_refused held e = rw e refl
 
@@ -131,7 +130,7 @@ there_by store home name message held at e same =
 pub appends_alike : (store : Store) (home : Backend) (name : List ℕ) (message : Message) (found : Option Held) → held_at home name ≡ found
     → IsStoreOf store home
     → AppendsAlike store home name message found
-unfolding append_step append_on store_after awaited_of reply_shown append_reply MayWork
+unfolding append_step append_on store_after asked_for finish append_reply MayWork
 appends_alike store home name message None at same = record {
   free = tt;
   body = _;

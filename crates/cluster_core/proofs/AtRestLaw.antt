@@ -1,5 +1,5 @@
 -- Nothing waits on empty links, behind whatever steps.
-use Rattle.std.proofs.Common.{◌≡◌, ℕ, List, [], ◌++◌, length, refl, sym, ◌∙◌, ap, subst}
+use Rattle.std.proofs.Common.{◌≡◌, List, [], ◌++◌, sym, ◌∙◌, ap, subst}
 use Rattle.std.proofs.lemmas.List.{append-nil}
 use Rattle.mur_config.specs.declared.config.Config.{Config}
 use Rattle.mur_config.specs.Nodes.{AreNodes}
@@ -11,7 +11,7 @@ use Rattle.cluster_core.specs.Heard.{nobody, heard_from, frames_heard}
 use Rattle.cluster_core.specs.World.{start, home_of, setting_of}
 use Rattle.cluster_core.proofs.Keeps.{run_keeps}
 use Rattle.cluster_core.proofs.KeepsLaw.{KeepsLaw}
-use Rattle.cluster_core.proofs.OneStoreLaw.{SaysOf, says_of}
+use Rattle.cluster_core.proofs.OneStoreLaw.{says_of}
 use Rattle.cluster_core.proofs.RequestsOf.{requests_of, asks_all}
 use Rattle.cluster_core.proofs.StartLaw.{start_keeps}
 use Rattle.cluster_core.proofs.Unrolled.{run_steps-append}

@@ -1,16 +1,16 @@
 -- What holds of a connection: what its client was told is a front of what the one store replied, and at most one command waits,
 -- whose ask or answer is on the way.
-use Rattle.std.proofs.Common.{◌≡◌, ◌≢◌, ◌⊎◌, ℕ, ◌+◌, ◌<◌, ◌≤◌, Bool, true, false, nat_eq, List, [], ◌∷◌, ◌++◌, length, Option, None, Some, refl, sym, ◌∙◌, ap}
-use Rattle.std.proofs.Common.{subst, arith}
+use Rattle.std.proofs.Common.{◌≡◌, ◌≢◌, ◌⊎◌, ℕ, ◌+◌, ◌≤◌, true, false, nat_eq, List, [], ◌∷◌, ◌++◌, length, Option, None, Some, refl, ◌∙◌}
+use Rattle.std.proofs.Common.{arith}
 use Rattle.std.proofs.lemmas.Bool.Decides.{nat_tests}
 use Rattle.backend_core.specs.declared.backend.Backend.{Backend}
 use Rattle.front_core.specs.declared.connection.Connection.{Connection}
 use Rattle.front_core.specs.declared.connection.Stage.TheVariants.{Reading, Asked, Ended}
-use Rattle.front_core.specs.Awaited.{awaited_of, reply_shown}
 use Rattle.front_core.specs.Taken.{ask_for}
 use Rattle.imap_command.specs.Request.{request_of}
 use Rattle.imap_reply.specs.Greeting.{greeting}
-use Rattle.imap_reply.specs.Transcript.{replies_to}
+use Rattle.imap_reply.specs.SessionEnds.{has_ended, TurnEnds}
+use Rattle.imap_reply.specs.Transcript.{ends, replies_to}
 use Rattle.imap_reply.proofs.TranscriptGrows.{AreAnswered}
 use Rattle.imap_wire.specs.declared.frame.Frame.{Frame}
 use Rattle.imap_wire.specs.declared.frame.Frame.TheVariants.{Whole}
@@ -22,15 +22,17 @@ use Rattle.mur_model.specs.declared.command.Command.{Command}
 use Rattle.mur_model.specs.declared.command.Tag.{Tag}
 use Rattle.mur_model.specs.declared.need.Need.TheVariants.{Mailbox}
 use Rattle.mur_model.specs.declared.need.Work.{Work}
-use Rattle.mur_model.specs.declared.reply.Reply.{Reply}
 use Rattle.mur_model.specs.declared.request.Answer.{Answer}
 use Rattle.mur_model.specs.declared.request.Request.{Request}
 use Rattle.mur_model.specs.declared.request.Request.TheVariants.{Command as a_command}
 use Rattle.mur_model.specs.declared.session.Sess.{Sess}
+use Rattle.mur_model.specs.declared.session.Turn.{Turn}
 use Rattle.mur_model.specs.declared.setting.Setting.{Setting}
-use Rattle.mur_model.specs.Act.{need_of}
-use Rattle.mur_model.specs.History.{Course, Talk, GoesOn, TalkGoesOn, numbered, with_session}
-use Rattle.mur_model.proofs.HistoryGrows.{same_lists, same_talk, talks_follow}
+use Rattle.mur_model.specs.Act.{need_of, session_after}
+use Rattle.mur_model.specs.History.{Course, Talk, TalkGoesOn, numbered, with_session}
+use Rattle.mur_model.proofs.HistoryGrows.{same_talk, talks_follow}
+use Rattle.session_core.specs.Asking.{asked_for}
+use Rattle.session_core.specs.Finish.{finish}
 use Rattle.cluster_core.specs.declared.world.Client.{Client}
 use Rattle.cluster_core.specs.declared.world.World.{World}
 use Rattle.cluster_core.specs.Links.{Links}
@@ -38,6 +40,10 @@ use Rattle.cluster_core.specs.World.{client_at}
 use Rattle.cluster_core.proofs.Told.{IsTold}
 use Rattle.cluster_core.proofs.Ways.{AreOnWay}
 use Rattle.cluster_core.proofs.RequestsOf.{requests_of}
+
+-- the reader has begun so; one of a connection that has ended reads no more
+abbrev pub HasBegunSo : Connection → Option (List ℕ) → Type 0
+HasBegunSo connection held = (connection.stage ≡ Ended) ⊎ (connection.reader ≡ held)
 
 -- what was asked, what the one store replied, how much of it the clients were told, and the store with its sessions
 pub record Story : Type 0 where
@@ -110,26 +116,32 @@ stories_follow conn one two three first second = record {
 abbrev pub client_with : List ℕ → List Frame → List Answer → Client
 client_with front frames told = record { at = front; given = greeting ++ replies_to frames told }
 
--- the ask of a command is on the way, or the home's answer, of which the reply is made
+-- the ask of a command is on the way, or the home's answer, of which the reply and the session behind it are made
 pub data OnItsWay (links : Links) (conn : ℕ) (front home : List ℕ) (connection : Connection) (tag : Tag) (name : List ℕ) (work : Work)
-    (told said : List Answer) : Type 0 where
-  there : said ≡ told → AreOnWay links conn front home (ask_for conn connection name work ∷ []) []
-      → OnItsWay links conn front home connection tag name work told said
-  back : (body : AnswerBody) (reply : Reply) → said ≡ told ++ (record { tag = tag; reply = reply }) ∷ [] → reply_shown (awaited_of work) body ≡ Some reply
+    (told said : List Answer) (session : Sess) : Type 0 where
+  there : said ≡ told → connection.session ≡ session → AreOnWay links conn front home (ask_for conn connection name work ∷ []) []
+      → OnItsWay links conn front home connection tag name work told said session
+  back : (body : AnswerBody) (turn : Turn) → said ≡ told ++ (record { tag = tag; reply = turn.reply }) ∷ []
+      → finish (asked_for name work).awaited body ≡ Some turn
+      → session ≡ session_after connection.session turn.session → TurnEnds turn
       → AreOnWay links conn front home [] ((record { id = record { conn = conn; command = connection.answered + 1 }; body = body }) ∷ [])
-      → OnItsWay links conn front home connection tag name work told said
+      → OnItsWay links conn front home connection tag name work told said session
 
--- a connection of a client that hasn't closed it: it reads, a command waits, or a fault ended it
+-- a connection of a client that hasn't closed it: it reads, a command waits, a fault ended it, or its session ended with an answer
 pub data Stands (setting : Setting) (front home : List ℕ) (conn : ℕ) (frames : List Frame) (held : Option (List ℕ)) (connection : Connection) (links : Links)
     (told said : List Answer) (session : Sess) : Type 0 where
-  reads : connection.stage ≡ Reading → connection.waiting ≡ [] → connection.session ≡ session → AreAnswered frames told → said ≡ told
-      → AreOnWay links conn front home [] [] → Stands setting front home conn frames held connection links told said session
+  reads : connection.stage ≡ Reading → connection.waiting ≡ [] → connection.session ≡ session → has_ended session ≡ false → AreAnswered frames told
+      → said ≡ told → AreOnWay links conn front home [] [] → Stands setting front home conn frames held connection links told said session
   waits : (passed : List Frame) (bytes : List ℕ) (tag : Tag) (it : Command) (name : List ℕ) (work : Work)
-      → connection.stage ≡ Asked tag (awaited_of work) → frames ≡ passed ++ Whole bytes ∷ connection.waiting → connection.session ≡ session
-      → AreAnswered passed told
-      → request_of bytes ≡ a_command tag it → need_of setting session it ≡ Mailbox name work → FaultsLast connection.waiting held
-      → OnItsWay links conn front home connection tag name work told said → Stands setting front home conn frames held connection links told said session
+      → connection.stage ≡ Asked tag (asked_for name work).awaited → frames ≡ passed ++ Whole bytes ∷ connection.waiting
+      → has_ended connection.session ≡ false → AreAnswered passed told
+      → request_of bytes ≡ a_command tag it → need_of setting connection.session it ≡ Mailbox name work → FaultsLast connection.waiting held
+      → OnItsWay links conn front home connection tag name work told said session
+      → Stands setting front home conn frames held connection links told said session
   faulted : connection.stage ≡ Ended → held ≡ None → length (requests_of frames) ≡ length told → said ≡ told
+      → AreOnWay links conn front home [] [] → Stands setting front home conn frames held connection links told said session
+  finished : (passed more : List Frame) (bytes : List ℕ) (before : List Answer) (last : Answer) → connection.stage ≡ Ended
+      → frames ≡ passed ++ Whole bytes ∷ more → AreAnswered passed before → told ≡ before ++ last ∷ [] → ends last.reply ≡ true → said ≡ told
       → AreOnWay links conn front home [] [] → Stands setting front home conn frames held connection links told said session
 
 -- one whose client closed it: nothing is on its way, or what was on its way is
@@ -149,6 +161,7 @@ pub record IsReading (front home : List ℕ) (conn : ℕ) (frames : List Frame) 
   pub stage_is : connection.stage ≡ Reading
   pub waiting_is : connection.waiting ≡ []
   pub session_is : connection.session ≡ story.course.sessions conn
+  pub goes_on : has_ended (story.course.sessions conn) ≡ false
   pub count : connection.answered ≡ length (story.told conn)
   pub answered : AreAnswered frames (story.told conn)
   pub said : story.talk.answers conn ≡ story.told conn

@@ -1,20 +1,15 @@
 -- A CREATE at the home is one at the store, where the mailbox that is made gets the serial behind the home's last.
 use Rattle.std.proofs.Common.{◌≡◌, ◌≢◌, ℕ, ◌+◌, ◌-◌, ◌^◌, ◌<◌, ◌≤◌, ◌||◌, Bool, true, false, nat_eq, List, [], ◌∷◌, ◌++◌, Option, None, Some, refl, sym, ◌∙◌}
 use Rattle.std.proofs.Common.{ap, subst, arith}
-use Rattle.std.specs.List.{list_any}
-use Rattle.std.specs.Prelude.{All}
 use Rattle.std.specs.Ordering.{nat_cmp}
 use Rattle.std.specs.Cmp.Lexicographic.{slice_cmp}
 use Rattle.std.proofs.Math.Logic.{⊎_elim}
-use Rattle.std.proofs.lemmas.Bool.Decides.{nat_tests}
 use Rattle.std.proofs.lemmas.List.Elements.{All-push, All-weaker}
 use Rattle.std.proofs.lemmas.List.Folds.{list_any-append}
 use Rattle.backend_core.specs.declared.backend.Backend.{Backend}
 use Rattle.backend_core.specs.declared.held.Held.{Held}
 use Rattle.backend_core.specs.Create.{create_step, make, created_in, with_new, new_held}
-use Rattle.backend_core.specs.HomeStep.{HomeStep, held_at}
-use Rattle.front_core.specs.Awaited.{awaited_of, reply_shown}
-use Rattle.front_core.specs.Create.{create_reply, reply_to_done}
+use Rattle.backend_core.specs.HomeStep.{held_at}
 use Rattle.link_msg.specs.declared.counts.Counts.TheVariants.{Always, IfAnswered}
 use Rattle.mail_message.specs.Boxes.{Content, empty_box}
 use Rattle.mail_message.specs.FirstAcl.{first_acl}
@@ -25,10 +20,13 @@ use Rattle.mur_base.proofs.MapLaws.{names_apart, same_or_other, value_at-with_en
 use Rattle.mur_model.specs.declared.need.Work.TheVariants.{Make}
 use Rattle.mur_model.specs.declared.store.Pair.{Pair}
 use Rattle.mur_model.specs.declared.store.Store.{Store}
-use Rattle.mur_model.specs.Act.{worked_at, work_on, MayWork}
+use Rattle.mur_model.specs.Act.{MayWork}
 use Rattle.mur_model.specs.Create.{create_on, make as make_box}
-use Rattle.mur_model.specs.Left.{Worked, store_after}
-use Rattle.mur_model.specs.Store.{box_at, with_new_box, is_spent, IsFree}
+use Rattle.mur_model.specs.Left.{store_after}
+use Rattle.mur_model.specs.Store.{with_new_box, is_spent, IsFree}
+use Rattle.session_core.specs.Asking.{asked_for}
+use Rattle.session_core.specs.Create.{create_reply, reply_to_done}
+use Rattle.session_core.specs.Finish.{finish}
 use Rattle.cluster_core.specs.OneStore.{open_box, open_content}
 use Rattle.cluster_core.proofs.ServedAlike.{IsStoreOf, ServesAlike}
 
@@ -89,7 +87,7 @@ CreatesAlike store home name found =
 
 make_by : (store : Store) (home : Backend) (name : List ℕ) (spent : Bool) → nat_eq home.last_serial (2 ^ 32 - 1) ≡ spent → IsStoreOf store home
     → ServesAlike store home name Make (make_box name (home.last_serial + 1) spent) (make home name spent)
-unfolding make make_box store_after awaited_of reply_shown create_reply reply_to_done MayWork
+unfolding make make_box store_after asked_for finish create_reply reply_to_done MayWork
 make_by store home name true e same = record {
   free = λ _. λ _. next_is_free store home name same;
   body = _;
@@ -112,7 +110,7 @@ make_by store home name false e same = record {
 
 there_by : (store : Store) (home : Backend) (name : List ℕ) (held : Held) (phase : Phase) → held.phase ≡ phase → phase ≡ open_here → IsStoreOf store home
     → CreatesAlike store home name (Some held)
-unfolding create_step created_in create_on store_after awaited_of reply_shown create_reply reply_to_done MayWork open_box
+unfolding create_step created_in create_on store_after asked_for finish create_reply reply_to_done MayWork open_box
 there_by store home name held open_here e o same = rw e (record {
   free = λ _. λ _. next_is_free store home name same;
   body = _;

@@ -1,11 +1,11 @@
 -- Where the first message of a link is taken in place.
-use Rattle.std.proofs.Common.{◌≡◌, ℕ, List, [], ◌∷◌, drop, Option, None, Some, refl, sym, ◌∙◌, ap}
+use Rattle.std.proofs.Common.{◌≡◌, ℕ, List, ◌∷◌, drop, Option, None, Some, sym, ◌∙◌, ap}
 use Rattle.std.specs.Option.{IfSome}
 use Rattle.std.specs.Ordering.{nat_cmp}
 use Rattle.std.specs.Cmp.Lexicographic.{slice_cmp}
 use Rattle.link_msg.specs.declared.message.LinkMsg.{LinkMsg}
 use Rattle.mur_base.specs.Map.{value_at, with_entry, with_value, IsInOrder}
-use Rattle.cluster_core.specs.Links.{Ways, Links, ways_from, ways_or_none, queue_or_none, queue_to, on_link, with_queue, without_first}
+use Rattle.cluster_core.specs.Links.{Ways, Links, ways_or_none, queue_or_none, queue_to, on_link, without_first}
 use Rattle.cluster_core.proofs.Entries.{entered_name}
 
 pub taken_way : (ways : Ways) (t : List ℕ) (old new : List LinkMsg) (found : Option LinkMsg) → IsInOrder (slice_cmp nat_cmp) ways

@@ -10,7 +10,7 @@ use Rattle.schedule_text.specs.declared.event.Event.TheVariants.{Deliver}
 use Rattle.cluster_core.specs.declared.world.World.{World}
 use Rattle.cluster_core.specs.Links.{on_link}
 use Rattle.cluster_core.specs.World.{steps_by}
-use Rattle.cluster_core.specs.Flow.{Flowing, turn_by, turn_of, round, rounds, rounds_by, flow}
+use Rattle.cluster_core.specs.Flow.{Flowing, turn_by, turn_of, round, rounds, rounds_by}
 
 -- the same world, and as many deliveries that may follow
 pub record AreAlike (one other : Flowing) : Type 0 where

@@ -1,22 +1,20 @@
 -- The frames of one connection keep the law: each request gets its answer or is asked of the home, a literal its continuation, a
 -- fault its line.
-use Rattle.std.proofs.Common.{◌≡◌, ◌≢◌, ℕ, ◌+◌, ◌<◌, ◌≤◌, List, [], ◌∷◌, ◌++◌, length, Option, None, Some, refl, sym, ◌∙◌, ap, subst, arith, append_assoc}
-use Rattle.std.proofs.Common.{length-append}
+use Rattle.std.proofs.Common.{◌≡◌, ℕ, ◌+◌, List, [], ◌∷◌, ◌++◌, length, Option, None, Some, refl, sym, ◌∙◌, ap, subst, append_assoc}
+use Rattle.std.proofs.Common.{false}
 use Rattle.std.specs.Ordering.{nat_cmp}
 use Rattle.std.proofs.lemmas.List.{append-nil}
 use Rattle.backend_core.specs.declared.backend.Backend.{Backend}
 use Rattle.front_core.specs.declared.connection.Connection.{Connection}
-use Rattle.front_core.specs.declared.connection.Stage.{Stage}
 use Rattle.front_core.specs.declared.connection.Stage.TheVariants.{Reading, Asked, Ended}
-use Rattle.front_core.specs.Awaited.{awaited_of}
-use Rattle.front_core.specs.Taken.{Turned, answers, asks, ask_for, request_in, frame_in, comes_at, frame_comes, frames_come, behind_outs}
+use Rattle.front_core.specs.Taken.{Turned, answers, asks, ask_for, frame_in, comes_at, frame_comes, frames_come, behind_outs}
 use Rattle.imap_command.specs.Request.{request_of, too_big_request}
 use Rattle.imap_reply.specs.ByeLine.{bye_line, bye_of}
 use Rattle.imap_reply.specs.Continuation.{ready}
 use Rattle.imap_reply.specs.Greeting.{greeting}
 use Rattle.imap_reply.specs.ReplyText.{reply_text}
+use Rattle.imap_reply.specs.SessionEnds.{has_ended}
 use Rattle.imap_reply.specs.Transcript.{answer_text, ends, replies_to}
-use Rattle.imap_reply.proofs.AnswersStay.{answer_stays}
 use Rattle.imap_reply.proofs.TranscriptGrows.{AreAnswered, Grows, whole_answered, too_big_answered, literal_awaited, fault_told}
 use Rattle.imap_wire.specs.declared.frame.Frame.{Frame}
 use Rattle.imap_wire.specs.declared.frame.FrameFault.{FrameFault}
@@ -27,7 +25,7 @@ use Rattle.link_msg.specs.declared.counts.Counts.TheVariants.{Always, IfAnswered
 use Rattle.link_msg.specs.declared.message.LinkMsg.TheVariants.{Ask}
 use Rattle.link_msg.specs.declared.out.Out.{Out}
 use Rattle.link_msg.specs.declared.out.Out.TheVariants.{Client as to_client, Close, Link as to_node, Mark as mark}
-use Rattle.mur_base.specs.Map.{value_at, with_value}
+use Rattle.mur_base.specs.Map.{with_value}
 use Rattle.mur_base.specs.declared.point.AskId.{AskId}
 use Rattle.mur_base.proofs.MapLaws.{numbers_apart, value_at-with_value, value_at-with_value-other}
 use Rattle.mur_model.specs.declared.command.Command.{Command}
@@ -43,25 +41,24 @@ use Rattle.mur_model.specs.declared.setting.Setting.{Setting}
 use Rattle.mur_model.specs.declared.store.Store.{Store}
 use Rattle.mur_model.specs.Act.{need_of}
 use Rattle.mur_model.specs.Answer.{Answered, answer_of, MayTake}
-use Rattle.mur_model.specs.History.{Course, Talk, TalkGoesOn, numbered, carried_out, after}
+use Rattle.mur_model.specs.History.{numbered, carried_out}
 use Rattle.mur_model.proofs.HistoryGrows.{same_lists, item_more}
+use Rattle.session_core.specs.Asking.{asked_for}
 use Rattle.mur_model.proofs.Numbered.{with_item, with_item-same, with_item-other, length_with_item}
 use Rattle.cluster_core.specs.declared.world.Client.{Client}
-use Rattle.cluster_core.specs.declared.world.Mark.{Mark}
 use Rattle.cluster_core.specs.declared.world.World.{World}
 use Rattle.cluster_core.specs.Links.{sent}
 use Rattle.cluster_core.specs.World.{client_at, given_more, carry, carry_all}
-use Rattle.cluster_core.proofs.ConnectionLaw.{Story, KeepsOthers, keeps_all, keeps_on, told_of, GoesOnAt, same_story, stories_follow, client_with, Stands}
-use Rattle.cluster_core.proofs.ConnectionLaw.{IsReading, IsStanding, IsMade, ReadsOn, StandsOn, session_at, session_of_other}
-use Rattle.cluster_core.proofs.ConnectionLaw.OnItsWay.{there, back}
+use Rattle.cluster_core.proofs.ConnectionLaw.{Story, KeepsOthers, keeps_on, GoesOnAt, stories_follow, client_with}
+use Rattle.cluster_core.proofs.ConnectionLaw.{ReadsOn, StandsOn, session_at, session_of_other}
+use Rattle.cluster_core.proofs.ConnectionLaw.OnItsWay.{there}
 use Rattle.cluster_core.proofs.ConnectionLaw.Stands.{reads, waits, faulted}
 use Rattle.cluster_core.proofs.FrontAnswers.{IsTaken, request_taken}
 use Rattle.cluster_core.proofs.FrontAnswers.IsTaken.{here, asked}
 use Rattle.cluster_core.proofs.RequestsOf.{requests_of, requests-append, answered_lengths, next_request, replies_stop}
 use Rattle.cluster_core.proofs.ServedAlike.{IsStoreOf}
-use Rattle.cluster_core.proofs.StaysLaw.{Stays}
-use Rattle.cluster_core.proofs.Told.{IsTold, having_said, next_mark, next_course, told_push}
-use Rattle.cluster_core.proofs.Ways.{AreOnWay, ask_sent, sent_for_another, ask_of_another}
+use Rattle.cluster_core.proofs.Told.{IsTold, having_said, next_course, told_push}
+use Rattle.cluster_core.proofs.Ways.{ask_sent, sent_for_another, ask_of_another}
 
 pub carry_all-append : (node : List ℕ) (world : World) (one two : List Out) → carry_all node world (one ++ two) ≡ carry_all node (carry_all node world one) two
 unfolding carry_all
@@ -90,7 +87,7 @@ pub line_carried : (node : List ℕ) (world : World) (conn : ℕ) (client : Clie
 unfolding carry_all carry
 line_carried node world conn client text at = given_there world conn client text at
 
-end_carried : (node : List ℕ) (world : World) (conn : ℕ) (client : Client) (text : List ℕ) → client_at world conn ≡ Some client
+pub end_carried : (node : List ℕ) (world : World) (conn : ℕ) (client : Client) (text : List ℕ) → client_at world conn ≡ Some client
     → carry_all node world (to_client conn text ∷ Close conn ∷ []) ≡ given_world world conn client text
 unfolding carry_all carry
 end_carried node world conn client text at = given_there world conn client text at
@@ -146,11 +143,12 @@ answered_here : (setting : Setting) (front home : List ℕ) (backend : Backend) 
     → ((store : Store) → answer_of setting store
     (was.story.course.sessions conn) request 0 ≡ record { store = store; session = session; answer = record { tag = tag; reply = reply } })
     → ((store : Store) → MayTake setting store (was.story.course.sessions conn) request 0)
-    → ((answer : Answer) → Stays answer.reply → Grows frames next (was.story.told conn) (was.story.told conn ++ answer ∷ []) (answer_text answer))
+    → ends reply ≡ false → has_ended session ≡ false
+    → ((answer : Answer) → ends answer.reply ≡ false → Grows frames next (was.story.told conn) (was.story.told conn ++ answer ∷ []) (answer_text answer))
     → ReadsOn setting front home backend conn next (answers conn connection session tag reply).connection before told
     (carry_all front world (answers conn connection session tag reply).outs)
 unfolding answers
-answered_here setting front home backend conn frames next connection before told world request tag reply session was number is free grows =
+answered_here setting front home backend conn frames next connection before told world request tag reply session was number is free stays lasts grows =
     let story = was.story in
     let course = story.course in
     let answer : Answer = record { tag = tag; reply = reply } in
@@ -163,7 +161,6 @@ answered_here setting front home backend conn frames next connection before told
     let world_is = answer_carried front world conn client text (record { conn = conn; command = connection.answered + 1 }) was.reading.client in
     let after_world = marked_world (given_world world conn client text) (record { conn = conn; command = connection.answered + 1 }) in
     let now : Story = said_story setting story conn request answer in
-    let stays : Stays reply = sym (ap (λ (a : Answered). ends (a.answer).reply) out) ∙ answer_stays setting course.store (course.sessions conn) request 0 in
     let grown = grows answer stays in
     subst (λ w. ReadsOn setting front home backend conn next (answers conn connection session tag reply).connection before told w) (sym world_is)
     (record {
@@ -185,6 +182,7 @@ answered_here setting front home backend conn frames next connection before told
         stage_is = was.reading.stage_is;
         waiting_is = was.reading.waiting_is;
         session_is = sym (session_at course.sessions conn _ ∙ ap (λ (a : Answered). a.session) out);
+        goes_on = ap has_ended (session_at course.sessions conn _ ∙ ap (λ (a : Answered). a.session) out) ∙ lasts;
         count = ap (λ n. n + 1) was.reading.count ∙ sym (length_with_item story.told conn answer);
         answered = subst (λ a. AreAnswered next a) (sym (with_item-same story.told conn answer)) grown.answered;
         said = with_item-same story.talk.answers conn _ ∙ ap (λ l. l ++ (carried_out setting course conn request 0).answer ∷ []) was.reading.said
@@ -222,6 +220,7 @@ awaited_here setting front home backend conn frames connection before told world
         stage_is = was.reading.stage_is;
         waiting_is = was.reading.waiting_is;
         session_is = was.reading.session_is;
+        goes_on = was.reading.goes_on;
         count = was.reading.count;
         answered = grown.answered;
         said = was.reading.said;
@@ -271,7 +270,7 @@ asked_here : (setting : Setting) (front home : List ℕ) (backend : Backend) (co
     (was : ReadsOn setting front home backend conn frames connection before told world)
     → request_of bytes ≡ a_command tag it → need_of setting (was.story.course.sessions conn) it ≡ Mailbox name work → FaultsLast waiting held
     → StandsOn setting front home backend conn (frames ++ Whole bytes ∷ waiting) held
-    (record connection { waiting = waiting; stage = Asked tag (awaited_of work) }) before told
+    (record connection { waiting = waiting; stage = Asked tag (asked_for name work).awaited }) before told
     (carry_all front world (to_node home (Ask (ask_for conn connection name work)) ∷ []))
 unfolding carry_all carry
 asked_here setting front home backend conn frames waiting held connection before told world bytes tag it name work was is need last =
@@ -298,8 +297,9 @@ asked_here setting front home backend conn frames waiting held connection before
         count = was.reading.count;
         client = was.reading.client ∙ ap (λ t. Some (record { at = front; given = greeting ++ t }))
             (replies_stop frames (story.told conn) bytes waiting was.reading.answered);
-        stands = waits frames bytes tag it name work refl refl was.reading.session_is was.reading.answered is need last
-            (there was.reading.said (ask_sent world.links conn front home ask refl was.reading.way));
+        stands = waits frames bytes tag it name work refl refl (ap has_ended was.reading.session_is ∙ was.reading.goes_on) was.reading.answered is
+            (ap (λ s. need_of setting s it) was.reading.session_is ∙ need) last
+            (there was.reading.said was.reading.session_is (ask_sent world.links conn front home ask refl was.reading.way));
       };
     }
 
@@ -318,10 +318,10 @@ asked_waits setting home conn connection (frame ∷ frames) tag awaited e =
 
 asked_turned : (setting : Setting) (home : List ℕ) (conn : ℕ) (connection : Connection) (tag : Tag) (name : List ℕ) (work : Work) (frames : List Frame)
     → frames_come setting home conn (asks home conn connection tag name work).connection frames
-    ≡ record { connection = record connection { waiting = connection.waiting ++ frames; stage = Asked tag (awaited_of work) }; outs = [] }
+    ≡ record { connection = record connection { waiting = connection.waiting ++ frames; stage = Asked tag (asked_for name work).awaited }; outs = [] }
 unfolding asks
 asked_turned setting home conn connection tag name work frames =
-    asked_waits setting home conn (record connection { stage = Asked tag (awaited_of work) }) frames tag (awaited_of work) refl
+    asked_waits setting home conn (record connection { stage = Asked tag (asked_for name work).awaited }) frames tag (asked_for name work).awaited refl
 
 asked_kept : (setting : Setting) (front home : List ℕ) (backend : Backend) (conn : ℕ) (frames waiting : List Frame) (held : Option (List ℕ))
     (connection : Connection) (before : World) (told : Story) (world : World)
@@ -329,7 +329,7 @@ asked_kept : (setting : Setting) (front home : List ℕ) (backend : Backend) (co
     (was : ReadsOn setting front home backend conn frames connection before told world)
     → request_of bytes ≡ a_command tag it → need_of setting (was.story.course.sessions conn) it ≡ Mailbox name work → FaultsLast waiting held
     → StandsOn setting front home backend conn (frames ++ Whole bytes ∷ waiting) held
-    (record connection { waiting = waiting; stage = Asked tag (awaited_of work) }) before told
+    (record connection { waiting = waiting; stage = Asked tag (asked_for name work).awaited }) before told
     (carry_all front (carry_all front world (asks home conn connection tag name work).outs) [])
 unfolding asks carry_all
 asked_kept setting front home backend conn frames waiting held connection before told world bytes tag it name work was is need last =
@@ -391,7 +391,8 @@ reads_stands setting front home backend conn frames held connection before told 
   standing = record {
     count = was.reading.count;
     client = was.reading.client;
-    stands = reads was.reading.stage_is was.reading.waiting_is was.reading.session_is was.reading.answered was.reading.said was.reading.way;
+    stands = reads was.reading.stage_is was.reading.waiting_is was.reading.session_is was.reading.goes_on was.reading.answered was.reading.said
+        was.reading.way;
   };
 }
 
@@ -439,18 +440,20 @@ request_kept : (setting : Setting) (front home : List ℕ) (backend : Backend) (
     (frames_come setting home conn connection (Whole bytes ∷ new)).connection before told
     (carry_all front world (frames_come setting home conn connection (Whole bytes ∷ new)).outs)
 unfolding frame_in requests_of
-request_kept setting front home backend conn frames new bytes held connection before told world was last all follow (here tag reply session is free form) =
+request_kept setting front home backend conn frames new bytes held connection before told world was last all follow
+    (here tag reply session is free stays lasts form) =
     read_on setting front home backend conn frames new (Whole bytes) held connection before told world (answers conn connection session tag reply)
     (reads_frame setting home conn connection (Whole bytes) was.reading.stage_is ∙ form connection was.reading.session_is) all follow
     (answered_here setting front home backend conn frames (frames ++ Whole bytes ∷ []) connection before told world (request_of bytes) tag reply session was
-    (next_of setting front home backend conn frames new (Whole bytes) connection before told world (request_of bytes) was all refl) is free
-    (λ answer stays. whole_answered frames (was.story.told conn) bytes answer was.reading.answered stays))
+    (next_of setting front home backend conn frames new (Whole bytes) connection before told world (request_of bytes) was all refl) is free stays lasts
+    (λ answer on. whole_answered frames (was.story.told conn) bytes answer was.reading.answered on))
 request_kept setting front home backend conn frames new bytes held connection before told world was last all follow (asked tag it name work is need form) =
     let turned : Turned = asks home conn connection tag name work in
     let waits_all : frames_come setting home conn turned.connection new ≡
-    record { connection = record connection { waiting = new; stage = Asked tag (awaited_of work) }; outs = [] } =
+    record { connection = record connection { waiting = new; stage = Asked tag (asked_for name work).awaited }; outs = [] } =
     asked_turned setting home conn connection tag name work new
-    ∙ ap (λ w. record { connection = record connection { waiting = w ++ new; stage = Asked tag (awaited_of work) }; outs = [] }) was.reading.waiting_is in
+    ∙ ap (λ w. record { connection = record connection { waiting = w ++ new; stage = Asked tag (asked_for name work).awaited }; outs = [] })
+    was.reading.waiting_is in
     came_on setting front home backend conn (frames ++ Whole bytes ∷ new) held connection before told world (Whole bytes) new turned
     (reads_frame setting home conn connection (Whole bytes) was.reading.stage_is ∙ form connection was.reading.session_is)
     (subst (λ (t : Turned). StandsOn setting front home backend conn (frames ++ Whole bytes ∷ new) held t.connection before told
@@ -465,13 +468,13 @@ big_kept : (setting : Setting) (front home : List ℕ) (backend : Backend) (conn
     (frames_come setting home conn connection (TooBig bytes ∷ new)).connection before told
     (carry_all front world (frames_come setting home conn connection (TooBig bytes ∷ new)).outs)
 unfolding frame_in requests_of too_big_request
-big_kept setting front home backend conn frames new bytes held connection before told world was all follow (here tag reply session is free form) =
+big_kept setting front home backend conn frames new bytes held connection before told world was all follow (here tag reply session is free stays lasts form) =
     read_on setting front home backend conn frames new (TooBig bytes) held connection before told world (answers conn connection session tag reply)
     (reads_frame setting home conn connection (TooBig bytes) was.reading.stage_is ∙ form connection was.reading.session_is) all follow
     (answered_here setting front home backend conn frames (frames ++ TooBig bytes ∷ []) connection before told world
     (too_big_request bytes) tag reply session was
-    (next_of setting front home backend conn frames new (TooBig bytes) connection before told world (too_big_request bytes) was all refl) is free
-    (λ answer stays. too_big_answered frames (was.story.told conn) bytes answer was.reading.answered stays))
+    (next_of setting front home backend conn frames new (TooBig bytes) connection before told world (too_big_request bytes) was all refl) is free stays lasts
+    (λ answer on. too_big_answered frames (was.story.told conn) bytes answer was.reading.answered on))
 big_kept setting front home backend conn frames new bytes held connection before told world was all follow (asked tag it name work is need form) = cc
 
 -- all frames of a piece, or all that waited
@@ -485,11 +488,11 @@ frames_kept setting front home backend conn [] held before told last = λ frames
 frames_kept setting front home backend conn (Whole bytes ∷ new) held before told last = λ frames connection world all was.
     request_kept setting front home backend conn frames new bytes held connection before told world was last all
     (frames_kept setting front home backend conn new held before told last)
-    (request_taken setting home conn (was.story.course.sessions conn) (request_of bytes))
+    (request_taken setting home conn (was.story.course.sessions conn) (request_of bytes) was.reading.goes_on)
 frames_kept setting front home backend conn (TooBig bytes ∷ new) held before told last = λ frames connection world all was.
     big_kept setting front home backend conn frames new bytes held connection before told world was all
     (frames_kept setting front home backend conn new held before told last)
-    (request_taken setting home conn (was.story.course.sessions conn) (too_big_request bytes))
+    (request_taken setting home conn (was.story.course.sessions conn) (too_big_request bytes) was.reading.goes_on)
 frames_kept setting front home backend conn (NeedLiteral size ∷ new) held before told last = λ frames connection world all was.
     read_on setting front home backend conn frames new (NeedLiteral size) held connection before told world
     (record { connection = connection; outs = to_client conn ready ∷ [] })

@@ -1,12 +1,12 @@
 -- What a frontend does with a request: it answers by itself what the one store answers whatever its mailboxes are, or it asks a home.
-use Rattle.std.proofs.Common.{◌≡◌, ℕ, List, refl, sym, ◌∙◌, ap, subst}
-use Rattle.std.specs.Prelude.{⊤, codes}
+use Rattle.std.proofs.Common.{◌≡◌, ℕ, false, List, refl, ◌∙◌, ap}
+use Rattle.std.specs.Prelude.{codes}
 use Rattle.front_core.specs.declared.connection.Connection.{Connection}
-use Rattle.front_core.specs.Taken.{Turned, answers, asks, need_in, request_in}
+use Rattle.front_core.specs.Taken.{answers, asks, need_in, request_in}
 use Rattle.mur_model.specs.declared.command.Command.{Command}
 use Rattle.mur_model.specs.declared.command.Tag.{Tag}
 use Rattle.mur_model.specs.declared.need.Need.{Need}
-use Rattle.mur_model.specs.declared.need.Need.TheVariants.{Refusal, Login, Mailbox}
+use Rattle.mur_model.specs.declared.need.Need.TheVariants.{Refusal, Login, Turned as turned_at_once, Mailbox}
 use Rattle.mur_model.specs.declared.need.Work.{Work}
 use Rattle.mur_model.specs.declared.reply.BadText.TheVariants.{Syntax}
 use Rattle.mur_model.specs.declared.reply.NoText.TheVariants.{Limit}
@@ -18,14 +18,18 @@ use Rattle.mur_model.specs.declared.session.Sess.{Sess}
 use Rattle.mur_model.specs.declared.session.Sess.TheVariants.{In}
 use Rattle.mur_model.specs.declared.setting.Setting.{Setting}
 use Rattle.mur_model.specs.declared.store.Store.{Store}
-use Rattle.mur_model.specs.Act.{need_of, act_by, act_of, MayAct}
+use Rattle.mur_model.specs.Act.{need_of, act_by, act_of, session_after, MayAct}
 use Rattle.mur_model.specs.Answer.{answer_of, MayTake}
+use Rattle.imap_reply.specs.SessionEnds.{has_ended}
+use Rattle.imap_reply.specs.Transcript.{ends}
+use Rattle.imap_reply.proofs.AnswersEnd.{turned_ends, turned_goes_on, ended_by}
 use Rattle.mur_model.specs.Reply.{reply_of, completed, refused}
 
 pub data IsTaken (setting : Setting) (home : List ℕ) (conn : ℕ) (session : Sess) (request : Request) : Type 0 where
   here : (tag : Tag) (reply : Reply) (next : Sess)
       → ((store : Store) → answer_of setting store session request 0 ≡ record { store = store; session = next; answer = record { tag = tag; reply = reply } })
       → ((store : Store) → MayTake setting store session request 0)
+      → ends reply ≡ false → has_ended next ≡ false
       → ((connection : Connection) → connection.session ≡ session → request_in setting home conn connection request ≡ answers conn connection next tag reply)
       → IsTaken setting home conn session request
   asked : (tag : Tag) (it : Command) (name : List ℕ) (work : Work) → request ≡ a_command tag it → need_of setting session it ≡ Mailbox name work
@@ -33,28 +37,40 @@ pub data IsTaken (setting : Setting) (home : List ℕ) (conn : ℕ) (session : S
       → IsTaken setting home conn session request
 
 need_taken : (setting : Setting) (home : List ℕ) (conn : ℕ) (session : Sess) (tag : Tag) (it : Command) (need : Need) → need_of setting session it ≡ need
-    → IsTaken setting home conn session (a_command tag it)
-unfolding answer_of act_of act_by MayTake MayAct request_in need_in
-need_taken setting home conn session tag it (Refusal verdict) e =
+    → has_ended session ≡ false → IsTaken setting home conn session (a_command tag it)
+unfolding answer_of act_of act_by MayTake MayAct request_in need_in ends
+need_taken setting home conn session tag it (Refusal verdict) e lasts =
     here tag (reply_of verdict) session
     (λ store. rw e refl)
     (λ store. rw e tt)
+    refl lasts
     (λ connection s. ap (λ x. need_in home conn connection tag (need_of setting x it)) s ∙ ap (need_in home conn connection tag) e
     ∙ ap (λ x. answers conn connection x tag (reply_of verdict)) s)
-need_taken setting home conn session tag it (Login user) e =
+need_taken setting home conn session tag it (Login user) e lasts =
     here tag (completed (codes "LOGIN")) (In user)
     (λ store. rw e refl)
     (λ store. rw e tt)
+    refl refl
     (λ connection s. ap (λ x. need_in home conn connection tag (need_of setting x it)) s ∙ ap (need_in home conn connection tag) e)
-need_taken setting home conn session tag it (Mailbox name work) e =
+need_taken setting home conn session tag it (turned_at_once turn) e lasts =
+    let goes_on = turned_goes_on setting session it turn e in
+    here tag turn.reply (session_after session turn.session)
+    (λ store. rw e refl)
+    (λ store. rw e tt)
+    (turned_ends setting session it turn e ∙ goes_on) (ended_by session turn.session lasts ∙ goes_on)
+    (λ connection s. ap (λ x. need_in home conn connection tag (need_of setting x it)) s ∙ ap (need_in home conn connection tag) e
+    ∙ ap (λ x. answers conn connection (session_after x turn.session) tag turn.reply) s)
+need_taken setting home conn session tag it (Mailbox name work) e lasts =
     asked tag it name work refl e
     (λ connection s. ap (λ x. need_in home conn connection tag (need_of setting x it)) s ∙ ap (need_in home conn connection tag) e)
 
-pub request_taken : (setting : Setting) (home : List ℕ) (conn : ℕ) (session : Sess) (request : Request) → IsTaken setting home conn session request
-unfolding answer_of MayTake request_in
-request_taken setting home conn session (a_command tag it) = need_taken setting home conn session tag it (need_of setting session it) refl
-request_taken setting home conn session (unknown tag) =
-    here tag (reply_of (bad_reply Syntax)) session (λ store. refl) (λ store. tt)
+-- no request ends a session that the frontend answers by itself
+pub request_taken : (setting : Setting) (home : List ℕ) (conn : ℕ) (session : Sess) (request : Request) → has_ended session ≡ false
+    → IsTaken setting home conn session request
+unfolding answer_of MayTake request_in ends
+request_taken setting home conn session (a_command tag it) lasts = need_taken setting home conn session tag it (need_of setting session it) refl lasts
+request_taken setting home conn session (unknown tag) lasts =
+    here tag (reply_of (bad_reply Syntax)) session (λ store. refl) (λ store. tt) refl lasts
     (λ connection s. ap (λ x. answers conn connection x tag (reply_of (bad_reply Syntax))) s)
-request_taken setting home conn session (too_big tag) =
-    here tag (refused Limit) session (λ store. refl) (λ store. tt) (λ connection s. ap (λ x. answers conn connection x tag (refused Limit)) s)
+request_taken setting home conn session (too_big tag) lasts =
+    here tag (refused Limit) session (λ store. refl) (λ store. tt) refl lasts (λ connection s. ap (λ x. answers conn connection x tag (refused Limit)) s)

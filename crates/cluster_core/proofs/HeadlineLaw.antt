@@ -8,7 +8,7 @@ use Rattle.mur_config.specs.Nodes.{AreNodes}
 use Rattle.schedule_text.specs.declared.event.Event.{Event}
 use Rattle.cluster_core.specs.declared.world.Mark.{Mark}
 use Rattle.cluster_core.specs.declared.world.World.{World}
-use Rattle.cluster_core.specs.Flow.{run, run_steps, unrolled}
+use Rattle.cluster_core.specs.Flow.{run, unrolled}
 use Rattle.cluster_core.specs.Headline.{IsOneServer}
 use Rattle.cluster_core.specs.History.{history_of}
 use Rattle.cluster_core.specs.HomeLaw.{HasCause, RefusesForCause}

@@ -1,13 +1,12 @@
 -- The first backend holds every mailbox, and no other one any.
-use Rattle.std.proofs.Common.{◌≡◌, ◌≢◌, ◌⊎◌, ℕ, zero, suc, ◌+◌, ◌≤◌, ◌<◌, Bool, true, false, cond, ◌&&◌, List, [], ◌∷◌, ◌++◌, length, Option, None, Some, refl}
-use Rattle.std.proofs.Common.{sym, ◌∙◌, ap, subst, arith}
+use Rattle.std.proofs.Common.{◌≡◌, ◌≢◌, ℕ, List, [], ◌∷◌, ◌++◌, Option, None, Some, refl}
+use Rattle.std.proofs.Common.{sym, ◌∙◌, ap, subst}
 use Rattle.std.specs.Prelude.{All, AllPairs}
 use Rattle.std.specs.Ordering.{nat_cmp}
 use Rattle.std.specs.Cmp.Lexicographic.{slice_cmp}
 use Rattle.std.proofs.lemmas.List.{append-nil}
 use Rattle.std.proofs.lemmas.List.Elements.{All-head, All-tail, All-cons, All-nil}
 use Rattle.backend_core.specs.declared.backend.Backend.{Backend}
-use Rattle.backend_core.specs.declared.held.Held.{Held}
 use Rattle.mail_message.specs.Boxes.{Content}
 use Rattle.mur_base.specs.Map.{value_at}
 use Rattle.mur_config.specs.declared.config.Config.{Config}
@@ -15,14 +14,13 @@ use Rattle.mur_config.specs.declared.node.Kind.{Kind}
 use Rattle.mur_config.specs.declared.node.Kind.TheVariants.{Master, Frontend, Backend as backend_kind}
 use Rattle.mur_config.specs.declared.node.Node.{Node}
 use Rattle.mur_config.specs.Nodes.{AreNodes, links_of}
-use Rattle.cluster_core.specs.declared.cluster.HomeRow.{HomeRow}
 use Rattle.cluster_core.specs.declared.world.World.{World}
 use Rattle.cluster_core.specs.OneStore.{open_content, or_else, box_among, box_of_home, HasBoxesOf}
-use Rattle.cluster_core.specs.Shown.{held_by, held_at, row_if, rows_of}
+use Rattle.cluster_core.specs.Shown.{held_by, row_if, rows_of}
 use Rattle.cluster_core.specs.World.{no_world, or_backend, backends_of, home_of, setting_of, start, home_at}
 use Rattle.cluster_core.proofs.KeepsLaw.{AreNodesOf}
 use Rattle.cluster_core.proofs.ServedAlike.{IsStoreOf}
-use Rattle.cluster_core.proofs.StartLaw.{HasFirst, first_backend, backends_stay, head_apart, tail_apart}
+use Rattle.cluster_core.proofs.StartLaw.{first_backend, backends_stay, head_apart, tail_apart}
 use Rattle.mur_model.specs.declared.store.Store.{Store}
 
 named_by : (P : List ℕ → Type 0) (node : Node) (kind : Kind) (names : List (List ℕ)) → P node.name → All P names → All P (or_backend kind node.name names)

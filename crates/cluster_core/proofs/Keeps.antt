@@ -1,5 +1,5 @@
 -- Every step keeps the one-store law, and what was said before it.
-use Rattle.std.proofs.Common.{◌≡◌, ◌≢◌, ℕ, ◌+◌, ◌≤◌, Bool, true, false, List, [], ◌∷◌, ◌++◌, length, Option, None, Some, refl, sym, ◌∙◌, ap, subst, arith}
+use Rattle.std.proofs.Common.{◌≡◌, ℕ, true, false, List, [], ◌∷◌, ◌++◌, refl, subst, arith}
 use Rattle.mur_config.specs.declared.config.Config.{Config}
 use Rattle.mur_model.specs.History.{Talk, TalkGoesOn}
 use Rattle.mur_model.proofs.HistoryGrows.{same_talk, talks_follow}
@@ -12,7 +12,7 @@ use Rattle.cluster_core.specs.World.{client_at, stepped, takes, steps_by}
 use Rattle.cluster_core.proofs.ConnectionLaw.{told_of}
 use Rattle.cluster_core.proofs.KeepsData.{data_keeps}
 use Rattle.cluster_core.proofs.KeepsHang.{hang_keeps}
-use Rattle.cluster_core.proofs.KeepsLaw.{KeepsLaw, KeepsOn, LooksAlike, looks_same}
+use Rattle.cluster_core.proofs.KeepsLaw.{KeepsLaw, KeepsOn, looks_same}
 use Rattle.cluster_core.proofs.KeepsOpen.{open_keeps}
 use Rattle.cluster_core.proofs.KeepsReply.{deliver_keeps}
 use Rattle.cluster_core.proofs.KeepsStill.{still_kept}

@@ -1,28 +1,25 @@
 -- An ask that comes to the home keeps the law: its command is carried out there, and the answer is on its way.
-use Rattle.std.proofs.Common.{◌≡◌, ◌≢◌, ◌⊎◌, ℕ, ◌+◌, ◌≤◌, Bool, true, false, List, [], ◌∷◌, ◌++◌, length, Option, None, Some, refl, sym, ◌∙◌, ap, subst, arith}
+use Rattle.std.proofs.Common.{◌≡◌, ◌≢◌, ℕ, ◌+◌, List, [], ◌∷◌, ◌++◌, length, Some, refl, sym, ◌∙◌, ap, subst}
 use Rattle.std.specs.Prelude.{is_some}
 use Rattle.std.specs.Ordering.{nat_cmp}
 use Rattle.std.specs.Cmp.Lexicographic.{slice_cmp}
 use Rattle.std.proofs.Math.Logic.{⊎_elim}
-use Rattle.std.proofs.Math.Path.{fun_ext}
 use Rattle.std.proofs.lemmas.Bool.{cases_eq}
 use Rattle.backend_core.specs.declared.backend.Backend.{Backend}
 use Rattle.backend_core.specs.declared.input.BackInput.TheVariants.{FromFront}
-use Rattle.backend_core.specs.HomeStep.{HomeStep}
 use Rattle.backend_core.specs.Plan.{plan_of, answer_outs}
 use Rattle.backend_core.specs.Step.{home_step}
 use Rattle.front_core.specs.declared.connection.Connection.{Connection}
-use Rattle.front_core.specs.Awaited.{awaited_of, reply_shown}
 use Rattle.front_core.specs.Taken.{ask_for, user_of}
+use Rattle.imap_reply.specs.SessionEnds.{TurnEnds}
+use Rattle.imap_reply.proofs.AnswersEnd.{worked_ends}
 use Rattle.link_msg.specs.declared.answer.AnswerBody.{AnswerBody}
-use Rattle.link_msg.specs.declared.answer.BackAnswer.{BackAnswer}
 use Rattle.link_msg.specs.declared.ask.FrontAsk.{FrontAsk}
 use Rattle.link_msg.specs.declared.counts.Counts.{Counts}
-use Rattle.link_msg.specs.declared.counts.Counts.TheVariants.{IfAnswered}
 use Rattle.link_msg.specs.declared.message.LinkMsg.{LinkMsg}
 use Rattle.link_msg.specs.declared.message.LinkMsg.TheVariants.{Ask, Answer}
 use Rattle.mur_base.specs.Map.{value_at, with_value}
-use Rattle.mur_base.proofs.MapLaws.{names_apart, same_or_other, value_at-with_value, value_at-with_value-other}
+use Rattle.mur_base.proofs.MapLaws.{names_apart, value_at-with_value, value_at-with_value-other}
 use Rattle.mur_base.specs.declared.point.AskId.{AskId}
 use Rattle.mur_config.specs.declared.config.Config.{Config}
 use Rattle.mur_model.specs.declared.command.Command.{Command}
@@ -31,26 +28,27 @@ use Rattle.mur_model.specs.declared.need.Need.TheVariants.{Mailbox}
 use Rattle.mur_model.specs.declared.need.Work.{Work}
 use Rattle.mur_model.specs.declared.request.Answer.{Answer as AnswerOf}
 use Rattle.mur_model.specs.declared.request.Request.TheVariants.{Command as a_command}
-use Rattle.mur_model.specs.declared.session.Sess.{Sess}
+use Rattle.mur_model.specs.declared.session.Turn.{Turn}
 use Rattle.mur_model.specs.declared.setting.Setting.{Setting}
-use Rattle.mur_model.specs.declared.store.Store.{Store}
-use Rattle.mur_model.specs.Act.{need_of, act_by, act_of, worked_at, MayAct}
+use Rattle.mur_model.specs.Act.{need_of, act_by, act_of, session_after, worked_at, MayAct}
 use Rattle.mur_model.specs.Answer.{Answered, answer_of, MayTake}
-use Rattle.mur_model.specs.History.{Course, Talk, TalkGoesOn, numbered, carried_out, after, with_session}
-use Rattle.mur_model.specs.Left.{Worked, store_after, kept}
+use Rattle.mur_model.specs.History.{Course, numbered, carried_out, after}
+use Rattle.mur_model.specs.Left.{store_after, kept}
 use Rattle.mur_model.proofs.HistoryGrows.{same_lists, item_more}
-use Rattle.mur_model.proofs.Numbered.{with_item, with_item-same, with_item-other}
+use Rattle.mur_model.proofs.Numbered.{with_item-other}
+use Rattle.session_core.specs.Asking.{asked_for}
+use Rattle.session_core.specs.Finish.{finish}
 use Rattle.cluster_core.specs.declared.world.World.{World}
 use Rattle.cluster_core.specs.Heard.{Heard, frames_heard}
 use Rattle.cluster_core.specs.Links.{on_link, sent, without_first}
-use Rattle.cluster_core.specs.World.{client_at, front_at, home_at, home_of, setting_of, with_home, taken, carry, carry_all}
+use Rattle.cluster_core.specs.World.{front_at, home_of, setting_of, with_home, taken, carry, carry_all}
 use Rattle.cluster_core.proofs.ConnectionLaw.{Story, told_of, session_at, session_of_other}
-use Rattle.cluster_core.proofs.KeepsLaw.{ConnectionIs, AreNodesOf, KeepsLaw, KeepsOn, StaysAt, connection_stays, same_front}
+use Rattle.cluster_core.proofs.KeepsLaw.{ConnectionIs, AreNodesOf, KeepsLaw, KeepsOn, connection_stays, same_front}
 use Rattle.cluster_core.proofs.RequestsOf.{requests_of}
 use Rattle.cluster_core.proofs.ServedAlike.{IsStoreOf, ServesAlike}
 use Rattle.cluster_core.proofs.ServeLaw.{plain_ask, serves_alike}
-use Rattle.cluster_core.proofs.Told.{IsTold, having_said, next_mark, next_course, told_push}
-use Rattle.cluster_core.proofs.Ways.{AreOnWay, IsOfAnother, answer_of_another, ask_of_another, taken_for_another, sent_for_another}
+use Rattle.cluster_core.proofs.Told.{IsTold, having_said, next_course, told_push}
+use Rattle.cluster_core.proofs.Ways.{answer_of_another, ask_of_another, taken_for_another, sent_for_another}
 
 -- the world behind the home's answer
 abbrev pub answered_world : World → List ℕ → List ℕ → Backend → FrontAsk → AnswerBody → Counts → World
@@ -74,9 +72,9 @@ carried_as : (setting : Setting) (course : Course) (conn : ℕ) (tag : Tag) (it 
     → carried_out setting course conn (a_command tag it) serial
     ≡ record {
       store = store_after course.store name (worked_at course.store name work serial).left;
-      session = course.sessions conn;
+      session = session_after (course.sessions conn) ((worked_at course.store name work serial).turn).session;
       answer =
-          record { tag = tag; reply = (worked_at course.store name work serial).reply };
+          record { tag = tag; reply = ((worked_at course.store name work serial).turn).reply };
     }
 unfolding answer_of act_of act_by
 carried_as setting course conn tag it name work serial need = rw need refl
@@ -87,28 +85,19 @@ may_take : (setting : Setting) (course : Course) (conn : ℕ) (tag : Tag) (it : 
 unfolding MayTake
 may_take setting course conn tag it name work serial need free = subst (λ n. MayAct course.store serial n) (sym need) free
 
-same_sessions : (sessions : ℕ → Sess) (conn : ℕ) (session : Sess) → session ≡ sessions conn → with_session sessions conn session ≡ sessions
-same_sessions sessions conn session e = fun_ext (λ other. ⊎_elim
-    (λ (same : other ≡ conn). subst (λ c. with_session sessions conn session c ≡ sessions c) (sym same) (session_at sessions conn session ∙ e))
-    (λ (ne : other ≢ conn). session_of_other sessions conn session other ne)
-    (cases_eq other conn))
-
-unchanged_course : (setting : Setting) (course : Course) (conn : ℕ) (tag : Tag) (it : Command) (name : List ℕ) (work : Work) (serial : ℕ)
+-- the store is as it was where the mailbox is
+same_store : (setting : Setting) (course : Course) (conn : ℕ) (tag : Tag) (it : Command) (name : List ℕ) (work : Work) (serial : ℕ)
     → need_of setting (course.sessions conn) it ≡ Mailbox name work
-    → (worked_at course.store name work serial).left ≡ kept → next_course setting course conn (a_command tag it) serial ≡ course
+    → (worked_at course.store name work serial).left ≡ kept → (carried_out setting course conn (a_command tag it) serial).store ≡ course.store
 unfolding store_after
-unchanged_course setting course conn tag it name work serial need left =
-    let out = carried_as setting course conn tag it name work serial need in
-    let store : (carried_out setting course conn (a_command tag it) serial).store ≡ course.store = ap (λ (a : Answered). a.store) out
-    ∙ ap (store_after course.store name) left in
-    let sessions : with_session course.sessions conn (carried_out setting course conn (a_command tag it) serial).session ≡ course.sessions =
-    same_sessions course.sessions conn _ (ap (λ (a : Answered). a.session) out) in
-    λ i. record { store = store i; sessions = sessions i }
+same_store setting course conn tag it name work serial need left =
+    ap (λ (a : Answered). a.store) (carried_as setting course conn tag it name work serial need) ∙ ap (store_after course.store name) left
 
 -- what the home's step is
 pub record IsAnswered (config : Config) (heard : ℕ → Heard) (world : World) (law : KeepsLaw config heard world) (conn : ℕ) (front : List ℕ)
-    (connection : Connection) (tag : Tag) (work : Work) (ask : FrontAsk) : Type 0 where
+    (connection : Connection) (tag : Tag) (name : List ℕ) (work : Work) (ask : FrontAsk) : Type 0 where
   pub body : AnswerBody
+  pub turn : Turn
   pub reply : AnswerOf
   pub serial : ℕ
   pub backend : Backend
@@ -119,16 +108,18 @@ pub record IsAnswered (config : Config) (heard : ℕ → Heard) (world : World) 
   pub is_told : IsTold (setting_of config) world.steps (world.marks ++ (record { step = world.steps; ask = ask.id; counts = counts }) ∷ []) backend
       (having_said law.story.talk conn reply serial) course
   pub others : (other : ℕ) → other ≢ conn → course.sessions other ≡ law.story.course.sessions other
-  pub mine : course.sessions conn ≡ law.story.course.sessions conn
-  pub shown : reply_shown (awaited_of work) body ≡ Some reply.reply
+  pub mine : course.sessions conn ≡ session_after (law.story.course.sessions conn) turn.session
+  pub shown : finish (asked_for name work).awaited body ≡ Some turn
+  pub ends : TurnEnds turn
   pub tagged : reply.tag ≡ tag
+  pub replied : reply.reply ≡ turn.reply
 
 pub answers_ask : (config : Config) (heard : ℕ → Heard) (world : World) (law : KeepsLaw config heard world) (conn : ℕ) (front : List ℕ)
     (connection : Connection) (tag : Tag) (it : Command) (name : List ℕ) (work : Work) (ask : FrontAsk)
     → ask ≡ ask_for conn connection name work → connection.answered ≡ length (law.story.talk.answers conn)
     → numbered (law.story.talk.requests conn) (length (law.story.talk.answers conn) + 1) ≡ Some (a_command tag it)
     → need_of (setting_of config) (law.story.course.sessions conn) it ≡ Mailbox name work
-    → IsAnswered config heard world law conn front connection tag work ask
+    → IsAnswered config heard world law conn front connection tag name work ask
 unfolding MayAct
 answers_ask config heard world law conn front connection tag it name work ask is count asked need =
     let backend = law.backend in
@@ -143,6 +134,7 @@ answers_ask config heard world law conn front connection tag it name work ask is
     ap (λ n. record { conn = conn; command = n + 1 }) (sym count) ∙ sym (ap (λ (a : FrontAsk). a.id) is) in
     record {
       body = serves.body;
+      turn = (worked_at course.store name work serial).turn;
       reply = (carried_out (setting_of config) course conn (a_command tag it) serial).answer;
       serial = serial;
       backend = (home_step backend ask).home;
@@ -156,12 +148,14 @@ answers_ask config heard world law conn front connection tag it name work ask is
           (told_push (setting_of config) world.steps world.marks backend (home_step backend ask).home law.story.talk course conn (a_command tag it) serial
           (home_step backend ask).counts
           asked (may_take (setting_of config) course conn tag it name work serial need serves.free)
-          (λ h. unchanged_course (setting_of config) course conn tag it name work serial need (serves.unless h))
+          (λ h. same_store (setting_of config) course conn tag it name work serial need (serves.unless h))
           (subst (λ s. IsStoreOf s (home_step backend ask).home) (sym (ap (λ (a : Answered). a.store) out)) serves.still) law.is_told);
       others = λ other ne. session_of_other course.sessions conn _ other ne;
       mine = session_at course.sessions conn _ ∙ ap (λ (a : Answered). a.session) out;
-      shown = serves.shown ∙ ap Some (sym (ap (λ (a : Answered). a.answer.reply) out));
+      shown = serves.shown;
+      ends = worked_ends course.store name work serial;
       tagged = ap (λ (a : Answered). a.answer.tag) out;
+      replied = ap (λ (a : Answered). a.answer.reply) out;
     }
 
 -- the nodes with another state of the home
@@ -184,13 +178,13 @@ nodes_with_home config world next backend later fronts homes backends nodes =
 
 -- the home answers the ask of a connection, which is then so
 pub ask_kept : (config : Config) (heard after : ℕ → Heard) (world : World) (law : KeepsLaw config heard world) (conn : ℕ) (front : List ℕ)
-    (connection : Connection) (tag : Tag) (work : Work) (ask : FrontAsk) (rest : List LinkMsg)
-    (answered : IsAnswered config heard world law conn front connection tag work ask)
+    (connection : Connection) (tag : Tag) (name : List ℕ) (work : Work) (ask : FrontAsk) (rest : List LinkMsg)
+    (answered : IsAnswered config heard world law conn front connection tag name work ask)
     → (ask.id).conn ≡ conn → on_link world.links front (home_of config) ≡ Ask ask ∷ rest → ((other : ℕ) → after other ≡ heard other)
     → ConnectionIs (setting_of config) (home_of config) conn (answered_world world front (home_of config) answered.backend ask answered.body answered.counts)
     (record { talk = having_said law.story.talk conn answered.reply answered.serial; told = law.story.told; course = answered.course }) (after conn)
     → KeepsOn config (told_of law.story) after (answered_world world front (home_of config) answered.backend ask answered.body answered.counts)
-ask_kept config heard after world law conn front connection tag work ask rest answered own first same mine =
+ask_kept config heard after world law conn front connection tag name work ask rest answered own first same mine =
     let story : Story = record { talk = having_said law.story.talk conn answered.reply answered.serial; told = law.story.told; course = answered.course } in
     let next : World = answered_world world front (home_of config) answered.backend ask answered.body answered.counts in
     record {

@@ -1,5 +1,6 @@
 -- Bytes of a client keep the law.
-use Rattle.std.proofs.Common.{◌≡◌, ◌≢◌, ◌⊎◌, ℕ, ◌+◌, ◌≤◌, Bool, true, false, nat_eq, List, [], ◌∷◌, ◌++◌, length, Option, None, Some, refl, sym, ◌∙◌, ap, subst}
+use Rattle.std.proofs.Common.{◌≡◌, ◌≢◌, ℕ, true, false, nat_eq, List, [], ◌∷◌, ◌++◌, length, Option, None, Some}
+use Rattle.std.proofs.Common.{inl, inr, refl, sym, ◌∙◌, ap, subst}
 use Rattle.std.proofs.Common.{arith, append_assoc}
 use Rattle.std.specs.Ordering.{nat_cmp}
 use Rattle.std.specs.Cmp.Lexicographic.{slice_cmp}
@@ -8,16 +9,16 @@ use Rattle.std.proofs.lemmas.Bool.{cases_eq}
 use Rattle.std.proofs.lemmas.Bool.Decides.{nat_tests}
 use Rattle.std.proofs.lemmas.List.{append-nil}
 use Rattle.front_core.specs.declared.connection.Connection.{Connection}
-use Rattle.front_core.specs.declared.connection.Stage.{Stage}
 use Rattle.front_core.specs.declared.connection.Stage.TheVariants.{Reading, Asked, Ended}
 use Rattle.front_core.specs.declared.front.Front.{Front}
-use Rattle.front_core.specs.Awaited.{awaited_of}
-use Rattle.front_core.specs.Front.{Stepped, connection_at, having_read, bytes_in, bytes_at as front_bytes_at, bytes_by, still, with_turned}
+use Rattle.front_core.specs.Front.{connection_at, having_read, bytes_in, bytes_at as front_bytes_at, bytes_by, still, with_turned}
 use Rattle.front_core.specs.Taken.{Turned, frame_comes, frames_come}
 use Rattle.front_core.proofs.FrameLaws.{reader_kept}
 use Rattle.imap_command.specs.Request.{request_of}
-use Rattle.imap_reply.specs.Transcript.{replies_to}
-use Rattle.imap_reply.proofs.TranscriptGrows.{AreAnswered}
+use Rattle.imap_reply.specs.SessionEnds.{has_ended}
+use Rattle.imap_reply.specs.Transcript.{ends, replies_to}
+use Rattle.imap_reply.specs.Transcript.Stop.{silent}
+use Rattle.imap_reply.proofs.TranscriptGrows.{AreAnswered, end_told}
 use Rattle.imap_reply.specs.Greeting.{greeting}
 use Rattle.imap_wire.specs.declared.frame.Frame.{Frame}
 use Rattle.imap_wire.specs.declared.frame.Frame.TheVariants.{Whole, NeedLiteral, TooBig, Fault}
@@ -26,8 +27,7 @@ use Rattle.imap_wire.specs.More.{frames_of_more, begun_by_more}
 use Rattle.imap_wire.proofs.FaultLaws.{FaultsLast, faults_last}
 use Rattle.imap_wire.proofs.FeedLaws.{frames-ended, begun-ended}
 use Rattle.imap_wire.proofs.MoreLaws.{frames_with_more, begun_with_more, none_ended, ended_stays}
-use Rattle.mur_base.specs.Map.{value_at, with_value}
-use Rattle.mur_base.proofs.MapLaws.{names_apart, numbers_apart}
+use Rattle.mur_base.proofs.MapLaws.{names_apart}
 use Rattle.mur_config.specs.declared.config.Config.{Config}
 use Rattle.mur_model.specs.declared.command.Command.{Command}
 use Rattle.mur_model.specs.declared.command.Tag.{Tag}
@@ -38,25 +38,26 @@ use Rattle.mur_model.specs.declared.request.Request.TheVariants.{Command as a_co
 use Rattle.mur_model.specs.Act.{need_of}
 use Rattle.mur_model.specs.declared.request.Request.{Request}
 use Rattle.mur_model.specs.declared.setting.Setting.{Setting}
-use Rattle.mur_model.specs.History.{Talk, GoesOn, TalkGoesOn}
-use Rattle.mur_model.proofs.HistoryGrows.{same_lists}
-use Rattle.schedule_text.specs.declared.event.Event.{Event}
+use Rattle.mur_model.specs.History.{GoesOn}
+use Rattle.mur_model.proofs.HistoryGrows.{same_lists, talks_follow}
+use Rattle.session_core.specs.Asking.{asked_for}
+use Rattle.session_core.specs.declared.asking.Awaited.{Awaited}
 use Rattle.schedule_text.specs.declared.event.Event.TheVariants.{Data}
-use Rattle.cluster_core.specs.declared.world.Client.{Client}
 use Rattle.cluster_core.specs.declared.world.World.{World}
 use Rattle.cluster_core.specs.Heard.{Heard, nobody, elsewhere, client, hears, frames_heard}
 use Rattle.cluster_core.specs.World.{client_at, front_at, home_of, setting_of, with_front, bytes_at, bytes_from, carry_all}
-use Rattle.cluster_core.proofs.ConnectionLaw.{Story, told_of, client_with, keeps_all, same_story, OnItsWay, Stands, IsReading, IsStanding, IsMade, ReadsOn}
+use Rattle.cluster_core.proofs.ConnectionLaw.{Story, told_of, client_with, keeps_all, same_story, HasBegunSo, OnItsWay, Stands, IsReading, IsStanding}
 use Rattle.cluster_core.proofs.ConnectionLaw.{StandsOn}
 use Rattle.cluster_core.proofs.ConnectionLaw.OnItsWay.{there, back}
-use Rattle.cluster_core.proofs.ConnectionLaw.Stands.{reads, waits, faulted}
+use Rattle.cluster_core.proofs.ConnectionLaw.Stands.{reads, waits, faulted, finished}
 use Rattle.cluster_core.proofs.FrameLaw.{frames_kept, asked_waits}
-use Rattle.cluster_core.proofs.KeepsLaw.{ConnectionIs, IsAt, KeepsLaw, KeepsOn, LooksAlike, looks_same, same_put}
+use Rattle.cluster_core.proofs.KeepsLaw.{ConnectionIs, IsAt, KeepsLaw, KeepsOn, LooksAlike, looks_same, same_put, same_front, connection_stays}
 use Rattle.cluster_core.proofs.KeepsLaw.ConnectionIs.{is_nobody, is_elsewhere, is_open, is_closed}
 use Rattle.cluster_core.proofs.KeepsFront.{world_after, with_connection, front_keeps, is_at_after, standing_after}
 use Rattle.cluster_core.proofs.KeepsStill.{still_kept}
 use Rattle.cluster_core.proofs.RequestsOf.{requests_of, requests-append, replies_stop}
 use Rattle.cluster_core.proofs.Told.{IsTold, told_asked}
+use Rattle.cluster_core.proofs.Ways.{AreOnWay}
 
 -- a frontend put in its own place
 pub looks_put : (world : World) (node : List ℕ) (front : Front) → front_at world node ≡ Some front → LooksAlike world (with_front world node (still front))
@@ -215,6 +216,7 @@ reading_behind config heard world law conn bytes more node connection e reader r
         stage_is = reading.stage_is;
         waiting_is = reading.waiting_is;
         session_is = reading.session_is;
+        goes_on = reading.goes_on;
         count = reading.count;
         answered = reading.answered;
         said = reading.said;
@@ -229,21 +231,22 @@ waiting_behind : (config : Config) (heard : ℕ → Heard) (world : World) (law 
     (tag : Tag) (it : Command) (name : List ℕ) (work : Work) → heard conn ≡ client bytes false → connection.reader ≡ begun bytes
     → connection.answered ≡ length (law.story.told conn)
     → client_at world conn ≡ Some (client_with node (frames bytes) (law.story.told conn))
-    → connection.stage ≡ Asked tag (awaited_of work) → frames bytes ≡ passed ++ Whole asking ∷ connection.waiting
-    → connection.session ≡ law.story.course.sessions conn → AreAnswered passed (law.story.told conn)
-    → request_of asking ≡ a_command tag it → need_of (setting_of config) (law.story.course.sessions conn) it ≡ Mailbox name work
+    → connection.stage ≡ Asked tag (asked_for name work).awaited → frames bytes ≡ passed ++ Whole asking ∷ connection.waiting
+    → has_ended connection.session ≡ false → AreAnswered passed (law.story.told conn)
+    → request_of asking ≡ a_command tag it → need_of (setting_of config) connection.session it ≡ Mailbox name work
     → FaultsLast connection.waiting (begun bytes)
     → OnItsWay world.links conn node (home_of config) connection tag name work (law.story.told conn) (law.story.talk.answers conn)
+    (law.story.course.sessions conn)
     → Behind config heard world law conn bytes more node connection
 unfolding carry_all
-waiting_behind config heard world law conn bytes more node connection passed asking tag it name work e reader count at stage parts session all is need last way
+waiting_behind config heard world law conn bytes more node connection passed asking tag it name work e reader count at stage parts lasts all is need last way
     =
     let held : begun bytes ≡ connection.reader = sym reader in
     let told : Story = asked_talk config heard conn more law.story in
     let new : List Frame = frames_of_more connection.reader more in
     let waits_all : frames_come (setting_of config) (home_of config) conn
     (having_read connection more) new ≡ record { connection = record (having_read connection more) { waiting = connection.waiting ++ new }; outs = [] } =
-    asked_waits (setting_of config) (home_of config) conn (having_read connection more) new tag (awaited_of work) stage in
+    asked_waits (setting_of config) (home_of config) conn (having_read connection more) new tag (asked_for name work).awaited stage in
     let now : frames (bytes ++ more) ≡ passed ++ Whole asking ∷ (connection.waiting ++ new) =
     frames_with_more bytes more connection.reader held ∙ ap (λ f. f ++ new) parts ∙ append_assoc passed (Whole asking ∷ connection.waiting) new in
     subst (λ (t : Turned). StandsOn (setting_of config) node (home_of config) law.backend conn (frames (bytes ++ more))
@@ -260,7 +263,7 @@ waiting_behind config heard world law conn bytes more node connection passed ask
         client = at ∙ ap (λ t. Some (record { at = node; given = greeting ++ t }))
             (ap (λ f. replies_to f (law.story.told conn)) parts ∙ sym (replies_stop passed (law.story.told conn) asking connection.waiting all)
             ∙ replies_stop passed (law.story.told conn) asking (connection.waiting ++ new) all ∙ ap (λ f. replies_to f (law.story.told conn)) (sym now));
-        stands = waits passed asking tag it name work stage now session all is need
+        stands = waits passed asking tag it name work stage now lasts all is need
             (subst (λ h. FaultsLast (connection.waiting ++ new) h) (sym (begun_with_more bytes more connection.reader held))
             (faults_behind connection.waiting new (begun bytes) (begun_by_more connection.reader more) last (faults_last bytes more connection.reader held)
             (λ none. (ap (λ h. frames_of_more h more) (reader ∙ none) ∙ none_ended more, ap (λ h. begun_by_more h more) (reader ∙ none) ∙ ended_stays more))))
@@ -269,11 +272,12 @@ waiting_behind config heard world law conn bytes more node connection passed ask
     })
   where
     way_behind : OnItsWay world.links conn node (home_of config) connection tag name work (law.story.told conn) (law.story.talk.answers conn)
+        (law.story.course.sessions conn)
         → OnItsWay world.links conn node (home_of config)
         (record (having_read connection more) { waiting = connection.waiting ++ frames_of_more connection.reader more }) tag name work
-        (law.story.told conn) (law.story.talk.answers conn)
-    way_behind (there s w) = there s w
-    way_behind (back body reply s shown w) = back body reply s shown w
+        (law.story.told conn) (law.story.talk.answers conn) (law.story.course.sessions conn)
+    way_behind (there a b w) = there a b w
+    way_behind (back body turn a b c d w) = back body turn a b c d w
 
 -- a connection that hasn't ended takes more bytes
 taken_more : (config : Config) (heard : ℕ → Heard) (world : World) (law : KeepsLaw config heard world) (conn : ℕ) (bytes more node : List ℕ) (front : Front)
@@ -301,42 +305,84 @@ taken_more config heard world law conn bytes more node front connection e at rea
     (sym (heard_more config conn bytes more (heard conn) e))
     (is_open (bytes ++ more) node (with_connection front conn turned.connection) turned.connection
     (is_at_after world node front conn connection turned.connection turned.outs at.at at.has)
-    (frames_keep_reader (setting_of config) (home_of config) conn (having_read connection more) (frames_of_more connection.reader more)
-    ∙ sym (begun_with_more bytes more connection.reader (sym reader)))
+    (inr (frames_keep_reader (setting_of config) (home_of config) conn (having_read connection more) (frames_of_more connection.reader more)
+    ∙ sym (begun_with_more bytes more connection.reader (sym reader))))
     (standing_after world node front conn turned.connection turned.outs (setting_of config) (home_of config) (frames (bytes ++ more))
     (begun (bytes ++ more)) behind.story behind.standing))))
 
--- one that a fault ended takes none, and no frame ends in what it is sent
+-- one that has ended takes none of what it is sent: it stands so behind more bytes as well
 heard_on : (config : Config) (heard : ℕ → Heard) (world : World) (law : KeepsLaw config heard world) (conn : ℕ) (bytes more node : List ℕ) (front : Front)
     (connection : Connection) → heard conn ≡ client bytes false
-    → IsAt world conn node front connection → connection.reader ≡ begun bytes
-    → IsStanding (setting_of config) node (home_of config) conn (frames bytes) (begun bytes) connection world law.story
-    → begun bytes ≡ None → KeepsLaw config (after_data config heard conn more) world
-unfolding frames_heard
-heard_on config heard world law conn bytes more node front connection e at reader standing none =
-    let same_frames : frames (bytes ++ more) ≡ frames bytes = frames-ended bytes more none in
-    let ended : begun (bytes ++ more) ≡ None = begun-ended bytes more none in
-    let now : hears config conn (heard conn) (Data conn more) ≡ client (bytes ++ more) false = heard_more config conn bytes more (heard conn) e in
+    → IsAt world conn node front connection → connection.stage ≡ Ended
+    → IsStanding (setting_of config) node (home_of config) conn (frames (bytes ++ more)) (begun (bytes ++ more)) connection world
+    (asked_talk config heard conn more law.story)
+    → KeepsOn config (told_of law.story) (after_data config heard conn more) world
+heard_on config heard world law conn bytes more node front connection e at stage standing =
+    let told : Story = asked_talk config heard conn more law.story in
     record {
-      backend = law.backend;
-      nodes = law.nodes;
-      story = law.story;
-      is_told = law.is_told;
-      requests = λ other. ⊎_elim
-          (λ (same : other ≡ conn). subst (λ c. law.story.talk.requests c ≡ requests_of (frames_heard (after_data config heard conn more c))) (sym same)
-          (law.requests conn ∙ ap (λ h. requests_of (frames_heard h)) e ∙ ap requests_of (sym same_frames) ∙ sym (ap (λ h. requests_of (frames_heard h)) now)))
-          (λ (ne : other ≢ conn). law.requests other ∙ ap (λ h. requests_of (frames_heard h)) (sym (other_heard config conn other more (heard other) ne)))
-          (cases_eq other conn);
-      connections = λ other. ⊎_elim
-          (λ (same : other ≡ conn). subst (λ c. ConnectionIs (setting_of config) (home_of config) c world law.story (after_data config heard conn more c))
-          (sym same)
-          (subst (λ h. ConnectionIs (setting_of config) (home_of config) conn world law.story h) (sym now)
-          (is_open (bytes ++ more) node front connection at (reader ∙ none ∙ sym ended)
-          (subst (λ f. IsStanding (setting_of config) node (home_of config) conn f (begun (bytes ++ more)) connection world law.story) (sym same_frames)
-          (subst (λ h. IsStanding (setting_of config) node (home_of config) conn (frames bytes) h connection world law.story) (none ∙ sym ended) standing)))))
-          (λ (ne : other ≢ conn). subst (λ h. ConnectionIs (setting_of config) (home_of config) other world law.story h)
-          (sym (other_heard config conn other more (heard other) ne)) (law.connections other))
-          (cases_eq other conn);
+      law = record {
+        backend = law.backend;
+        nodes = law.nodes;
+        story = told;
+        is_told = now_told config heard world law conn bytes more (begun bytes) e refl;
+        requests = λ other. refl;
+        connections = λ other. ⊎_elim
+            (λ (same : other ≡ conn). subst (λ c. ConnectionIs (setting_of config) (home_of config) c world told (after_data config heard conn more c))
+            (sym same)
+            (subst (λ h. ConnectionIs (setting_of config) (home_of config) conn world told h) (sym (heard_more config conn bytes more (heard conn) e))
+            (is_open (bytes ++ more) node front connection at (inl stage) standing)))
+            (λ (ne : other ≢ conn). subst (λ h. ConnectionIs (setting_of config) (home_of config) other world told h)
+            (sym (other_heard config conn other more (heard other) ne))
+            (connection_stays (setting_of config) (home_of config) other world world law.story told (heard other)
+            (record {
+              fronts = λ any. same_front other (front_at world any) (front_at world any) refl;
+              client = refl;
+              ways = λ f h asks answers way. way;
+              told = refl;
+              said = refl;
+              session = refl;
+            }) (law.connections other)))
+            (cases_eq other conn);
+      };
+      more = record {
+        requests = asked_more config heard conn bytes more (begun bytes) e refl law.story.talk.requests law.requests;
+        answers = same_lists law.story.told;
+        serials = same_lists law.story.talk.serials;
+      };
+    }
+
+-- no frame ends in what is sent behind a fault
+faulted_on : (config : Config) (heard : ℕ → Heard) (world : World) (law : KeepsLaw config heard world) (conn : ℕ) (bytes more node : List ℕ)
+    (connection : Connection)
+    → IsStanding (setting_of config) node (home_of config) conn (frames bytes) (begun bytes) connection world law.story → begun bytes ≡ None
+    → IsStanding (setting_of config) node (home_of config) conn (frames (bytes ++ more)) (begun (bytes ++ more)) connection world
+    (asked_talk config heard conn more law.story)
+faulted_on config heard world law conn bytes more node connection standing none =
+    subst (λ f. IsStanding (setting_of config) node (home_of config) conn f (begun (bytes ++ more)) connection world
+    (asked_talk config heard conn more law.story)) (sym (frames-ended bytes more none))
+    (subst (λ h. IsStanding (setting_of config) node (home_of config) conn (frames bytes) h connection world (asked_talk config heard conn more law.story))
+    (none ∙ sym (begun-ended bytes more none)) (record { count = standing.count; client = standing.client; stands = standing.stands }))
+
+-- the frames that are sent behind the answer that ended a session are answered by nothing
+finished_on : (config : Config) (heard : ℕ → Heard) (world : World) (law : KeepsLaw config heard world) (conn : ℕ) (bytes more node : List ℕ)
+    (connection : Connection) (passed rest : List Frame) (asking : List ℕ) (before : List Answer) (final : Answer)
+    → IsStanding (setting_of config) node (home_of config) conn (frames bytes) (begun bytes) connection world law.story
+    → connection.stage ≡ Ended → frames bytes ≡ passed ++ Whole asking ∷ rest → AreAnswered passed before → law.story.told conn ≡ before ++ final ∷ []
+    → ends final.reply ≡ true → law.story.talk.answers conn ≡ law.story.told conn → AreOnWay world.links conn node (home_of config) [] []
+    → IsStanding (setting_of config) node (home_of config) conn (frames (bytes ++ more)) (begun (bytes ++ more)) connection world
+    (asked_talk config heard conn more law.story)
+finished_on config heard world law conn bytes more node connection passed rest asking before final standing stage parts answered told is_end said way =
+    let new : List Frame = frames_of_more (begun bytes) more in
+    let now : frames (bytes ++ more) ≡ passed ++ Whole asking ∷ (rest ++ new) =
+    frames_with_more bytes more (begun bytes) refl ∙ ap (λ f. f ++ new) parts ∙ append_assoc passed (Whole asking ∷ rest) new in
+    record {
+      count = standing.count;
+      client = standing.client ∙ ap (λ t. Some (record { at = node; given = greeting ++ t }))
+          (ap (λ f. replies_to f (law.story.told conn)) parts ∙ ap (λ t. replies_to (passed ++ Whole asking ∷ rest) t) told
+          ∙ end_told silent passed before asking rest final [] answered is_end
+          ∙ sym (end_told silent passed before asking (rest ++ new) final [] answered is_end)
+          ∙ ap (λ t. replies_to (passed ++ Whole asking ∷ (rest ++ new)) t) (sym told) ∙ ap (λ f. replies_to f (law.story.told conn)) (sym now));
+      stands = finished passed (rest ++ new) asking before final stage now answered told is_end said way;
     }
 
 at_ended : (front : Front) (conn : ℕ) (bytes : List ℕ) (connection : Connection) → connection_at front conn ≡ Some connection → connection.stage ≡ Ended
@@ -357,22 +403,49 @@ at_asked : (front : Front) (conn : ℕ) (bytes : List ℕ) (connection : Connect
 unfolding bytes_in front_bytes_at bytes_by
 at_asked front conn bytes connection tag awaited has stage = ap (front_bytes_at front conn bytes) has ∙ ap (bytes_by front conn bytes connection) stage
 
+-- the reader of a connection that hasn't ended
+reader_of : (connection : Connection) (held : Option (List ℕ)) → (connection.stage ≡ Ended → ⊥) → HasBegunSo connection held → connection.reader ≡ held
+reader_of connection held lasts is = ⊎_elim (λ ended. absurd (lasts ended)) (λ same. same) is
+
+pub reading_reader : (connection : Connection) (held : Option (List ℕ)) → connection.stage ≡ Reading → HasBegunSo connection held → connection.reader ≡ held
+reading_reader connection held stage is = reader_of connection held (λ ended. (let both : Reading ≡ Ended = sym stage ∙ ended in cc)) is
+
+pub asked_reader : (connection : Connection) (held : Option (List ℕ)) (tag : Tag) (awaited : Awaited) → connection.stage ≡ Asked tag awaited
+    → HasBegunSo connection held → connection.reader ≡ held
+asked_reader connection held tag awaited stage is = reader_of connection held (λ ended. (let both : Asked tag awaited ≡ Ended = sym stage ∙ ended in cc)) is
+
+-- one that has ended, in whatever way
+ended_more : (config : Config) (heard : ℕ → Heard) (world : World) (law : KeepsLaw config heard world) (conn : ℕ) (bytes more node : List ℕ) (front : Front)
+    (connection : Connection) → heard conn ≡ client bytes false
+    → IsAt world conn node front connection → connection.stage ≡ Ended
+    → IsStanding (setting_of config) node (home_of config) conn (frames (bytes ++ more)) (begun (bytes ++ more)) connection world
+    (asked_talk config heard conn more law.story)
+    → KeepsOn config (told_of law.story) (after_data config heard conn more) (with_front world node (bytes_in front conn more))
+ended_more config heard world law conn bytes more node front connection e at stage standing =
+    let on = heard_on config heard world law conn bytes more node front connection e at stage standing in
+    let put = still_kept config (after_data config heard conn more) (after_data config heard conn more) world (with_front world node (still front))
+    (looks_put world node front at.at) (λ other. refl) on.law in
+    subst (λ s. KeepsOn config (told_of law.story) (after_data config heard conn more) (with_front world node s))
+    (sym (at_ended front conn more connection at.has stage))
+    (record { law = put.law; more = talks_follow (told_of law.story) (told_of on.law.story) (told_of put.law.story) on.more put.more })
+
 stands_more : (config : Config) (heard : ℕ → Heard) (world : World) (law : KeepsLaw config heard world) (conn : ℕ) (bytes more node : List ℕ) (front : Front)
     (connection : Connection) → heard conn ≡ client bytes false
-    → IsAt world conn node front connection → connection.reader ≡ begun bytes
+    → IsAt world conn node front connection → HasBegunSo connection (begun bytes)
     → IsStanding (setting_of config) node (home_of config) conn (frames bytes) (begun bytes) connection world law.story
     → Stands (setting_of config) node (home_of config) conn (frames bytes) (begun bytes) connection world.links (law.story.told conn)
     (law.story.talk.answers conn) (law.story.course.sessions conn)
     → KeepsOn config (told_of law.story) (after_data config heard conn more) (with_front world node (bytes_in front conn more))
-unfolding heard_on
-stands_more config heard world law conn bytes more node front connection e at reader standing (reads stage waiting session all said way) =
+stands_more config heard world law conn bytes more node front connection e at reader standing (reads stage waiting session lasts all said way) =
+    let has_reader = reading_reader connection (begun bytes) stage reader in
     subst (λ s. KeepsOn config (told_of law.story) (after_data config heard conn more) (with_front world node s))
     (sym (at_reading front conn more connection at.has stage))
-    (taken_more config heard world law conn bytes more node front connection e at reader
-    (reading_behind config heard world law conn bytes more node connection e reader (record {
+    (taken_more config heard world law conn bytes more node front connection e at has_reader
+    (reading_behind config heard world law conn bytes more node connection e has_reader (record {
       stage_is = stage;
       waiting_is = waiting;
       session_is = session;
+      goes_on = lasts;
       count = standing.count;
       answered = all;
       said = said;
@@ -380,18 +453,20 @@ stands_more config heard world law conn bytes more node front connection e at re
       way = way;
     })))
 stands_more config heard world law conn bytes more node front connection e at reader standing
-    (waits passed asking tag it name work stage parts session all is need last way) =
+    (waits passed asking tag it name work stage parts lasts all is need last way) =
+    let has_reader = asked_reader connection (begun bytes) tag (asked_for name work).awaited stage reader in
     subst (λ s. KeepsOn config (told_of law.story) (after_data config heard conn more) (with_front world node s))
-    (sym (at_asked front conn more connection tag (awaited_of work) at.has stage))
-    (taken_more config heard world law conn bytes more node front connection e at reader
-    (waiting_behind config heard world law conn bytes more node connection passed asking tag it name work e reader standing.count standing.client stage parts
-    session all is need last way))
+    (sym (at_asked front conn more connection tag (asked_for name work).awaited at.has stage))
+    (taken_more config heard world law conn bytes more node front connection e at has_reader
+    (waiting_behind config heard world law conn bytes more node connection passed asking tag it name work e has_reader standing.count standing.client stage
+    parts lasts all is need last way))
 stands_more config heard world law conn bytes more node front connection e at reader standing (faulted stage none lengths said way) =
-    subst (λ s. KeepsOn config (told_of law.story) (after_data config heard conn more) (with_front world node s))
-    (sym (at_ended front conn more connection at.has stage))
-    (still_kept config (after_data config heard conn more) (after_data config heard conn more) world (with_front world node (still front))
-    (looks_put world node front at.at) (λ other. refl)
-    (heard_on config heard world law conn bytes more node front connection e at reader standing none))
+    ended_more config heard world law conn bytes more node front connection e at stage
+    (faulted_on config heard world law conn bytes more node connection standing none)
+stands_more config heard world law conn bytes more node front connection e at reader standing
+    (finished passed rest asking before final stage parts answered told is_end said way) =
+    ended_more config heard world law conn bytes more node front connection e at stage
+    (finished_on config heard world law conn bytes more node connection passed rest asking before final standing stage parts answered told is_end said way)
 
 nothing_heard : (config : Config) (conn : ℕ) (bytes : List ℕ) → hears config conn nobody (Data conn bytes) ≡ nobody
 unfolding hears

@@ -1,61 +1,50 @@
 -- A message that is taken keeps the law.
-use Rattle.std.proofs.Common.{◌≡◌, ◌≢◌, ◌⊎◌, ℕ, ◌+◌, ◌≤◌, Bool, true, false, List, [], ◌∷◌, ◌++◌, length, Option, None, Some, refl, sym, ◌∙◌, ap, subst, arith}
+use Rattle.std.proofs.Common.{◌≡◌, ℕ, ◌+◌, true, false, List, [], ◌∷◌, ◌++◌, length, Option, None, Some, refl, sym, ◌∙◌, ap, subst, arith}
 use Rattle.std.specs.Ordering.{nat_cmp}
 use Rattle.std.specs.Cmp.Lexicographic.{slice_cmp}
-use Rattle.std.proofs.lemmas.List.{append-nil}
 use Rattle.backend_core.specs.declared.backend.Backend.{Backend}
-use Rattle.backend_core.specs.declared.input.BackInput.{BackInput}
-use Rattle.backend_core.specs.declared.input.BackInput.TheVariants.{Up as up_in, End as end_in, FromFront}
+use Rattle.backend_core.specs.declared.input.BackInput.TheVariants.{FromFront}
 use Rattle.backend_core.specs.Plan.{plan_of}
 use Rattle.front_core.specs.declared.connection.Connection.{Connection}
-use Rattle.front_core.specs.declared.connection.Stage.TheVariants.{Ended}
 use Rattle.front_core.specs.declared.front.Front.{Front}
 use Rattle.front_core.specs.Answered.{answer_comes}
-use Rattle.front_core.specs.Awaited.{awaited_of}
-use Rattle.front_core.specs.Front.{connection_at, deliver as take_message, answer_at, with_turned, still}
+use Rattle.front_core.specs.Front.{connection_at, deliver as take_message, answer_at, with_turned}
 use Rattle.front_core.specs.Taken.{Turned, ask_for}
-use Rattle.imap_command.specs.Request.{request_of}
-use Rattle.imap_reply.proofs.TranscriptGrows.{AreAnswered}
-use Rattle.imap_wire.specs.declared.frame.Frame.{Frame}
 use Rattle.imap_wire.specs.declared.frame.Frame.TheVariants.{Whole}
 use Rattle.imap_wire.specs.Frames.{frames, begun}
-use Rattle.imap_wire.proofs.FaultLaws.{FaultsLast}
 use Rattle.link_msg.specs.declared.answer.AnswerBody.{AnswerBody}
 use Rattle.link_msg.specs.declared.answer.BackAnswer.{BackAnswer}
 use Rattle.link_msg.specs.declared.ask.FrontAsk.{FrontAsk}
 use Rattle.link_msg.specs.declared.message.LinkMsg.{LinkMsg}
 use Rattle.link_msg.specs.declared.message.LinkMsg.TheVariants.{Up, End, Line, Ask, Answer}
-use Rattle.mur_base.specs.Map.{value_at, with_value}
 use Rattle.mur_base.proofs.MapLaws.{names_apart}
 use Rattle.mur_config.specs.declared.config.Config.{Config}
 use Rattle.mur_model.specs.declared.command.Tag.{Tag}
 use Rattle.mur_model.specs.declared.need.Work.{Work}
 use Rattle.mur_model.specs.declared.request.Answer.{Answer as AnswerOf}
 use Rattle.mur_model.specs.declared.request.Request.TheVariants.{Command as a_command}
-use Rattle.mur_model.specs.Act.{need_of}
+use Rattle.mur_model.specs.Act.{need_of, session_after}
 use Rattle.mur_model.specs.History.{numbered}
-use Rattle.mur_model.proofs.HistoryGrows.{same_talk}
 use Rattle.mur_model.proofs.Numbered.{with_item, with_item-same}
 use Rattle.cluster_core.specs.declared.world.World.{World}
-use Rattle.cluster_core.specs.Heard.{Heard, nobody, elsewhere, client, frames_heard}
+use Rattle.cluster_core.specs.Heard.{Heard, client, frames_heard}
 use Rattle.cluster_core.specs.Links.{Links, on_link, sent, without_first}
-use Rattle.cluster_core.specs.World.{client_at, front_at, home_at, home_of, setting_of, with_front, with_home, taken, input_of, home_takes, comes_to_home}
-use Rattle.cluster_core.specs.World.{comes_to, deliver_first, delivers, carry_all}
-use Rattle.cluster_core.proofs.ConnectionLaw.{Story, told_of, client_with, keeps_all, same_story, OnItsWay, Stands, IsLeft, IsStanding}
+use Rattle.cluster_core.specs.World.{front_at, home_at, home_of, setting_of, with_front, with_home, taken, input_of, home_takes, comes_to_home}
+use Rattle.cluster_core.specs.World.{comes_to, carry_all}
+use Rattle.cluster_core.proofs.ConnectionLaw.{Story, told_of, HasBegunSo, Stands, IsLeft, IsStanding}
 use Rattle.cluster_core.proofs.ConnectionLaw.OnItsWay.{there, back}
-use Rattle.cluster_core.proofs.ConnectionLaw.Stands.{reads, waits, faulted}
+use Rattle.cluster_core.proofs.ConnectionLaw.Stands.{reads, waits, faulted, finished}
 use Rattle.cluster_core.proofs.ConnectionLaw.IsLeft.{nothing, its_ask, its_answer}
-use Rattle.cluster_core.proofs.KeepsAnswer.{replied_turn, replied_stands, fits, ended_drops_answer}
 use Rattle.cluster_core.proofs.KeepsAsk.{IsAnswered, answers_ask, ask_kept, answered_world}
-use Rattle.cluster_core.proofs.KeepsData.{looks_put, frames_keep_reader}
-use Rattle.cluster_core.proofs.KeepsFront.{world_after, with_connection, front_keeps, is_at_after, standing_after, gone_after}
+use Rattle.cluster_core.proofs.KeepsData.{looks_put}
+use Rattle.cluster_core.proofs.KeepsFront.{world_after}
 use Rattle.cluster_core.proofs.KeepsLaw.{ConnectionIs, IsAt, IsGone, KeepsLaw, KeepsOn, LooksAlike, looks_same, same_put}
 use Rattle.cluster_core.proofs.KeepsLaw.ConnectionIs.{is_nobody, is_elsewhere, is_open, is_closed}
 use Rattle.cluster_core.proofs.KeepsStill.{still_kept}
 use Rattle.cluster_core.proofs.RequestsOf.{requests_of, requests-append, answered_lengths, next_request}
 use Rattle.cluster_core.proofs.Told.{having_said}
-use Rattle.cluster_core.proofs.Ways.{AreOnWay, IsOfAnother, ask_of_another, answer_of_another, taken_for_another, ask_taken, answer_taken, no_ask_first}
-use Rattle.cluster_core.proofs.Ways.{no_answer_first, answer_sent, ask_in, answer_in}
+use Rattle.cluster_core.proofs.Ways.{AreOnWay, IsOfAnother, taken_for_another, ask_taken, no_ask_first}
+use Rattle.cluster_core.proofs.Ways.{answer_sent, ask_in, answer_in}
 
 -- a message that is neither an ask nor an answer changes nothing that can be looked up
 alike_taken : (world : World) (from to : List ℕ) (message : LinkMsg) (rest : List LinkMsg) → on_link world.links from to ≡ message ∷ rest
@@ -144,17 +133,18 @@ to_home world from home ask backend none at =
     ap (comes_to (taken world from home) from home (Ask ask)) none ∙ ap (comes_to_home (taken world from home) from home (Ask ask)) at
 
 abbrev story_after : {config : Config} {heard : ℕ → Heard} {world : World} (law : KeepsLaw config heard world)
-    (conn : ℕ) {front : List ℕ} {connection : Connection} {tag : Tag} {work : Work} {ask : FrontAsk}
-    → IsAnswered config heard world law conn front connection tag work ask → Story
+    (conn : ℕ) {front : List ℕ} {connection : Connection} {tag : Tag} {name : List ℕ} {work : Work} {ask : FrontAsk}
+    → IsAnswered config heard world law conn front connection tag name work ask → Story
 story_after law conn done = record { talk = having_said law.story.talk conn done.reply done.serial; told = law.story.told; course = done.course }
 
 said_after : (config : Config) (heard : ℕ → Heard) (world : World) (law : KeepsLaw config heard world) (conn : ℕ) (front : List ℕ) (connection : Connection)
-    (tag : Tag) (work : Work) (ask : FrontAsk)
-    (done : IsAnswered config heard world law conn front connection tag work ask) (told : List AnswerOf) → law.story.talk.answers conn ≡ told
-    → with_item law.story.talk.answers conn done.reply conn ≡ told ++ (record { tag = tag; reply = done.reply.reply }) ∷ []
-said_after config heard world law conn front connection tag work ask done told said =
+    (tag : Tag) (name : List ℕ) (work : Work) (ask : FrontAsk)
+    (done : IsAnswered config heard world law conn front connection tag name work ask) (told : List AnswerOf) → law.story.talk.answers conn ≡ told
+    → with_item law.story.talk.answers conn done.reply conn ≡ told ++ (record { tag = tag; reply = done.turn.reply }) ∷ []
+said_after config heard world law conn front connection tag name work ask done told said =
     with_item-same law.story.talk.answers conn done.reply ∙ ap (λ l. l ++ done.reply ∷ []) said
     ∙ ap (λ t. told ++ (record { tag = t; reply = done.reply.reply }) ∷ []) done.tagged
+    ∙ ap (λ r. told ++ (record { tag = tag; reply = r }) ∷ []) done.replied
 
 way_after : (links : Links) (conn : ℕ) (node home from to : List ℕ) (ask : FrontAsk) (connection : Connection) (body : AnswerBody) → from ≡ node → to ≡ home
     → ask.id ≡ record { conn = conn; command = connection.answered + 1 }
@@ -169,40 +159,43 @@ way_after links conn node home from to ask connection body f t id way =
 
 -- the world in which the home answered the ask
 asked_home : (config : Config) (heard after : ℕ → Heard) (world : World) (law : KeepsLaw config heard world) (from to : List ℕ) (ask : FrontAsk)
-    (rest : List LinkMsg) (conn : ℕ) (node : List ℕ) (connection : Connection) (tag : Tag) (work : Work)
-    (done : IsAnswered config heard world law conn node connection tag work ask) → from ≡ node → to ≡ home_of config
+    (rest : List LinkMsg) (conn : ℕ) (node : List ℕ) (connection : Connection) (tag : Tag) (name : List ℕ) (work : Work)
+    (done : IsAnswered config heard world law conn node connection tag name work ask) → from ≡ node → to ≡ home_of config
     → on_link world.links from to ≡ Ask ask ∷ rest → ((c : ℕ) → after c ≡ heard c) → (ask.id).conn ≡ conn
     → ConnectionIs (setting_of config) (home_of config) conn (answered_world world node (home_of config) done.backend ask done.body done.counts)
     (story_after law conn done) (after conn)
     → KeepsOn config (told_of law.story) after (comes_to (taken world from to) from to (Ask ask) (front_at world to))
-asked_home config heard after world law from to ask rest conn node connection tag work done f t first same own mine =
+asked_home config heard after world law from to ask rest conn node connection tag name work done f t first same own mine =
     subst (λ x. KeepsOn config (told_of law.story) after (comes_to (taken world x to) x to (Ask ask) (front_at world to))) (sym f)
     (subst (λ x. KeepsOn config (told_of law.story) after (comes_to (taken world node x) node x (Ask ask) (front_at world x))) (sym t)
     (subst (λ w. KeepsOn config (told_of law.story) after w)
     (sym (to_home world node (home_of config) ask law.backend law.nodes.home_no_front law.nodes.home_is ∙ done.world_is))
-    (ask_kept config heard after world law conn node connection tag work ask rest done own
+    (ask_kept config heard after world law conn node connection tag name work ask rest done own
     (ap (λ x. on_link world.links x (home_of config)) (sym f) ∙ ap (on_link world.links from) (sym t) ∙ first) same mine)))
 
 ask_open : (config : Config) (heard after : ℕ → Heard) (world : World) (law : KeepsLaw config heard world) (from to : List ℕ) (ask : FrontAsk)
     (rest : List LinkMsg) (conn : ℕ) (bytes node : List ℕ) (front : Front) (connection : Connection)
     → on_link world.links from to ≡ Ask ask ∷ rest → ((c : ℕ) → after c ≡ heard c) → (ask.id).conn ≡ conn → heard conn ≡ client bytes false
-    → IsAt world conn node front connection → connection.reader ≡ begun bytes
+    → IsAt world conn node front connection → HasBegunSo connection (begun bytes)
     → IsStanding (setting_of config) node (home_of config) conn (frames bytes) (begun bytes) connection world law.story
     → Stands (setting_of config) node (home_of config) conn (frames bytes) (begun bytes) connection world.links (law.story.told conn)
     (law.story.talk.answers conn) (law.story.course.sessions conn)
     → KeepsOn config (told_of law.story) after (comes_to (taken world from to) from to (Ask ask) (front_at world to))
 unfolding frames_heard requests_of
 ask_open config heard after world law from to ask rest conn bytes node front connection first same own e at reader standing
-    (reads stage waiting s answered said way) =
+    (reads stage waiting s lasts answered said way) =
     absurd (no_ask_first world.links conn node (home_of config) from to ask rest [] first own way)
 ask_open config heard after world law from to ask rest conn bytes node front connection first same own e at reader standing
     (faulted stage none lengths said way) =
     absurd (no_ask_first world.links conn node (home_of config) from to ask rest [] first own way)
 ask_open config heard after world law from to ask rest conn bytes node front connection first same own e at reader standing
-    (waits passed asking tag it name work stage parts s answered is need last (back body reply said shown way)) =
+    (finished passed more asking before final stage parts answered is_told is_end said way) =
+    absurd (no_ask_first world.links conn node (home_of config) from to ask rest [] first own way)
+ask_open config heard after world law from to ask rest conn bytes node front connection first same own e at reader standing
+    (waits passed asking tag it name work stage parts lasts answered is need last (back body turn said shown later both way)) =
     absurd (no_ask_first world.links conn node (home_of config) from to ask rest _ first own way)
 ask_open config heard after world law from to ask rest conn bytes node front connection first same own e at reader standing
-    (waits passed asking tag it name work stage parts s answered is need last (there said way)) =
+    (waits passed asking tag it name work stage parts lasts answered is need last (there said s way)) =
     let took = ask_taken world.links conn node (home_of config) from to ask rest (ask_for conn connection name work) [] first own way in
     let lengths : connection.answered ≡ length (law.story.talk.answers conn) = standing.count ∙ sym (ap length said) in
     let asked : numbered (law.story.talk.requests conn) (length (law.story.talk.answers conn) + 1) ≡ Some (a_command tag it) =
@@ -211,18 +204,19 @@ ask_open config heard after world law from to ask rest conn bytes node front con
     ∙ ap (λ r. requests_of passed ++ r ∷ requests_of connection.waiting) is))
     (next_request (requests_of passed) (requests_of connection.waiting) (a_command tag it) (length (law.story.talk.answers conn))
     (answered_lengths passed (law.story.told conn) answered ∙ sym (ap length said))) in
-    let done : IsAnswered config heard world law conn node connection tag work ask =
-    answers_ask config heard world law conn node connection tag it name work ask (sym took.2) lengths asked need in
-    asked_home config heard after world law from to ask rest conn node connection tag work done took.0 took.1 first same own
+    let done : IsAnswered config heard world law conn node connection tag name work ask =
+    answers_ask config heard world law conn node connection tag it name work ask (sym took.2) lengths asked
+    (ap (λ x. need_of (setting_of config) x it) (sym s) ∙ need) in
+    asked_home config heard after world law from to ask rest conn node connection tag name work done took.0 took.1 first same own
     (subst (λ h. ConnectionIs (setting_of config) (home_of config) conn (answered_world world node (home_of config) done.backend ask done.body done.counts)
     (story_after law conn done) h) (sym (same conn ∙ e))
     (is_open bytes node front connection (record { at = at.at; has = at.has }) reader
     (record {
       count = standing.count;
       client = standing.client;
-      stands = waits passed asking tag it name work stage parts (s ∙ sym done.mine) answered is
-          (ap (λ x. need_of (setting_of config) x it) done.mine ∙ need) last
-          (back done.body done.reply.reply (said_after config heard world law conn node connection tag work ask done (law.story.told conn) said) done.shown
+      stands = waits passed asking tag it name work stage parts lasts answered is need last
+          (back done.body done.turn (said_after config heard world law conn node connection tag name work ask done (law.story.told conn) said) done.shown
+          (done.mine ∙ ap (λ x. session_after x done.turn.session) (sym s)) done.ends
           (way_after world.links conn node (home_of config) from to ask connection done.body took.0 took.1 (sym (ap (λ (a : FrontAsk). a.id) took.2)) took.3));
     })))
 
@@ -246,9 +240,9 @@ ask_closed config heard after world law from to ask rest conn bytes node front c
     let asked : numbered (law.story.talk.requests conn) (length (law.story.talk.answers conn) + 1) ≡ Some (a_command tag it) =
     ap (λ r. numbered r (length (law.story.talk.answers conn) + 1)) (law.requests conn ∙ ap (λ h. requests_of (frames_heard h)) e)
     ∙ ap (λ n. numbered (requests_of (frames bytes)) (n + 1)) (ap length said) ∙ next in
-    let done : IsAnswered config heard world law conn node connection tag work ask =
+    let done : IsAnswered config heard world law conn node connection tag name work ask =
     answers_ask config heard world law conn node connection tag it name work ask (sym took.2) lengths asked need in
-    asked_home config heard after world law from to ask rest conn node connection tag work done took.0 took.1 first same own
+    asked_home config heard after world law from to ask rest conn node connection tag name work done took.0 took.1 first same own
     (subst (λ h. ConnectionIs (setting_of config) (home_of config) conn (answered_world world node (home_of config) done.backend ask done.body done.counts)
     (story_after law conn done) h) (sym (same conn ∙ e))
     (is_closed bytes node front connection (record { at = at.at; has = at.has })
@@ -256,8 +250,8 @@ ask_closed config heard after world law from to ask rest conn bytes node front c
       stage_is = gone.stage_is;
       count = gone.count;
       client = gone.client;
-      left = its_answer ((record { tag = tag; reply = done.reply.reply }) ∷ []) _
-          (said_after config heard world law conn node connection tag work ask done (law.story.told conn) said) (omega arith)
+      left = its_answer ((record { tag = tag; reply = done.turn.reply }) ∷ []) _
+          (said_after config heard world law conn node connection tag name work ask done (law.story.told conn) said) (omega arith)
           (way_after world.links conn node (home_of config) from to ask connection done.body took.0 took.1 (sym (ap (λ (a : FrontAsk). a.id) took.2)) took.3);
     })))
 

@@ -1,15 +1,14 @@
 -- A step of one connection at its frontend keeps the law.
-use Rattle.std.proofs.Common.{◌≡◌, ◌≢◌, ◌⊎◌, ℕ, ◌+◌, ◌≤◌, Bool, true, false, List, [], ◌∷◌, ◌++◌, length, Option, None, Some, refl, sym, ◌∙◌, ap, subst}
+use Rattle.std.proofs.Common.{◌≡◌, ◌≢◌, ℕ, List, [], Option, Some, refl, sym, ◌∙◌, ap, subst}
 use Rattle.std.specs.Ordering.{nat_cmp}
 use Rattle.std.specs.Cmp.Lexicographic.{slice_cmp}
 use Rattle.std.proofs.Math.Logic.{⊎_elim}
 use Rattle.std.proofs.lemmas.Bool.{cases_eq}
-use Rattle.backend_core.specs.declared.backend.Backend.{Backend}
 use Rattle.front_core.specs.declared.connection.Connection.{Connection}
 use Rattle.front_core.specs.declared.front.Front.{Front}
-use Rattle.front_core.specs.Front.{Stepped, connection_at}
+use Rattle.front_core.specs.Front.{connection_at}
 use Rattle.link_msg.specs.declared.out.Out.{Out}
-use Rattle.mur_base.specs.Map.{value_at, with_value}
+use Rattle.mur_base.specs.Map.{with_value}
 use Rattle.mur_base.proofs.MapLaws.{names_apart, numbers_apart, value_at-with_value, value_at-with_value-other}
 use Rattle.mur_config.specs.declared.config.Config.{Config}
 use Rattle.imap_wire.specs.declared.frame.Frame.{Frame}
@@ -21,12 +20,11 @@ use Rattle.mur_model.proofs.HistoryGrows.{talks_follow}
 use Rattle.cluster_core.specs.declared.world.World.{World}
 use Rattle.cluster_core.specs.Heard.{Heard, frames_heard}
 use Rattle.cluster_core.specs.Links.{Links}
-use Rattle.cluster_core.specs.World.{client_at, front_at, home_of, setting_of, carry_all}
-use Rattle.cluster_core.proofs.ConnectionLaw.{Story, told_of, KeepsOthers, GoesOnAt, IsMade, IsStanding}
-use Rattle.cluster_core.proofs.KeepsLaw.{ConnectionIs, IsAt, IsGone, KeepsLaw, KeepsOn, StaysAt, WaysOn, connection_stays, same_front, AreNodesOf}
+use Rattle.cluster_core.specs.World.{front_at, home_of, setting_of, carry_all}
+use Rattle.cluster_core.proofs.ConnectionLaw.{Story, told_of, IsMade, IsStanding}
+use Rattle.cluster_core.proofs.KeepsLaw.{ConnectionIs, IsAt, IsGone, KeepsLaw, KeepsOn, WaysOn, connection_stays}
 use Rattle.cluster_core.proofs.KeepsStill.{fronts_at_other, nodes_with_front, with_fronts, carry_all_fronts}
 use Rattle.cluster_core.proofs.RequestsOf.{requests_of}
-use Rattle.cluster_core.proofs.Told.{IsTold}
 
 -- a frontend with another state of one connection
 abbrev pub with_connection : Front → ℕ → Connection → Front

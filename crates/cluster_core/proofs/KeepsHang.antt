@@ -1,5 +1,5 @@
 -- A client that closes its connection keeps the law.
-use Rattle.std.proofs.Common.{◌≡◌, ◌≢◌, ◌⊎◌, ℕ, ◌+◌, ◌≤◌, Bool, true, false, nat_eq, List, [], ◌∷◌, ◌++◌, length, Option, None, Some, refl, sym, ◌∙◌, ap, subst}
+use Rattle.std.proofs.Common.{◌≡◌, ◌≢◌, ℕ, ◌+◌, true, false, nat_eq, List, [], ◌∷◌, ◌++◌, length, Option, Some, refl, sym, ◌∙◌, ap, subst}
 use Rattle.std.proofs.Common.{arith}
 use Rattle.std.specs.Ordering.{nat_cmp}
 use Rattle.std.specs.Cmp.Lexicographic.{slice_cmp}
@@ -8,35 +8,31 @@ use Rattle.std.proofs.lemmas.Bool.{cases_eq}
 use Rattle.std.proofs.lemmas.Bool.Decides.{nat_tests}
 use Rattle.std.proofs.lemmas.List.{append-nil}
 use Rattle.front_core.specs.declared.connection.Connection.{Connection}
-use Rattle.front_core.specs.declared.connection.Stage.TheVariants.{Ended}
 use Rattle.front_core.specs.declared.front.Front.{Front}
-use Rattle.front_core.specs.Front.{connection_at, hang, hang_at as front_hang_at, hung_up}
-use Rattle.imap_command.specs.Request.{request_of}
-use Rattle.imap_reply.proofs.TranscriptGrows.{AreAnswered}
+use Rattle.front_core.specs.Front.{hang, hang_at as front_hang_at, hung_up}
 use Rattle.imap_wire.specs.declared.frame.Frame.{Frame}
 use Rattle.imap_wire.specs.declared.frame.Frame.TheVariants.{Whole}
 use Rattle.imap_wire.specs.Frames.{frames, begun}
 use Rattle.mur_base.specs.Map.{with_value}
 use Rattle.mur_config.specs.declared.config.Config.{Config}
-use Rattle.mur_model.specs.declared.command.Command.{Command}
-use Rattle.mur_model.specs.declared.command.Tag.{Tag}
 use Rattle.mur_model.specs.declared.request.Answer.{Answer}
 use Rattle.mur_model.specs.declared.request.Request.TheVariants.{Command as a_command}
 use Rattle.mur_model.specs.declared.session.Sess.{Sess}
 use Rattle.mur_model.specs.declared.setting.Setting.{Setting}
+use Rattle.mur_model.specs.Act.{need_of}
 use Rattle.mur_model.specs.History.{numbered}
 use Rattle.mur_model.proofs.HistoryGrows.{same_talk}
 use Rattle.schedule_text.specs.declared.event.Event.TheVariants.{Hang}
 use Rattle.cluster_core.specs.declared.world.World.{World}
 use Rattle.cluster_core.specs.Heard.{Heard, nobody, elsewhere, client, hears, frames_heard}
 use Rattle.cluster_core.specs.Links.{Links}
-use Rattle.cluster_core.specs.World.{client_at, front_at, home_of, setting_of, hang_at, hangs, carry_all}
-use Rattle.cluster_core.proofs.ConnectionLaw.{Story, told_of, client_with, keeps_all, same_story, OnItsWay, Stands, IsLeft, IsStanding, IsMade}
+use Rattle.cluster_core.specs.World.{client_at, home_of, setting_of, hang_at, hangs, carry_all}
+use Rattle.cluster_core.proofs.ConnectionLaw.{told_of, keeps_all, same_story, Stands, IsLeft}
 use Rattle.cluster_core.proofs.ConnectionLaw.OnItsWay.{there, back}
-use Rattle.cluster_core.proofs.ConnectionLaw.Stands.{reads, waits, faulted}
+use Rattle.cluster_core.proofs.ConnectionLaw.Stands.{reads, waits, faulted, finished}
 use Rattle.cluster_core.proofs.ConnectionLaw.IsLeft.{nothing, its_ask, its_answer}
 use Rattle.cluster_core.proofs.KeepsFront.{world_after, with_connection, front_keeps, is_at_after, gone_after}
-use Rattle.cluster_core.proofs.KeepsLaw.{ConnectionIs, IsAt, IsGone, KeepsLaw, KeepsOn, left_on, looks_same}
+use Rattle.cluster_core.proofs.KeepsLaw.{ConnectionIs, IsAt, IsGone, KeepsLaw, KeepsOn, looks_same}
 use Rattle.cluster_core.proofs.KeepsLaw.ConnectionIs.{is_nobody, is_elsewhere, is_open, is_closed}
 use Rattle.cluster_core.proofs.KeepsStill.{still_kept}
 use Rattle.cluster_core.proofs.RequestsOf.{requests_of, requests-append, answered_lengths, next_request}
@@ -62,19 +58,23 @@ left_by : (setting : Setting) (node home : List ℕ) (conn : ℕ) (all : List Fr
     → Stands setting node home conn all held connection links told said session
     → IsLeft setting node home conn (requests_of all) (hung_up connection) links told said session
 unfolding requests_of
-left_by setting node home conn all held connection links told said session (reads stage waiting s answered same way) =
+left_by setting node home conn all held connection links told said session (reads stage waiting s lasts answered same way) =
     nothing [] (same ∙ sym (append-nil told)) (omega arith) way
 left_by setting node home conn all held connection links told said session
-    (waits passed bytes tag it name work stage parts s answered is need last (there same way)) =
+    (waits passed bytes tag it name work stage parts lasts answered is need last (there same s way)) =
     its_ask tag it name work same
     (subst (λ r. numbered r (length told + 1) ≡ Some (a_command tag it))
     (sym (ap requests_of parts ∙ requests-append passed (Whole bytes ∷ connection.waiting)
     ∙ ap (λ r. requests_of passed ++ r ∷ requests_of connection.waiting) is))
-    (next_request (requests_of passed) (requests_of connection.waiting) (a_command tag it) (length told) (answered_lengths passed told answered))) need s way
+    (next_request (requests_of passed) (requests_of connection.waiting) (a_command tag it) (length told) (answered_lengths passed told answered)))
+    (ap (λ x. need_of setting x it) (sym s) ∙ need) s way
 left_by setting node home conn all held connection links told said session
-    (waits passed bytes tag it name work stage parts s answered is need last (back body reply same shown way)) =
+    (waits passed bytes tag it name work stage parts lasts answered is need last (back body turn same shown later turned way)) =
     its_answer _ _ same (omega arith) way
 left_by setting node home conn all held connection links told said session (faulted stage none lengths same way) =
+    nothing [] (same ∙ sym (append-nil told)) (omega arith) way
+left_by setting node home conn all held connection links told said session
+    (finished passed more bytes before final stage parts answered is_told is_end same way) =
     nothing [] (same ∙ sym (append-nil told)) (omega arith) way
 
 -- closing again changes nothing of what is left

@@ -1,9 +1,7 @@
 -- The law that every step keeps: one case for each connection, by what was heard of its client.
-use Rattle.std.proofs.Common.{◌≡◌, ◌≢◌, ◌⊎◌, ℕ, ◌+◌, ◌≤◌, Bool, true, false, List, [], ◌∷◌, ◌++◌, length, Option, None, Some, refl, sym, ◌∙◌, ap, subst}
+use Rattle.std.proofs.Common.{◌≡◌, ◌≢◌, ℕ, ◌≤◌, true, false, List, [], length, Option, None, Some, refl, sym, ◌∙◌, ap, subst}
 use Rattle.std.proofs.Common.{arith}
 use Rattle.std.specs.Prelude.{is_some}
-use Rattle.std.specs.Ordering.{nat_cmp}
-use Rattle.std.specs.Cmp.Lexicographic.{slice_cmp}
 use Rattle.std.specs.declared.cmp.Ordering.{Ordering}
 use Rattle.std.proofs.Math.Logic.{⊎_elim}
 use Rattle.backend_core.specs.declared.backend.Backend.{Backend}
@@ -23,15 +21,14 @@ use Rattle.mur_model.specs.declared.request.Request.{Request}
 use Rattle.mur_model.specs.declared.session.Sess.{Sess}
 use Rattle.mur_model.specs.declared.session.Sess.TheVariants.{Off}
 use Rattle.mur_model.specs.declared.setting.Setting.{Setting}
-use Rattle.mur_model.specs.History.{Talk, GoesOn, TalkGoesOn}
-use Rattle.cluster_core.specs.declared.world.Client.{Client}
+use Rattle.mur_model.specs.History.{Talk, TalkGoesOn}
 use Rattle.cluster_core.specs.declared.world.World.{World}
 use Rattle.cluster_core.specs.Heard.{Heard, nobody, elsewhere, client, frames_heard}
 use Rattle.cluster_core.specs.Links.{Links}
 use Rattle.cluster_core.specs.World.{start, client_at, front_at, home_at, home_of, setting_of}
-use Rattle.cluster_core.proofs.ConnectionLaw.{Story, told_of, client_with, OnItsWay, Stands, IsLeft, IsStanding}
+use Rattle.cluster_core.proofs.ConnectionLaw.{Story, told_of, client_with, HasBegunSo, OnItsWay, Stands, IsLeft, IsStanding}
 use Rattle.cluster_core.proofs.ConnectionLaw.OnItsWay.{there, back}
-use Rattle.cluster_core.proofs.ConnectionLaw.Stands.{reads, waits, faulted}
+use Rattle.cluster_core.proofs.ConnectionLaw.Stands.{reads, waits, faulted, finished}
 use Rattle.cluster_core.proofs.ConnectionLaw.IsLeft.{nothing, its_ask, its_answer}
 use Rattle.cluster_core.proofs.RequestsOf.{requests_of}
 use Rattle.cluster_core.proofs.Told.{IsTold}
@@ -61,7 +58,7 @@ pub data ConnectionIs (setting : Setting) (home : List ℕ) (conn : ℕ) (world 
       → IsUntold conn world.links story → ConnectionIs setting home conn world story nobody
   is_elsewhere : (node : List ℕ) → client_at world conn ≡ Some (record { at = node; given = [] }) → front_at world node ≡ None
       → IsUntold conn world.links story → ConnectionIs setting home conn world story elsewhere
-  is_open : (bytes node : List ℕ) (front : Front) (connection : Connection) → IsAt world conn node front connection → connection.reader ≡ begun bytes
+  is_open : (bytes node : List ℕ) (front : Front) (connection : Connection) → IsAt world conn node front connection → HasBegunSo connection (begun bytes)
       → IsStanding setting node home conn (frames bytes) (begun bytes) connection world story → ConnectionIs setting home conn world story (client bytes false)
   is_closed : (bytes node : List ℕ) (front : Front) (connection : Connection) → IsAt world conn node front connection
       → IsGone setting node home conn (frames bytes) connection world story → ConnectionIs setting home conn world story (client bytes true)
@@ -104,19 +101,21 @@ WaysOn links next conn = (front home : List ℕ) (asks : List FrontAsk) (answers
     → AreOnWay next conn front home asks answers
 
 way_on : (links next : Links) (conn : ℕ) (front home : List ℕ) (connection : Connection) (tag : _) (name : List ℕ) (work : _) (told said : List Answer)
-    → WaysOn links next conn
-    → OnItsWay links conn front home connection tag name work told said → OnItsWay next conn front home connection tag name work told said
-way_on links next conn front home connection tag name work told said on (there s way) = there s (on front home _ _ way)
-way_on links next conn front home connection tag name work told said on (back body reply s shown way) = back body reply s shown (on front home _ _ way)
+    (session : Sess) → WaysOn links next conn
+    → OnItsWay links conn front home connection tag name work told said session → OnItsWay next conn front home connection tag name work told said session
+way_on links next conn front home connection tag name work told said session on (there a b way) = there a b (on front home _ _ way)
+way_on links next conn front home connection tag name work told said session on (back body turn a b c d way) = back body turn a b c d (on front home _ _ way)
 
 pub stands_on : (setting : Setting) (front home : List ℕ) (conn : ℕ) (all : List Frame) (held : Option (List ℕ)) (connection : Connection) (links next : Links)
     (told said : List Answer) (session : Sess)
     → WaysOn links next conn → Stands setting front home conn all held connection links told said session
     → Stands setting front home conn all held connection next told said session
-stands_on setting front home conn all held connection links next told said session on (reads a b c d e way) = reads a b c d e (on front home _ _ way)
+stands_on setting front home conn all held connection links next told said session on (reads a b c d e f way) = reads a b c d e f (on front home _ _ way)
 stands_on setting front home conn all held connection links next told said session on (waits passed bytes tag it name work a b c d e f g way) =
-    waits passed bytes tag it name work a b c d e f g (way_on links next conn front home connection tag name work told said on way)
+    waits passed bytes tag it name work a b c d e f g (way_on links next conn front home connection tag name work told said session on way)
 stands_on setting front home conn all held connection links next told said session on (faulted a b c d way) = faulted a b c d (on front home _ _ way)
+stands_on setting front home conn all held connection links next told said session on (finished passed more bytes before last a b c d e f way) =
+    finished passed more bytes before last a b c d e f (on front home _ _ way)
 
 pub left_on : (setting : Setting) (front home : List ℕ) (conn : ℕ) (requests : List Request) (connection : Connection) (links next : Links)
     (told said : List Answer) (session : Sess)

@@ -1,5 +1,6 @@
 -- A connection that is opened keeps the law.
-use Rattle.std.proofs.Common.{◌≡◌, ◌≢◌, ◌⊎◌, ℕ, ◌+◌, ◌≤◌, Bool, true, false, nat_eq, List, [], ◌∷◌, ◌++◌, length, Option, None, Some, refl, sym, ◌∙◌, ap, subst}
+use Rattle.std.proofs.Common.{◌≡◌, ◌≢◌, ℕ, Bool, true, false, nat_eq, List, [], ◌++◌, length, Option, None, Some}
+use Rattle.std.proofs.Common.{inr, refl, sym, ◌∙◌, ap, subst}
 use Rattle.std.proofs.Common.{arith}
 use Rattle.std.specs.Prelude.{is_some}
 use Rattle.std.specs.Ordering.{nat_cmp}
@@ -8,35 +9,32 @@ use Rattle.std.proofs.Math.Logic.{⊎_elim}
 use Rattle.std.proofs.lemmas.Bool.{cases_eq}
 use Rattle.std.proofs.lemmas.Bool.Decides.{nat_tests}
 use Rattle.std.proofs.lemmas.List.{append-nil}
-use Rattle.front_core.specs.declared.connection.Connection.{Connection}
 use Rattle.front_core.specs.declared.front.Front.{Front}
-use Rattle.front_core.specs.Front.{Stepped, connection_at, new_connection, connect, connect_at}
+use Rattle.front_core.specs.Front.{connection_at, new_connection, connect, connect_at}
 use Rattle.imap_reply.specs.Greeting.{greeting}
+use Rattle.imap_reply.specs.SessionEnds.{has_ended}
 use Rattle.imap_reply.specs.Transcript.{replies_to, told_till}
 use Rattle.imap_reply.proofs.TranscriptGrows.{AreAnswered, none_answered}
-use Rattle.imap_wire.specs.Frames.{frames, begun}
+use Rattle.imap_wire.specs.Frames.{frames}
 use Rattle.imap_wire.proofs.FeedLaws.{frames-nil}
-use Rattle.mur_base.specs.Map.{value_at, with_value, with_entry}
+use Rattle.mur_base.specs.Map.{with_value, with_entry}
 use Rattle.mur_base.proofs.MapLaws.{names_apart, numbers_apart, value_at-with_value, value_at-with_value-other, value_at-with_entry, value_at-with_entry-other}
 use Rattle.mur_config.specs.declared.config.Config.{Config}
 use Rattle.mur_model.specs.declared.request.Answer.{Answer}
 use Rattle.mur_model.specs.declared.setting.Setting.{Setting}
 use Rattle.mur_model.proofs.HistoryGrows.{same_talk}
-use Rattle.schedule_text.specs.declared.event.Event.{Event}
 use Rattle.schedule_text.specs.declared.event.Event.TheVariants.{Open}
 use Rattle.cluster_core.specs.declared.world.Client.{Client}
 use Rattle.cluster_core.specs.declared.world.World.{World}
-use Rattle.cluster_core.specs.Heard.{Heard, nobody, elsewhere, client, at_first, hears, opened_at, is_frontend, frames_heard}
-use Rattle.cluster_core.specs.World.{start, client_at, front_at, home_of, setting_of, with_client, with_front, open_at, opens, given_more, carry, carry_all}
-use Rattle.cluster_core.proofs.ConnectionLaw.{Story, told_of, client_with, Stands, IsStanding}
+use Rattle.cluster_core.specs.Heard.{Heard, nobody, elsewhere, client, hears, opened_at, is_frontend, frames_heard}
+use Rattle.cluster_core.specs.World.{client_at, front_at, home_of, setting_of, with_client, with_front, open_at, opens, given_more, carry, carry_all}
+use Rattle.cluster_core.proofs.ConnectionLaw.{Story, told_of}
 use Rattle.cluster_core.proofs.ConnectionLaw.Stands.{reads}
-use Rattle.cluster_core.proofs.KeepsLaw.{ConnectionIs, IsUntold, IsAt, KeepsLaw, KeepsOn, StaysAt, SameFront, AreNodesOf, LooksAlike, connection_stays}
+use Rattle.cluster_core.proofs.KeepsLaw.{ConnectionIs, IsUntold, KeepsLaw, KeepsOn, connection_stays}
 use Rattle.cluster_core.proofs.KeepsLaw.{looks_same, same_front}
 use Rattle.cluster_core.proofs.KeepsLaw.ConnectionIs.{is_nobody, is_elsewhere, is_open, is_closed}
 use Rattle.cluster_core.proofs.KeepsStill.{still_kept, fronts_at_other, nodes_alike, nodes_with_front}
 use Rattle.cluster_core.proofs.RequestsOf.{requests_of}
-use Rattle.cluster_core.proofs.Told.{IsTold}
-use Rattle.cluster_core.proofs.Ways.{AreOnWay}
 
 -- nothing is heard anew of a connection that was opened before, nor of another one
 heard_before : (config : Config) (conn : ℕ) (heard : Heard) (node : List ℕ) (other : ℕ) → (heard ≡ nobody → conn ≢ other)
@@ -192,14 +190,15 @@ front_keeps_open config heard world node conn front law at new =
             (record {
               at = value_at-with_value (slice_cmp nat_cmp) names_apart world.fronts node later front at;
               has = value_at-with_entry nat_cmp numbers_apart front.connections conn new_connection;
-            }) refl
+            }) (inr refl)
             (record {
               count = ap length (sym new.untold.told);
               client = value_at-with_value nat_cmp numbers_apart (with_entry nat_cmp world.clients conn first) conn
                   (record { at = node; given = [] ++ greeting }) first
                   (value_at-with_entry nat_cmp numbers_apart world.clients conn first)
                   ∙ ap (λ g. Some (record { at = node; given = g })) (greeting_alone (law.story.told conn) new.untold.told);
-              stands = reads refl refl (sym new.untold.session) (all_answered (law.story.told conn) new.untold.told) (new.untold.said ∙ sym new.untold.told)
+              stands = reads refl refl (sym new.untold.session) (ap has_ended new.untold.session) (all_answered (law.story.told conn) new.untold.told)
+                  (new.untold.said ∙ sym new.untold.told)
                   (new.untold.way node (home_of config));
             }))))
             (λ (ne : other ≢ conn). subst (λ h. ConnectionIs (setting_of config) (home_of config) other next law.story h)

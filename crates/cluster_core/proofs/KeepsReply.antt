@@ -1,35 +1,38 @@
 -- An answer that is taken keeps the law; so does every message.
-use Rattle.std.proofs.Common.{◌≡◌, ◌≢◌, ◌⊎◌, ℕ, ◌+◌, ◌≤◌, Bool, true, false, List, [], ◌∷◌, ◌++◌, length, Option, None, Some, refl, sym, ◌∙◌, ap, subst, arith}
+use Rattle.std.proofs.Common.{◌≡◌, ◌≢◌, ℕ, ◌+◌, ◌≤◌, Bool, true, false, List, [], ◌∷◌, ◌++◌, length, Option, inl}
+use Rattle.std.proofs.Common.{inr, refl, sym, ◌∙◌, ap, subst}
 use Rattle.front_core.specs.declared.connection.Connection.{Connection}
+use Rattle.front_core.specs.declared.connection.Stage.TheVariants.{Asked}
 use Rattle.front_core.specs.declared.front.Front.{Front}
 use Rattle.front_core.specs.Answered.{answer_comes, reading_again, unchanged}
-use Rattle.front_core.specs.Awaited.{awaited_of}
 use Rattle.front_core.specs.Front.{connection_at}
 use Rattle.front_core.specs.Taken.{Turned}
+use Rattle.imap_reply.specs.ReplyText.{reply_text}
+use Rattle.imap_reply.specs.SessionEnds.{ends_session}
 use Rattle.imap_wire.specs.Frames.{frames, begun}
-use Rattle.link_msg.specs.declared.answer.AnswerBody.{AnswerBody}
 use Rattle.link_msg.specs.declared.answer.BackAnswer.{BackAnswer}
-use Rattle.link_msg.specs.declared.ask.FrontAsk.{FrontAsk}
 use Rattle.link_msg.specs.declared.message.LinkMsg.{LinkMsg}
 use Rattle.link_msg.specs.declared.message.LinkMsg.TheVariants.{Up, End, Line, Ask, Answer}
 use Rattle.mur_config.specs.declared.config.Config.{Config}
 use Rattle.mur_model.specs.declared.command.Tag.{Tag}
-use Rattle.mur_model.specs.declared.reply.Reply.{Reply}
 use Rattle.mur_model.specs.declared.request.Answer.{Answer as AnswerOf}
+use Rattle.mur_model.specs.declared.session.Turn.{Turn}
 use Rattle.mur_model.specs.declared.setting.Setting.{Setting}
 use Rattle.mur_model.proofs.HistoryGrows.{same_talk}
+use Rattle.session_core.specs.Asking.{asked_for}
+use Rattle.session_core.specs.declared.asking.Awaited.{Awaited}
 use Rattle.cluster_core.specs.declared.world.World.{World}
-use Rattle.cluster_core.specs.Heard.{Heard, nobody, elsewhere, client, frames_heard}
+use Rattle.cluster_core.specs.Heard.{Heard, client, frames_heard}
 use Rattle.cluster_core.specs.Links.{on_link, without_first}
-use Rattle.cluster_core.specs.World.{client_at, front_at, home_of, setting_of, taken, comes_to, deliver_first, delivers, carry_all}
-use Rattle.cluster_core.proofs.ConnectionLaw.{Story, told_of, keeps_all, same_story, OnItsWay, Stands, IsLeft, IsStanding, StandsOn}
+use Rattle.cluster_core.specs.World.{front_at, home_of, setting_of, taken, comes_to, deliver_first, delivers, carry_all}
+use Rattle.cluster_core.proofs.ConnectionLaw.{told_of, keeps_all, same_story, HasBegunSo, Stands, IsLeft, IsStanding}
+use Rattle.cluster_core.proofs.ConnectionLaw.{StandsOn}
 use Rattle.cluster_core.proofs.ConnectionLaw.OnItsWay.{there, back}
-use Rattle.cluster_core.proofs.ConnectionLaw.Stands.{reads, waits, faulted}
+use Rattle.cluster_core.proofs.ConnectionLaw.Stands.{reads, waits, faulted, finished}
 use Rattle.cluster_core.proofs.ConnectionLaw.IsLeft.{nothing, its_ask, its_answer}
-use Rattle.cluster_core.proofs.StaysLaw.{stays_shown}
-use Rattle.cluster_core.proofs.KeepsAnswer.{replied_turn, replied_stands, fits, ended_drops_answer}
-use Rattle.cluster_core.proofs.KeepsData.{frames_keep_reader}
-use Rattle.cluster_core.proofs.KeepsDeliver.{ask_by, to_front, quiet_keeps, IsQuiet}
+use Rattle.cluster_core.proofs.KeepsAnswer.{replied_turn, replied_stands, ended_turned, read_turned, fits, ended_drops_answer}
+use Rattle.cluster_core.proofs.KeepsData.{asked_reader, frames_keep_reader}
+use Rattle.cluster_core.proofs.KeepsDeliver.{ask_by, to_front, quiet_keeps}
 use Rattle.cluster_core.proofs.KeepsDeliver.IsQuiet.{an_up, an_end, a_line}
 use Rattle.cluster_core.proofs.KeepsFront.{world_after, with_connection, front_keeps, is_at_after, standing_after, gone_after}
 use Rattle.cluster_core.proofs.KeepsLaw.{ConnectionIs, IsAt, IsGone, KeepsLaw, KeepsOn, WaysOn, looks_same}
@@ -45,19 +48,38 @@ others_on : (world : World) (from to : List ℕ) (answer : BackAnswer) (rest : L
 others_on world from to answer rest conn first own other ne = λ front home asks answers way.
     taken_for_another world.links other front home from to (Answer answer) rest asks answers first (answer_of_another other answer (λ e. ne (sym e ∙ own))) way
 
+-- the reader behind the reply
+reader_by : (setting : Setting) (home : List ℕ) (conn : ℕ) (connection : Connection) (tag : Tag) (turn : Turn) (held : Option (List ℕ))
+    → connection.reader ≡ held → (ended : Bool) → ends_session turn.session ≡ ended
+    → HasBegunSo (replied_turn setting home conn connection tag turn).connection held
+reader_by setting home conn connection tag turn held reader true ended =
+    subst (λ (t : Turned). HasBegunSo t.connection held) (sym (ended_turned setting home conn connection (reply_text tag turn.reply) turn.session ended))
+    (inl refl)
+reader_by setting home conn connection tag turn held reader false ended =
+    subst (λ (t : Turned). HasBegunSo t.connection held) (sym (read_turned setting home conn connection (reply_text tag turn.reply) turn.session ended))
+    (inr (frames_keep_reader setting home conn (reading_again connection turn.session) connection.waiting ∙ reader))
+
+replied_reader : (setting : Setting) (home : List ℕ) (conn : ℕ) (connection : Connection) (tag : Tag) (awaited : Awaited) (turn : Turn) (held : Option (List ℕ))
+    → connection.stage ≡ Asked tag awaited → HasBegunSo connection held
+    → HasBegunSo (replied_turn setting home conn connection tag turn).connection held
+replied_reader setting home conn connection tag awaited turn held stage reader =
+    reader_by setting home conn connection tag turn held (asked_reader connection held tag awaited stage reader) (ends_session turn.session) refl
+
 -- what the frontend makes of the answer
 replied_kept : (config : Config) (heard after : ℕ → Heard) (world : World) (law : KeepsLaw config heard world) (from : List ℕ) (answer : BackAnswer)
     (rest : List LinkMsg) (conn : ℕ) (bytes node : List ℕ) (front : Front) (connection : Connection)
-    (tag : Tag) (reply : Reply) → on_link world.links from node ≡ Answer answer ∷ rest → ((c : ℕ) → after c ≡ heard c) → (answer.id).conn ≡ conn
-    → heard conn ≡ client bytes false → IsAt world conn node front connection → connection.reader ≡ begun bytes
-    → answer_comes front.setting front.home (answer.id).conn connection answer ≡ replied_turn (setting_of config) (home_of config) conn connection tag reply
+    (tag : Tag) (awaited : Awaited) (turn : Turn) → on_link world.links from node ≡ Answer answer ∷ rest
+    → ((c : ℕ) → after c ≡ heard c) → (answer.id).conn ≡ conn
+    → heard conn ≡ client bytes false → IsAt world conn node front connection → HasBegunSo connection (begun bytes)
+    → connection.stage ≡ Asked tag awaited
+    → answer_comes front.setting front.home (answer.id).conn connection answer ≡ replied_turn (setting_of config) (home_of config) conn connection tag turn
     → StandsOn (setting_of config) node (home_of config) law.backend conn (frames bytes) (begun bytes)
-    (replied_turn (setting_of config) (home_of config) conn connection tag reply).connection
+    (replied_turn (setting_of config) (home_of config) conn connection tag turn).connection
     (taken world from node) law.story (carry_all node (taken world from node)
-    (replied_turn (setting_of config) (home_of config) conn connection tag reply).outs)
+    (replied_turn (setting_of config) (home_of config) conn connection tag turn).outs)
     → KeepsOn config (told_of law.story) after (comes_to (taken world from node) from node (Answer answer) (front_at world node))
-replied_kept config heard after world law from answer rest conn bytes node front connection tag reply first same own e at reader comes stands =
-    let turned : Turned = replied_turn (setting_of config) (home_of config) conn connection tag reply in
+replied_kept config heard after world law from answer rest conn bytes node front connection tag awaited turn first same own e at reader stage comes stands =
+    let turned : Turned = replied_turn (setting_of config) (home_of config) conn connection tag turn in
     subst (λ w. KeepsOn config (told_of law.story) after w)
     (sym (to_front world from node answer front connection turned at.at (ap (connection_at front) own ∙ at.has) comes
     ∙ ap (λ c. world_after (taken world from node) node front c turned.connection turned.outs) own))
@@ -69,45 +91,49 @@ replied_kept config heard after world law from answer rest conn bytes node front
     (world_after (taken world from node) node front conn turned.connection turned.outs) stands.story h) (sym (same conn ∙ e))
     (is_open bytes node (with_connection front conn turned.connection) turned.connection
     (is_at_after (taken world from node) node front conn connection turned.connection turned.outs at.at at.has)
-    (frames_keep_reader (setting_of config) (home_of config) conn (reading_again connection) connection.waiting ∙ reader)
+    (replied_reader (setting_of config) (home_of config) conn connection tag awaited turn (begun bytes) stage reader)
     (standing_after (taken world from node) node front conn turned.connection turned.outs (setting_of config) (home_of config) (frames bytes)
     (begun bytes) stands.story stands.standing))))
 
 answer_open : (config : Config) (heard after : ℕ → Heard) (world : World) (law : KeepsLaw config heard world) (from to : List ℕ) (answer : BackAnswer)
     (rest : List LinkMsg) (conn : ℕ) (bytes node : List ℕ) (front : Front) (connection : Connection)
     → on_link world.links from to ≡ Answer answer ∷ rest → ((c : ℕ) → after c ≡ heard c) → (answer.id).conn ≡ conn → heard conn ≡ client bytes false
-    → IsAt world conn node front connection → connection.reader ≡ begun bytes
+    → IsAt world conn node front connection → HasBegunSo connection (begun bytes)
     → IsStanding (setting_of config) node (home_of config) conn (frames bytes) (begun bytes) connection world law.story
     → Stands (setting_of config) node (home_of config) conn (frames bytes) (begun bytes) connection world.links (law.story.told conn)
     (law.story.talk.answers conn) (law.story.course.sessions conn)
     → KeepsOn config (told_of law.story) after (comes_to (taken world from to) from to (Answer answer) (front_at world to))
 unfolding frames_heard
 answer_open config heard after world law from to answer rest conn bytes node front connection first same own e at reader standing
-    (reads stage waiting s answered said way) =
+    (reads stage waiting s lasts answered said way) =
     absurd (no_answer_first world.links conn node (home_of config) from to answer rest [] first own way)
 answer_open config heard after world law from to answer rest conn bytes node front connection first same own e at reader standing
     (faulted stage none lengths said way) =
     absurd (no_answer_first world.links conn node (home_of config) from to answer rest [] first own way)
 answer_open config heard after world law from to answer rest conn bytes node front connection first same own e at reader standing
-    (waits passed asking tag it name work stage parts s answered is need last (there said way)) =
+    (finished passed more asking before final stage parts answered is_told is_end said way) =
+    absurd (no_answer_first world.links conn node (home_of config) from to answer rest [] first own way)
+answer_open config heard after world law from to answer rest conn bytes node front connection first same own e at reader standing
+    (waits passed asking tag it name work stage parts lasts answered is need last (there said s way)) =
     absurd (no_answer_first world.links conn node (home_of config) from to answer rest _ first own way)
 answer_open config heard after world law from to answer rest conn bytes node front connection first same own e at reader standing
-    (waits passed asking tag it name work stage parts s answered is need last (back body reply said shown way)) =
+    (waits passed asking tag it name work stage parts lasts answered is need last (back body turn said shown later both way)) =
     let took = answer_taken world.links conn node (home_of config) from to answer rest []
     (record { id = record { conn = conn; command = connection.answered + 1 }; body = body }) first own way in
     let was = law.nodes.fronts node front at.at in
     let first_here : on_link world.links from node ≡ Answer answer ∷ rest = ap (on_link world.links from) (sym took.1) ∙ first in
     let comes : answer_comes front.setting front.home (answer.id).conn connection answer ≡ replied_turn (setting_of config)
-    (home_of config) conn connection tag reply =
+    (home_of config) conn connection tag turn =
     ap (λ x. answer_comes x front.home (answer.id).conn connection answer) was.1
     ∙ ap (λ x. answer_comes (setting_of config) x (answer.id).conn connection answer) was.0
     ∙ ap (λ c. answer_comes (setting_of config) (home_of config) c connection answer) own
     ∙ ap (answer_comes (setting_of config) (home_of config) conn connection) (sym took.2)
-    ∙ fits (setting_of config) (home_of config) conn connection tag work body reply stage shown in
+    ∙ fits (setting_of config) (home_of config) conn connection tag name work body turn stage shown in
     subst (λ x. KeepsOn config (told_of law.story) after (comes_to (taken world from x) from x (Answer answer) (front_at world x))) (sym took.1)
-    (replied_kept config heard after world law from answer rest conn bytes node front connection tag reply first_here same own e at reader comes
-    (replied_stands (setting_of config) node (home_of config) law.backend conn (frames bytes) passed (begun bytes) asking connection tag reply
-    (taken world from node) law.story parts standing.count standing.client s answered said (stays_shown (awaited_of work) body reply shown)
+    (replied_kept config heard after world law from answer rest conn bytes node front connection tag (asked_for name work).awaited turn first_here same own e at
+    reader stage comes
+    (replied_stands (setting_of config) node (home_of config) law.backend conn (frames bytes) passed (begun bytes) asking connection tag turn
+    (taken world from node) law.story parts standing.count standing.client lasts later both answered said
     (subst (λ x. AreOnWay (without_first world.links from x) conn node (home_of config) [] []) took.1 took.3) law.is_told last
     (law.requests conn ∙ ap (λ h. requests_of (frames_heard h)) e)))
 

@@ -1,28 +1,25 @@
 -- A step that changes nothing which can be looked up keeps the law; and what a step of one frontend leaves of the others.
-use Rattle.std.proofs.Common.{◌≡◌, ◌≢◌, ◌⊎◌, ℕ, ◌+◌, ◌≤◌, Bool, true, false, List, [], ◌∷◌, ◌++◌, length, Option, None, Some, refl, sym, ◌∙◌, ap, subst}
+use Rattle.std.proofs.Common.{◌≡◌, ◌≢◌, ℕ, List, [], ◌∷◌, Option, None, Some, refl, sym, ◌∙◌, ap, subst}
 use Rattle.std.specs.Prelude.{is_some}
 use Rattle.std.specs.Ordering.{nat_cmp}
 use Rattle.std.specs.Cmp.Lexicographic.{slice_cmp}
 use Rattle.std.proofs.Math.Logic.{⊎_elim}
 use Rattle.backend_core.specs.declared.backend.Backend.{Backend}
-use Rattle.front_core.specs.declared.connection.Connection.{Connection}
 use Rattle.front_core.specs.declared.front.Front.{Front}
 use Rattle.front_core.specs.Front.{connection_at}
 use Rattle.link_msg.specs.declared.out.Out.{Out}
 use Rattle.link_msg.specs.declared.out.Out.TheVariants.{Client as to_client, Close, Link as to_node, Mark as mark}
-use Rattle.mur_base.specs.Map.{value_at, with_value, with_entry}
-use Rattle.mur_base.proofs.MapLaws.{names_apart, numbers_apart, same_or_other, value_at-with_value, value_at-with_value-other, value_at-with_entry}
-use Rattle.mur_base.proofs.MapLaws.{value_at-with_entry-other}
+use Rattle.mur_base.specs.Map.{value_at, with_value}
+use Rattle.mur_base.proofs.MapLaws.{names_apart, same_or_other, value_at-with_value, value_at-with_value-other}
 use Rattle.mur_config.specs.declared.config.Config.{Config}
 use Rattle.mur_model.proofs.HistoryGrows.{same_talk}
 use Rattle.cluster_core.specs.declared.world.Client.{Client}
-use Rattle.cluster_core.specs.declared.world.Mark.{Mark}
 use Rattle.cluster_core.specs.declared.world.World.{World}
 use Rattle.cluster_core.specs.Heard.{Heard, frames_heard}
-use Rattle.cluster_core.specs.World.{start, client_at, front_at, home_at, home_of, setting_of, given_more, carry, carry_all}
-use Rattle.cluster_core.proofs.ConnectionLaw.{Story, told_of}
-use Rattle.cluster_core.proofs.KeepsLaw.{ConnectionIs, AreNodesOf, KeepsLaw, KeepsOn, LooksAlike, StaysAt, SameFront, same_front, connection_stays, same_put}
-use Rattle.cluster_core.proofs.KeepsLaw.SameFront.{both_none, both}
+use Rattle.cluster_core.specs.World.{client_at, front_at, home_at, home_of, setting_of, given_more, carry, carry_all}
+use Rattle.cluster_core.proofs.ConnectionLaw.{told_of}
+use Rattle.cluster_core.proofs.KeepsLaw.{ConnectionIs, AreNodesOf, KeepsLaw, KeepsOn, LooksAlike, SameFront, same_front, connection_stays}
+use Rattle.cluster_core.proofs.KeepsLaw.SameFront.{both}
 use Rattle.cluster_core.proofs.RequestsOf.{requests_of}
 use Rattle.cluster_core.proofs.Told.{IsTold, told_later}
 

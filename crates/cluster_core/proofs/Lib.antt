@@ -5,8 +5,9 @@ pub mod ServedAlike
 pub mod CreateLaw
 pub mod AppendLaw
 pub mod StatusLaw
+pub mod SelectLaw
+pub mod ViewLaw
 pub mod ServeLaw
-pub mod StaysLaw
 pub mod Marks
 pub mod Told
 pub mod RequestsOf

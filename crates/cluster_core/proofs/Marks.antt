@@ -1,6 +1,6 @@
 -- The marks of a run carry out their requests one after another, and what history they make.
-use Rattle.std.proofs.Common.{◌≡◌, ◌≢◌, ℕ, zero, suc, ◌+◌, ◌≤◌, ◌<◌, ◌&&◌, Bool, true, false, cond, nat_eq, nat_le, nat_lt, List, [], ◌∷◌, ◌++◌, length, Option}
-use Rattle.std.proofs.Common.{None, Some, inl, inr, ◌⊎◌, refl, sym, ◌∙◌, ap, subst, arith}
+use Rattle.std.proofs.Common.{◌≡◌, ◌≢◌, ℕ, zero, suc, ◌+◌, ◌≤◌, ◌<◌, ◌&&◌, Bool, true, false, cond, nat_eq, nat_le, List, [], ◌∷◌, ◌++◌, length}
+use Rattle.std.proofs.Common.{if◌then◌else◌, Some, inl, inr, ◌⊎◌, refl, sym, ◌∙◌, ap, subst, arith}
 use Rattle.std.specs.Prelude.{All, AllPairs, count_by, slice_get}
 use Rattle.std.proofs.Math.Logic.{⊎_elim}
 use Rattle.std.proofs.lemmas.Bool.{cases_eq}
@@ -14,8 +14,11 @@ use Rattle.mur_base.specs.declared.point.Point.{Point}
 use Rattle.mur_base.specs.declared.point.What.TheVariants.{Reply as replied, Lost as lost}
 use Rattle.mur_model.specs.declared.request.Answer.{Answer}
 use Rattle.mur_model.specs.declared.request.Request.{Request}
+use Rattle.mur_model.specs.declared.session.Sess.{Sess}
 use Rattle.mur_model.specs.declared.setting.Setting.{Setting}
-use Rattle.mur_model.specs.History.{Course, Talk, TalkGoesOn, Takes, numbered, carried_out, after, Follows, answers, loses, is_about}
+use Rattle.mur_model.specs.declared.store.Store.{Store}
+use Rattle.mur_model.specs.Answer.{Answered, answer_of, MayTake}
+use Rattle.mur_model.specs.History.{Course, Talk, TalkGoesOn, Takes, numbered, with_session, carried_out, after, Follows, answers, loses, is_about}
 use Rattle.mur_model.specs.History.Follows.{no_points, a_reply, a_loss}
 use Rattle.mur_model.proofs.HistoryGrows.{one_up_to, takes_on, numbered_on}
 use Rattle.cluster_core.specs.declared.world.Mark.{Mark}
@@ -28,14 +31,14 @@ conn_of mark = (mark.ask).conn
 abbrev pub command_of : Mark → ℕ
 command_of mark = (mark.ask).command
 
--- each mark carries out its request, whose answer is this step's; one that counts only for an answered command leaves everything
+-- each mark carries out its request, whose answer is this step's; one that counts only for an answered command leaves the store
 -- as it was
 pub data Carries (setting : Setting) (talk : Talk) : Course → List Mark → Course → Type 0 where
   no_marks : (course : Course) → Carries setting talk course [] course
   a_mark : (course last : Course) (mark : Mark) (request : Request) (serial : ℕ) (marks : List Mark)
       → Takes setting talk course (conn_of mark) (command_of mark) request serial
       → numbered (talk.answers (conn_of mark)) (command_of mark) ≡ Some (carried_out setting course (conn_of mark) request serial).answer
-      → (mark.counts ≡ IfAnswered → after course (conn_of mark) (carried_out setting course (conn_of mark) request serial) ≡ course)
+      → (mark.counts ≡ IfAnswered → (carried_out setting course (conn_of mark) request serial).store ≡ course.store)
       → Carries setting talk (after course (conn_of mark) (carried_out setting course (conn_of mark) request serial)) marks last
       → Carries setting talk course (mark ∷ marks) last
 
@@ -51,7 +54,7 @@ carries_on setting talk longer on first last marks (a_mark course end mark reque
 pub carries_push : (setting : Setting) (talk : Talk) (first last : Course) (marks : List Mark) (mark : Mark) (request : Request) (serial : ℕ)
     → Carries setting talk first marks last → Takes setting talk last (conn_of mark) (command_of mark) request serial
     → numbered (talk.answers (conn_of mark)) (command_of mark) ≡ Some (carried_out setting last (conn_of mark) request serial).answer
-    → (mark.counts ≡ IfAnswered → after last (conn_of mark) (carried_out setting last (conn_of mark) request serial) ≡ last)
+    → (mark.counts ≡ IfAnswered → (carried_out setting last (conn_of mark) request serial).store ≡ last.store)
     → Carries setting talk first (marks ++ mark ∷ []) (after last (conn_of mark) (carried_out setting last (conn_of mark) request serial))
 carries_push setting talk first last marks mark request serial (no_marks course) takes answer unless =
     a_mark course _ mark request serial [] takes answer unless (no_marks _)
@@ -80,39 +83,6 @@ told_talk talk told = record { requests = talk.requests; answers = told; serials
 told_takes : (setting : Setting) (talk : Talk) (told : ℕ → List Answer) (course : Course) (conn number : ℕ) (request : Request) (serial : ℕ)
     → Takes setting talk course conn number request serial → Takes setting (told_talk talk told) course conn number request serial
 told_takes setting talk told course conn number request serial takes = record { asked = takes.asked; given = takes.given; free = takes.free }
-
--- the history that the marks make is followed by the store, of which the clients were told the answers that they were given
-follows_by : (setting : Setting) (world : World) (talk : Talk) (told : ℕ → List Answer) → IsTold_of talk told
-    → ((conn : ℕ) → answered_of world conn ≡ length (told conn))
-    → (course last : Course) (mark : Mark) (request : Request) (serial : ℕ) (points : List Point)
-    → Takes setting talk course (conn_of mark) (command_of mark) request serial
-    → numbered (talk.answers (conn_of mark)) (command_of mark) ≡ Some (carried_out setting course (conn_of mark) request serial).answer
-    → (mark.counts ≡ IfAnswered → after course (conn_of mark) (carried_out setting course (conn_of mark) request serial) ≡ course)
-    → Follows setting (told_talk talk told) (after course (conn_of mark) (carried_out setting course (conn_of mark) request serial)) points last
-    → (among : Bool) → nat_le (command_of mark) (answered_of world (conn_of mark)) ≡ among → (counts : Counts) → mark.counts ≡ counts
-    → Follows setting (told_talk talk told) course (points_by mark among counts ++ points) last
-unfolding points_by
-follows_by setting world talk told of same course last mark request serial points takes answer unless later true h counts c =
-    let in_told : command_of mark ≤ length (told (conn_of mark)) = subst (λ n. command_of mark ≤ n) (same (conn_of mark)) (grind (arith, nat_tests)) in
-    a_reply course last mark.step (conn_of mark) (command_of mark) request serial points
-    (told_takes setting talk told course (conn_of mark) (command_of mark) request serial takes)
-    (numbered_front (told (conn_of mark)) (of.rest (conn_of mark)) (command_of mark) _ in_told
-    (ap (λ l. numbered l (command_of mark)) (sym (of.parts (conn_of mark))) ∙ answer)) later
-follows_by setting world talk told of same course last mark request serial points takes answer unless later false h Always c =
-    a_loss course last mark.step (conn_of mark) (command_of mark) request serial points
-    (told_takes setting talk told course (conn_of mark) (command_of mark) request serial takes) later
-follows_by setting world talk told of same course last mark request serial points takes answer unless later false h IfAnswered c =
-    subst (λ k. Follows setting (told_talk talk told) k points last) (unless c) later
-
-pub marks_follow : (setting : Setting) (world : World) (talk : Talk) (told : ℕ → List Answer) → IsTold_of talk told
-    → ((conn : ℕ) → answered_of world conn ≡ length (told conn))
-    → (first last : Course) (marks : List Mark) → Carries setting talk first marks last
-    → Follows setting (told_talk talk told) first (points_of_all world marks) last
-unfolding points_of_all points_of
-marks_follow setting world talk told of same first last marks (no_marks course) = no_points course
-marks_follow setting world talk told of same first last marks (a_mark course end mark request serial rest takes answer unless later) =
-    follows_by setting world talk told of same course end mark request serial (points_of_all world rest) takes answer unless
-    (marks_follow setting world talk told of same _ end rest later) (nat_le (command_of mark) (answered_of world (conn_of mark))) refl mark.counts refl
 
 -- each point is of its mark, and a loss of a command that wasn't answered
 pub record IsOf (world : World) (mark : Mark) (point : Point) : Type 0 where
@@ -161,6 +131,136 @@ head_pairs R x xs pairs = λ k d h. pairs 0 (suc k) d (omega arith) (omega arith
 
 tail_pairs : (R : Mark → Mark → Type 0) (x : Mark) (xs : List Mark) → AllPairs R (x ∷ xs) → AllPairs R xs
 tail_pairs R x xs pairs = λ i j d h k. pairs (suc i) (suc j) d (omega arith) (omega arith)
+
+-- another course with the same store, and the same session at the connection of each of these marks
+record Agrees (marks : List Mark) (course other : Course) : Type 0 where
+  store : other.store ≡ course.store
+  sessions : All (λ (m : Mark). other.sessions (conn_of m) ≡ course.sessions (conn_of m)) marks
+
+-- behind a mark whose command wasn't answered there is none of its connection
+abbrev pub NoMore : World → Mark → Mark → Type 0
+NoMore world earlier later = answered_of world (conn_of earlier) < command_of earlier → conn_of earlier ≢ conn_of later
+
+-- a history is followed, and its store comes out so
+pub record FollowsTo (setting : Setting) (talk : Talk) (first : Course) (points : List Point) (store : Store) : Type 0 where
+  pub end : Course
+  pub same_store : end.store ≡ store
+  pub follows : Follows setting talk first points end
+
+same_carried : (setting : Setting) (course other : Course) (conn : ℕ) (request : Request) (serial : ℕ) → other.store ≡ course.store
+    → other.sessions conn ≡ course.sessions conn → carried_out setting other conn request serial ≡ carried_out setting course conn request serial
+same_carried setting course other conn request serial store session =
+    ap (λ s. answer_of setting s (other.sessions conn) request serial) store
+    ∙ ap (λ s. answer_of setting course.store s request serial) session
+
+same_takes : (setting : Setting) (talk : Talk) (course other : Course) (conn number : ℕ) (request : Request) (serial : ℕ) → other.store ≡ course.store
+    → other.sessions conn ≡ course.sessions conn → Takes setting talk course conn number request serial → Takes setting talk other conn number request serial
+same_takes setting talk course other conn number request serial store session takes = record {
+  asked = takes.asked;
+  given = takes.given;
+  free = subst (λ s. MayTake setting s (other.sessions conn) request serial) (sym store)
+      (subst (λ s. MayTake setting course.store s request serial) (sym session) takes.free);
+}
+
+same_with : (one two : ℕ → Sess) (conn : ℕ) (a b : Sess) (other : ℕ) → a ≡ b → one other ≡ two other
+    → with_session one conn a other ≡ with_session two conn b other
+unfolding with_session
+same_with one two conn a b other e f =
+    ap (λ s. if nat_eq other conn then s else one other) e ∙ ap (λ s. if nat_eq other conn then b else s) f
+
+with_session_elsewhere : (sessions : ℕ → Sess) (conn : ℕ) (session : Sess) (other : ℕ) → conn ≢ other
+    → with_session sessions conn session other ≡ sessions other
+unfolding with_session
+with_session_elsewhere sessions conn session other ne = let apart : nat_eq other conn ≡ false = grind (arith, nat_tests) in rw apart refl
+
+-- both carried out the same request
+agree_on : (course other : Course) (conn : ℕ) (one two : Answered) (marks : List Mark) → one ≡ two
+    → All (λ (m : Mark). other.sessions (conn_of m) ≡ course.sessions (conn_of m)) marks → Agrees marks (after course conn two) (after other conn one)
+agree_on course other conn one two marks e all = record {
+  store = ap (λ (a : Answered). a.store) e;
+  sessions = λ k d h. same_with other.sessions course.sessions conn one.session two.session _ (ap (λ (a : Answered). a.session) e) (all k d h);
+}
+
+-- one carried out a request that left the store as it was, of a connection that is in no later mark
+agree_still : (course other : Course) (conn : ℕ) (done : Answered) (marks : List Mark) → done.store ≡ course.store → other.store ≡ course.store
+    → All (λ (m : Mark). other.sessions (conn_of m) ≡ course.sessions (conn_of m)) marks → All (λ (m : Mark). conn ≢ conn_of m) marks
+    → Agrees marks (after course conn done) other
+agree_still course other conn done marks still same all apart = record {
+  store = same ∙ sym still;
+  sessions = λ k d h. all k d h ∙ sym (with_session_elsewhere course.sessions conn done.session _ (apart k d h));
+}
+
+-- what the marks behind this one make is followed from each course that agrees with the one that it leaves
+abbrev IsFollowed : Setting → World → Talk → List Mark → Course → Store → Type 0
+IsFollowed setting world talk marks course store = (other : Course) → Agrees marks course other → FollowsTo setting talk other (points_of_all world marks) store
+
+-- the history that the marks make is followed by the store, of which the clients were told the answers that they were given
+follows_by : (setting : Setting) (world : World) (talk : Talk) (told : ℕ → List Answer) → IsTold_of talk told
+    → ((conn : ℕ) → answered_of world conn ≡ length (told conn))
+    → (course other : Course) (store : Store) (mark : Mark) (request : Request) (serial : ℕ) (marks : List Mark)
+    → Takes setting talk course (conn_of mark) (command_of mark) request serial
+    → numbered (talk.answers (conn_of mark)) (command_of mark) ≡ Some (carried_out setting course (conn_of mark) request serial).answer
+    → (mark.counts ≡ IfAnswered → (carried_out setting course (conn_of mark) request serial).store ≡ course.store)
+    → Agrees (mark ∷ marks) course other → All (NoMore world mark) marks
+    → IsFollowed setting world (told_talk talk told) marks (after course (conn_of mark) (carried_out setting course (conn_of mark) request serial)) store
+    → (among : Bool) → nat_le (command_of mark) (answered_of world (conn_of mark)) ≡ among → (counts : Counts) → mark.counts ≡ counts
+    → FollowsTo setting (told_talk talk told) other (points_by mark among counts ++ points_of_all world marks) store
+unfolding points_by
+follows_by setting world talk told of same course other store mark request serial marks takes answer unless agrees no_more later true h counts c =
+    let in_told : command_of mark ≤ length (told (conn_of mark)) = subst (λ n. command_of mark ≤ n) (same (conn_of mark)) (grind (arith, nat_tests)) in
+    let session = head_marks (λ (m : Mark). other.sessions (conn_of m) ≡ course.sessions (conn_of m)) mark marks agrees.sessions in
+    let both = same_carried setting course other (conn_of mark) request serial agrees.store session in
+    let rest = later (after other (conn_of mark) (carried_out setting other (conn_of mark) request serial))
+    (agree_on course other (conn_of mark) _ _ marks both
+    (tail_marks (λ (m : Mark). other.sessions (conn_of m) ≡ course.sessions (conn_of m)) mark marks agrees.sessions)) in
+    record {
+      end = rest.end;
+      same_store = rest.same_store;
+      follows = a_reply other rest.end mark.step (conn_of mark) (command_of mark) request serial (points_of_all world marks)
+          (told_takes setting talk told other (conn_of mark) (command_of mark) request serial
+          (same_takes setting talk course other (conn_of mark) (command_of mark) request serial agrees.store session takes))
+          (numbered_front (told (conn_of mark)) (of.rest (conn_of mark)) (command_of mark) _ in_told
+          (ap (λ l. numbered l (command_of mark)) (sym (of.parts (conn_of mark))) ∙ answer ∙ ap (λ (a : Answered). Some a.answer) (sym both))) rest.follows;
+    }
+follows_by setting world talk told of same course other store mark request serial marks takes answer unless agrees no_more later false h Always c =
+    let session = head_marks (λ (m : Mark). other.sessions (conn_of m) ≡ course.sessions (conn_of m)) mark marks agrees.sessions in
+    let rest = later (after other (conn_of mark) (carried_out setting other (conn_of mark) request serial))
+    (agree_on course other (conn_of mark) _ _ marks (same_carried setting course other (conn_of mark) request serial agrees.store session)
+    (tail_marks (λ (m : Mark). other.sessions (conn_of m) ≡ course.sessions (conn_of m)) mark marks agrees.sessions)) in
+    record {
+      end = rest.end;
+      same_store = rest.same_store;
+      follows = a_loss other rest.end mark.step (conn_of mark) (command_of mark) request serial (points_of_all world marks)
+          (told_takes setting talk told other (conn_of mark) (command_of mark) request serial
+          (same_takes setting talk course other (conn_of mark) (command_of mark) request serial agrees.store session takes)) rest.follows;
+    }
+follows_by setting world talk told of same course other store mark request serial marks takes answer unless agrees no_more later false h IfAnswered c =
+    let behind : answered_of world (conn_of mark) < command_of mark = grind (arith, nat_tests) in
+    later other (agree_still course other (conn_of mark) (carried_out setting course (conn_of mark) request serial) marks (unless c) agrees.store
+    (tail_marks (λ (m : Mark). other.sessions (conn_of m) ≡ course.sessions (conn_of m)) mark marks agrees.sessions)
+    (λ k d at. no_more k d at behind))
+
+-- a command that wasn't answered is the last of its connection; so where its mark makes no point, only that connection's session
+-- differs from there on, and nothing asks for it
+followed : (setting : Setting) (world : World) (talk : Talk) (told : ℕ → List Answer) → IsTold_of talk told
+    → ((conn : ℕ) → answered_of world conn ≡ length (told conn))
+    → (first last : Course) (marks : List Mark) → Carries setting talk first marks last → AllPairs (NoMore world) marks
+    → IsFollowed setting world (told_talk talk told) marks first last.store
+unfolding points_of_all points_of
+followed setting world talk told of same first last marks (no_marks course) no_more =
+    λ other agrees. record { end = other; same_store = agrees.store; follows = no_points other }
+followed setting world talk told of same first last marks (a_mark course end mark request serial rest takes answer unless later) no_more =
+    λ other agrees. follows_by setting world talk told of same course other end.store mark request serial rest takes answer unless agrees
+    (head_pairs (NoMore world) mark rest no_more)
+    (followed setting world talk told of same _ end rest later (tail_pairs (NoMore world) mark rest no_more))
+    (nat_le (command_of mark) (answered_of world (conn_of mark))) refl mark.counts refl
+
+pub marks_follow : (setting : Setting) (world : World) (talk : Talk) (told : ℕ → List Answer) → IsTold_of talk told
+    → ((conn : ℕ) → answered_of world conn ≡ length (told conn))
+    → (first last : Course) (marks : List Mark) → Carries setting talk first marks last → AllPairs (NoMore world) marks
+    → FollowsTo setting (told_talk talk told) first (points_of_all world marks) last.store
+marks_follow setting world talk told of same first last marks carries no_more =
+    followed setting world talk told of same first last marks carries no_more first (record { store = refl; sessions = λ k d h. refl })
 
 both_hold : (P Q : Mark → Type 0) (xs : List Mark) → All P xs → All Q xs → All (λ m. P m × Q m) xs
 both_hold P Q xs one two = λ k d h. (one k d h, two k d h)

@@ -1,6 +1,6 @@
 -- After every step each name has at most one writable home.
-use Rattle.std.proofs.Common.{◌≡◌, ◌≢◌, ◌⊎◌, ℕ, zero, suc, ◌+◌, ◌≤◌, ◌<◌, ◌&&◌, Bool, true, false, cond, nat_eq, List, [], ◌∷◌, ◌++◌, length, Option, None}
-use Rattle.std.proofs.Common.{Some, refl, sym, ◌∙◌, ap, subst, arith, length-append}
+use Rattle.std.proofs.Common.{◌≡◌, ℕ, ◌+◌, ◌≤◌, ◌&&◌, Bool, true, false, cond, nat_eq, List, [], ◌∷◌, ◌++◌, Option, None}
+use Rattle.std.proofs.Common.{Some, refl, sym, ◌∙◌, ap, arith}
 use Rattle.std.specs.Prelude.{All, count_by}
 use Rattle.std.specs.List.{fold, AllByRecursion}
 use Rattle.std.specs.Map.{keys_of}
@@ -24,13 +24,12 @@ use Rattle.mur_config.specs.Nodes.{AreNodes}
 use Rattle.schedule_text.specs.declared.event.Event.{Event}
 use Rattle.cluster_core.specs.declared.cluster.HomeRow.{HomeRow}
 use Rattle.cluster_core.specs.declared.world.World.{World}
-use Rattle.cluster_core.specs.Flow.{run_steps, unrolled}
+use Rattle.cluster_core.specs.Flow.{run_steps}
 use Rattle.cluster_core.specs.HomeLaw.{is_open, is_writable_home, HasOneHomeEach, KeepsOneHomeEach}
-use Rattle.cluster_core.specs.Shown.{row_if, home_row, rows_of, rows_of_all, names_at, home_rows, held_at}
+use Rattle.cluster_core.specs.Shown.{row_if, rows_of, rows_of_all, names_at, home_rows, held_at}
 use Rattle.cluster_core.specs.World.{start, home_of}
 use Rattle.cluster_core.proofs.HomesLaw.{rows_here}
-use Rattle.cluster_core.proofs.Keeps.{KeepsAll}
-use Rattle.cluster_core.proofs.KeepsLaw.{KeepsLaw, AreNodesOf}
+use Rattle.cluster_core.proofs.KeepsLaw.{AreNodesOf}
 use Rattle.cluster_core.proofs.ToldSoFar.{kept_all}
 
 count_both : (p : HomeRow → Bool) (xs ys : List HomeRow) → count_by p (xs ++ ys) ≡ count_by p xs + count_by p ys

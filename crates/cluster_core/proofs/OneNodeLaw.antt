@@ -1,5 +1,5 @@
 -- In a step one node works, and nothing else changes.
-use Rattle.std.proofs.Common.{◌≡◌, ◌≢◌, ◌⊎◌, inl, inr, ℕ, Bool, true, false, cond, ◌&&◌, List, [], ◌∷◌, ◌++◌, drop, Option, None, Some, refl, sym, ◌∙◌, ap}
+use Rattle.std.proofs.Common.{◌≡◌, ◌≢◌, inl, inr, ℕ, Bool, true, false, cond, ◌&&◌, List, [], ◌∷◌, ◌++◌, drop, Option, None, Some, refl, sym, ◌∙◌, ap}
 use Rattle.std.proofs.Common.{subst}
 use Rattle.std.specs.Ordering.{nat_cmp, is_eq}
 use Rattle.std.specs.Cmp.Lexicographic.{slice_cmp}
@@ -15,13 +15,13 @@ use Rattle.link_msg.specs.declared.out.Out.TheVariants.{Client as to_client, Clo
 use Rattle.mur_base.specs.Map.{value_at, with_value}
 use Rattle.mur_base.proofs.MapLaws.{names_apart, not_equal, value_at-with_value-other}
 use Rattle.schedule_text.specs.declared.event.Event.{Event}
-use Rattle.schedule_text.specs.declared.event.Event.TheVariants.{Open, Data, Hang, Deliver, Flow, Cut, Join, Crash, Arm, Start, Heal}
+use Rattle.schedule_text.specs.declared.event.Event.TheVariants.{Open, Data, Hang, Deliver}
 use Rattle.cluster_core.specs.declared.world.Client.{Client}
 use Rattle.cluster_core.specs.declared.world.World.{World}
 use Rattle.cluster_core.specs.Flow.{run_steps}
 use Rattle.cluster_core.specs.Links.{Links, on_link, without_first}
 use Rattle.cluster_core.specs.OneNode.{WasSent, LosesFirst, OnlyWorks, OneNodeWorks, OneNodeWorksEach}
-use Rattle.cluster_core.specs.World.{client_at, front_at, home_at, given_more, carry, carry_all, with_front, with_home, with_client, open_at, opens, bytes_at}
+use Rattle.cluster_core.specs.World.{client_at, front_at, home_at, given_more, carry, carry_all, with_front, with_client, open_at, opens, bytes_at}
 use Rattle.cluster_core.specs.World.{bytes_from, hang_at, hangs, input_of, home_takes, comes_to_home, comes_to, taken, deliver_first, takes, stepped, steps_by}
 use Rattle.cluster_core.proofs.Wires.{same_link, on_link-sent, on_link-taken}
 

@@ -1,44 +1,41 @@
 -- The one-store law at every step of a run.
-use Rattle.std.proofs.Common.{◌≡◌, ◌≢◌, ◌⊎◌, ℕ, zero, suc, ◌+◌, ◌≤◌, ◌<◌, Bool, true, false, List, [], ◌∷◌, ◌++◌, length, Option, None, Some, refl, sym, ◌∙◌}
-use Rattle.std.proofs.Common.{ap, subst, arith, append_assoc, length-append}
-use Rattle.std.specs.Prelude.{All, AllPairs, count_by}
-use Rattle.std.specs.Ordering.{nat_cmp}
-use Rattle.std.specs.Cmp.Lexicographic.{slice_cmp}
+use Rattle.std.proofs.Common.{◌≡◌, ℕ, ◌≤◌, ◌<◌, Bool, true, false, ◌||◌, List, [], ◌∷◌, ◌++◌, length}
+use Rattle.std.proofs.Common.{Option, None, Some, refl, sym, ◌∙◌}
+use Rattle.std.proofs.Common.{ap, subst, arith, length-append}
+use Rattle.std.proofs.Common.{inl, inr, get_or}
+use Rattle.std.specs.Prelude.{AllPairs}
+use Rattle.std.specs.List.{list_any}
 use Rattle.std.proofs.Math.Logic.{⊎_elim}
 use Rattle.std.proofs.lemmas.Bool.Decides.{nat_tests}
 use Rattle.std.proofs.lemmas.List.{append-nil}
 use Rattle.front_core.specs.declared.connection.Connection.{Connection}
 use Rattle.front_core.specs.declared.front.Front.{Front}
-use Rattle.front_core.specs.Front.{connection_at}
-use Rattle.imap_reply.specs.Transcript.{transcript_of, all_told_till}
+use Rattle.imap_reply.specs.Transcript.{transcript_of, all_told_till, ends}
 use Rattle.imap_wire.specs.Frames.{frames, begun}
 use Rattle.mur_base.specs.declared.point.AskId.{AskId}
 use Rattle.mur_base.specs.declared.point.Point.{Point}
-use Rattle.mur_base.specs.declared.point.What.TheVariants.{Reply as replied, Lost as lost}
-use Rattle.mur_config.specs.declared.config.Config.{Config}
 use Rattle.mur_model.specs.declared.request.Answer.{Answer}
 use Rattle.mur_model.specs.declared.setting.Setting.{Setting}
-use Rattle.mur_model.specs.History.{Course, Talk, IsLegal, IsInOrder, EndsAtLoss, IsUnanswered, answers, loses, reads, is_about}
+use Rattle.mur_model.specs.declared.store.Store.{Store}
+use Rattle.mur_model.specs.History.{Course, Talk, IsLegal, IsInOrder, EndsAtLoss, IsUnanswered, loses, reads}
 use Rattle.mur_model.proofs.HistoryGrows.{one_up_to}
-use Rattle.schedule_text.specs.declared.event.Event.{Event}
 use Rattle.cluster_core.specs.declared.world.Client.{Client}
 use Rattle.cluster_core.specs.declared.world.Mark.{Mark}
 use Rattle.cluster_core.specs.declared.world.World.{World}
-use Rattle.cluster_core.specs.Heard.{Heard, nobody, elsewhere, client, bytes_heard, frames_heard, has_closed}
-use Rattle.cluster_core.specs.History.{answered_in, connection_in, connection_by, connection_of, answered_of, points_of_all, history_of}
-use Rattle.cluster_core.specs.OneStore.{AreEmpty, first_course}
-use Rattle.cluster_core.specs.Requests.{AskFor}
+use Rattle.cluster_core.specs.Heard.{Heard, bytes_heard, frames_heard, has_closed}
+use Rattle.cluster_core.specs.History.{answered_in, connection_in, connection_by, connection_of, answered_of, history_of}
+use Rattle.cluster_core.specs.OneStore.{AreEmpty, IsAnsweredThrough, first_course}
 use Rattle.cluster_core.specs.Shown.{given_by, given_to}
-use Rattle.cluster_core.specs.World.{client_at, front_at, home_of, setting_of}
-use Rattle.cluster_core.proofs.ConnectionLaw.{Story, told_of, client_with, OnItsWay, Stands, IsLeft, IsStanding}
+use Rattle.cluster_core.specs.World.{client_at, front_at}
+use Rattle.cluster_core.proofs.ConnectionLaw.{Story, told_of, client_with, Stands, IsLeft}
 use Rattle.cluster_core.proofs.ConnectionLaw.OnItsWay.{there, back}
-use Rattle.cluster_core.proofs.ConnectionLaw.Stands.{reads as it_reads, waits, faulted}
+use Rattle.cluster_core.proofs.ConnectionLaw.Stands.{reads as it_reads, waits, faulted, finished}
 use Rattle.cluster_core.proofs.ConnectionLaw.IsLeft.{nothing, its_ask, its_answer}
-use Rattle.cluster_core.proofs.KeepsLaw.{ConnectionIs, IsAt, KeepsLaw}
+use Rattle.cluster_core.proofs.KeepsLaw.{ConnectionIs, IsAt}
 use Rattle.cluster_core.proofs.KeepsLaw.ConnectionIs.{is_nobody, is_elsewhere, is_open, is_closed}
-use Rattle.cluster_core.proofs.Marks.{conn_of, command_of, IsOf, all_points, pairs_of_points, marks_follow, answering_points, losing_points, is_mark}
-use Rattle.cluster_core.proofs.Marks.{MarkedOnce}
-use Rattle.cluster_core.proofs.RequestsOf.{requests_of, asks_all, answered_lengths}
+use Rattle.cluster_core.proofs.Marks.{conn_of, command_of, IsOf, all_points, pairs_of_points, marks_follow, answering_points, losing_points}
+use Rattle.cluster_core.proofs.Marks.{NoMore}
+use Rattle.cluster_core.proofs.RequestsOf.{requests_of, answered_lengths}
 use Rattle.cluster_core.proofs.Told.{IsTold, Later}
 use Rattle.cluster_core.proofs.Ways.{none_on_empty}
 
@@ -54,12 +51,14 @@ all_told told said e = record { rest = []; parts = e ∙ sym (append-nil told); 
 told_standing : (setting : Setting) (front home : List ℕ) (conn : ℕ) (all : _) (held : _) (connection : Connection) (links : _) (told said : List Answer)
     (session : _)
     → Stands setting front home conn all held connection links told said session → IsToldSo told said
-told_standing setting front home conn all held connection links told said session (it_reads a b c d e way) = all_told told said e
-told_standing setting front home conn all held connection links told said session (waits passed bytes tag it name work a b c d e f g (there s way)) =
+told_standing setting front home conn all held connection links told said session (it_reads a b c d e f way) = all_told told said f
+told_standing setting front home conn all held connection links told said session (waits passed bytes tag it name work a b c d e f g (there s t way)) =
     all_told told said s
 told_standing setting front home conn all held connection links told said session
-    (waits passed bytes tag it name work a b c d e f g (back body reply s shown way)) = record { rest = _; parts = s; few = omega arith }
+    (waits passed bytes tag it name work a b c d e f g (back body turn s shown behind last way)) = record { rest = _; parts = s; few = omega arith }
 told_standing setting front home conn all held connection links told said session (faulted a b c d way) = all_told told said d
+told_standing setting front home conn all held connection links told said session (finished passed more bytes before last a b c d e f way) =
+    all_told told said f
 
 told_left : (setting : Setting) (front home : List ℕ) (conn : ℕ) (requests : _) (connection : Connection) (links : _) (told said : List Answer) (session : _)
     → IsLeft setting front home conn requests connection links told said session → IsToldSo told said
@@ -72,7 +71,7 @@ pub record SaysOf (world : World) (conn : ℕ) (heard : Heard) (told said : List
   pub count : answered_of world conn ≡ length told
   pub given : given_to world conn ≡ transcript_of (bytes_heard heard) told
   pub so : IsToldSo told said
-  pub waits_not : AreEmpty world → has_closed heard ≡ false → length told ≡ length (requests_of (frames_heard heard))
+  pub waits_not : AreEmpty world → has_closed heard ≡ false → IsAnsweredThrough (requests_of (frames_heard heard)) told
 
 count_at : (world : World) (conn : ℕ) (node : List ℕ) (given : List ℕ) (front : Front) (connection : Connection)
     → client_at world conn ≡ Some (record { at = node; given = given }) → IsAt world conn node front connection
@@ -94,17 +93,30 @@ given_at : (world : World) (conn : ℕ) (found : Option Client) → client_at wo
 unfolding given_to
 given_at world conn found at = ap given_by at
 
--- where nothing is on the way, a client that hasn't closed its connection was answered in all
+or_true : (one other : Bool) → other ≡ true → (one || other) ≡ true
+or_true true other e = refl
+or_true false other e = e
+
+last_ends : (before : List Answer) (last : Answer) → ends last.reply ≡ true
+    → list_any (λ (answer : Answer). ends answer.reply) (before ++ last ∷ []) ≡ true
+last_ends [] last e = ap (λ t. t || false) e
+last_ends (answer ∷ before) last e = or_true (ends answer.reply) _ (last_ends before last e)
+
+-- where nothing is on the way, a client that hasn't closed its connection was answered in all, or its session has ended
 none_waits : (setting : Setting) (front home : List ℕ) (conn : ℕ) (bytes : List ℕ) (connection : Connection) (world : World) (told said : List Answer)
     (session : _) → AreEmpty world
-    → Stands setting front home conn (frames bytes) (begun bytes) connection world.links told said session → length told ≡ length (requests_of (frames bytes))
-none_waits setting front home conn bytes connection world told said session empty (it_reads a b c d e way) = sym (answered_lengths (frames bytes) told d)
-none_waits setting front home conn bytes connection world told said session empty (waits passed asking tag it name work a b c d e f g (there s way)) =
+    → Stands setting front home conn (frames bytes) (begun bytes) connection world.links told said session
+    → IsAnsweredThrough (requests_of (frames bytes)) told
+none_waits setting front home conn bytes connection world told said session empty (it_reads a b c d e f way) =
+    inl (sym (answered_lengths (frames bytes) told e))
+none_waits setting front home conn bytes connection world told said session empty (waits passed asking tag it name work a b c d e f g (there s t way)) =
     (let none = (none_on_empty world.links conn front home _ _ empty way).0 in cc)
 none_waits setting front home conn bytes connection world told said session empty
-    (waits passed asking tag it name work a b c d e f g (back body reply s shown way)) =
+    (waits passed asking tag it name work a b c d e f g (back body turn s shown behind last way)) =
     (let none = (none_on_empty world.links conn front home _ _ empty way).1 in cc)
-none_waits setting front home conn bytes connection world told said session empty (faulted a b c d way) = sym c
+none_waits setting front home conn bytes connection world told said session empty (faulted a b c d way) = inl (sym c)
+none_waits setting front home conn bytes connection world told said session empty (finished passed more asking before last a b c d e f way) =
+    inr (subst (λ t. list_any (λ (answer : Answer). ends answer.reply) t ≡ true) (sym d) (last_ends before last e))
 
 pub says_of : (setting : Setting) (home : List ℕ) (conn : ℕ) (world : World) (story : Story) (heard : Heard) → ConnectionIs setting home conn world story heard
     → SaysOf world conn heard (story.told conn) (story.talk.answers conn)
@@ -113,13 +125,13 @@ says_of setting home conn world story heard (is_nobody none fronts untold) = rec
   count = count_none world conn none ∙ ap length (sym untold.told);
   given = given_at world conn None none;
   so = all_told (story.told conn) (story.talk.answers conn) (untold.said ∙ sym untold.told);
-  waits_not = λ empty stays. ap length untold.told;
+  waits_not = λ empty stays. inl (ap length untold.told);
 }
 says_of setting home conn world story heard (is_elsewhere node at none untold) = record {
   count = count_elsewhere world conn node [] at none ∙ ap length (sym untold.told);
   given = given_at world conn (Some (record { at = node; given = [] })) at;
   so = all_told (story.told conn) (story.talk.answers conn) (untold.said ∙ sym untold.told);
-  waits_not = λ empty stays. ap length untold.told;
+  waits_not = λ empty stays. inl (ap length untold.told);
 }
 says_of setting home conn world story heard (is_open bytes node front connection at reader standing) = record {
   count = count_at world conn node _ front connection standing.client at ∙ standing.count;
@@ -160,16 +172,14 @@ in_order_by world earlier later one other behind is at same =
       ap (λ (a : AskId). a.command) at.same_ask,
     )
 
-no_more : (world : World) (story : Story) → ((conn : ℕ) → answered_of world conn ≡ length (story.told conn))
+-- behind a mark whose command wasn't answered there is none of its connection
+none_behind : (world : World) (story : Story) → ((conn : ℕ) → answered_of world conn ≡ length (story.told conn))
     → ((conn : ℕ) → IsToldSo (story.told conn) (story.talk.answers conn))
-    → (earlier later : Mark) (one other : Point) → Later earlier later → command_of later ≤ length (story.talk.answers (conn_of later))
-    → IsOf world earlier one → IsOf world later other
-    → loses one.what ≡ true → one.ask.conn ≡ other.ask.conn → ⊥
-no_more world story counts so earlier later one other behind bound is at loss same =
-    let e = conns_same world earlier later one other is at same in
+    → (earlier later : Mark) → Later earlier later → command_of later ≤ length (story.talk.answers (conn_of later)) → NoMore world earlier later
+none_behind world story counts so earlier later behind bound = λ unanswered e.
     absurd (omega (
       arith,
-      is.if_lost loss,
+      unanswered,
       counts (conn_of earlier),
       behind.0 e,
       bound,
@@ -178,6 +188,14 @@ no_more world story counts so earlier later one other behind bound is at loss sa
       length-append (story.told (conn_of earlier)) (so (conn_of earlier)).rest,
       (so (conn_of earlier)).few,
     ))
+
+no_more : (world : World) (story : Story) → ((conn : ℕ) → answered_of world conn ≡ length (story.told conn))
+    → ((conn : ℕ) → IsToldSo (story.told conn) (story.talk.answers conn))
+    → (earlier later : Mark) (one other : Point) → Later earlier later → command_of later ≤ length (story.talk.answers (conn_of later))
+    → IsOf world earlier one → IsOf world later other
+    → loses one.what ≡ true → one.ask.conn ≡ other.ask.conn → ⊥
+no_more world story counts so earlier later one other behind bound is at loss same =
+    none_behind world story counts so earlier later behind bound (is.if_lost loss) (conns_same world earlier later one other is at same)
 
 no_read : (world : World) (mark : Mark) (point : Point) → IsOf world mark point → reads point.what ≡ false
 unfolding reads
@@ -193,32 +211,45 @@ unanswered world story counts mark point is = λ loss. omega (
   ap (λ (a : AskId). length (story.told a.conn)) is.same_ask,
 )
 
+-- a history is legal, and its store comes out so
+pub record IsLegalTo (setting : Setting) (talk : Talk) (points : List Point) (store : Store) : Type 0 where
+  pub last : Course
+  pub same_store : last.store ≡ store
+  pub legal : IsLegal setting first_course talk points last
+
 -- the history is legal for what was asked and told
 pub legal_history : (setting : Setting) (world : World) (story : Story) (home : _) → IsTold setting world.steps world.marks home story.talk story.course
     → ((conn : ℕ) → answered_of world conn ≡ length (story.told conn)) → ((conn : ℕ) → IsToldSo (story.told conn) (story.talk.answers conn))
-    → IsLegal setting first_course (told_of story) (history_of world) story.course
+    → IsLegalTo setting (told_of story) (history_of world) story.course.store
 unfolding history_of
-legal_history setting world story home told counts so = record {
-  follows = marks_follow setting world story.talk story.told
-      (record { rest = λ conn. (so conn).rest; parts = λ conn. (so conn).parts }) counts first_course story.course world.marks told.carries;
-  answered_once = λ conn number low high. answering_points world conn number world.marks (subst (λ n. number ≤ n) (sym (counts conn)) high)
-      ∙ answered_once (length (story.talk.answers conn)) number _ (told.once conn number) low
-      (omega (arith, high, ap length (so conn).parts, length-append (story.told conn) (so conn).rest));
-  lost_unanswered = all_points world (λ (m : Mark). command_of m ≤ length (story.talk.answers (conn_of m))) (IsUnanswered (told_of story))
-      (λ mark point bound is. unanswered world story counts mark point is) world.marks told.numbers;
-  lost_once = λ conn number. omega (
-    arith,
-    losing_points world conn number world.marks,
-    at_most_one (length (story.talk.answers conn)) number _ (told.once conn number),
-  );
-  lost_last = pairs_of_points world Later (λ (m : Mark). command_of m ≤ length (story.talk.answers (conn_of m))) EndsAtLoss
-      (λ earlier later one other behind bound is at. no_more world story counts so earlier later one other behind bound is at) world.marks told.later
-      told.numbers;
-  never_read = all_points world (λ (m : Mark). command_of m ≤ length (story.talk.answers (conn_of m))) (λ (point : Point). reads point.what ≡ false)
-      (λ mark point bound is. no_read world mark point is) world.marks told.numbers;
-  in_order = pairs_of_points world Later (λ (m : Mark). command_of m ≤ length (story.talk.answers (conn_of m))) IsInOrder
-      (λ earlier later one other behind bound is at. in_order_by world earlier later one other behind is at) world.marks told.later told.numbers;
-}
+legal_history setting world story home told counts so =
+    let followed = marks_follow setting world story.talk story.told
+    (record { rest = λ conn. (so conn).rest; parts = λ conn. (so conn).parts }) counts first_course story.course world.marks told.carries
+    (λ i j d h k. none_behind world story counts so (get_or world.marks i d) (get_or world.marks j d) (told.later i j d h k) (told.numbers j d k)) in
+    record {
+      last = followed.end;
+      same_store = followed.same_store;
+      legal = record {
+        follows = followed.follows;
+        answered_once = λ conn number low high. answering_points world conn number world.marks (subst (λ n. number ≤ n) (sym (counts conn)) high)
+            ∙ answered_once (length (story.talk.answers conn)) number _ (told.once conn number) low
+            (omega (arith, high, ap length (so conn).parts, length-append (story.told conn) (so conn).rest));
+        lost_unanswered = all_points world (λ (m : Mark). command_of m ≤ length (story.talk.answers (conn_of m))) (IsUnanswered (told_of story))
+            (λ mark point bound is. unanswered world story counts mark point is) world.marks told.numbers;
+        lost_once = λ conn number. omega (
+          arith,
+          losing_points world conn number world.marks,
+          at_most_one (length (story.talk.answers conn)) number _ (told.once conn number),
+        );
+        lost_last = pairs_of_points world Later (λ (m : Mark). command_of m ≤ length (story.talk.answers (conn_of m))) EndsAtLoss
+            (λ earlier later one other behind bound is at. no_more world story counts so earlier later one other behind bound is at) world.marks told.later
+            told.numbers;
+        never_read = all_points world (λ (m : Mark). command_of m ≤ length (story.talk.answers (conn_of m))) (λ (point : Point). reads point.what ≡ false)
+            (λ mark point bound is. no_read world mark point is) world.marks told.numbers;
+        in_order = pairs_of_points world Later (λ (m : Mark). command_of m ≤ length (story.talk.answers (conn_of m))) IsInOrder
+            (λ earlier later one other behind bound is at. in_order_by world earlier later one other behind is at) world.marks told.later told.numbers;
+      };
+    }
 
 -- the steps of the history rise
 pub steps_rise : (setting : Setting) (world : World) (story : Story) (home : _) → IsTold setting world.steps world.marks home story.talk story.course

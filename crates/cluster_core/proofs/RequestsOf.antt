@@ -1,11 +1,10 @@
 -- What frames ask for, as a function.
-use Rattle.std.proofs.Common.{◌≡◌, ℕ, ◌+◌, List, [], ◌∷◌, ◌++◌, length, Option, None, Some, refl, sym, ◌∙◌, ap, subst, arith, append_assoc, length-append}
+use Rattle.std.proofs.Common.{◌≡◌, ℕ, ◌+◌, List, [], ◌∷◌, ◌++◌, length, Some, refl, sym, ◌∙◌, ap, subst, arith, append_assoc}
 use Rattle.std.proofs.lemmas.List.{append-nil}
 use Rattle.imap_command.specs.Request.{request_of, too_big_request}
 use Rattle.imap_command.proofs.RequestLaws.{request_is, too_big_is}
 use Rattle.imap_reply.specs.Transcript.{stop_told, replies_to}
 use Rattle.imap_reply.specs.Transcript.Stop.{silent}
-use Rattle.imap_reply.specs.Continuation.{ready}
 use Rattle.imap_reply.proofs.TranscriptGrows.{AreAnswered, unanswered_told}
 use Rattle.imap_wire.specs.declared.frame.Frame.{Frame}
 use Rattle.imap_wire.specs.declared.frame.Frame.TheVariants.{Whole, NeedLiteral, TooBig, Fault}

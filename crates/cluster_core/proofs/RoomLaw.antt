@@ -23,13 +23,12 @@ use Rattle.mur_config.specs.declared.node.Node.{Node}
 use Rattle.mur_model.specs.declared.setting.Setting.{Setting}
 use Rattle.schedule_text.specs.declared.event.Event.{Event}
 use Rattle.schedule_text.specs.declared.event.Event.TheVariants.{Open, Data, Hang, Deliver, Flow, Heal}
-use Rattle.schedule_text.specs.Brings.{steps_of, bytes_of, steps_of_all, bytes_of_all}
+use Rattle.schedule_text.specs.Brings.{steps_of, bytes_of}
 use Rattle.cluster_core.specs.declared.world.Client.{Client}
 use Rattle.cluster_core.specs.declared.world.World.{World}
-use Rattle.cluster_core.specs.World.{start, with_node, with_nodes, client_at, front_at, home_at, given_more, carry, carry_all, with_front, with_home}
+use Rattle.cluster_core.specs.World.{start, with_node, with_nodes, client_at, front_at, home_at, given_more, carry, carry_all, with_front}
 use Rattle.cluster_core.specs.World.{with_client}
 use Rattle.cluster_core.specs.World.{open_at, opens, bytes_at, bytes_from, hang_at, hangs, input_of, home_takes, comes_to_home, comes_to, taken, deliver_first}
-use Rattle.cluster_core.specs.World.{delivers}
 use Rattle.cluster_core.specs.World.{takes, stepped, steps_by}
 use Rattle.cluster_core.specs.Links.{on_link}
 use Rattle.cluster_core.specs.Room.{HaveCommands, HasRoom}

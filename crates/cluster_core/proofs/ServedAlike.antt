@@ -1,22 +1,20 @@
 -- What a home answers and leaves is what the one store replies and leaves, for work at a mailbox.
-use Rattle.std.proofs.Common.{◌≡◌, ℕ, ◌+◌, ◌-◌, ◌^◌, ◌<◌, ◌≤◌, ◌==◌, nat_eq, List, Option, Some}
+use Rattle.std.proofs.Common.{◌≡◌, ℕ, ◌+◌, ◌-◌, ◌^◌, ◌≤◌, nat_eq, List, Some}
 use Rattle.std.specs.Prelude.{All}
 use Rattle.backend_core.specs.declared.backend.Backend.{Backend}
 use Rattle.backend_core.specs.declared.held.Held.{Held}
 use Rattle.backend_core.specs.HomeStep.{HomeStep, held_at}
-use Rattle.backend_core.specs.Step.{op_step}
-use Rattle.front_core.specs.Awaited.{op_of, awaited_of, reply_shown}
 use Rattle.link_msg.specs.declared.answer.AnswerBody.{AnswerBody}
-use Rattle.link_msg.specs.declared.ask.FrontAsk.{FrontAsk}
 use Rattle.link_msg.specs.declared.counts.Counts.TheVariants.{IfAnswered}
 use Rattle.mur_base.specs.declared.home.Phase.TheVariants.{Open as open_here}
 use Rattle.mur_model.specs.declared.need.Work.{Work}
-use Rattle.mur_model.specs.declared.reply.Reply.{Reply}
 use Rattle.mur_model.specs.declared.store.Pair.{Pair}
 use Rattle.mur_model.specs.declared.store.Store.{Store}
-use Rattle.mur_model.specs.Act.{worked_at, MayWork}
+use Rattle.mur_model.specs.Act.{MayWork}
 use Rattle.mur_model.specs.Left.{Worked, store_after, kept}
 use Rattle.mur_model.specs.Store.{box_at, is_spent}
+use Rattle.session_core.specs.Asking.{asked_for}
+use Rattle.session_core.specs.Finish.{finish}
 use Rattle.cluster_core.specs.OneStore.{open_content}
 
 -- the home has the mailboxes of the store, all of them open, and its last UIDVALIDITY is the greatest that was given
@@ -31,6 +29,6 @@ pub record ServesAlike (store : Store) (home : Backend) (name : List ℕ) (work 
   pub free : MayWork store name (home.last_serial + 1) work
   pub body : AnswerBody
   pub is_body : step.body ≡ Some body
-  pub shown : reply_shown (awaited_of work) body ≡ Some worked.reply
+  pub shown : finish (asked_for name work).awaited body ≡ Some worked.turn
   pub still : IsStoreOf (store_after store name worked.left) step.home
   pub unless : step.counts ≡ IfAnswered → worked.left ≡ kept

@@ -1,12 +1,12 @@
 -- The law holds before the first step.
-use Rattle.std.proofs.Common.{◌≡◌, ◌≢◌, ◌⊎◌, ℕ, zero, suc, ◌+◌, ◌-◌, ◌^◌, ◌≤◌, ◌<◌, Bool, true, false, cond, nat_eq, List, [], ◌∷◌, ◌++◌, length, Option, None}
+use Rattle.std.proofs.Common.{◌≡◌, ◌≢◌, ℕ, suc, ◌≤◌, List, [], ◌∷◌, length, None}
 use Rattle.std.proofs.Common.{Some, refl, sym, ◌∙◌, ap, subst, arith}
-use Rattle.std.specs.Prelude.{All, AllPairs, filter}
+use Rattle.std.specs.Prelude.{All, AllPairs}
 use Rattle.std.specs.Ordering.{nat_cmp}
 use Rattle.std.specs.Cmp.Lexicographic.{slice_cmp}
 use Rattle.std.proofs.Math.Logic.{⊎_elim}
 use Rattle.std.proofs.lemmas.Bool.Decides.{nat_tests}
-use Rattle.std.proofs.lemmas.List.Elements.{All-head, All-tail, All-cons, All-nil}
+use Rattle.std.proofs.lemmas.List.Elements.{All-head, All-tail, All-cons}
 use Rattle.backend_core.specs.declared.backend.Backend.{Backend}
 use Rattle.backend_core.specs.Plan.{booted}
 use Rattle.front_core.specs.declared.front.Front.{Front}
@@ -23,13 +23,12 @@ use Rattle.mur_model.specs.declared.setting.Setting.{Setting}
 use Rattle.mur_model.specs.Store.{empty_store, is_spent}
 use Rattle.mur_model.proofs.HistoryGrows.{one_up_to}
 use Rattle.cluster_core.specs.declared.world.World.{World}
-use Rattle.cluster_core.specs.Heard.{Heard, nobody, frames_heard}
+use Rattle.cluster_core.specs.Heard.{nobody, frames_heard}
 use Rattle.cluster_core.specs.Links.{on_link}
 use Rattle.cluster_core.specs.OneStore.{first_course}
-use Rattle.cluster_core.specs.World.{no_world, first_name, or_backend, backends_of, home_of, setting_of, with_node, with_nodes, start, client_at, front_at}
+use Rattle.cluster_core.specs.World.{no_world, first_name, or_backend, backends_of, home_of, setting_of, with_node, with_nodes, start, front_at}
 use Rattle.cluster_core.specs.World.{home_at}
-use Rattle.cluster_core.proofs.ConnectionLaw.{Story}
-use Rattle.cluster_core.proofs.KeepsLaw.{KeepsLaw, AreNodesOf, ConnectionIs}
+use Rattle.cluster_core.proofs.KeepsLaw.{KeepsLaw}
 use Rattle.cluster_core.proofs.KeepsLaw.ConnectionIs.{is_nobody}
 use Rattle.cluster_core.proofs.Marks.{Carries, MarkedOnce, command_of}
 use Rattle.cluster_core.proofs.Marks.Carries.{no_marks}

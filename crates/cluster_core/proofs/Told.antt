@@ -1,5 +1,5 @@
 -- The marks so far are those of one store, whose mailboxes the home has; and one more.
-use Rattle.std.proofs.Common.{◌≡◌, ◌≢◌, ℕ, ◌+◌, ◌<◌, ◌≤◌, List, [], ◌∷◌, ◌++◌, length, Some, refl, sym, ◌∙◌, ap, subst, arith}
+use Rattle.std.proofs.Common.{◌≡◌, ℕ, ◌+◌, ◌<◌, ◌≤◌, List, [], ◌∷◌, ◌++◌, length, Some, refl, sym, ap, arith}
 use Rattle.std.specs.Prelude.{All, AllPairs}
 use Rattle.std.proofs.lemmas.List.Elements.{All-push, All-weaker}
 use Rattle.backend_core.specs.declared.backend.Backend.{Backend}
@@ -9,7 +9,7 @@ use Rattle.mur_model.specs.declared.request.Answer.{Answer}
 use Rattle.mur_model.specs.declared.request.Request.{Request}
 use Rattle.mur_model.specs.declared.setting.Setting.{Setting}
 use Rattle.mur_model.specs.Answer.{MayTake}
-use Rattle.mur_model.specs.History.{Course, Talk, GoesOn, TalkGoesOn, Takes, numbered, carried_out, after}
+use Rattle.mur_model.specs.History.{Course, Talk, GoesOn, TalkGoesOn, numbered, carried_out, after}
 use Rattle.mur_model.proofs.HistoryGrows.{same_lists, item_more}
 use Rattle.mur_model.proofs.Numbered.{with_item, with_item-other, length_with_item, numbered_new, with_item-lengths, with_item-longer}
 use Rattle.cluster_core.specs.declared.world.Mark.{Mark}
@@ -56,7 +56,7 @@ pub told_push : (setting : Setting) (now : ℕ) (marks : List Mark) (home later_
     (serial : ℕ) (counts : Counts)
     → numbered (talk.requests conn) (length (talk.answers conn) + 1) ≡ Some request
     → MayTake setting course.store (course.sessions conn) request serial
-    → (counts ≡ IfAnswered → next_course setting course conn request serial ≡ course)
+    → (counts ≡ IfAnswered → (carried_out setting course conn request serial).store ≡ course.store)
     → IsStoreOf (carried_out setting course conn request serial).store later_home
     → IsTold setting now marks home talk course
     → IsTold setting now (marks ++ next_mark now talk conn counts ∷ []) later_home

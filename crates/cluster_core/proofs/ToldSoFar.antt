@@ -1,26 +1,27 @@
 -- What is told at every step of a run.
-use Rattle.std.proofs.Common.{◌≡◌, ◌≢◌, ◌⊎◌, ℕ, zero, suc, ◌+◌, ◌≤◌, ◌<◌, ◌&&◌, Bool, true, false, cond, nat_eq, List, [], ◌∷◌, ◌++◌, length, Option, None}
+use Rattle.std.proofs.Common.{◌≡◌, ℕ, zero, suc, ◌+◌, ◌≤◌, ◌<◌, Bool, true, cond, nat_eq, List, [], ◌∷◌, ◌++◌, length}
 use Rattle.std.proofs.Common.{Some, refl, sym, ◌∙◌, ap, subst, arith, length-append}
-use Rattle.std.specs.Prelude.{All, AllPairs, count_by, slice_get}
+use Rattle.std.specs.Prelude.{All, count_by}
 use Rattle.std.proofs.lemmas.Bool.Decides.{nat_tests}
 use Rattle.std.proofs.lemmas.List.{append-nil}
 use Rattle.std.proofs.lemmas.List.Elements.{All-append, All-nil, All-cons, All-weaker}
 use Rattle.std.proofs.lemmas.List.Sums.{sum_by-append}
 use Rattle.std.proofs.lemmas.Option.{slice_get_within}
 use Rattle.mur_base.specs.declared.point.AskId.{AskId}
+use Rattle.imap_reply.proofs.SoundStores.{empty_is}
 use Rattle.mur_base.specs.declared.point.Point.{Point}
 use Rattle.mur_config.specs.declared.config.Config.{Config}
 use Rattle.mur_config.specs.Nodes.{AreNodes}
 use Rattle.mur_model.specs.declared.setting.Setting.{Setting}
-use Rattle.mur_model.specs.History.{Course, Talk, IsLegal, numbered}
+use Rattle.mur_model.specs.History.{Course, Talk, numbered}
 use Rattle.mur_model.proofs.HistoryGrows.{one_up_to}
 use Rattle.schedule_text.specs.declared.event.Event.{Event}
 use Rattle.cluster_core.specs.declared.world.Mark.{Mark}
 use Rattle.cluster_core.specs.declared.world.World.{World}
 use Rattle.cluster_core.specs.Flow.{run_steps, unrolled}
 use Rattle.cluster_core.specs.Heard.{Heard, nobody, heard_from, bytes_heard, frames_heard}
-use Rattle.cluster_core.specs.History.{answered_of, history_of}
-use Rattle.cluster_core.specs.OneStore.{first_course, StandsInTime, IsToldSoFar, IsToldByOneStore}
+use Rattle.cluster_core.specs.History.{history_of}
+use Rattle.cluster_core.specs.OneStore.{first_course, HasBoxesOf, IsAnsweredThrough, StandsInTime, IsToldSoFar, IsToldByOneStore}
 use Rattle.cluster_core.specs.Requests.{AskFor}
 use Rattle.cluster_core.specs.Shown.{given_to}
 use Rattle.cluster_core.specs.World.{start, home_of, setting_of}
@@ -29,11 +30,11 @@ use Rattle.cluster_core.proofs.HomesLaw.{has_boxes}
 use Rattle.cluster_core.proofs.InTime.{StandsBehind, run_behind}
 use Rattle.cluster_core.proofs.Keeps.{IsKeptAt, KeepsAll, run_keeps}
 use Rattle.cluster_core.proofs.KeepsLaw.{KeepsLaw}
-use Rattle.cluster_core.proofs.Marks.{Carries, conn_of, command_of, is_mark, MarkedOnce, IsOf, all_points}
+use Rattle.cluster_core.proofs.Marks.{Carries, conn_of, command_of, is_mark, all_points}
 use Rattle.cluster_core.proofs.Marks.Carries.{no_marks, a_mark}
-use Rattle.cluster_core.proofs.OneStoreLaw.{SaysOf, says_of, legal_history, steps_rise, IsToldSo}
-use Rattle.cluster_core.proofs.ReadLaw.{read_of_legal}
-use Rattle.cluster_core.proofs.RequestsOf.{requests_of, asks_all}
+use Rattle.cluster_core.proofs.OneStoreLaw.{SaysOf, says_of, IsLegalTo, legal_history, steps_rise, IsToldSo}
+use Rattle.cluster_core.proofs.ReadLaw.{heard_sound, read_of_legal}
+use Rattle.cluster_core.proofs.RequestsOf.{asks_all}
 use Rattle.cluster_core.proofs.StartLaw.{start_keeps}
 use Rattle.cluster_core.proofs.Told.{IsTold}
 use Rattle.cluster_core.proofs.Unrolled.{run_steps-append}
@@ -144,21 +145,24 @@ told_so_far config talk before later are now last =
     subst (λ w. StandsBehind world w) (sym (run_steps-append (start config) before later)) (run_behind world later) in
     let asked : (conn : ℕ) → AskFor (frames_heard (heard conn)) (law.story.talk.requests conn) =
     λ conn. subst (λ r. AskFor (frames_heard (heard conn)) r) (sym (law.requests conn)) (asks_all (frames_heard (heard conn))) in
-    let legal : IsLegal (setting_of config) first_course (told_of law.story) (history_of world) law.story.course =
+    let legal : IsLegalTo (setting_of config) (told_of law.story) (history_of world) law.story.course.store =
     legal_history (setting_of config) world law.story law.backend law.is_told (λ conn. (says conn).count) (λ conn. (says conn).so) in
     record {
       so_far = told_of law.story;
       goes_on = now.more;
       asked = asked;
       given = λ conn. (says conn).given;
-      read = λ conn. read_of_legal (setting_of config) first_course (told_of law.story) (history_of world) law.story.course legal conn
-          (frames_heard (heard conn)) (asked conn) (given_to world conn) (bytes_heard (heard conn)) (says conn).given;
-      last = law.story.course;
-      legal = legal;
-      one_content = has_boxes config world law.backend law.story.course.store are law.nodes law.is_told.same;
+      read = λ conn. read_of_legal (setting_of config) first_course (told_of law.story) (history_of world) legal.last legal.legal empty_is
+          (λ other. heard_sound (heard other) (law.story.talk.requests other) (asked other)) conn (given_to world conn) (bytes_heard (heard conn))
+          (says conn).given;
+      last = legal.last;
+      legal = legal.legal;
+      one_content = subst (λ s. HasBoxesOf s world) (sym legal.same_store)
+          (has_boxes config world law.backend law.story.course.store are law.nodes law.is_told.same);
       in_time = stands_in_time (setting_of config) world
           (run_steps (start config) (before ++ later)) law.story last.story law.backend last.backend law.is_told last.is_told behind (λ conn. (says conn).so);
-      nothing_waits = λ empty conn stays. (says conn).waits_not empty stays ∙ sym (ap length (law.requests conn));
+      nothing_waits = λ empty conn stays.
+          subst (λ r. IsAnsweredThrough r (law.story.told conn)) (sym (law.requests conn)) ((says conn).waits_not empty stays);
     }
 
 told_at : (config : Config) (talk : Talk) (steps before later : List Event) → steps ≡ before ++ later → AreNodes config.nodes

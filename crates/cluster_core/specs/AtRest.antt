@@ -1,5 +1,6 @@
--- Nothing waits on empty links: where no message is on its way, each whole command was answered.
-use Rattle.std.specs.Prelude.{◌≡◌, ℕ, false, List, ◌++◌, length}
+-- Nothing waits on empty links: where no message is on its way, each whole command was answered, up to an answer that ended
+-- its connection.
+use Rattle.std.specs.Prelude.{◌≡◌, ℕ, false, List, ◌++◌}
 use Rattle.imap_reply.specs.Transcript.{transcript_of}
 use Rattle.mur_config.specs.declared.config.Config.{Config}
 use Rattle.mur_config.specs.Nodes.{AreNodes}
@@ -9,18 +10,18 @@ use Rattle.schedule_text.specs.declared.event.Event.{Event}
 use Rattle.cluster_core.specs.declared.world.World.{World}
 use Rattle.cluster_core.specs.Flow.{run_steps, steps_of_event}
 use Rattle.cluster_core.specs.Heard.{heard, bytes_heard, frames_heard, has_closed}
-use Rattle.cluster_core.specs.OneStore.{AreEmpty}
+use Rattle.cluster_core.specs.OneStore.{AreEmpty, IsAnsweredThrough}
 use Rattle.cluster_core.specs.Requests.{AskFor}
 use Rattle.cluster_core.specs.Shown.{given_to}
 use Rattle.cluster_core.specs.World.{start}
 
--- behind these steps the client was given an answer to each whole command that it sent
+-- behind these steps the client was given an answer to each whole command that it sent, or one that ended its connection
 pub record IsAnswered (config : Config) (conn : ℕ) (steps : List Event) (world : World) : Type 0 where
   pub requests : List Request
   pub answers : List Answer
   pub asked : AskFor (frames_heard (heard config conn steps)) requests
   pub given : given_to world conn ≡ transcript_of (bytes_heard (heard config conn steps)) answers
-  pub each : length answers ≡ length requests
+  pub each : IsAnsweredThrough requests answers
 
 -- of each client that hasn't closed its connection
 abbrev pub NothingWaits : Config → List Event → World → Type 0

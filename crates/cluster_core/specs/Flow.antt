@@ -1,6 +1,6 @@
 -- A flow: at most so many deliveries, in rounds over the directed pairs of linked nodes. A round takes one message of each
 -- queue that isn't empty when its turn comes.
-use Rattle.std.specs.Prelude.{ℕ, zero, suc, ◌-◌, ◌==◌, Bool, true, false, List, [], ◌∷◌, ◌++◌}
+use Rattle.std.specs.Prelude.{ℕ, zero, suc, ◌==◌, Bool, true, false, List, [], ◌∷◌, ◌++◌}
 use Rattle.link_msg.specs.declared.message.LinkMsg.{LinkMsg}
 use Rattle.mur_config.specs.declared.node.Link.{Link}
 use Rattle.schedule_text.specs.declared.event.Event.{Event}

@@ -1,17 +1,19 @@
 -- The one-store law: what each client was given is what one mailbox store replies to the printed history, at every step.
-use Rattle.std.specs.Prelude.{◌≡◌, ℕ, ◌≤◌, Bool, false, List, [], ◌∷◌, ◌++◌, length, Option, None, Some, All, AllPairs}
+use Rattle.std.specs.Prelude.{◌≡◌, ◌⊎◌, ℕ, ◌≤◌, true, false, List, [], ◌∷◌, ◌++◌, length, Option, None, Some, All, AllPairs}
+use Rattle.std.specs.List.{list_any}
 use Rattle.std.specs.Ordering.{nat_cmp}
 use Rattle.std.specs.Cmp.Lexicographic.{slice_cmp}
 use Rattle.backend_core.specs.declared.held.Held.{Held}
-use Rattle.imap_reply.specs.Transcript.{transcript_of}
+use Rattle.imap_reply.specs.Transcript.{transcript_of, ends}
 use Rattle.imap_reply.specs.TranscriptRead.{IsAllReadAsMeant}
-use Rattle.link_msg.specs.declared.message.LinkMsg.{LinkMsg}
 use Rattle.mail_message.specs.Boxes.{Content}
 use Rattle.mur_base.specs.Map.{value_at}
 use Rattle.mur_base.specs.declared.home.Phase.{Phase}
 use Rattle.mur_base.specs.declared.home.Phase.TheVariants.{Creating, Open as open_here, Closing, Receiving, Ready, Pointer}
 use Rattle.mur_base.specs.declared.point.Point.{Point}
 use Rattle.mur_config.specs.declared.config.Config.{Config}
+use Rattle.mur_model.specs.declared.request.Answer.{Answer}
+use Rattle.mur_model.specs.declared.request.Request.{Request}
 use Rattle.mur_model.specs.declared.session.Sess.TheVariants.{Off}
 use Rattle.mur_model.specs.declared.store.Store.{Store}
 use Rattle.mur_model.specs.History.{Course, Talk, TalkGoesOn, IsLegal}
@@ -64,6 +66,10 @@ HasBoxesOf store world = (name : List ℕ) → box_at store name ≡ box_of_home
 abbrev pub AreEmpty : World → Type 0
 AreEmpty world = (from to : List ℕ) → on_link world.links from to ≡ []
 
+-- each request was answered, or an answer ended the connection: behind a BYE nothing is answered (RFC 9051, 7.1.5)
+abbrev pub IsAnsweredThrough : List Request → List Answer → Type 0
+IsAnsweredThrough requests answers = (length answers ≡ length requests) ⊎ (list_any (λ (answer : Answer). ends answer.reply) answers ≡ true)
+
 -- in time: of the whole history, the points up to this step stand behind their commands, and every command that was answered
 -- by now has its point here
 pub record StandsInTime (talk : Talk) (now : ℕ) (points : List Point) : Type 0 where
@@ -84,9 +90,10 @@ pub record IsToldSoFar (config : Config) (talk : Talk) (points : List Point) (st
   pub legal : IsLegal (setting_of config) first_course so_far (history_of world) last
   pub one_content : HasBoxesOf last.store world
   pub in_time : StandsInTime so_far world.steps points
-  -- nothing waits on empty links: then each whole command of a client that hasn't closed its connection was answered
+  -- nothing waits on empty links: then each whole command of a client that hasn't closed its connection was answered, up to an
+  -- answer that ended the connection
   pub nothing_waits : AreEmpty world → (conn : ℕ) → has_closed (heard config conn steps) ≡ false
-      → length (so_far.answers conn) ≡ length (so_far.requests conn)
+      → IsAnsweredThrough (so_far.requests conn) (so_far.answers conn)
 
 -- at every step, each delivery of a flow being one; so a point stands at a step that is not before the one whose bytes
 -- completed its command, and not behind the one that gave its reply: a command that was answered before another one was sent

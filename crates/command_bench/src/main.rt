@@ -20,7 +20,8 @@ struct Load {
     times: u32,
 }
 
-fn loads(alloc: Global) -> Result<[Load; 11], Memory> {
+/// Short commands.
+fn short_loads(alloc: Global) -> Result<[Load; 5], Memory> {
     Ok([
         Load {
             name: "LOGIN of 21 bytes",
@@ -50,6 +51,12 @@ fn loads(alloc: Global) -> Result<[Load; 11], Memory> {
             )?,
             times: 10_000,
         },
+    ])
+}
+
+/// Lines of up to the greatest length, and messages.
+fn long_loads(alloc: Global) -> Result<[Load; 6], Memory> {
+    Ok([
         Load {
             name: "UID EXPUNGE of 2,000 ranges",
             frame: filled_by(alloc, b"a1 UID EXPUNGE 1", b",1:*", 2_000, b"\r\n")?,
@@ -145,7 +152,9 @@ fn main(rt: HostRuntime) -> Result<()> {
         Some(word) => Some(word.as_str().parse::<u32>()?),
         None => None,
     };
-    for load in &loads(rt.alloc())? {
+    let short = short_loads(rt.alloc())?;
+    let long = long_loads(rt.alloc())?;
+    for load in short.iter().chain(long.iter()) {
         let name = load.name;
         let start = Instant::now(&rt)?;
         let commands = count_commands(rt.alloc(), load, rounds.unwrap_or(1));

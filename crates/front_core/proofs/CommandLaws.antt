@@ -7,27 +7,31 @@ use Rattle.imap_wire.specs.declared.frame.Frame.TheVariants.{Whole, NeedLiteral,
 use Rattle.link_msg.specs.declared.answer.BackAnswer.{BackAnswer}
 use Rattle.mur_model.specs.declared.command.Tag.{Tag}
 use Rattle.mur_model.specs.declared.need.Need.{Need}
-use Rattle.mur_model.specs.declared.need.Need.TheVariants.{Refusal, Login, Mailbox}
+use Rattle.mur_model.specs.declared.need.Need.TheVariants.{Refusal, Login, Turned, Mailbox}
 use Rattle.mur_model.specs.declared.reply.Reply.{Reply}
 use Rattle.mur_model.specs.declared.request.Request.{Request}
 use Rattle.mur_model.specs.declared.request.Request.TheVariants.{Command as a_command, Unknown as unknown, TooBig as too_big}
+use Rattle.mur_model.specs.declared.session.Sess.{Sess}
+use Rattle.mur_model.specs.declared.session.Sess.TheVariants.{Off, In, Selected, Ended as session_ended}
+use Rattle.mur_model.specs.declared.session.Turn.{Turn}
 use Rattle.mur_model.specs.declared.setting.Setting.{Setting}
 use Rattle.mur_model.specs.Act.{need_of}
-use Rattle.front_core.specs.declared.connection.Awaited.{Awaited}
 use Rattle.front_core.specs.declared.connection.Connection.{Connection}
 use Rattle.front_core.specs.declared.connection.Stage.{Stage}
 use Rattle.front_core.specs.declared.connection.Stage.TheVariants.{Reading, Asked, Ended}
-use Rattle.front_core.specs.Answered.{answer_comes, answer_by, replied, reading_again, text_shown}
-use Rattle.front_core.specs.Awaited.{reply_shown}
+use Rattle.front_core.specs.Answered.{answer_comes, answer_by, turned, replied, reading_again}
 use Rattle.front_core.specs.Front.{is_asked}
 use Rattle.front_core.specs.Room.{commands_of}
 use Rattle.front_core.specs.Taken.{answers, asks, need_in, request_in, frame_in, comes_at, frame_comes, frames_come}
+use Rattle.session_core.specs.declared.asking.Awaited.{Awaited}
+use Rattle.session_core.specs.Finish.{finish}
 
 module _ (setting : Setting) (home : List ℕ) (conn : ℕ) where
   need_counts : (c : Connection) (tag : Tag) (need : Need) → commands_of (need_in home conn c tag need).connection ≤ commands_of c + 1
   unfolding need_in answers asks is_asked
   need_counts c tag (Refusal verdict) = omega arith
   need_counts c tag (Login user) = omega arith
+  need_counts c tag (Turned turn) = omega arith
   need_counts c tag (Mailbox name work) = omega arith
 
   request_counts : (c : Connection) (request : Request) → commands_of (request_in setting home conn c request).connection ≤ commands_of c + 1
@@ -60,16 +64,29 @@ module _ (setting : Setting) (home : List ℕ) (conn : ℕ) where
   frames_count c (frame ∷ frames) =
       omega (arith, frame_counts c frame, frames_count (frame_comes setting home conn c frame).connection frames)
 
-  replied_counts : (c : Connection) (tag : Tag) (awaited : Awaited) (text : Option (List ℕ)) → c.stage ≡ Asked tag awaited
-      → commands_of (replied setting home conn c text).connection ≤ commands_of c
+  read_counts : (c : Connection) (tag : Tag) (awaited : Awaited) (session : Option Sess) → c.stage ≡ Asked tag awaited
+      → commands_of (frames_come setting home conn (reading_again c session) c.waiting).connection ≤ commands_of c
   unfolding is_asked
-  replied_counts c tag awaited None is = omega arith
-  replied_counts c tag awaited (Some text) is = omega (arith, frames_count (reading_again c) c.waiting, ap is_asked is)
+  read_counts c tag awaited session is = omega (arith, frames_count (reading_again c session) c.waiting, ap is_asked is)
+
+  replied_counts : (c : Connection) (tag : Tag) (awaited : Awaited) (text : List ℕ) (session : Option Sess) → c.stage ≡ Asked tag awaited
+      → commands_of (replied setting home conn c text session).connection ≤ commands_of c
+  unfolding replied is_asked
+  replied_counts c tag awaited text (Some session_ended) is = omega (arith, ap is_asked is)
+  replied_counts c tag awaited text (Some Off) is = read_counts c tag awaited (Some Off) is
+  replied_counts c tag awaited text (Some (In user)) is = read_counts c tag awaited (Some (In user)) is
+  replied_counts c tag awaited text (Some (Selected view)) is = read_counts c tag awaited (Some (Selected view)) is
+  replied_counts c tag awaited text None is = read_counts c tag awaited None is
+
+  turned_counts : (c : Connection) (tag : Tag) (awaited : Awaited) (turn : Option Turn) → c.stage ≡ Asked tag awaited
+      → commands_of (turned setting home conn c tag turn).connection ≤ commands_of c
+  turned_counts c tag awaited None is = omega arith
+  turned_counts c tag awaited (Some turn) is = replied_counts c tag awaited _ turn.session is
 
   answer_counts_by : (c : Connection) (answer : BackAnswer) (fits : Bool) (stage : Stage) → c.stage ≡ stage
       → commands_of (answer_by setting home conn c answer fits stage).connection ≤ commands_of c
   unfolding answer_by
-  answer_counts_by c answer true (Asked tag awaited) is = replied_counts c tag awaited (text_shown tag (reply_shown awaited answer.body)) is
+  answer_counts_by c answer true (Asked tag awaited) is = turned_counts c tag awaited (finish awaited answer.body) is
   answer_counts_by c answer true Reading is = omega arith
   answer_counts_by c answer true Ended is = omega arith
   answer_counts_by c answer false stage is = omega arith

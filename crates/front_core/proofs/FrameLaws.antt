@@ -5,7 +5,7 @@ use Rattle.imap_wire.specs.declared.frame.Frame.{Frame}
 use Rattle.imap_wire.specs.declared.frame.Frame.TheVariants.{Whole, NeedLiteral, TooBig, Fault}
 use Rattle.mur_model.specs.declared.command.Tag.{Tag}
 use Rattle.mur_model.specs.declared.need.Need.{Need}
-use Rattle.mur_model.specs.declared.need.Need.TheVariants.{Refusal, Login, Mailbox}
+use Rattle.mur_model.specs.declared.need.Need.TheVariants.{Refusal, Login, Turned as turned_at_once, Mailbox}
 use Rattle.mur_model.specs.declared.request.Request.{Request}
 use Rattle.mur_model.specs.declared.request.Request.TheVariants.{Command as a_command, Unknown as unknown, TooBig as too_big}
 use Rattle.mur_model.specs.declared.setting.Setting.{Setting}
@@ -29,6 +29,7 @@ module _ (setting : Setting) (home : List ℕ) (conn : ℕ) (reader : Option (Li
     unfolding need_in answers asks
     need_apart c tag (Refusal verdict) = refl
     need_apart c tag (Login user) = refl
+    need_apart c tag (turned_at_once turn) = refl
     need_apart c tag (Mailbox name work) = refl
 
     request_apart : (c : Connection) (request : Request)

@@ -5,11 +5,11 @@ use Rattle.imap_wire.specs.declared.frame.Frame.{Frame}
 use Rattle.link_msg.specs.declared.out.Out.{Out}
 use Rattle.mur_model.specs.declared.command.Tag.{Tag}
 use Rattle.mur_model.specs.declared.setting.Setting.{Setting}
-use Rattle.front_core.specs.declared.connection.Awaited.{Awaited}
 use Rattle.front_core.specs.declared.connection.Connection.{Connection}
 use Rattle.front_core.specs.declared.connection.Stage.TheVariants.{Reading, Asked, Ended}
 use Rattle.front_core.specs.Taken.{Turned, frame_in, comes_at, frame_comes, frames_come, behind_outs}
 use Rattle.front_core.proofs.FrameLaws.{reading, comes_apart}
+use Rattle.session_core.specs.declared.asking.Awaited.{Awaited}
 
 pub behind_behind : (first second : List Out) (turned : Turned) → behind_outs first (behind_outs second turned) ≡ behind_outs (first ++ second) turned
 behind_behind first second turned = ap (λ outs. record turned { outs = outs }) (sym (append_assoc first second turned.outs))

@@ -4,21 +4,22 @@ use Rattle.mur_base.specs.declared.user.User.{User}
 use Rattle.mur_model.specs.declared.command.Command.{Command}
 use Rattle.mur_model.specs.declared.command.Command.TheVariants.{Login as login_of, Create as create_of, Append as append_of, Status as status_of}
 use Rattle.mur_model.specs.declared.need.Need.{Need}
-use Rattle.mur_model.specs.declared.need.Need.TheVariants.{Refusal, Login, Mailbox}
+use Rattle.mur_model.specs.declared.need.Need.TheVariants.{Refusal, Login, Turned, Mailbox}
 use Rattle.mur_model.specs.declared.session.Sess.{Sess}
-use Rattle.mur_model.specs.declared.session.Sess.TheVariants.{Off, In, Ended}
+use Rattle.mur_model.specs.declared.session.Sess.TheVariants.{Off, In, Selected, Ended}
 use Rattle.mur_model.specs.declared.setting.Setting.{Setting}
-use Rattle.mur_model.specs.Act.{need_of, need_off, need_in}
+use Rattle.mur_model.specs.Act.{need_of, need_off, need_in, need_selected}
 use Rattle.mur_model.specs.Login.{login, login_as, login_by}
 use Rattle.mur_model.specs.Rights.{user_named}
 use Rattle.std.specs.Str.{bytes_eq}
 use Rattle.front_core.specs.Begun.{MayNeed, HasBegun}
 
-in_any : (user : List ℕ) (need : Need) → MayNeed (In user) need
-unfolding MayNeed HasBegun
-in_any user (Refusal verdict) = tt
-in_any user (Login other) = tt
-in_any user (Mailbox name work) = tt
+begun_any : (session : Sess) (need : Need) → HasBegun session → MayNeed session need
+unfolding MayNeed
+begun_any session (Refusal verdict) begun = tt
+begun_any session (Login other) begun = tt
+begun_any session (Turned turn) begun = tt
+begun_any session (Mailbox name work) begun = begun
 
 login_by-needs : (user : List ℕ) (same : Bool) → MayNeed Off (login_by user same)
 unfolding MayNeed login_by
@@ -39,7 +40,8 @@ off-needs setting (status_of text items) = tt
 off-needs setting it = tt
 
 pub may_need : (setting : Setting) (session : Sess) (it : Command) → MayNeed session (need_of setting session it)
-unfolding MayNeed need_of
+unfolding MayNeed HasBegun need_of
 may_need setting Off it = off-needs setting it
-may_need setting (In user) it = in_any user (need_in setting user it)
+may_need setting (In user) it = begun_any (In user) (need_in setting user it) tt
+may_need setting (Selected view) it = begun_any (Selected view) (need_selected setting view it) tt
 may_need setting Ended it = tt

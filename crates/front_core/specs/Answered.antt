@@ -2,37 +2,52 @@
 use Rattle.std.specs.Prelude.{ℕ, ◌+◌, Bool, true, ◌==◌, List, [], ◌∷◌, Option, None, Some}
 use Rattle.imap_reply.specs.ReplyText.{reply_text}
 use Rattle.link_msg.specs.declared.answer.BackAnswer.{BackAnswer}
-use Rattle.link_msg.specs.declared.out.Out.TheVariants.{Client}
+use Rattle.link_msg.specs.declared.out.Out.TheVariants.{Client, Close}
 use Rattle.mur_model.specs.declared.command.Tag.{Tag}
-use Rattle.mur_model.specs.declared.reply.Reply.{Reply}
+use Rattle.mur_model.specs.declared.session.Sess.{Sess}
+use Rattle.mur_model.specs.declared.session.Sess.TheVariants.{Ended as session_ended}
+use Rattle.mur_model.specs.declared.session.Turn.{Turn}
 use Rattle.mur_model.specs.declared.setting.Setting.{Setting}
 use Rattle.front_core.specs.declared.connection.Connection.{Connection}
 use Rattle.front_core.specs.declared.connection.Stage.{Stage}
-use Rattle.front_core.specs.declared.connection.Stage.TheVariants.{Reading, Asked}
-use Rattle.front_core.specs.Awaited.{reply_shown}
+use Rattle.front_core.specs.declared.connection.Stage.TheVariants.{Reading, Asked, Ended}
+use Rattle.mur_model.specs.Act.{session_after}
+use Rattle.session_core.specs.Finish.{finish}
 use Rattle.front_core.specs.Taken.{Turned, frames_come, behind_outs}
 
 -- the connection behind the answer of its command, before the frames that waited
-abbrev pub reading_again : Connection → Connection
-reading_again connection = record connection { waiting = []; stage = Reading; answered = connection.answered + 1 }
+abbrev pub reading_again : Connection → Option Sess → Connection
+reading_again connection session = record connection {
+  waiting = [];
+  session = session_after connection.session session;
+  stage = Reading;
+  answered = connection.answered + 1;
+}
+
+-- the connection whose session has ended with the answer of its command
+abbrev pub ended_so : Connection → Connection
+ended_so connection = record connection { waiting = []; session = session_ended; stage = Ended; answered = connection.answered + 1 }
+
+-- the last reply of a connection
+abbrev pub ends_with : ℕ → Connection → List ℕ → Turned
+ends_with conn connection text = record { connection = ended_so connection; outs = Client conn text ∷ Close conn ∷ [] }
 
 abbrev pub unchanged : Connection → Turned
 unchanged connection = record { connection = connection; outs = [] }
 
--- the bytes of a reply, if there is one
-abbrev pub text_shown : Tag → Option Reply → Option (List ℕ)
-text_shown tag None = None
-text_shown tag (Some reply) = Some (reply_text tag reply)
+-- the client is given its reply; where the session has ended nothing follows it (RFC 9051, 7.1.5), else the frames that waited come
+unfoldable pub replied : Setting → List ℕ → ℕ → Connection → List ℕ → Option Sess → Turned
+replied setting home conn connection text (Some session_ended) = ends_with conn connection text
+replied setting home conn connection text session =
+    behind_outs (Client conn text ∷ []) (frames_come setting home conn (reading_again connection session) connection.waiting)
 
-abbrev pub replied : Setting → List ℕ → ℕ → Connection → Option (List ℕ) → Turned
-replied setting home conn connection None = unchanged connection
-replied setting home conn connection (Some text) =
-    behind_outs (Client conn text ∷ []) (frames_come setting home conn (reading_again connection) connection.waiting)
+abbrev pub turned : Setting → List ℕ → ℕ → Connection → Tag → Option Turn → Turned
+turned setting home conn connection tag None = unchanged connection
+turned setting home conn connection tag (Some turn) = replied setting home conn connection (reply_text tag turn.reply) turn.session
 
 -- an answer to another command than the one that waits changes nothing
 unfoldable pub answer_by : Setting → List ℕ → ℕ → Connection → BackAnswer → Bool → Stage → Turned
-answer_by setting home conn connection answer true (Asked tag awaited) =
-    replied setting home conn connection (text_shown tag (reply_shown awaited answer.body))
+answer_by setting home conn connection answer true (Asked tag awaited) = turned setting home conn connection tag (finish awaited answer.body)
 answer_by setting home conn connection answer fits stage = unchanged connection
 
 unfoldable pub answer_comes : Setting → List ℕ → ℕ → Connection → BackAnswer → Turned

@@ -1,7 +1,3 @@
-pub mod Create
-pub mod Append
-pub mod Status
-pub mod Awaited
 pub mod Taken
 pub mod Answered
 pub mod Front

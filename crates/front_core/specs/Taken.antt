@@ -14,7 +14,7 @@ use Rattle.link_msg.specs.declared.out.Out.{Out}
 use Rattle.link_msg.specs.declared.out.Out.TheVariants.{Client, Close, Link, Mark}
 use Rattle.mur_model.specs.declared.command.Tag.{Tag}
 use Rattle.mur_model.specs.declared.need.Need.{Need}
-use Rattle.mur_model.specs.declared.need.Need.TheVariants.{Refusal, Login, Mailbox}
+use Rattle.mur_model.specs.declared.need.Need.TheVariants.{Refusal, Login, Turned as turned_at_once, Mailbox}
 use Rattle.mur_model.specs.declared.need.Work.{Work}
 use Rattle.mur_model.specs.declared.reply.BadText.TheVariants.{Syntax}
 use Rattle.mur_model.specs.declared.reply.NoText.TheVariants.{Limit}
@@ -23,14 +23,14 @@ use Rattle.mur_model.specs.declared.reply.Verdict.TheVariants.{Bad as bad_reply}
 use Rattle.mur_model.specs.declared.request.Request.{Request}
 use Rattle.mur_model.specs.declared.request.Request.TheVariants.{Command as a_command, Unknown as unknown, TooBig as too_big}
 use Rattle.mur_model.specs.declared.session.Sess.{Sess}
-use Rattle.mur_model.specs.declared.session.Sess.TheVariants.{Off, In, Ended as session_ended}
+use Rattle.mur_model.specs.declared.session.Sess.TheVariants.{Off, In, Selected, Ended as session_ended}
 use Rattle.mur_model.specs.declared.setting.Setting.{Setting}
-use Rattle.mur_model.specs.Act.{need_of}
+use Rattle.mur_model.specs.Act.{need_of, session_after}
 use Rattle.mur_model.specs.Reply.{reply_of, completed, refused}
 use Rattle.front_core.specs.declared.connection.Connection.{Connection}
 use Rattle.front_core.specs.declared.connection.Stage.{Stage}
 use Rattle.front_core.specs.declared.connection.Stage.TheVariants.{Reading, Asked, Ended}
-use Rattle.front_core.specs.Awaited.{op_of, awaited_of}
+use Rattle.session_core.specs.Asking.{asked_for}
 
 -- a connection, and what it let out
 pub record Turned : Type 0 where
@@ -48,6 +48,7 @@ answers conn connection session tag reply = record {
 unfoldable pub user_of : Sess → List ℕ
 user_of Off = []
 user_of (In user) = user
+user_of (Selected view) = view.user
 user_of session_ended = []
 
 abbrev pub ask_for : ℕ → Connection → List ℕ → Work → FrontAsk
@@ -55,20 +56,21 @@ ask_for conn connection name work = record {
   id = record { conn = conn; command = connection.answered + 1 };
   user = user_of connection.session;
   name = name;
-  serial = 0;
-  op = op_of work;
+  selected = (asked_for name work).selected;
+  op = (asked_for name work).op;
 }
 
 -- a command that waits for the home of its mailbox
 unfoldable pub asks : List ℕ → ℕ → Connection → Tag → List ℕ → Work → Turned
 asks home conn connection tag name work = record {
-  connection = record connection { stage = Asked tag (awaited_of work) };
+  connection = record connection { stage = Asked tag (asked_for name work).awaited };
   outs = Link home (Ask (ask_for conn connection name work)) ∷ [];
 }
 
 unfoldable pub need_in : List ℕ → ℕ → Connection → Tag → Need → Turned
 need_in home conn connection tag (Refusal verdict) = answers conn connection connection.session tag (reply_of verdict)
 need_in home conn connection tag (Login user) = answers conn connection (In user) tag (completed (codes "LOGIN"))
+need_in home conn connection tag (turned_at_once turn) = answers conn connection (session_after connection.session turn.session) tag turn.reply
 need_in home conn connection tag (Mailbox name work) = asks home conn connection tag name work
 
 unfoldable pub request_in : Setting → List ℕ → ℕ → Connection → Request → Turned

@@ -3,11 +3,11 @@ ghost use Rattle.std.specs.Prelude.{◌≡◌, ◌+◌, ◌<◌, ◌^◌, IfOk, 
 ghost use Rattle.front_core.specs.Begun.{HasBegun};
 ghost use Rattle.front_core.specs.Taken.{asks, behind_outs, user_of};
 
-use crate::awaited::asked_for;
 use crate::connection::{Connection, Stage};
 use link_msg::{FrontAsk, LinkMsg, Out, Outs};
 use mur_base::{AskId, Copied, MailName, Memory, NodeName, UserName};
 use mur_model::{Sess, Tag, Work};
+use session_core::{Asking, asked_for};
 use std::alloc::Global;
 
 /// Asks the home for some work, under the number that the command will have. For want of memory the connection is spent.
@@ -27,7 +27,11 @@ pub fn asks(
     ensures { OnOk result (record { connection = connection.new; outs = outs.new }
         ≡ behind_outs outs.old (asks home.now conn connection.old tag name work)) }
 {
-    let (op, awaited) = asked_for(alloc, work)?;
+    let Asking {
+        op,
+        selected,
+        awaited,
+    } = asked_for(alloc, &name, work)?;
     let ask = FrontAsk {
         id: AskId {
             conn,
@@ -35,7 +39,7 @@ pub fn asks(
         },
         user: user_of(alloc, &connection.session)?,
         name,
-        serial: 0,
+        selected,
         op,
     };
     connection.stage = Stage::Asked(tag, awaited);
@@ -49,6 +53,7 @@ fn user_of(alloc: Global, session: &Sess) -> Result<UserName, Memory>
 {
     match session {
         Sess::In(user) => user.copy(alloc),
+        Sess::Selected(view) => view.user.copy(alloc),
         Sess::Off | Sess::Ended => unreachable!(),
     }
 }

@@ -5,17 +5,9 @@ ghost use Rattle.front_core.specs.Stages.{is_reading, has_ended};
 
 use crate::reader::Reader;
 use imap_wire::Frame;
-use mur_base::{Bytes, Queue};
-use mur_model::{Sess, StatusItems, Tag};
-
-/// What the client of an ask waits for, and what its reply is made of besides the home's answer.
-#[derive(Drop)]
-pub enum Awaited {
-    Create,
-    Append,
-    /// Under this name, of these items.
-    Status(Bytes, StatusItems),
-}
+use mur_base::Queue;
+use mur_model::{Sess, Tag};
+use session_core::Awaited;
 
 /// What a connection is at.
 #[derive(Drop)]

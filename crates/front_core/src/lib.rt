@@ -2,18 +2,14 @@
 #![tactic(auto)]
 
 mod answered;
-mod append;
 mod asks;
-mod awaited;
 mod connection;
-mod create;
 mod front;
 mod piece;
 mod reader;
-mod status;
 mod taken;
 mod waiting;
 
-pub use connection::{Awaited, Connection, Stage};
+pub use connection::{Connection, Stage};
 pub use front::Front;
 pub use reader::Reader;

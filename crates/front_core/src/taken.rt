@@ -17,7 +17,7 @@ use link_msg::{Counts, Out, Outs};
 use mur_base::{AskId, Bytes, Memory, NodeName};
 use mur_model::{
     BadText, Bye, Need, NoText, Reply, ReplyLines, Request, Sess, Setting, Tag, Verdict, begin,
-    completed, refused,
+    completed, refused, turned,
 };
 use std::alloc::Global;
 
@@ -155,6 +155,10 @@ fn need_in(
         Need::Login(user) => {
             connection.session = Sess::In(user);
             let reply = completed(alloc, b"LOGIN")?;
+            answers(alloc, conn, connection, &tag, reply, outs)
+        }
+        Need::Turned(turn) => {
+            let reply = turned(&mut connection.session, turn);
             answers(alloc, conn, connection, &tag, reply, outs)
         }
         Need::Mailbox(name, work) => asks(alloc, home, conn, connection, tag, name, work, outs),

@@ -4,6 +4,7 @@ pub mod ChoiceLaw
 pub mod WordLaw
 pub mod RangeLaw
 pub mod RunLaw
+pub mod EndsLaw
 pub mod ExactlyLaw
 pub mod NumberLaw
 pub mod ScanSteps
@@ -17,6 +18,7 @@ pub mod ToolLaws
 pub mod NameSteps
 pub mod Spelling
 pub mod FormLaw
+pub mod NamesApart
 pub mod NamesLaw
 pub mod SeveralLaw
 pub mod NumeralLaw

@@ -19,7 +19,7 @@ letter_trans a b c h k =
     eq-eqb (to_ascii_lowercase a) (to_ascii_lowercase c)
     (eqb-true (to_ascii_lowercase a) (to_ascii_lowercase b) h ∙ eqb-true (to_ascii_lowercase b) (to_ascii_lowercase c) k)
 
-name_sym : (a b : List ℕ) → is_name a b ≡ true → is_name b a ≡ true
+pub name_sym : (a b : List ℕ) → is_name a b ≡ true → is_name b a ≡ true
 name_sym [] [] h = refl
 name_sym [] (y ∷ b) h = cc
 name_sym (x ∷ a) [] h = cc
@@ -27,7 +27,7 @@ name_sym (x ∷ a) (y ∷ b) h =
     and_both _ _ (eq-eqb (to_ascii_lowercase y) (to_ascii_lowercase x) (sym (eqb-true (to_ascii_lowercase x) (to_ascii_lowercase y) (and_left _ _ h))))
     (name_sym a b (and_right _ _ h))
 
-name_trans : (a b c : List ℕ) → is_name a b ≡ true → is_name b c ≡ true → is_name a c ≡ true
+pub name_trans : (a b c : List ℕ) → is_name a b ≡ true → is_name b c ≡ true → is_name a c ≡ true
 name_trans [] [] c h k = k
 name_trans [] (y ∷ b) c h k = cc
 name_trans (x ∷ a) [] c h k = cc

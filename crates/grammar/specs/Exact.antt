@@ -37,6 +37,10 @@ among (x ∷ xs) c = c == x || among xs c
 abbrev pub any : ℕ → Bool
 any c = true
 
+-- no byte
+abbrev pub none : ℕ → Bool
+none c = false
+
 -- what a reader takes begins, unless it is empty, with a byte that passes the test
 abbrev pub Follows : {V : Type 0} → (ℕ → Bool) → (List ℕ → Result V ℕ) → Type 0
 Follows set read = (c : ℕ) (tail : List ℕ) (v : _) → read (c ∷ tail) ≡ Ok v → set c ≡ true

@@ -1,3 +1,4 @@
+pub mod Ends
 pub mod Exact
 pub mod Forms
 pub mod Gives

@@ -49,6 +49,7 @@
 #![tactic(auto)]
 
 mod class;
+mod ends;
 mod error;
 mod form;
 mod laws;
@@ -62,6 +63,7 @@ mod whole;
 mod word;
 
 pub use class::{Between, Class, Digit, Only, begins, byte_in, byte_of, exactly_of, optional_of};
+pub use ends::all_before;
 pub use error::{ReadError, Stop};
 pub use form::{Production, put_several, several_of};
 pub use laws::{

@@ -1,6 +1,6 @@
 -- APPEND: the law of its arguments.
-use Rattle.std.proofs.Common.{◌≡◌, ℕ, List, [], ◌∷◌, ◌++◌, Bool, true, false, ◌||◌, ◌==◌, inl, inr, refl, sym, subst}
-use Rattle.std.proofs.Common.{Option, None, Some}
+use Rattle.std.proofs.Common.{ℕ, List, ◌∷◌, Bool, ◌||◌, ◌==◌, inl, inr, refl, sym, subst}
+use Rattle.std.proofs.Common.{None, Some}
 use Rattle.grammar.specs.Exact.{StartsWith, any}
 use Rattle.grammar.specs.Forms.{Law, behind, ◌spaced◌}
 use Rattle.grammar.specs.Part.{map, byte}

@@ -59,7 +59,7 @@ law_status = arguments_behind _ refl (law_spaced argument status_items refl law_
 law_none : Law ends_atom ends_line nothing
 law_none = law_weaker ends_atom ends_line nothing line_ends_atom (λ c h. h) (law_nothing ends_line)
 
-uid_branch : (k : UidVerb) → Branch ends_atom ends_line uid_verb_of k (uid_arguments k)
+pub uid_branch : (k : UidVerb) → Branch ends_atom ends_line uid_verb_of k (uid_arguments k)
 unfolding arguments_text uid_arguments uid_verb_of
 uid_branch uid.Copy = branch uid_verb_of uid.Copy (λ x. command.Copy true x.0 x.1) arguments_text copy law_copy (λ x. (refl, refl))
 uid_branch uid.Expunge =

@@ -100,7 +100,7 @@ abbrev behind_open : Part Flags
 behind_open =
     choose (λ c. c == 41) (map (λ _. no_flags) (byte 41)) (some_flags then λ flags. map (λ _. flags) (byte 41))
 
-only_list : Only flag_list_part IsKept
+pub only_list : Only flag_list_part IsKept
 unfolding flag_list_part
 only_list =
     only_behind IsKept 40 behind_open
@@ -109,7 +109,7 @@ only_list =
     (only_then some_flags (λ flags. map (λ _. flags) (byte 41)) IsKept IsKept only_some
     (λ flags kept. only_map (λ _. flags) (byte 41) IsKept (λ bytes c l. kept))))
 
-only_store : Only store_flags_part IsKept
+pub only_store : Only store_flags_part IsKept
 unfolding store_flags_part
 only_store = only_choose IsKept (λ c. c == 40) flag_list_part some_flags only_list only_some
 

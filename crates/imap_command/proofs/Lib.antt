@@ -1,6 +1,8 @@
 pub mod ArgumentsLaw
 pub mod BadLaws
 pub mod CommandsLaw
+pub mod KnownLaw
+pub mod LeftOutLaw
 pub mod NoNul
 pub mod PrintLaw
 pub mod RequestLaws
@@ -21,6 +23,7 @@ pub mod KeywordsKept
 pub mod FlagsLaw
 pub mod FlagsPrinted
 pub mod FlagSteps
+pub mod RuledLaw
 pub mod StoreLaw
 pub mod DateLaw
 pub mod AppendLaw

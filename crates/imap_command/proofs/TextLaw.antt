@@ -1,4 +1,4 @@
--- How a command is printed, in one line.
+-- How a known command is printed, in one line.
 use Rattle.std.proofs.Common.{◌≡◌, [], ◌∷◌, ◌++◌, refl, ap}
 use Rattle.mur_model.specs.declared.command.Command.{Command}
 use Rattle.imap_command.specs.declared.verb.Verb.{Verb}
@@ -6,7 +6,7 @@ use Rattle.imap_command.specs.declared.verb.Verb.TheVariants as verb
 use Rattle.imap_command.specs.declared.verb.UidVerb.{UidVerb}
 use Rattle.imap_command.specs.declared.verb.UidVerb.TheVariants as uid
 use Rattle.imap_command.specs.Commands.{arguments, arguments_text, behind_text, uid_arguments}
-use Rattle.imap_command.specs.Spells.{commands}
+use Rattle.imap_command.specs.Spells.{known}
 use Rattle.imap_command.specs.Verbs.{is_uid, name_text, verb_of, uid_name_text, uid_verb_of}
 
 uid_text : (k : UidVerb) (it : Command) → (uid_arguments k).text it ≡ arguments_text it
@@ -22,5 +22,5 @@ unfolding arguments behind_text is_uid
 text_behind verb.Uid it = ap (λ s. 32 ∷ (uid_name_text (uid_verb_of it) ++ s)) (uid_text (uid_verb_of it) it)
 text_behind v it = refl
 
-pub commands_text : (it : Command) → commands.text it ≡ name_text (verb_of it) ++ (behind_text (verb_of it) it ++ 13 ∷ 10 ∷ [])
-commands_text it = ap (λ s. name_text (verb_of it) ++ (s ++ 13 ∷ 10 ∷ [])) (text_behind (verb_of it) it)
+pub known_text : (it : Command) → known.text it ≡ name_text (verb_of it) ++ (behind_text (verb_of it) it ++ 13 ∷ 10 ∷ [])
+known_text it = ap (λ s. name_text (verb_of it) ++ (s ++ 13 ∷ 10 ∷ [])) (text_behind (verb_of it) it)

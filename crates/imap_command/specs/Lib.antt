@@ -7,12 +7,14 @@ pub mod Copy
 pub mod Date
 pub mod Print
 pub mod Request
+pub mod Ruled
 pub mod Sets
 pub mod Spells
 pub mod Status
 pub mod Strings
 pub mod Utf8
 pub mod Verbs
+pub mod LeftOut
 pub mod List
 pub mod SetAcl
 pub mod Xfer

@@ -52,7 +52,7 @@ name_text verb.Xfer = codes "XFER"
 abbrev pub verb_form : Form Verb
 verb_form = table verb.Uid verbs name_text
 
--- the first word of a command
+-- the first word of a command; of one that is left out, which is printed as it stands, it says nothing
 unfoldable pub verb_of : Command → Verb
 verb_of (command.Append mailbox flags date message) = verb.Append
 verb_of (command.Authenticate response) = verb.Authenticate
@@ -71,6 +71,7 @@ verb_of (command.Fetch false set items) = verb.Fetch
 verb_of (command.Fetch true set items) = verb.Uid
 verb_of (command.GetAcl mailbox) = verb.GetAcl
 verb_of (command.Idle behind) = verb.Idle
+verb_of (command.LeftOut octets) = verb.Noop
 verb_of (command.List reference pattern) = verb.List
 verb_of (command.Login user password) = verb.Login
 verb_of command.Logout = verb.Logout

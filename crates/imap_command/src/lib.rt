@@ -4,6 +4,7 @@
 //! takes just these, and tells of each other frame the longest prefix that begins some command. What [`print`] gives
 //! spells just its command, so [`reread`] gives back what it is given.
 //!
+//! A name that is left out has its own reader (`left_out`), which keeps the frame as it is; each other command begins with a verb.
 //! What stands behind the name of a command is a form of the crate `grammar`. Arguments that several commands have (none,
 //! a mailbox, two strings) are in `arguments`; others have a file in `src`, reader and printer, one in `specs`, the form, and
 //! its law in `proofs`. A new command has a row in `src/verb.rt` and `specs/Verbs.antt`, its line in `src/commands.rt`,
@@ -22,6 +23,7 @@ mod fault;
 mod flags;
 mod items;
 mod keys;
+mod left_out;
 mod list;
 mod printer;
 mod reader;

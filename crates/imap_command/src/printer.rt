@@ -5,7 +5,7 @@ ghost use Rattle.grammar.specs.Forms.{behind, several};
 ghost use Rattle.imap_command.specs.Commands.{arguments_text, behind_text};
 ghost use Rattle.imap_command.specs.Sets.{set as set_form};
 ghost use Rattle.imap_command.specs.Strings.{atom};
-ghost use Rattle.imap_command.specs.Spells.{Spells, IsSpelled, commands};
+ghost use Rattle.imap_command.specs.Spells.{Spells, IsSpelled, known, command_text};
 ghost use Rattle.imap_command.specs.Print.{tag_text, printed};
 
 use crate::append::put_append;
@@ -83,6 +83,7 @@ fn put_arguments(alloc: Global, command: &Command, out: &mut Bytes) -> Result<()
         | Command::Close
         | Command::Expunge(None)
         | Command::Idle(_)
+        | Command::LeftOut(_)
         | Command::Logout
         | Command::Noop
         | Command::Unselect => Ok(()),
@@ -101,15 +102,29 @@ fn put_behind(alloc: Global, verb: Verb, command: &Command, out: &mut Bytes) -> 
     put_arguments(alloc, command, out)
 }
 
-/// Prints a command to its end.
-#[tactic(auto, using(std::proofs::lemmas::Grind::common_steps, crate::proofs::TextLaw::commands_text))]
-fn put_command(alloc: Global, command: &Command, out: &mut Bytes) -> Result<(), Memory>
-    ensures { OnOk result (out.new ≡ out.old ++ commands.text command.now) }
+/// Prints a known command to its end.
+#[tactic(auto, using(std::proofs::lemmas::Grind::common_steps, crate::proofs::TextLaw::known_text))]
+fn put_known(alloc: Global, command: &Command, out: &mut Bytes) -> Result<(), Memory>
+    ensures { OnOk result (out.new ≡ out.old ++ known.text command.now) }
 {
     let verb = verb_of(command);
     out.extend_from_slice(name_of(verb))?;
     put_behind(alloc, verb, command, out)?;
     out.extend_from_slice(b"\r\n")
+}
+
+/// Prints a command to its end.
+#[tactic(auto, using(std::proofs::lemmas::Grind::common_steps), unfolding(crate::specs::Spells::command_text))]
+fn put_command(alloc: Global, command: &Command, out: &mut Bytes) -> Result<(), Memory>
+    ensures { OnOk result (out.new ≡ out.old ++ command_text command.now) }
+{
+    match command {
+        Command::LeftOut(octets) => {
+            out.extend_from_slice(octets.as_slice())?;
+            out.extend_from_slice(b"\r\n")
+        }
+        _ => put_known(alloc, command, out),
+    }
 }
 
 /// Prints a tag.

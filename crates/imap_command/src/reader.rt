@@ -1,15 +1,19 @@
 // The reader of commands.
-ghost use Rattle.std.specs.Prelude.{◌≡◌, ◌⊎◌, Result, Ok, Err, IfOk};
+ghost use Rattle.std.specs.Prelude.{◌≡◌, ◌⊎◌, Result, Ok, Err, IfOk, nat_le, if◌then◌else◌};
 ghost use Rattle.grammar.specs.Gives.{Gives};
-ghost use Rattle.imap_command.specs.Spells.{Spells, commands, tagged_command, tags};
+ghost use Rattle.grammar.specs.Exact.{whole_at};
+ghost use Rattle.imap_command.specs.LeftOut.{left_out};
+ghost use Rattle.imap_command.specs.Spells.{Spells, known, commands, tagged_command, tags};
 ghost use Rattle.imap_command.specs.Bad.{IsBad, IsFirstTag};
 
 use crate::commands::arguments_of;
 use crate::fault::{Bad, ReadFault};
+use crate::left_out::left_out_of;
 use crate::strings::crlf_of;
 use crate::verb::{VERBS, Verb};
 use grammar::{
-    Class, Grammar, Only, ReadError, RunUpTo, begins, byte_of, table_of, whole_of, word_of,
+    Class, Grammar, Only, ReadError, RunUpTo, Stop, begins, byte_of, ended, table_of, whole_of,
+    word_of,
 };
 use mur_base::{Bytes, Memory};
 use mur_model::{Command, Tag};
@@ -34,14 +38,45 @@ impl Class for TagByte {
 /// The greatest length of a tag in bytes.
 const TAG_MOST: usize = 32;
 
-/// Reads a command behind its tag, to its end.
-fn command_of(alloc: Global, bytes: &[u8]) -> Result<(Command, &[u8]), ReadError>
-    ensures { Gives (λ x. (x.0, x.1.now)) result (commands.part.at bytes.now) }
+/// Reads a known command behind its tag, to the end of the bytes.
+fn known_of(alloc: Global, bytes: &[u8]) -> Result<Command, ReadError>
+    ensures { Gives (λ command. command) result (whole_at known.part bytes.now) }
 {
     let (verb, rest) = table_of(Verb::Uid, &VERBS, bytes)?;
     let (command, rest) = arguments_of(alloc, verb, rest)?;
     let rest = crlf_of(rest)?;
-    Ok((command, rest))
+    Ok(ended(command, rest)?)
+}
+
+/// Reads a command that is left out behind its tag, to the end of the bytes.
+fn only_left_out(alloc: Global, bytes: &[u8]) -> Result<Command, ReadError>
+    ensures { Gives (λ command. command) result (whole_at left_out bytes.now) }
+{
+    let (command, rest) = left_out_of(alloc, bytes)?;
+    Ok(ended(command, rest)?)
+}
+
+/// Reads a command behind its tag, to the end of the bytes; a stop is that of the reader which goes further.
+fn command_of(alloc: Global, bytes: &[u8]) -> Result<(Command, &[u8]), ReadError>
+    ensures { Gives (λ x. (x.0, x.1.now)) result (commands.part.at bytes.now) }
+{
+    let end = &bytes[bytes.len()..];
+    match known_of(alloc, bytes) {
+        Ok(command) => Ok((command, end)),
+        Err(ReadError::Memory) => Err(ReadError::Memory),
+        Err(ReadError::Stopped(one)) => match only_left_out(alloc, bytes) {
+            Ok(command) => Ok((command, end)),
+            Err(ReadError::Memory) => Err(ReadError::Memory),
+            Err(ReadError::Stopped(other)) => Err(ReadError::Stopped(further(one, other))),
+        },
+    }
+}
+
+/// The stop with fewer bytes left.
+fn further(one: Stop, other: Stop) -> Stop
+    ensures { result.left ≡ (if nat_le one.left other.left then one.left else other.left) }
+{
+    if one.left <= other.left { one } else { other }
 }
 
 /// The commands under their tags.

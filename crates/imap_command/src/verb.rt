@@ -86,7 +86,7 @@ pub const UID_VERBS: [(&[u8], UidVerb); 5] = [
     (b"STORE", UidVerb::Store),
 ];
 
-/// The first word of a command.
+/// The first word of a command; of one that is left out, which is printed as it stands, it says nothing.
 #[tactic(auto, unfolding(crate::specs::Verbs::verb_of))]
 pub fn verb_of(command: &Command) -> Verb
     ensures { result ≡ verb_of command.now }
@@ -109,6 +109,7 @@ pub fn verb_of(command: &Command) -> Verb
         Command::Fetch(true, ..) => Verb::Uid,
         Command::GetAcl(_) => Verb::GetAcl,
         Command::Idle(_) => Verb::Idle,
+        Command::LeftOut(_) => Verb::Noop,
         Command::List(..) => Verb::List,
         Command::Login(..) => Verb::Login,
         Command::Logout => Verb::Logout,

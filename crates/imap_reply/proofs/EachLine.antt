@@ -1,15 +1,10 @@
 -- Each line that is written is one line.
-use Rattle.std.proofs.Common.{◌≡◌, ℕ, ◌==◌, Bool, true, false, not, cond, List, [], ◌∷◌, ◌++◌, length, map}
-use Rattle.std.proofs.Common.{codes, decimal, refl, subst, append_assoc, arith, None, Some}
-use Rattle.std.specs.Prelude.{All, nat_lt}
-use Rattle.std.specs.List.{list_all}
-use Rattle.std.proofs.lemmas.Bool.Decides.{nat_tests}
+use Rattle.std.proofs.Common.{◌≡◌, ℕ, Bool, true, false, List, [], ◌∷◌, ◌++◌, map}
+use Rattle.std.proofs.Common.{codes, decimal, refl, subst, append_assoc}
+use Rattle.std.specs.Prelude.{All}
 use Rattle.std.proofs.lemmas.List.Elements.{All-nil, All-cons, All-weaker, All-map, All-append}
 use Rattle.mur_base.specs.Ascii.{crlf}
 use Rattle.mur_base.specs.Number.{is_digit}
-use Rattle.mur_base.specs.declared.limits.TheConstants.{KEYWORD_LIMIT}
-use Rattle.mur_base.specs.declared.name.NameFault.TheVariants.{Empty, TooLong, BadByte}
-use Rattle.mail_message.specs.Keywords.{keyword_fault, is_atom, is_atom_byte}
 use Rattle.mail_message.specs.declared.flag_name.FlagName.{FlagName}
 use Rattle.mail_message.specs.declared.flag_name.FlagName.TheVariants.{System, Keyword}
 use Rattle.mail_message.specs.declared.system_flags.SystemFlag.TheVariants.{Answered, Flagged, Deleted, Seen, Draft}
@@ -35,9 +30,9 @@ use Rattle.imap_reply.specs.Mailbox.{mailbox_text}
 use Rattle.imap_reply.specs.OkLines.{closed_line, new_keywords, permanent_texts, permanent_line, uid_next_line, uid_validity_line}
 use Rattle.imap_reply.specs.Spaced.{spaced}
 use Rattle.imap_reply.specs.StatusLine.{count_text, more_counts_text, counts_text, status_line}
-use Rattle.mail_message.proofs.PlainTexts.{all_append, all_weaker, decimal_plain, keyword_plain}
+use Rattle.mail_message.proofs.PlainTexts.{all_append, decimal_plain, keyword_plain}
 use Rattle.imap_reply.proofs.LineLaws.{line_of, end_fits, mailbox_state}
-use Rattle.imap_reply.proofs.Texts.{calm_plain, decimal_calm, spaced_plain, mailbox_plain}
+use Rattle.imap_reply.proofs.Texts.{spaced_plain, mailbox_plain}
 
 -- texts that stand as they are
 

@@ -13,6 +13,10 @@ pub mod ReadParts
 pub mod NoForgery
 pub mod TranscriptLaw
 pub mod PlainNames
-pub mod AnswersStay
+pub mod TurnLines
+pub mod AnswersEnd
+pub mod SoundStores
+pub mod SoundWorks
 pub mod SoundAnswers
-pub mod SoundTags
+pub mod RequestsSound
+pub mod FrameSizes

@@ -1,6 +1,6 @@
 -- No text forges a reply.
 use Rattle.std.proofs.Common.{◌≡◌, ℕ, ◌==◌, true, false, List, [], ◌∷◌}
-use Rattle.std.proofs.Common.{◌++◌, map, codes, refl, ◌∙◌, ap, append_assoc, arith, sym}
+use Rattle.std.proofs.Common.{◌++◌, map, codes, refl, ◌∙◌, ap, append_assoc, arith}
 use Rattle.std.specs.Prelude.{All}
 use Rattle.std.specs.List.{list_all, concat}
 use Rattle.std.proofs.lemmas.Bool.{and_parts}

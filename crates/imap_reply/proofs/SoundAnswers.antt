@@ -1,204 +1,264 @@
--- The texts of each answer to the commands that there are today are sound, so a client reads what was meant.
-use Rattle.std.proofs.Common.{◌≡◌, ℕ, Bool, true, false, List, [], ◌∷◌, refl, sym, subst}
+-- The texts of each answer of a sound store to a sound request are sound, so a client reads what was meant; and the store stays sound.
+use Rattle.std.proofs.Common.{◌≡◌, ℕ, ◌^◌, Bool, true, false, if◌then◌else◌, List, [], ◌∷◌, ◌++◌, codes, refl}
 use Rattle.std.proofs.Common.{Option, None, Some}
-use Rattle.std.specs.Prelude.{All, ⊤, if◌then◌else◌}
+use Rattle.std.specs.Prelude.{All, ⊤}
+use Rattle.std.specs.List.{list_all, list_any}
 use Rattle.std.specs.Str.{bytes_eq}
-use Rattle.std.proofs.lemmas.List.Elements.{All-nil, All-cons}
+use Rattle.std.proofs.lemmas.Bool.{and_parts}
+use Rattle.std.proofs.lemmas.List.Elements.{All-nil, All-cons, All-append}
 use Rattle.mur_base.specs.declared.name.NameFault.{NameFault}
 use Rattle.mur_base.specs.declared.user.User.{User}
 use Rattle.mur_base.specs.Inbox.{taken_name, shown_name}
 use Rattle.mur_base.specs.Names.{mail_name_fault}
-use Rattle.mail_message.specs.Boxes.{Content}
+use Rattle.mail_message.specs.Literals.{IsPlain}
+use Rattle.mail_message.specs.declared.item.Item.{Item}
 use Rattle.mail_message.specs.declared.message.Message.{Message}
-use Rattle.mail_store.specs.Append.{append_fault}
-use Rattle.mail_store.specs.declared.fault.StoreFault.{StoreFault}
+use Rattle.mail_message.specs.declared.set.SetPart.{SetPart}
 use Rattle.mur_model.specs.declared.command.Command.{Command}
-use Rattle.mur_model.specs.declared.command.Command.TheVariants.{Login as login_of, Create as create_of, Append as append_of, Status as status_of}
+use Rattle.mur_model.specs.declared.command.Command.TheVariants as command
 use Rattle.mur_model.specs.declared.command.StatusItem.{StatusItem}
-use Rattle.mur_model.specs.declared.command.Tag.{Tag}
 use Rattle.mur_model.specs.declared.need.Need.{Need}
-use Rattle.mur_model.specs.declared.need.Need.TheVariants.{Refusal, Login as begins, Mailbox}
+use Rattle.mur_model.specs.declared.need.Need.TheVariants.{Refusal, Login as begins, Turned, Mailbox}
+use Rattle.mur_model.specs.declared.need.ViewWork.TheVariants as view_work
 use Rattle.mur_model.specs.declared.need.Work.{Work}
-use Rattle.mur_model.specs.declared.need.Work.TheVariants.{Make, Append as append_work, Status as status_work}
+use Rattle.mur_model.specs.declared.reply.BadText.TheVariants.{State, Syntax}
+use Rattle.mur_model.specs.declared.reply.NoText.TheVariants.{NonExistent, NoPerm}
 use Rattle.mur_model.specs.declared.reply.Reply.{Reply}
+use Rattle.mur_model.specs.declared.reply.Verdict.TheVariants.{Bad as bad_reply}
 use Rattle.mur_model.specs.declared.request.Request.{Request}
-use Rattle.mur_model.specs.declared.request.Request.TheVariants.{Command as command, Unknown as unknown, TooBig as too_big}
+use Rattle.mur_model.specs.declared.request.Request.TheVariants.{Command as a_command, Unknown as unknown, TooBig as too_big}
+use Rattle.mur_model.specs.declared.select.Opening.{Opening}
 use Rattle.mur_model.specs.declared.session.Sess.{Sess}
-use Rattle.mur_model.specs.declared.session.Sess.TheVariants.{Off, In, Ended}
+use Rattle.mur_model.specs.declared.session.Sess.TheVariants.{Off, In, Selected as selected, Ended}
 use Rattle.mur_model.specs.declared.setting.Setting.{Setting}
 use Rattle.mur_model.specs.declared.store.Store.{Store}
-use Rattle.mur_model.specs.Act.{act_by, act_of, work_on, need_of, need_off, need_in, not_yet}
+use Rattle.mur_model.specs.declared.view.View.{View}
+use Rattle.mur_model.specs.Act.{act_by, act_of, worked_at, need_of, need_off, need_in, need_begun, need_selected, need_unselected, not_yet, wants_selected}
 use Rattle.mur_model.specs.Answer.{answer_of}
-use Rattle.mur_model.specs.Append.{new_message, append, append_as, append_by, append_on, append_to, append_reply}
-use Rattle.mur_model.specs.Create.{create, create_meant, create_as, create_by, create_on, make, without_separator, is_inbox}
+use Rattle.mur_model.specs.Append.{new_message, append, append_as, append_by}
+use Rattle.mur_model.specs.Create.{create, create_meant, create_as, create_by, without_separator, is_inbox}
+use Rattle.mur_model.specs.History.{Course}
 use Rattle.mur_model.specs.Login.{login, login_as, login_by}
 use Rattle.mur_model.specs.Rights.{user_named, has_rights, may_create}
-use Rattle.mur_model.specs.Status.{status, status_as, status_by, status_on, status_reply, tells_messages_alone}
+use Rattle.mur_model.specs.Select.{select, select_as, select_by}
+use Rattle.mur_model.specs.Select.{opening}
+use Rattle.mur_model.specs.Status.{status, status_as, status_by, tells_messages_alone}
 use Rattle.mur_model.specs.Store.{box_at, is_spent}
-use Rattle.mail_message.specs.Literals.{IsPlain}
+use Rattle.mur_model.specs.Viewing.{at_mailbox, each_once, expunge_named, fetch_named, is_told, left_by, names_messages, no_such_number}
+use Rattle.mur_model.specs.Viewing.{read_only, same_item, store_named}
+use Rattle.mur_model.proofs.EachAnswer.{Keeps}
+use Rattle.imap_command.specs.Ruled.{IsRuled}
+use Rattle.imap_reply.specs.SoundRequests.{IsSoundRequest, IsSoundMessage, IsSoundStore}
 use Rattle.imap_reply.specs.SoundTexts.{IsSoundTag, IsSoundLine, IsSoundVerdict}
 use Rattle.imap_reply.specs.TranscriptRead.{IsAnswerReadAsMeant}
-use Rattle.imap_reply.specs.ReadAsMeant.{IsReadAsMeant}
 use Rattle.imap_reply.proofs.NoForgery.{read_as_meant}
 use Rattle.imap_reply.proofs.PlainNames.{shown_plain}
+use Rattle.imap_reply.proofs.SoundStores.{box_is}
+use Rattle.imap_reply.proofs.SoundStores.{store_is}
+use Rattle.imap_reply.proofs.SoundWorks.{IsTold, SoundReply, SoundWork, SoundWorked, left_sound, unselected_sound, work_sound}
+use Rattle.imap_reply.specs.ReadAsMeant.{IsReadAsMeant}
+use Rattle.mur_model.specs.declared.command.Tag.{Tag}
 
-record SoundReply (reply : Reply) : Type 0 where
-  lines : All IsSoundLine reply.lines
-  verdict : IsSoundVerdict reply.verdict
-
-unfoldable SoundWork : Work → Type 0
-SoundWork Make = ⊤
-SoundWork (append_work message) = ⊤
-SoundWork (status_work shown items) = IsPlain shown
-
-unfoldable SoundNeed : Need → Type 0
+abbrev SoundNeed : Need → Type 0
 SoundNeed (Refusal verdict) = IsSoundVerdict verdict
 SoundNeed (begins user) = ⊤
+SoundNeed (Turned turn) = SoundReply turn.reply
 SoundNeed (Mailbox name work) = SoundWork work
+
+abbrev IsSoundCommand : Command → Type 0
+IsSoundCommand it = IsRuled (2 ^ 64) it
 
 -- what a command needs
 
-login_sound : (user : List ℕ) (known : Bool) → SoundNeed (login_by user known)
-unfolding login_by SoundNeed IsSoundVerdict
-login_sound user true = tt
-login_sound user false = tt
+either_need : (test : Bool) (one other : Need) → SoundNeed one → SoundNeed other → SoundNeed (if test then one else other)
+either_need true one other is is_other = is
+either_need false one other is is_other = is_other
 
-named_sound : (user : Option User) (password : List ℕ) → SoundNeed (login_as user password)
-unfolding login_as SoundNeed IsSoundVerdict
-named_sound None password = tt
-named_sound (Some user) password = login_sound user.name (bytes_eq user.password password)
+login_by_sound : (user : List ℕ) (known : Bool) → SoundNeed (login_by user known)
+unfolding login_by IsSoundVerdict
+login_by_sound user true = tt
+login_by_sound user false = tt
 
-may_make_sound : (name : List ℕ) (may : Bool) → SoundNeed (create_by name may)
-unfolding create_by SoundNeed SoundWork IsSoundVerdict
-may_make_sound name true = tt
-may_make_sound name false = tt
+login_sound : (user : Option User) (password : List ℕ) → SoundNeed (login_as user password)
+unfolding login_as IsSoundVerdict
+login_sound None password = tt
+login_sound (Some user) password = login_by_sound user.name (bytes_eq user.password password)
+
+create_by_sound : (name : List ℕ) (may : Bool) → SoundNeed (create_by name may)
+unfolding create_by IsSoundVerdict
+create_by_sound name true = tt
+create_by_sound name false = tt
 
 create_sound : (setting : Setting) (user name : List ℕ) (inbox : Bool) (fault : Option NameFault) → SoundNeed (create_as setting user name inbox fault)
-unfolding create_as SoundNeed IsSoundVerdict
+unfolding create_as IsSoundVerdict
 create_sound setting user name true fault = tt
 create_sound setting user name false (Some fault) = tt
-create_sound setting user name false None = may_make_sound name (may_create setting.users user name)
+create_sound setting user name false None = create_by_sound name (may_create setting.users user name)
 
-may_append_sound : (name : List ℕ) (message : Message) (may : Bool) → SoundNeed (append_by name message may)
-unfolding append_by SoundNeed SoundWork IsSoundVerdict
-may_append_sound name message true = tt
-may_append_sound name message false = tt
+append_by_sound : (name : List ℕ) (message : Message) (may : Bool) → IsSoundMessage message → SoundNeed (append_by name message may)
+unfolding append_by IsSoundVerdict
+append_by_sound name message true is = is
+append_by_sound name message false is = tt
 
-append_sound : (setting : Setting) (user name : List ℕ) (message : Message) (fault : Option NameFault) → SoundNeed (append_as setting user name message fault)
-unfolding append_as SoundNeed IsSoundVerdict
-append_sound setting user name message (Some fault) = tt
-append_sound setting user name message None = may_append_sound name message (has_rights setting.users user name)
+append_sound : (setting : Setting) (user name : List ℕ) (message : Message) (fault : Option NameFault) → IsSoundMessage message
+    → SoundNeed (append_as setting user name message fault)
+unfolding append_as IsSoundVerdict
+append_sound setting user name message (Some fault) is = tt
+append_sound setting user name message None is = append_by_sound name message (has_rights setting.users user name) is
 
-may_look_sound : (user name : List ℕ) (items : List StatusItem) (may : Bool) → IsPlain (shown_name user name) → SoundNeed (status_by user name items may)
-unfolding status_by SoundNeed SoundWork IsSoundVerdict
-may_look_sound user name items true plain = plain
-may_look_sound user name items false plain = tt
+status_by_sound : (user name : List ℕ) (items : List StatusItem) (may : Bool) → IsPlain (shown_name user name) → SoundNeed (status_by user name items may)
+unfolding status_by IsSoundVerdict
+status_by_sound user name items true plain = plain
+status_by_sound user name items false plain = tt
 
 status_sound : (setting : Setting) (user name : List ℕ) (items : List StatusItem) (fault : Option NameFault) → mail_name_fault name ≡ fault
     → SoundNeed (status_as setting user name items fault)
-unfolding status_as SoundNeed IsSoundVerdict
+unfolding status_as IsSoundVerdict
 status_sound setting user name items (Some fault) e = tt
-status_sound setting user name items None e = may_look_sound user name items (has_rights setting.users user name) (shown_plain user name e)
+status_sound setting user name items None e = status_by_sound user name items (has_rights setting.users user name) (shown_plain user name e)
+
+select_by_sound : (name : List ℕ) (it : Opening) (may : Bool) → IsPlain it.shown → SoundNeed (select_by name it may)
+unfolding select_by
+select_by_sound name it true plain = plain
+select_by_sound name it false plain = unselected_sound it.user it.was_selected NoPerm
+
+select_sound : (setting : Setting) (user name : List ℕ) (is_writable was_selected : Bool) (fault : Option NameFault) → mail_name_fault name ≡ fault
+    → SoundNeed (select_as setting user name is_writable was_selected fault)
+unfolding select_as
+select_sound setting user name is_writable was_selected (Some fault) e = unselected_sound user was_selected NonExistent
+select_sound setting user name is_writable was_selected None e =
+    select_by_sound name (opening user name is_writable was_selected) (has_rights setting.users user name) (shown_plain user name e)
 
 off_sound : (setting : Setting) (it : Command) → SoundNeed (need_off setting it)
-unfolding need_off login SoundNeed IsSoundVerdict
-off_sound setting (login_of user password) = named_sound (user_named setting.users user) password
-off_sound setting (create_of text) = tt
-off_sound setting (append_of text flags date body) = tt
-off_sound setting (status_of text items) = tt
+unfolding need_off login IsSoundVerdict
+off_sound setting (command.Login user password) = login_sound (user_named setting.users user) password
+off_sound setting command.Noop = record { lines = All-nil IsSoundLine; verdict = refl }
 off_sound setting it = tt
 
-asked_sound : (setting : Setting) (user text : List ℕ) (items : List StatusItem) (alone : Bool)
-    → SoundNeed (if alone then status setting user text items else not_yet)
-unfolding status SoundNeed IsSoundVerdict
-asked_sound setting user text items true =
-    status_sound setting user (taken_name user text) items (mail_name_fault (taken_name user text)) refl
-asked_sound setting user text items false = tt
-
-in_sound : (setting : Setting) (user : List ℕ) (it : Command) → SoundNeed (need_in setting user it)
-unfolding need_in create create_meant append status SoundNeed IsSoundVerdict
-in_sound setting user (login_of name password) = tt
-in_sound setting user (create_of text) =
+begun_sound : (setting : Setting) (user : List ℕ) (is_selected : Bool) (it : Command) → IsSoundCommand it → SoundNeed (need_begun setting user is_selected it)
+unfolding need_begun create create_meant append status select IsSoundVerdict
+begun_sound setting user is_selected (command.Create text) sound =
     let meant = without_separator text in
     create_sound setting user (taken_name user meant) (is_inbox meant) (mail_name_fault (taken_name user meant))
-in_sound setting user (append_of text flags date body) =
+begun_sound setting user is_selected (command.Append text flags date body) sound =
     append_sound setting user (taken_name user text) (new_message setting flags date body) (mail_name_fault (taken_name user text))
-in_sound setting user (status_of text items) = asked_sound setting user text items (tells_messages_alone items)
-in_sound setting user it = tt
+    (record { ruled = sound.0; counted = sound.1 })
+begun_sound setting user is_selected (command.Status text items) sound =
+    either_need (tells_messages_alone items) (status setting user text items) not_yet
+    (status_sound setting user (taken_name user text) items (mail_name_fault (taken_name user text)) refl) tt
+begun_sound setting user is_selected (command.Select text) sound =
+    select_sound setting user (taken_name user text) true is_selected (mail_name_fault (taken_name user text)) refl
+begun_sound setting user is_selected (command.Examine text) sound =
+    select_sound setting user (taken_name user text) false is_selected (mail_name_fault (taken_name user text)) refl
+begun_sound setting user is_selected it sound = tt
 
-need_sound : (setting : Setting) (session : Sess) (it : Command) → SoundNeed (need_of setting session it)
-unfolding need_of SoundNeed IsSoundVerdict
-need_sound setting Off it = off_sound setting it
-need_sound setting (In user) it = in_sound setting user it
-need_sound setting Ended it = tt
+unselected_need : (setting : Setting) (user : List ℕ) (it : Command) → IsSoundCommand it → SoundNeed (need_unselected setting user it)
+unfolding IsSoundVerdict
+unselected_need setting user it sound =
+    either_need (wants_selected it) (Refusal (bad_reply State)) (need_begun setting user false it) tt (begun_sound setting user false it sound)
+
+in_sound : (setting : Setting) (user : List ℕ) (it : Command) → IsSoundCommand it → SoundNeed (need_in setting user it)
+unfolding need_in IsSoundVerdict
+in_sound setting user command.Noop sound = record { lines = All-nil IsSoundLine; verdict = refl }
+in_sound setting user it sound = unselected_need setting user it sound
+
+expunge_need : (view : View) (only : Option (List SetPart)) → SoundNeed (expunge_named view only)
+expunge_need view None = tt
+expunge_need view (Some set) = tt
+
+-- each item that is told, once
+
+once_by : (there : Bool) (told : List Item) (it : Item) → All IsTold told → IsTold it → All IsTold (if there then told else told ++ it ∷ [])
+once_by true told it all is = all
+once_by false told it all is = All-append IsTold told (it ∷ []) all (All-cons IsTold it [] is (All-nil IsTold))
+
+once : (told items : List Item) → All IsTold told → list_all is_told items ≡ true → All IsTold (each_once told items)
+once told [] all told_all = all
+once told (it ∷ items) all told_all =
+    let both = and_parts (is_told it) (list_all is_told items) told_all in
+    let there = list_any (same_item it) told in
+    once (if there then told else told ++ it ∷ []) items (once_by there told it all both.0) both.1
+
+fetch_need : (view : View) (by_uid : Bool) (set : List SetPart) (items : List Item) (test : Bool) → list_all is_told items ≡ test
+    → SoundNeed (if test then if names_messages view by_uid set then fetch_named view by_uid set items else no_such_number else Refusal (bad_reply Syntax))
+unfolding IsSoundVerdict
+fetch_need view by_uid set items true all =
+    either_need (names_messages view by_uid set) (fetch_named view by_uid set items) no_such_number (once [] items (All-nil IsTold) all) tt
+fetch_need view by_uid set items false all = tt
+
+view_need : (setting : Setting) (view : View) (it : Command) → IsSoundCommand it → SoundNeed (need_selected setting view it)
+unfolding need_selected IsSoundVerdict
+view_need setting view command.Noop sound = tt
+view_need setting view command.Close sound =
+    either_need view.is_writable (at_mailbox view view_work.Close) (Turned (left_by view (codes "CLOSE"))) tt (left_sound view (codes "CLOSE") refl)
+view_need setting view command.Unselect sound = left_sound view (codes "UNSELECT") refl
+view_need setting view (command.Expunge only) sound =
+    either_need view.is_writable (expunge_named view only) read_only (expunge_need view only) tt
+view_need setting view (command.Store by_uid set mode is_silent flags) sound =
+    either_need (names_messages view by_uid set)
+    (if view.is_writable then store_named view by_uid set mode is_silent flags else read_only) no_such_number
+    (either_need view.is_writable (store_named view by_uid set mode is_silent flags) read_only sound tt) tt
+view_need setting view (command.Fetch by_uid set items) sound = fetch_need view by_uid set items (list_all is_told items) refl
+view_need setting view it sound = begun_sound setting view.user true it sound
+
+need_sound : (setting : Setting) (session : Sess) (it : Command) → IsSoundCommand it → SoundNeed (need_of setting session it)
+unfolding need_of IsSoundVerdict
+need_sound setting Off it sound = off_sound setting it
+need_sound setting (In user) it sound = in_sound setting user it sound
+need_sound setting (selected view) it sound = view_need setting view it sound
+need_sound setting Ended it sound = tt
 
 -- what comes of it
 
-made_sound : (name : List ℕ) (serial : ℕ) (spent : Bool) → SoundReply (make name serial spent).reply
-unfolding make IsSoundVerdict
-made_sound name serial true = record { lines = All-nil IsSoundLine; verdict = tt }
-made_sound name serial false = record { lines = All-nil IsSoundLine; verdict = refl }
+worked_sound : (store : Store) (name : List ℕ) (work : Work) (serial : ℕ) → IsSoundStore store → SoundWork work
+    → SoundWorked (worked_at store name work serial)
+worked_sound store name work serial all sound = work_sound name work serial (is_spent store.given) (box_at store name) sound (box_is store name all)
 
-created_sound : (name : List ℕ) (serial : ℕ) (spent : Bool) (box : Option Content) → SoundReply (create_on name serial spent box).reply
-unfolding create_on IsSoundVerdict
-created_sound name serial spent (Some there) = record { lines = All-nil IsSoundLine; verdict = tt }
-created_sound name serial spent None = made_sound name serial spent
+act_sound : (store : Store) (session : Sess) (serial : ℕ) (need : Need) → IsSoundStore store → SoundNeed need
+    → SoundReply (act_by store session serial need).reply
+unfolding act_by IsSoundVerdict
+act_sound store session serial (Refusal verdict) all sound = record { lines = All-nil IsSoundLine; verdict = sound }
+act_sound store session serial (begins user) all sound = record { lines = All-nil IsSoundLine; verdict = refl }
+act_sound store session serial (Turned turn) all sound = sound
+act_sound store session serial (Mailbox name work) all sound = (worked_sound store name work serial all sound).reply
 
-appended_by : (message : Message) (box : Content) (fault : Option StoreFault) → SoundReply (append_to message box fault).reply
-unfolding append_to append_reply IsSoundVerdict
-appended_by message box (Some fault) = record { lines = All-nil IsSoundLine; verdict = tt }
-appended_by message box None = record { lines = All-nil IsSoundLine; verdict = refl }
+act_kept : (store : Store) (session : Sess) (serial : ℕ) (need : Need) → IsSoundStore store → SoundNeed need
+    → IsSoundStore (act_by store session serial need).store
+unfolding act_by
+act_kept store session serial (Refusal verdict) all sound = all
+act_kept store session serial (begins user) all sound = all
+act_kept store session serial (Turned turn) all sound = all
+act_kept store session serial (Mailbox name work) all sound =
+    store_is store name (worked_at store name work serial).left (worked_sound store name work serial all sound).left all
 
-appended_sound : (message : Message) (box : Option Content) → SoundReply (append_on message box).reply
-unfolding append_on IsSoundVerdict
-appended_sound message None = record { lines = All-nil IsSoundLine; verdict = tt }
-appended_sound message (Some box) = appended_by message box (append_fault box (message ∷ []))
+sound_by : (tag : Tag) (reply : Reply) → IsSoundTag tag → SoundReply reply → IsReadAsMeant tag reply
+sound_by tag reply tagged sound = read_as_meant tag reply (record { tag_is = tagged; lines = sound.lines; verdict = sound.verdict })
 
-told_sound : (shown : List ℕ) (items : List StatusItem) (box : Option Content) → IsPlain shown → SoundReply (status_on shown items box).reply
-unfolding status_on status_reply IsSoundLine IsSoundVerdict
-told_sound shown items None plain = record { lines = All-nil IsSoundLine; verdict = tt }
-told_sound shown items (Some box) plain = record { lines = All-cons IsSoundLine _ [] plain (All-nil IsSoundLine); verdict = refl }
-
-work_sound : (name : List ℕ) (work : Work) (serial : ℕ) (spent : Bool) (box : Option Content) → SoundWork work
-    → SoundReply (work_on name work serial spent box).reply
-unfolding work_on SoundWork
-work_sound name Make serial spent box sound = created_sound name serial spent box
-work_sound name (append_work message) serial spent box sound = appended_sound message box
-work_sound name (status_work shown items) serial spent box sound = told_sound shown items box sound
-
-act_sound : (store : Store) (session : Sess) (serial : ℕ) (need : Need) → SoundNeed need → SoundReply (act_by store session serial need).reply
-unfolding act_by SoundNeed IsSoundVerdict
-act_sound store session serial (Refusal verdict) sound = record { lines = All-nil IsSoundLine; verdict = sound }
-act_sound store session serial (begins user) sound = record { lines = All-nil IsSoundLine; verdict = refl }
-act_sound store session serial (Mailbox name work) sound = work_sound name work serial (is_spent store.given) (box_at store name) sound
-
-unfoldable pub tag_asked : Request → Tag
-tag_asked (command tag it) = tag
-tag_asked (unknown tag) = tag
-tag_asked (too_big tag) = tag
-
-answer_sound : (setting : Setting) (store : Store) (session : Sess) (request : Request) (serial : ℕ)
-    → SoundReply (answer_of setting store session request serial).answer.reply
-unfolding answer_of act_of IsSoundVerdict
-answer_sound setting store session (command tag it) serial = act_sound store session serial (need_of setting session it) (need_sound setting session it)
-answer_sound setting store session (unknown tag) serial = record { lines = All-nil IsSoundLine; verdict = tt }
-answer_sound setting store session (too_big tag) serial = record { lines = All-nil IsSoundLine; verdict = tt }
-
-answer_tag : (setting : Setting) (store : Store) (session : Sess) (request : Request) (serial : ℕ)
-    → (answer_of setting store session request serial).answer.tag ≡ tag_asked request
-unfolding answer_of tag_asked
-answer_tag setting store session (command tag it) serial = refl
-answer_tag setting store session (unknown tag) serial = refl
-answer_tag setting store session (too_big tag) serial = refl
-
--- whatever is asked under a sound tag, the answer is read as it was meant
-pub answer_read : (setting : Setting) (store : Store) (session : Sess) (request : Request) (serial : ℕ) → IsSoundTag (tag_asked request)
+-- whatever a sound store is asked soundly, the answer is read as it was meant
+pub answer_read : (setting : Setting) (store : Store) (session : Sess) (request : Request) (serial : ℕ) → IsSoundStore store → IsSoundRequest request
     → IsAnswerReadAsMeant (answer_of setting store session request serial).answer
-answer_read setting store session request serial tagged =
-    let answer = (answer_of setting store session request serial).answer in
-    let sound = answer_sound setting store session request serial in
-    read_as_meant answer.tag answer.reply (record {
-      tag_is = subst IsSoundTag (sym (answer_tag setting store session request serial)) tagged;
-      lines = sound.lines;
-      verdict = sound.verdict;
-    })
+unfolding answer_of act_of IsSoundVerdict
+answer_read setting store session (a_command tag it) serial all sound =
+    sound_by tag (act_by store session serial (need_of setting session it)).reply sound.0
+    (act_sound store session serial (need_of setting session it) all (need_sound setting session it sound.1))
+answer_read setting store session (unknown tag) serial all sound = sound_by tag _ sound (record { lines = All-nil IsSoundLine; verdict = tt })
+answer_read setting store session (too_big tag) serial all sound = sound_by tag _ sound (record { lines = All-nil IsSoundLine; verdict = tt })
+
+-- and the store stays sound
+pub answer_kept : (setting : Setting) (store : Store) (session : Sess) (request : Request) (serial : ℕ) → IsSoundStore store → IsSoundRequest request
+    → IsSoundStore (answer_of setting store session request serial).store
+unfolding answer_of act_of
+answer_kept setting store session (a_command tag it) serial all sound =
+    act_kept store session serial (need_of setting session it) all (need_sound setting session it sound.1)
+answer_kept setting store session (unknown tag) serial all sound = all
+answer_kept setting store session (too_big tag) serial all sound = all
+
+abbrev pub HasSoundStore : Course → Type 0
+HasSoundStore course = IsSoundStore course.store
+
+-- so each answer of a legal history of sound requests is read as it was meant, where the store is sound at first
+pub answers_read : (setting : Setting) → Keeps setting IsSoundRequest HasSoundStore IsAnswerReadAsMeant
+answers_read setting = record {
+  kept = λ course conn request serial all sound. answer_kept setting course.store (course.sessions conn) request serial all sound;
+  told = λ course conn request serial all sound. answer_read setting course.store (course.sessions conn) request serial all sound;
+}

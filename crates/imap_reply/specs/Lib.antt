@@ -20,8 +20,10 @@ pub mod Codes
 pub mod TaggedLine
 pub mod ReplyText
 pub mod Transcript
+pub mod SessionEnds
 pub mod Lines
 pub mod SoundTexts
+pub mod SoundRequests
 pub mod ReadAs
 pub mod ReadAsMeant
 pub mod TranscriptRead

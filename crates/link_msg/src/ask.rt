@@ -11,7 +11,7 @@ pub struct FrontAsk {
     pub user: UserName,
     /// The mailbox.
     pub name: MailName,
-    /// UIDVALIDITY of the mailbox that the asking session has selected (RFC 9051, 2.3.1.1), 0 where it has selected none.
-    pub serial: u32,
+    /// The UIDVALIDITY of the mailbox that the session has selected; None where none is (RFC 9051, 2.3.1.1).
+    pub selected: Option<u32>,
     pub op: Op,
 }

@@ -1,15 +1,15 @@
 // What was done.
-use mail_message::{Messages, Rows, Uids};
+use mail_message::{Messages, OrderedRows, Uids};
 
 /// What came of an operation that its home carried out or refused for good.
 #[derive(Drop)]
 pub enum Outcome {
     /// It is done, and there is nothing to tell.
     None,
-    /// The messages that were read, with the flags that they had before.
+    /// The messages that were read, in the order in which they were asked for, with the flags that they had before.
     Messages(Messages),
-    /// The messages whose flags were changed, with the flags that they have now.
-    Rows(Rows),
+    /// The messages whose flags were set, with the flags that they have now, in rising order of UID.
+    Rows(OrderedRows),
     /// The UIDs of the messages that were appended, in their order, or that were expunged, in rising order.
     Uids(Uids),
     /// There is a mailbox with that name already.

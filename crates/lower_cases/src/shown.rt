@@ -25,6 +25,7 @@ fn shown_texts(alloc: Global, command: &Command) -> Result<Vec<Bytes>, Memory> {
     match command {
         Command::Login(user, password) => two(alloc, b"LOGIN", user, password),
         Command::Authenticate(Some(response)) => one(alloc, b"AUTHENTICATE", response),
+        Command::LeftOut(octets) => one(alloc, b"left out", octets),
         Command::List(reference, pattern) => two(alloc, b"LIST", reference, pattern),
         Command::Create(mailbox) => one(alloc, b"CREATE", mailbox),
         Command::Delete(mailbox) => one(alloc, b"DELETE", mailbox),

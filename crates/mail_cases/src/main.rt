@@ -1,6 +1,6 @@
-//! Reads worked cases of flags, dates, sets, mailboxes, homes of mailboxes, search keys and fetch items from text files, and
-//! compares what `mail_message`, `mail_store`, `backend_core`, `mail_search` and `mail_fetch` make of each with what the case wants:
-//! `mail_cases TABLE ..`. It prints how many cases of each table passed, or ends with status 1 at the first one that differs.
+//! Reads worked cases of flags, dates, sets, mailboxes, homes of mailboxes, sessions, search keys and fetch items from text files,
+//! and compares what `mail_message`, `mail_store`, `backend_core`, `session_core`, `mail_search` and `mail_fetch` make of each with
+//! what the case wants: `mail_cases TABLE ..`. It prints how many cases of each table passed, or ends with status 1 at the first one that differs.
 //!
 //! A case is a line of fields with ` | ` between them, of which the first is its kind. Lines that begin with `#` say what the
 //! fields of each kind are.
@@ -12,6 +12,7 @@ mod home;
 mod keys;
 mod operation;
 mod parts;
+mod session;
 mod sets;
 
 use anyhow::{Result, anyhow};
@@ -36,6 +37,7 @@ fn holds(alloc: Global, fields: &[&str]) -> Result<bool> {
         ["acl", name, want] => is_first_acl(alloc, name, want),
         ["box", operations @ ..] => operation::hold(alloc, operations),
         ["home", steps @ ..] => home::hold(alloc, steps),
+        ["session", steps @ ..] => session::hold(alloc, steps),
         _ => Ok(false),
     }
 }

@@ -137,7 +137,8 @@ fn rows_text(alloc: Global, rows: &[Row]) -> Result<Bytes, Memory> {
     Ok(text)
 }
 
-fn put_row(alloc: Global, text: &mut Bytes, row: &Row) -> Result<(), Memory> {
+/// Puts a row at the end of a text: its UID, and behind it its flags in parentheses.
+pub fn put_row(alloc: Global, text: &mut Bytes, row: &Row) -> Result<(), Memory> {
     put_separated(text, row.uid)?;
     text.extend_from_slice(text_of(alloc, &row.flags)?.as_slice())
 }

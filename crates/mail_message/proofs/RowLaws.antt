@@ -1,11 +1,11 @@
 -- Rows in rising order of UID, and where a row stands in them.
-use Rattle.std.proofs.Common.{◌≡◌, ℕ, zero, suc, ◌-◌, ◌<◌, ◌≤◌, false, ◌==◌, List, [], ◌∷◌, ◌++◌, map, length, slice_get, None, Some}
+use Rattle.std.proofs.Common.{◌≡◌, ℕ, zero, suc, ◌+◌, ◌-◌, ◌<◌, ◌≤◌, false, ◌==◌, List, [], ◌∷◌, ◌++◌, map, length, slice_get, None, Some}
 use Rattle.std.proofs.Common.{if◌then◌else◌, Result, Ok, Err, OnOk, OnErr, refl, sym, ap, subst, arith}
 use Rattle.std.specs.Option.{unwrap_or}
 use Rattle.std.proofs.lemmas.List.{length-map}
 use native.Mathlib.Numerals.{unary_clauses}
 use Rattle.std.proofs.Math.ListN.{get_or-map}
-use Rattle.std.specs.List.{AllByRecursion}
+use Rattle.std.specs.List.{AllByRecursion, position_from}
 use Rattle.std.specs.List.Sorted.{IsStrictlySortedBy, IsNonDecreasingBy}
 use Rattle.std.specs.declared.cmp.Ordering.TheVariants.{Less}
 use Rattle.std.specs.Ordering.{nat_cmp}
@@ -14,7 +14,7 @@ use Rattle.std.proofs.lemmas.Map.Keys.{non_decreasing_from_sorted}
 use Rattle.mail_message.specs.declared.message.Row.{Row}
 use Rattle.mail_message.specs.declared.message.Message.{Message}
 use Rattle.mail_message.specs.Boxes.{row_of, uids_of, IsRising}
-use Rattle.mail_message.specs.RowOrder.{AreRising, IsAbove, IsPlace, is_row_of, row_at, if_row_of}
+use Rattle.mail_message.specs.RowOrder.{AreRising, IsAbove, IsPlace, is_row_of, row_at, if_row_of, place_if_row_of}
 use Rattle.mail_message.proofs.SlotLaws.{less, below}
 
 -- ---- the rows of messages
@@ -101,4 +101,26 @@ row-placed (row ∷ rows) uid (suc place) rising at =
     let lt = at.0 0 row (omega arith) (omega arith) in
     let apart : (row.uid == uid) ≡ false = grind (arith, nat_tests, lt) in
     rw apart (row-placed rows uid place rising.1
+    (λ k d from to. at.0 (suc k) d (omega arith) (omega (arith, to)), λ k d from to. at.1 (suc k) d (omega (arith, from)) (omega (arith, to))))
+
+none_placed : (uid k from : ℕ) (rows : List Row) → AllByRecursion (λ q. nat_cmp k q ≡ Less) (map (λ row. row.uid) rows) → uid ≤ k
+    → position_from (is_row_of uid) from rows ≡ None
+none_placed uid k from [] all le = refl
+none_placed uid k from (row ∷ rows) all le =
+    let lt = below k row.uid all.0 in
+    let apart : (row.uid == uid) ≡ false = grind (arith, nat_tests, lt, le) in rw apart (none_placed uid k (from + 1) rows all.1 le)
+
+-- the place of the row with a UID is behind those with lower ones
+pub place-placed : (rows : List Row) (uid place from n : ℕ) → n ≡ from + place → AreRising rows → IsPlace rows uid place
+    → place_if_row_of uid n (slice_get rows place) ≡ position_from (is_row_of uid) from rows
+unfolding IsStrictlySortedBy
+place-placed [] uid place from n is rising at = refl
+place-placed (row ∷ rows) uid zero from n is rising at =
+    let none = none_placed uid row.uid (from + 1) rows rising.0 (at.1 0 row (omega arith) (omega arith)) in
+    let first : n ≡ from = omega (arith, is) in
+    rw (first, none) refl
+place-placed (row ∷ rows) uid (suc place) from n is rising at =
+    let lt = at.0 0 row (omega arith) (omega arith) in
+    let apart : (row.uid == uid) ≡ false = grind (arith, nat_tests, lt) in
+    rw apart (place-placed rows uid place (from + 1) n (omega (arith, is)) rising.1
     (λ k d from to. at.0 (suc k) d (omega arith) (omega (arith, to)), λ k d from to. at.1 (suc k) d (omega (arith, from)) (omega (arith, to))))

@@ -25,6 +25,11 @@ abbrev pub if_row_of : ℕ → Option Row → Option Row
 if_row_of uid None = None
 if_row_of uid (Some row) = if is_row_of uid row then Some row else None
 
+-- a place, if a row has the UID
+abbrev pub place_if_row_of : ℕ → ℕ → Option Row → Option ℕ
+place_if_row_of uid place None = None
+place_if_row_of uid place (Some row) = if is_row_of uid row then Some place else None
+
 -- so many rows have a lower UID, and the others none
 abbrev pub IsPlace : List Row → ℕ → ℕ → Type 0
 IsPlace rows uid place = IsPartitionPoint (λ row. row.uid < uid) (λ row. uid ≤ row.uid) rows place

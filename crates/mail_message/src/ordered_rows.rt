@@ -1,8 +1,8 @@
 // Rows by UID: a list that rises, so that a look-up is a binary search.
 ghost use Rattle.std.specs.Prelude.{◌≡◌, ◌<◌, ◌≤◌, ◌↔◌, [], ◌∷◌, ◌++◌, length, IfOk, OnOk, OnErr, IsTrue};
-ghost use Rattle.std.specs.List.{AllWithin};
+ghost use Rattle.std.specs.List.{AllWithin, position_from};
 ghost use Rattle.std.specs.Option.{option_copied};
-ghost use Rattle.mail_message.specs.RowOrder.{AreRising, IsAbove, IsPlace, row_at, if_row_of};
+ghost use Rattle.mail_message.specs.RowOrder.{AreRising, IsAbove, IsPlace, is_row_of, row_at, if_row_of, place_if_row_of};
 
 use crate::message::{Row, Rows};
 use mur_base::{Copied, Memory};
@@ -92,6 +92,14 @@ impl OrderedRows {
         self.find(uid, &mut near)
     }
 
+    /// How many rows stand before the one with a UID, if that is there; looked for near a place first, as `find` does.
+    pub fn place(&self, uid: u32, near: &mut usize) -> Option<usize>
+        ensures { result ≡ position_from (is_row_of uid) 0 self.now }
+    {
+        *near = place_of(self.rows.as_slice(), uid, *near);
+        place_if_row_of(*near, self.rows.get(*near), uid)
+    }
+
     /// The row with a UID, if it is there, looked for near a place first, which becomes the place found: so a walk over
     /// rising UIDs costs a step for each row, and a UID elsewhere a binary search. Any place gives the same row.
     pub fn find(&self, uid: u32, near: &mut usize) -> Option<&Row>
@@ -115,6 +123,15 @@ fn if_row_of(row: Option<&Row>, uid: u32) -> Option<&Row>
 {
     match row {
         Some(row) => { if row.uid == uid { Some(row) } else { None } }
+        None => None,
+    }
+}
+
+fn place_if_row_of(place: usize, row: Option<&Row>, uid: u32) -> Option<usize>
+    ensures { result ≡ place_if_row_of uid place (option_copied row.entry) }
+{
+    match row {
+        Some(row) => { if row.uid == uid { Some(place) } else { None } }
         None => None,
     }
 }

@@ -8,3 +8,4 @@ mod spans;
 
 pub use matching::{key_matches, set_holds};
 pub use searching::search;
+pub use spans::marks_of_set;

@@ -10,4 +10,5 @@ mod store;
 pub use append::append_all;
 pub use expunging::expunge;
 pub use fault::StoreFault;
+pub use named::set_of;
 pub use store::set_flags;

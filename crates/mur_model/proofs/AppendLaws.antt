@@ -15,29 +15,29 @@ use Rattle.mur_model.specs.declared.reply.NoText.TheVariants.{Limit}
 use Rattle.mur_model.specs.declared.reply.Reply.{Reply}
 use Rattle.mur_model.specs.declared.store.Store.{Store}
 use Rattle.mur_model.specs.Append.{append_on, append_to, append_reply}
-use Rattle.mur_model.specs.Left.{Worked, box_after, store_after}
+use Rattle.mur_model.specs.Left.{Worked, replied, box_after, store_after}
 use Rattle.mur_model.specs.Reply.{refused}
 use Rattle.mur_model.specs.Store.{box_at, with_box}
 
 -- the mailbox is left so, and this is the reply
-abbrev pub IsLeft : Content → Worked → Content → Reply → Type 0
-IsLeft box worked left reply = (left ≡ box_after box worked.left) × (reply ≡ worked.reply)
+abbrev pub IsReplied : Content → Worked → Content → Reply → Type 0
+IsReplied box worked left reply = (left ≡ box_after box worked.left) × (replied reply ≡ worked.turn)
 
 pub refused_left : (message : Message) (box left : Content) (fault : Option StoreFault) (uids : List ℕ) (why : StoreFault) (reply : Reply)
-    → IsAnswered fault uids (Err why) → left ≡ box → (why ≢ Memory) × (reply ≡ refused Limit) → IsLeft box (append_to message box fault) left reply
+    → IsAnswered fault uids (Err why) → left ≡ box → (why ≢ Memory) × (reply ≡ refused Limit) → IsReplied box (append_to message box fault) left reply
 unfolding append_to box_after
-refused_left message box left (Some fault) uids why reply answered same told = (same, told.1)
+refused_left message box left (Some fault) uids why reply answered same told = (same, ap replied told.1)
 refused_left message box left None uids why reply answered same told = absurd (told.0 answered)
 
 pub appended_left : (message : Message) (box left : Content) (fault : Option StoreFault) (uids given : List ℕ) (reply : Reply)
     → IsAnswered fault uids (Ok given) → left ≡ appended box (message ∷ []) → reply ≡ append_reply box.serial box.next
-    → IsLeft box (append_to message box fault) left reply
+    → IsReplied box (append_to message box fault) left reply
 unfolding append_to box_after
 appended_left message box left (Some fault) uids given reply answered is told = cc
-appended_left message box left None uids given reply answered is told = (is, told)
+appended_left message box left None uids given reply answered is told = (is, ap replied told)
 
 -- a mailbox that is written back as it was leaves the store as it was
-kept_there : (store : Store) (name : List ℕ) (box : Content) → box_at store name ≡ Some box → with_box store name box ≡ store
+pub kept_there : (store : Store) (name : List ℕ) (box : Content) → box_at store name ≡ Some box → with_box store name box ≡ store
 kept_there store name box there = ap (λ boxes. record store { boxes = boxes }) (set_value_same (is_at (slice_cmp nat_cmp name)) store.boxes box there)
 
 left_there : (store : Store) (name : List ℕ) (message : Message) (box : Content) (fault : Option StoreFault) → box_at store name ≡ Some box
@@ -47,8 +47,9 @@ left_there store name message box (Some fault) there = kept_there store name box
 left_there store name message box None there = refl
 
 pub appended_there : (store : Store) (name : List ℕ) (message : Message) (box left : Content) (reply : Reply) → box_at store name ≡ Some box
-    → IsLeft box (append_to message box (append_fault box (message ∷ []))) left reply
-    → (with_box store name left ≡ store_after store name (append_on message (box_at store name)).left) × (reply ≡ (append_on message (box_at store name)).reply)
+    → IsReplied box (append_to message box (append_fault box (message ∷ []))) left reply
+    → (with_box store name left ≡ store_after store name (append_on message (box_at store name)).left)
+    × (replied reply ≡ (append_on message (box_at store name)).turn)
 unfolding append_on
 appended_there store name message box left reply there is =
     rw there (ap (λ content. with_box store name content) is.0 ∙ left_there store name message box (append_fault box (message ∷ [])) there, is.1)

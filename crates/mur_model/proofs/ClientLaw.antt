@@ -9,7 +9,7 @@ use Rattle.mur_model.specs.declared.reply.ReplyLine.{ReplyLine}
 use Rattle.mur_model.specs.declared.reply.ReplyLine.TheVariants.{Expunge, Fetch}
 use Rattle.mur_model.specs.declared.news.Told.{Told}
 use Rattle.mur_model.specs.ClientView.{Known, without_number, known_after, known_after_all, Agrees, uids}
-use Rattle.mur_model.specs.News.{news, told_of, has_row, expunge_lines, rows_there, rows_behind}
+use Rattle.mur_model.specs.News.{news, told_of, has_row, is_among, expunge_lines, rows_there, rows_behind}
 use Rattle.mur_model.specs.News.{exists_lines, changed_lines, changed_line, fresh_rows, fresh_row, flag_parts}
 use Rattle.mur_model.specs.SameFlags.{is_same_flags}
 use Rattle.std.proofs.lemmas.Bool.Decides.{nat_tests}
@@ -113,10 +113,11 @@ line_same : (is_told : Bool) (number : ℕ) (row : Row) (it : Option Row) (known
 line_same is_told number row None known lines = refl
 line_same is_told number row (Some it) known lines = test_same (not is_told && not (is_same_flags row.flags it.flags)) number (flag_parts true it) known lines
 
-changed_same : (now told : List Row) (number : ℕ) (known : Known) (rows : List Row) → known_after_all known (changed_lines now told number rows) ≡ known
+changed_same : (now : List Row) (told : List ℕ) (number : ℕ) (known : Known) (rows : List Row)
+    → known_after_all known (changed_lines now told number rows) ≡ known
 changed_same now told number known [] = refl
 changed_same now told number known (row ∷ rows) =
-    line_same (has_row told row.uid) number row (row_at now row.uid) known (changed_lines now told (number + 1) rows)
+    line_same (is_among told row.uid) number row (row_at now row.uid) known (changed_lines now told (number + 1) rows)
     ∙ changed_same now told (number + 1) known rows
 
 -- a row of the mailbox in the place of one of the view has its UID
@@ -133,7 +134,7 @@ pub fresh_uids : (now rows : List Row) → uids (fresh_rows now rows) ≡ uids r
 fresh_uids now [] = refl
 fresh_uids now (row ∷ rows) = ap₂ (λ uid list. uid ∷ list) (fresh_uid now row) (fresh_uids now rows)
 
-told_agree : (lines : List ReplyLine) (rows now : List Row) (told : List Row) (known : Known) → Agrees (known_after_all known lines) (uids rows)
+told_agree : (lines : List ReplyLine) (rows now : List Row) (told : List ℕ) (known : Known) → Agrees (known_after_all known lines) (uids rows)
     → Agrees (known_after_all known (told_of lines rows now told).lines) (uids (told_of lines rows now told).rows)
 told_agree lines rows now told known agrees =
     let behind = rows_behind rows now in
@@ -144,14 +145,14 @@ told_agree lines rows now told known agrees =
     (rw (fresh_uids now rows) (exists_agree (known_after_all known lines) rows behind agrees)))))
 
 -- a client that knew the numbers of its view knows those of the view behind the news
-news_agree : (rows now : List Row) (expunges : Bool) (told : List Row) (known : Known) → Agrees known (uids rows)
+news_agree : (rows now : List Row) (expunges : Bool) (told : List ℕ) (known : Known) → Agrees known (uids rows)
     → Agrees (known_after_all known (news rows now expunges told).lines) (uids (news rows now expunges told).rows)
 unfolding news Agrees
 news_agree rows now true told known agrees =
     told_agree (expunge_lines now 1 rows) (rows_there now rows) now told known (expunged_agree now 1 [] [] known rows refl tt agrees)
 news_agree rows now false told known agrees = told_agree [] rows now told known agrees
 
-pub client_of : {E : Type 0} (result : Result Told E) (rows now : List Row) (expunges : Bool) (told : List Row)
+pub client_of : {E : Type 0} (result : Result Told E) (rows now : List Row) (expunges : Bool) (told : List ℕ)
     → IfOk result (λ it. it ≡ news rows now expunges told)
     → IfOk result (λ it. (known : Known) → Agrees known (uids rows) → Agrees (known_after_all known it.lines) (uids it.rows))
 client_of (Ok it) rows now expunges told is =

@@ -6,3 +6,4 @@ mod ClientLaw
 mod ViewLaw
 mod StoreLaw
 mod FlagLaw
+mod ViewedLaw

@@ -5,28 +5,27 @@ use Rattle.mail_message.specs.declared.message.Row.{Row}
 use Rattle.mail_store.specs.Store.{stored, rows_stored, IsStoredBy}
 use Rattle.mail_store.specs.declared.fault.StoreFault.{StoreFault}
 use Rattle.mail_store.specs.declared.fault.StoreFault.TheVariants.{Memory}
+use Rattle.mur_model.specs.declared.session.Turn.{Turn}
 use Rattle.mur_model.specs.declared.store_flags.FlagStore.{FlagStore}
 use Rattle.mur_model.specs.declared.view.View.{View}
-use Rattle.mur_model.specs.declared.view.Viewed.{Viewed}
-use Rattle.mur_model.specs.Left.{box_after}
-use Rattle.mur_model.specs.Selected.{IsWorked}
-use Rattle.mur_model.specs.StoreFlags.{stored_at, told_of, refused_for}
+use Rattle.mur_model.specs.Left.{IsLeft, box_after}
+use Rattle.mur_model.specs.Selected.{rows_of}
+use Rattle.mur_model.specs.StoreFlags.{stored_at, store_told, store_refused}
 
-pub stored_worked : (view : View) (it : FlagStore) (box left : Content) (given : List Row) (viewed : Viewed) (many : Bool)
+pub stored_worked : (view : View) (it : FlagStore) (box left : Content) (given : List Row) (turn : Turn) (many : Bool)
     → IsStoredBy many (rows_stored box it.uids it.mode it.flags) (Ok given) → left ≡ stored box it.uids it.mode it.flags
-    → viewed ≡ told_of view it given left → IsWorked box (stored_at view it box many) left viewed
+    → turn ≡ store_told view it given (rows_of left) → IsLeft box (stored_at view it box many) left turn
 unfolding box_after
-stored_worked view it box left given viewed true is leaves tells = elim is [ inl e ↦ cc | inr e ↦ cc ]
-stored_worked view it box left given viewed false is leaves tells =
+stored_worked view it box left given turn true is leaves tells = elim is [ inl e ↦ cc | inr e ↦ cc ]
+stored_worked view it box left given turn false is leaves tells =
     let after = stored box it.uids it.mode it.flags in
-    let tells_after = subst (λ (content : Content). viewed ≡ told_of view it given content) leaves tells in
-    (leaves, subst (λ (rows : List Row). viewed ≡ told_of view it rows after) is tells_after)
+    let tells_after = subst (λ (content : Content). turn ≡ store_told view it given (rows_of content)) leaves tells in
+    (leaves, subst (λ (rows : List Row). turn ≡ store_told view it rows (rows_of after)) is tells_after)
 
-pub refused_worked : (view : View) (it : FlagStore) (box left : Content) (why : StoreFault) (viewed : Viewed) (many : Bool)
+pub refused_worked : (view : View) (it : FlagStore) (box left : Content) (why : StoreFault) (turn : Turn) (many : Bool)
     → IsStoredBy many (rows_stored box it.uids it.mode it.flags) (Err why) → left ≡ box
-    → (why ≢ Memory) × (viewed ≡ refused_for view it left)
-    → IsWorked box (stored_at view it box many) left viewed
+    → (why ≢ Memory) × (turn ≡ store_refused view it (rows_of left)) → IsLeft box (stored_at view it box many) left turn
 unfolding box_after
-refused_worked view it box left why viewed true is same tells =
-    (same, subst (λ (content : Content). viewed ≡ refused_for view it content) same tells.1)
-refused_worked view it box left why viewed false is same tells = absurd (tells.0 is)
+refused_worked view it box left why turn true is same tells =
+    (same, subst (λ (content : Content). turn ≡ store_refused view it (rows_of content)) same tells.1)
+refused_worked view it box left why turn false is same tells = absurd (tells.0 is)

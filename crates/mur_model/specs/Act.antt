@@ -1,59 +1,114 @@
 -- What one command does to the store and its session, and its reply (RFC 9051, 6). Refusals are tested in the order state,
 -- what can't be done, rights, missing mailbox, limits; a refused command leaves store and session as they were.
-use Rattle.std.specs.Prelude.{◌≡◌, ℕ, ⊤, Bool, false, if◌then◌else◌, List, Option, None, codes}
+use Rattle.std.specs.Prelude.{◌≡◌, ℕ, ⊤, Bool, true, false, if◌then◌else◌, List, Option, None, Some, codes}
 use Rattle.mail_message.specs.Boxes.{Content}
 use Rattle.mur_model.specs.declared.command.Command.{Command}
-use Rattle.mur_model.specs.declared.command.Command.TheVariants.{Login as login_of, Create as create_of, Append as append_of, Status as status_of}
+use Rattle.mur_model.specs.declared.command.Command.TheVariants as command
+use Rattle.mur_model.specs.declared.command.StatusItem.{StatusItem}
 use Rattle.mur_model.specs.declared.need.Need.{Need}
-use Rattle.mur_model.specs.declared.need.Need.TheVariants.{Refusal, Login as begins, Mailbox}
+use Rattle.mur_model.specs.declared.need.Need.TheVariants.{Refusal, Login as begins, Turned, Mailbox}
+use Rattle.mur_model.specs.declared.need.ViewWork.TheVariants as work
 use Rattle.mur_model.specs.declared.need.Work.{Work}
-use Rattle.mur_model.specs.declared.need.Work.TheVariants.{Make, Append as append_work, Status as status_work}
+use Rattle.mur_model.specs.declared.need.Work.TheVariants.{Make, Append as append_work, Status as status_work, Select as select_work, Viewed as viewed_work}
 use Rattle.mur_model.specs.declared.reply.BadText.TheVariants.{State, Syntax}
+use Rattle.mur_model.specs.declared.reply.NoText.TheVariants.{Cannot}
 use Rattle.mur_model.specs.declared.reply.Reply.{Reply}
-use Rattle.mur_model.specs.declared.reply.Verdict.TheVariants.{Bad as bad_reply}
+use Rattle.mur_model.specs.declared.reply.Verdict.TheVariants.{Bad as bad_reply, No as no_reply}
 use Rattle.mur_model.specs.declared.session.Sess.{Sess}
-use Rattle.mur_model.specs.declared.session.Sess.TheVariants.{Off, In, Ended}
+use Rattle.mur_model.specs.declared.session.Sess.TheVariants.{Off, In, Selected as selected, Ended}
 use Rattle.mur_model.specs.declared.setting.Setting.{Setting}
 use Rattle.mur_model.specs.declared.store.Store.{Store}
+use Rattle.mur_model.specs.declared.view.View.{View}
 use Rattle.mur_model.specs.Append.{new_message, append, append_on}
 use Rattle.mur_model.specs.Create.{create, create_on}
-use Rattle.mur_model.specs.Left.{Worked, store_after}
+use Rattle.mur_model.specs.Left.{Worked, replied, store_after}
 use Rattle.mur_model.specs.Login.{login}
 use Rattle.mur_model.specs.Reply.{reply_of, completed}
+use Rattle.mur_model.specs.Select.{select, select_on}
 use Rattle.mur_model.specs.Status.{status, status_on, tells_messages_alone}
 use Rattle.mur_model.specs.Store.{box_at, is_spent, IsFree}
+use Rattle.mur_model.specs.Viewing.{at_mailbox, close, expunge, fetch, left_by, store, viewed_on}
 
 -- the refusal of a command that is read and that no state has yet
 abbrev pub not_yet : Need
 not_yet = Refusal (bad_reply Syntax)
 
+-- a command that wants a mailbox to be selected
+unfoldable pub wants_selected : Command → Bool
+wants_selected command.Close = true
+wants_selected command.Unselect = true
+wants_selected (command.Expunge only) = true
+wants_selected (command.Store by_uid set mode is_silent flags) = true
+wants_selected (command.Fetch by_uid set items) = true
+wants_selected it = false
+
+abbrev pub nothing_new : Need
+nothing_new = Turned (replied (completed (codes "NOOP")))
+
 -- a command of a session that hasn't begun
 unfoldable pub need_off : Setting → Command → Need
-need_off setting (login_of user password) = login setting.users user password
-need_off setting (create_of text) = Refusal (bad_reply State)
-need_off setting (append_of text flags date body) = Refusal (bad_reply State)
-need_off setting (status_of text items) = Refusal (bad_reply State)
-need_off setting command = not_yet
+need_off setting (command.Login user password) = login setting.users user password
+need_off setting command.Noop = nothing_new
+need_off setting (command.Create text) = Refusal (bad_reply State)
+need_off setting (command.Append text flags date body) = Refusal (bad_reply State)
+need_off setting (command.Status text items) = Refusal (bad_reply State)
+need_off setting (command.Select text) = Refusal (bad_reply State)
+need_off setting (command.Examine text) = Refusal (bad_reply State)
+need_off setting command.Close = Refusal (bad_reply State)
+need_off setting command.Unselect = Refusal (bad_reply State)
+need_off setting (command.Expunge only) = Refusal (bad_reply State)
+need_off setting (command.Store by_uid set mode is_silent flags) = Refusal (bad_reply State)
+need_off setting (command.Fetch by_uid set items) = Refusal (bad_reply State)
+need_off setting (command.LeftOut line) = Refusal (bad_reply State)
+need_off setting it = not_yet
 
--- a command of a session of this user
+-- a home tells of the number of messages alone yet
+abbrev pub status_told : Setting → List ℕ → List ℕ → List StatusItem → Need
+status_told setting user text items = if tells_messages_alone items then status setting user text items else not_yet
+
+-- a command of this user that a session has whether a mailbox is selected or not
+unfoldable pub need_begun : Setting → List ℕ → Bool → Command → Need
+need_begun setting user is_selected (command.Login name password) = Refusal (bad_reply State)
+need_begun setting user is_selected (command.Create text) = create setting user text
+need_begun setting user is_selected (command.Append text flags date body) = append setting user text (new_message setting flags date body)
+need_begun setting user is_selected (command.Status text items) = status_told setting user text items
+need_begun setting user is_selected (command.Select text) = select setting user text true is_selected
+need_begun setting user is_selected (command.Examine text) = select setting user text false is_selected
+need_begun setting user is_selected (command.LeftOut line) = Refusal (no_reply Cannot)
+need_begun setting user is_selected it = not_yet
+
+abbrev pub need_unselected : Setting → List ℕ → Command → Need
+need_unselected setting user it = if wants_selected it then Refusal (bad_reply State) else need_begun setting user false it
+
+-- a command of a session of this user, with no mailbox selected
 unfoldable pub need_in : Setting → List ℕ → Command → Need
-need_in setting user (login_of name password) = Refusal (bad_reply State)
-need_in setting user (create_of text) = create setting user text
-need_in setting user (append_of text flags date body) = append setting user text (new_message setting flags date body)
-need_in setting user (status_of text items) = if tells_messages_alone items then status setting user text items else not_yet
-need_in setting user command = not_yet
+need_in setting user command.Noop = nothing_new
+need_in setting user it = need_unselected setting user it
+
+-- a command of a session that has this view
+unfoldable pub need_selected : Setting → View → Command → Need
+need_selected setting view command.Noop = at_mailbox view work.Noop
+need_selected setting view command.Close = close view
+need_selected setting view command.Unselect = Turned (left_by view (codes "UNSELECT"))
+need_selected setting view (command.Expunge only) = expunge view only
+need_selected setting view (command.Store by_uid set mode is_silent flags) = store view by_uid set mode is_silent flags
+need_selected setting view (command.Fetch by_uid set items) = fetch view by_uid set items
+need_selected setting view it = need_begun setting view.user true it
 
 -- what a command needs of the store
 unfoldable pub need_of : Setting → Sess → Command → Need
-need_of setting Off command = need_off setting command
-need_of setting (In user) command = need_in setting user command
-need_of setting Ended command = Refusal (bad_reply State)
+need_of setting Off it = need_off setting it
+need_of setting (In user) it = need_in setting user it
+need_of setting (selected view) it = need_selected setting view it
+need_of setting Ended it = Refusal (bad_reply State)
 
 -- what work leaves of the mailbox that stands there; a CREATE gives it the serial as its UIDVALIDITY, if one is left
 unfoldable pub work_on : List ℕ → Work → ℕ → Bool → Option Content → Worked
 work_on name Make serial spent box = create_on name serial spent box
 work_on name (append_work message) serial spent box = append_on message box
 work_on name (status_work shown items) serial spent box = status_on shown items box
+work_on name (select_work it) serial spent box = select_on it name box
+work_on name (viewed_work view it) serial spent box = viewed_on view it box
 
 -- store, session and reply after a command
 pub record Acted : Type 0 where
@@ -65,12 +120,18 @@ pub record Acted : Type 0 where
 abbrev pub worked_at : Store → List ℕ → Work → ℕ → Worked
 worked_at store name work serial = work_on name work serial (is_spent store.given) (box_at store name)
 
+-- the session behind a turn
+abbrev pub session_after : Sess → Option Sess → Sess
+session_after session None = session
+session_after session (Some later) = later
+
 unfoldable pub act_by : Store → Sess → ℕ → Need → Acted
 act_by store session serial (Refusal verdict) = record { store = store; session = session; reply = reply_of verdict }
 act_by store session serial (begins user) = record { store = store; session = In user; reply = completed (codes "LOGIN") }
+act_by store session serial (Turned turn) = record { store = store; session = session_after session turn.session; reply = turn.reply }
 act_by store session serial (Mailbox name work) =
     let worked = worked_at store name work serial in
-    record { store = store_after store name worked.left; session = session; reply = worked.reply }
+    record { store = store_after store name worked.left; session = session_after session (worked.turn).session; reply = (worked.turn).reply }
 
 -- a command in a session; the serial is the UIDVALIDITY of the mailbox that a CREATE makes
 unfoldable pub act_of : Setting → Store → Sess → Command → ℕ → Acted
@@ -80,10 +141,13 @@ unfoldable pub MayWork : Store → List ℕ → ℕ → Work → Type 0
 MayWork store name serial Make = box_at store name ≡ None → is_spent store.given ≡ false → IsFree store name serial
 MayWork store name serial (append_work message) = ⊤
 MayWork store name serial (status_work shown items) = ⊤
+MayWork store name serial (select_work it) = ⊤
+MayWork store name serial (viewed_work view it) = ⊤
 
 unfoldable pub MayAct : Store → ℕ → Need → Type 0
 MayAct store serial (Refusal verdict) = ⊤
 MayAct store serial (begins user) = ⊤
+MayAct store serial (Turned turn) = ⊤
 MayAct store serial (Mailbox name work) = MayWork store name serial work
 
 -- the serial is free where the command makes a mailbox

@@ -16,7 +16,7 @@ use Rattle.mur_model.specs.declared.reply.NoText.TheVariants.{TryCreate, NoPerm,
 use Rattle.mur_model.specs.declared.reply.Reply.{Reply}
 use Rattle.mur_model.specs.declared.reply.Verdict.TheVariants.{Ok as ok_reply, No as no_reply}
 use Rattle.mur_model.specs.declared.setting.Setting.{Setting}
-use Rattle.mur_model.specs.Left.{Worked, kept, changed}
+use Rattle.mur_model.specs.Left.{Worked, replied, kept, changed}
 use Rattle.mur_model.specs.Reply.{reply_of, refused}
 use Rattle.mur_model.specs.Rights.{has_rights}
 
@@ -40,9 +40,9 @@ unfoldable pub append_reply : ℕ → ℕ → Reply
 append_reply serial uid = reply_of (ok_reply (AppendUid serial uid) (codes "APPEND"))
 
 unfoldable pub append_to : Message → Content → Option StoreFault → Worked
-append_to message box (Some fault) = record { left = kept; reply = refused Limit }
-append_to message box None = record { left = changed (appended box (message ∷ [])); reply = append_reply box.serial box.next }
+append_to message box (Some fault) = record { left = kept; turn = replied (refused Limit) }
+append_to message box None = record { left = changed (appended box (message ∷ [])); turn = replied (append_reply box.serial box.next) }
 
 unfoldable pub append_on : Message → Option Content → Worked
-append_on message None = record { left = kept; reply = refused TryCreate }
+append_on message None = record { left = kept; turn = replied (refused TryCreate) }
 append_on message (Some box) = append_to message box (append_fault box (message ∷ []))

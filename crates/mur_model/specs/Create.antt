@@ -15,7 +15,7 @@ use Rattle.mur_model.specs.declared.need.Work.TheVariants.{Make}
 use Rattle.mur_model.specs.declared.reply.NoText.TheVariants.{AlreadyExists, NonExistent, NoPerm, Cannot, Limit}
 use Rattle.mur_model.specs.declared.reply.Verdict.TheVariants.{No as no_reply}
 use Rattle.mur_model.specs.declared.setting.Setting.{Setting}
-use Rattle.mur_model.specs.Left.{Worked, kept, made}
+use Rattle.mur_model.specs.Left.{Worked, replied, kept, made}
 use Rattle.mur_model.specs.Reply.{completed, refused}
 use Rattle.mur_model.specs.Rights.{may_create}
 
@@ -46,9 +46,9 @@ create setting user text = create_meant setting user (without_separator text)
 
 -- the mailbox is made, unless no UIDVALIDITY is left
 unfoldable pub make : List ℕ → ℕ → Bool → Worked
-make name serial true = record { left = kept; reply = refused Limit }
-make name serial false = record { left = made (empty_box serial (first_acl name)); reply = completed (codes "CREATE") }
+make name serial true = record { left = kept; turn = replied (refused Limit) }
+make name serial false = record { left = made (empty_box serial (first_acl name)); turn = replied (completed (codes "CREATE")) }
 
 unfoldable pub create_on : List ℕ → ℕ → Bool → Option Content → Worked
-create_on name serial spent (Some there) = record { left = kept; reply = refused AlreadyExists }
+create_on name serial spent (Some there) = record { left = kept; turn = replied (refused AlreadyExists) }
 create_on name serial spent None = make name serial spent

@@ -1,26 +1,27 @@
 -- EXPUNGE and UID EXPUNGE (RFC 9051, 6.4.3 and 6.4.9): the messages with \Deleted go, of all or of those that are named, and are told.
 use Rattle.std.specs.Prelude.{ℕ, true, List, [], Option, None, Some, codes}
 use Rattle.mail_message.specs.Boxes.{Content}
+use Rattle.mail_message.specs.declared.message.Row.{Row}
 use Rattle.mail_store.specs.Expunge.{expunged}
 use Rattle.mur_model.specs.declared.reply.Code.TheVariants.{None as no_code}
 use Rattle.mur_model.specs.declared.reply.Verdict.TheVariants.{Ok as ok_reply}
+use Rattle.mur_model.specs.declared.session.Turn.{Turn}
 use Rattle.mur_model.specs.declared.view.View.{View}
-use Rattle.mur_model.specs.declared.view.Viewed.{Viewed}
-use Rattle.mur_model.specs.Left.{changed}
+use Rattle.mur_model.specs.Left.{Worked, changed}
 use Rattle.mur_model.specs.News.{news}
-use Rattle.mur_model.specs.Selected.{Selected, at_view, rows_of, with_news}
+use Rattle.mur_model.specs.Selected.{at_view, rows_of, with_news}
 
 abbrev pub expunge_name : Option (List ℕ) → List ℕ
 expunge_name None = codes "EXPUNGE"
 expunge_name (Some uids) = codes "UID EXPUNGE"
 
--- what is told of a mailbox behind an EXPUNGE
-abbrev pub expunge_told : View → Option (List ℕ) → Content → Viewed
-expunge_told view only box = with_news view [] (news view.rows (rows_of box) true []) (ok_reply no_code (expunge_name only))
+-- what is told where a mailbox has these rows behind an EXPUNGE
+abbrev pub expunge_told : View → Option (List ℕ) → List Row → Turn
+expunge_told view only now = with_news view [] (news view.rows now true []) (ok_reply no_code (expunge_name only))
 
-abbrev pub expunge_at : View → Option (List ℕ) → Content → Selected
-expunge_at view only box = record { left = changed (expunged box only); viewed = expunge_told view only (expunged box only) }
+abbrev pub expunge_at : View → Option (List ℕ) → Content → Worked
+expunge_at view only box = record { left = changed (expunged box only); turn = expunge_told view only (rows_of (expunged box only)) }
 
 -- an EXPUNGE of all messages, or of those with some UIDs
-unfoldable pub expunge_on : View → Option (List ℕ) → Option Content → Selected
+unfoldable pub expunge_on : View → Option (List ℕ) → Option Content → Worked
 expunge_on view only box = at_view view (expunge_at view only) box

@@ -1,7 +1,8 @@
 -- What a command leaves of its mailbox.
-use Rattle.std.specs.Prelude.{ℕ, List}
+use Rattle.std.specs.Prelude.{◌≡◌, ℕ, List, None}
 use Rattle.mail_message.specs.Boxes.{Content}
 use Rattle.mur_model.specs.declared.reply.Reply.{Reply}
+use Rattle.mur_model.specs.declared.session.Turn.{Turn}
 use Rattle.mur_model.specs.declared.store.Store.{Store}
 use Rattle.mur_model.specs.Store.{with_new_box, with_box}
 
@@ -11,10 +12,14 @@ pub data Left : Type 0 where
   made : Content → Left
   changed : Content → Left
 
--- what is left of a mailbox, and the reply
+-- what is left of a mailbox, and what comes of it for the session
 pub record Worked : Type 0 where
   pub left : Left
-  pub reply : Reply
+  pub turn : Turn
+
+-- a reply that leaves the session as it was
+abbrev pub replied : Reply → Turn
+replied reply = record { session = None; reply = reply }
 
 -- the content of a mailbox that was there
 unfoldable pub box_after : Content → Left → Content
@@ -26,3 +31,7 @@ unfoldable pub store_after : Store → List ℕ → Left → Store
 store_after store name kept = store
 store_after store name (made box) = with_new_box store name box
 store_after store name (changed box) = with_box store name box
+
+-- the mailbox is left so, and this comes of it for the session
+abbrev pub IsLeft : Content → Worked → Content → Turn → Type 0
+IsLeft box worked left turn = (left ≡ box_after box worked.left) × (turn ≡ worked.turn)

@@ -15,3 +15,7 @@ pub mod ClientView
 pub mod Selected
 pub mod Expunge
 pub mod StoreFlags
+pub mod NamedRows
+pub mod Select
+pub mod Fetch
+pub mod Viewing

@@ -1,7 +1,9 @@
 -- What a client is told of a mailbox that changes while it is selected (RFC 9051, 7.4 and 7.5). A view is the rows that the client was last told.
 use Rattle.std.specs.Prelude.{ℕ, zero, suc, ◌+◌, Bool, true, false, not, ◌&&◌, nat_lt}
 use Rattle.std.specs.Prelude.{if◌then◌else◌, List, [], ◌∷◌, ◌++◌, length, map, Option, None, Some, is_some}
-use Rattle.std.specs.List.{filter, list_all}
+use Rattle.std.specs.BTreeMap.{is_at}
+use Rattle.std.specs.List.{filter, list_all, list_any}
+use Rattle.std.specs.Ordering.{nat_cmp}
 use Rattle.mail_fetch.specs.FlagText.{flags_text}
 use Rattle.mail_fetch.specs.Parts.{uid_text}
 use Rattle.mail_message.specs.declared.message.Row.{Row}
@@ -49,10 +51,14 @@ changed_line is_told number row None = []
 changed_line is_told number row (Some it) =
     if not is_told && not (is_same_flags row.flags it.flags) then Fetch number (flag_parts true it) ∷ [] else []
 
+-- a UID is among some
+unfoldable pub is_among : List ℕ → ℕ → Bool
+is_among uids uid = list_any (is_at (nat_cmp uid)) uids
+
 -- the lines of all whose flags aren't told yet
-abbrev pub changed_lines : List Row → List Row → ℕ → List Row → List ReplyLine
+abbrev pub changed_lines : List Row → List ℕ → ℕ → List Row → List ReplyLine
 changed_lines now told number [] = []
-changed_lines now told number (row ∷ rows) = changed_line (has_row told row.uid) number row (row_at now row.uid) ++ changed_lines now told (number + 1) rows
+changed_lines now told number (row ∷ rows) = changed_line (is_among told row.uid) number row (row_at now row.uid) ++ changed_lines now told (number + 1) rows
 
 -- the row as the mailbox has it, if it is there
 abbrev pub fresh_row : Row → Option Row → Row
@@ -63,7 +69,7 @@ abbrev pub fresh_rows : List Row → List Row → List Row
 fresh_rows now rows = map (λ row. fresh_row row (row_at now row.uid)) rows
 
 -- the news behind the lines of expunged messages
-abbrev pub told_of : List ReplyLine → List Row → List Row → List Row → Told
+abbrev pub told_of : List ReplyLine → List Row → List Row → List ℕ → Told
 told_of lines rows now told = record {
   lines = lines ++ (exists_lines (length rows) (length (rows_behind rows now)) ++ changed_lines now told 1 rows);
   rows = fresh_rows now rows ++ rows_behind rows now;
@@ -71,6 +77,6 @@ told_of lines rows now told = record {
 
 -- The news of a view for which a mailbox has these rows now. Expunged messages are told where numbers may change (RFC 9051, 7.5.1); else they
 -- stay in the view. Flags that stand in the reply already, or that this client changed silently, are told no second time.
-unfoldable pub news : List Row → List Row → Bool → List Row → Told
+unfoldable pub news : List Row → List Row → Bool → List ℕ → Told
 news rows now true told = told_of (expunge_lines now 1 rows) (rows_there now rows) now told
 news rows now false told = told_of [] rows now told

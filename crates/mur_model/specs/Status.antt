@@ -17,7 +17,7 @@ use Rattle.mur_model.specs.declared.reply.ReplyLine.TheVariants.{Status as statu
 use Rattle.mur_model.specs.declared.reply.StatusCount.{StatusCount}
 use Rattle.mur_model.specs.declared.reply.Verdict.TheVariants.{Ok as ok_reply, No as no_reply}
 use Rattle.mur_model.specs.declared.setting.Setting.{Setting}
-use Rattle.mur_model.specs.Left.{Worked, kept}
+use Rattle.mur_model.specs.Left.{Worked, replied, kept}
 use Rattle.mur_model.specs.Reply.{refused}
 use Rattle.mur_model.specs.Rights.{has_rights}
 
@@ -53,5 +53,5 @@ status_reply shown items messages = record {
 }
 
 unfoldable pub status_on : List ℕ → List StatusItem → Option Content → Worked
-status_on shown items None = record { left = kept; reply = refused NonExistent }
-status_on shown items (Some box) = record { left = kept; reply = status_reply shown items (length box.messages) }
+status_on shown items None = record { left = kept; turn = replied (refused NonExistent) }
+status_on shown items (Some box) = record { left = kept; turn = replied (status_reply shown items (length box.messages)) }

@@ -4,20 +4,21 @@ use Rattle.std.specs.List.{list_any}
 use Rattle.mail_message.specs.Boxes.{Content}
 use Rattle.mail_message.specs.RowOrder.{row_at}
 use Rattle.mail_message.specs.declared.message.Row.{Row}
+use Rattle.mail_store.specs.Named.{set_of}
 use Rattle.mail_store.specs.Store.{stored, rows_stored, has_too_many_flags}
 use Rattle.mur_model.specs.declared.reply.Code.{Code}
 use Rattle.mur_model.specs.declared.reply.Code.TheVariants.{None as no_code, ExpungeIssued}
 use Rattle.mur_model.specs.declared.reply.NoText.TheVariants.{Limit}
 use Rattle.mur_model.specs.declared.reply.ReplyLine.{ReplyLine}
 use Rattle.mur_model.specs.declared.reply.ReplyLine.TheVariants.{Fetch}
-use Rattle.mur_model.specs.declared.reply.Verdict.{Verdict}
 use Rattle.mur_model.specs.declared.reply.Verdict.TheVariants.{Ok as ok_reply, No as no_reply}
 use Rattle.mur_model.specs.declared.store_flags.FlagStore.{FlagStore}
+use Rattle.mur_model.specs.declared.session.Turn.{Turn}
 use Rattle.mur_model.specs.declared.view.View.{View}
-use Rattle.mur_model.specs.declared.view.Viewed.{Viewed}
-use Rattle.mur_model.specs.Left.{kept, changed}
+use Rattle.mur_model.specs.ClientView.{uids}
+use Rattle.mur_model.specs.Left.{Worked, kept, changed}
 use Rattle.mur_model.specs.News.{news, has_row, flag_parts}
-use Rattle.mur_model.specs.Selected.{Selected, at_view, rows_of, with_news}
+use Rattle.mur_model.specs.Selected.{at_view, rows_of, with_news}
 
 abbrev pub store_name : Bool → List ℕ
 store_name false = codes "STORE"
@@ -40,34 +41,31 @@ own_lines it changes rows = if it.is_silent then [] else stored_lines it.by_uid 
 abbrev pub some_gone : List Row → List ℕ → Bool
 some_gone now uids = list_any (λ uid. not (has_row now uid)) uids
 
--- a STORE by numbers says so (RFC 9051, 7.1: EXPUNGEISSUED)
-abbrev pub store_code : Bool → List Row → List ℕ → Code
-store_code true now uids = no_code
-store_code false now uids = if some_gone now uids then ExpungeIssued else no_code
+-- a command by numbers says so (RFC 9051, 7.1: EXPUNGEISSUED)
+abbrev pub code_for : Bool → List Row → List ℕ → Code
+code_for true now uids = no_code
+code_for false now uids = if some_gone now uids then ExpungeIssued else no_code
 
-abbrev pub store_verdict : FlagStore → Content → Verdict
-store_verdict it box = ok_reply (store_code it.by_uid (rows_of box) it.uids) (store_name it.by_uid)
-
--- what is told where these rows were changed and the mailbox is left so
-abbrev pub told_of : View → FlagStore → List Row → Content → Viewed
-told_of view it changes left =
-    with_news view (own_lines it changes view.rows) (news view.rows (rows_of left) it.by_uid changes) (store_verdict it left)
+-- what is told where these rows were changed and the mailbox has those now
+abbrev pub store_told : View → FlagStore → List Row → List Row → Turn
+store_told view it changes now =
+    with_news view (own_lines it changes view.rows) (news view.rows now it.by_uid (set_of (uids changes)))
+    (ok_reply (code_for it.by_uid now it.uids) (store_name it.by_uid))
 
 -- what is told where a message would have too many keywords
-abbrev pub refused_for : View → FlagStore → Content → Viewed
-refused_for view it box = with_news view [] (news view.rows (rows_of box) it.by_uid []) (no_reply Limit)
+abbrev pub store_refused : View → FlagStore → List Row → Turn
+store_refused view it now = with_news view [] (news view.rows now it.by_uid []) (no_reply Limit)
 
 -- what a STORE does, refused where a message would have too many keywords
-abbrev pub stored_at : View → FlagStore → Content → Bool → Selected
-stored_at view it box true = record { left = kept; viewed = refused_for view it box }
+abbrev pub stored_at : View → FlagStore → Content → Bool → Worked
+stored_at view it box true = record { left = kept; turn = store_refused view it (rows_of box) }
 stored_at view it box false =
-    let changes = rows_stored box it.uids it.mode it.flags in
     let after = stored box it.uids it.mode it.flags in
-    record { left = changed after; viewed = told_of view it changes after }
+    record { left = changed after; turn = store_told view it (rows_stored box it.uids it.mode it.flags) (rows_of after) }
 
-abbrev pub store_at : View → FlagStore → Content → Selected
+abbrev pub store_at : View → FlagStore → Content → Worked
 store_at view it box = stored_at view it box (has_too_many_flags (rows_stored box it.uids it.mode it.flags))
 
 -- a STORE of the messages with some UIDs
-unfoldable pub store_on : View → FlagStore → Option Content → Selected
+unfoldable pub store_on : View → FlagStore → Option Content → Worked
 store_on view it box = at_view view (store_at view it) box

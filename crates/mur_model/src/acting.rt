@@ -1,17 +1,19 @@
 // The store as it can be run: one command at a time, on one store.
 ghost use Rattle.std.specs.Prelude.{◌≡◌, IfOk};
-ghost use Rattle.mur_model.specs.Act.{worked_at, act_by, act_of};
-ghost use Rattle.mur_model.specs.Left.{store_after};
+ghost use Rattle.mur_model.specs.Act.{worked_at, act_by, act_of, session_after};
+ghost use Rattle.mur_model.specs.Left.{replied, store_after};
 
 use crate::append::append_at;
 use crate::command::Command;
 use crate::create::make;
 use crate::need::{Need, Work, begin};
 use crate::reply::{Reply, ReplyLines, completed};
-use crate::session::Sess;
+use crate::select::select_at;
+use crate::session::{Sess, Turn};
 use crate::setting::Setting;
 use crate::status::status_at;
 use crate::store::Store;
+use crate::viewing::viewed_at;
 use mur_base::{Copied, MailName, Memory};
 use std::alloc::Global;
 
@@ -51,7 +53,33 @@ fn act_by(
             *sess = Sess::In(user);
             completed(alloc, b"LOGIN")
         }
-        Need::Mailbox(name, work) => work_at(alloc, store, name, work, serial),
+        Need::Turned(turn) => Ok(turned(sess, turn)),
+        Need::Mailbox(name, work) => {
+            let turn = work_at(alloc, store, name, work, serial)?;
+            Ok(turned(sess, turn))
+        }
+    }
+}
+
+/// Takes what came of a command for its session, and gives the reply.
+pub fn turned(sess: &mut Sess, turn: Turn) -> Reply
+    ensures session { sess.new ≡ session_after sess.old turn.session }
+    ensures reply { result ≡ turn.reply }
+{
+    let Turn { session, reply } = turn;
+    if let Some(session) = session {
+        *sess = session;
+    }
+    reply
+}
+
+/// A reply that leaves the session as it was.
+fn replied(reply: Reply) -> Turn
+    ensures { result ≡ replied reply }
+{
+    Turn {
+        session: None,
+        reply,
     }
 }
 
@@ -62,13 +90,15 @@ fn work_at(
     name: MailName,
     work: Work,
     serial: u32,
-) -> Result<Reply, Memory>
-    ensures { IfOk result (λ reply. let worked = worked_at store.old name work serial in
-        (store.new ≡ store_after store.old name worked.left) × (reply ≡ worked.reply)) }
+) -> Result<Turn, Memory>
+    ensures { IfOk result (λ turn. let worked = worked_at store.old name work serial in
+        (store.new ≡ store_after store.old name worked.left) × (turn ≡ worked.turn)) }
 {
     match work {
-        Work::Make => make(alloc, store, name, serial),
-        Work::Append(message) => append_at(alloc, store, &name, message),
-        Work::Status(shown, items) => status_at(alloc, store, &name, shown, &items),
+        Work::Make => Ok(replied(make(alloc, store, name, serial)?)),
+        Work::Append(message) => Ok(replied(append_at(alloc, store, &name, message)?)),
+        Work::Status(shown, items) => Ok(replied(status_at(alloc, store, &name, shown, &items)?)),
+        Work::Select(it) => select_at(alloc, store, &name, &it),
+        Work::Viewed(view, work) => viewed_at(alloc, store, &name, &view, work),
     }
 }

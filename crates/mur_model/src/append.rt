@@ -3,7 +3,7 @@ ghost use Rattle.std.specs.Prelude.{◌≡◌, ◌≢◌, IfOk, [], ◌∷◌};
 ghost use Rattle.mail_store.specs.Append.{append_fault};
 ghost use Rattle.mur_model.specs.Append.{new_message, append, append_by, append_on, append_to, append_reply};
 ghost use Rattle.mur_model.specs.Rights.{has_rights};
-ghost use Rattle.mur_model.specs.Left.{store_after, box_after};
+ghost use Rattle.mur_model.specs.Left.{replied, store_after, box_after};
 ghost use Rattle.mur_model.specs.Reply.{refused};
 ghost use Rattle.mur_model.specs.Store.{box_at};
 
@@ -80,7 +80,7 @@ pub fn append_at(
     message: Message,
 ) -> Result<Reply, Memory>
     ensures { IfOk result (λ reply. let worked = append_on message (box_at store.old name.now) in
-        (store.new ≡ store_after store.old name.now worked.left) × (reply ≡ worked.reply)) }
+        (store.new ≡ store_after store.old name.now worked.left) × (replied reply ≡ worked.turn)) }
 {
     match store.boxes.get_mut(name) {
         Some(mailbox) => append_to(alloc, mailbox, message),
@@ -90,7 +90,7 @@ pub fn append_at(
 
 fn append_to(alloc: Global, mailbox: &mut MailBox, message: Message) -> Result<Reply, Memory>
     ensures { IfOk result (λ reply. let worked = append_to message mailbox.old (append_fault mailbox.old (message ∷ [])) in
-        (mailbox.new ≡ box_after mailbox.old worked.left) × (reply ≡ worked.reply)) }
+        (mailbox.new ≡ box_after mailbox.old worked.left) × (replied reply ≡ worked.turn)) }
 {
     let serial = mailbox.serial();
     let uid = mailbox.next();

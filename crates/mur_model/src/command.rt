@@ -88,6 +88,9 @@ pub enum Command {
     Store(bool, SetParts, Mode, bool, FlagSet),
     /// COPY of messages to a mailbox, or UID COPY where that is true (RFC 9051, 6.4.7 and 6.4.9).
     Copy(bool, SetParts, Bytes),
+    /// RENAME, SUBSCRIBE, UNSUBSCRIBE, NAMESPACE, MOVE or UID MOVE (RFC 9051, 6.3.6 to 6.3.8, 6.3.10, 6.4.8 and 6.4.9) or LSUB
+    /// (RFC 3501, 6.3.9), none of which can be done here: its frame behind the tag's space, without its last CRLF.
+    LeftOut(Bytes),
     /// SETACL of a mailbox, an identifier and rights (RFC 4314, 3.1).
     SetAcl(Bytes, Bytes, Mode, Bytes),
     /// DELETEACL of a mailbox and an identifier (RFC 4314, 3.2).
@@ -165,6 +168,7 @@ impl Copied for Command {
                 copy_of_all(alloc, set)?,
                 copy_of(alloc, text)?,
             )),
+            Command::LeftOut(line) => Ok(Command::LeftOut(copy_of(alloc, line)?)),
             Command::SetAcl(text, id, mode, rights) => Ok(Command::SetAcl(
                 copy_of(alloc, text)?,
                 copy_of(alloc, id)?,

@@ -2,7 +2,7 @@
 ghost use Rattle.std.specs.Prelude.{◌≡◌, IfOk};
 ghost use Rattle.mur_base.specs.Names.{mail_name_fault};
 ghost use Rattle.mur_model.specs.Create.{without_separator, is_inbox, create, create_meant, create_by, create_on};
-ghost use Rattle.mur_model.specs.Left.{store_after};
+ghost use Rattle.mur_model.specs.Left.{replied, store_after};
 ghost use Rattle.mur_model.specs.Rights.{may_create};
 ghost use Rattle.mur_model.specs.Store.{box_at, is_spent};
 
@@ -71,7 +71,7 @@ fn create_by(with: &Setting, user: &UserName, name: MailName) -> Need
 #[tactic(auto, unfolding(crate::specs::Create::create_on, crate::specs::Create::make, crate::specs::Left::store_after))]
 pub fn make(alloc: Global, store: &mut Store, name: MailName, serial: u32) -> Result<Reply, Memory>
     ensures { IfOk result (λ reply. let worked = create_on name serial (is_spent store.old.given) (box_at store.old name) in
-        (store.new ≡ store_after store.old name worked.left) × (reply ≡ worked.reply)) }
+        (store.new ≡ store_after store.old name worked.left) × (replied reply ≡ worked.turn)) }
 {
     if store.boxes.contains_key(&name) {
         return Ok(refused(alloc, NoText::AlreadyExists));

@@ -7,12 +7,15 @@ mod append;
 mod command;
 mod create;
 mod expunge;
+mod fetch;
 mod login;
+mod named_rows;
 mod need;
 mod news;
 mod reply;
 mod request;
 mod rights;
+mod select;
 mod selected;
 mod session;
 mod setting;
@@ -20,21 +23,26 @@ mod status;
 mod store;
 mod store_flags;
 mod view;
+mod viewing;
 
-pub use acting::act;
+pub use acting::{act, turned};
 pub use append::append_reply;
 pub use command::{Atoms, Command, StatusItem, StatusItems, Tag};
-pub use expunge::expunge_on;
-pub use need::{Need, Work, begin};
+pub use expunge::{expunge_on, expunge_told};
+pub use fetch::{Fetching, fetch_told, sees};
+pub use need::{Need, ViewWork, Work, begin};
 pub use news::{Told, flag_parts, news_of};
 pub use reply::{
     Attribute, BadText, Bye, Code, FlagNames, NoText, Parts, Reply, ReplyLine, ReplyLines,
     StatusCount, StatusCounts, Verdict, completed, refused,
 };
 pub use request::{Answer, Answers, Request, Requests};
-pub use session::Sess;
+pub use select::{Opening, select_told, unselected};
+pub use selected::gone;
+pub use session::{Sess, Turn};
 pub use setting::Setting;
 pub use status::status_reply;
 pub use store::{Pair, Store};
-pub use store_flags::{FlagStore, store_on};
-pub use view::{View, Viewed};
+pub use store_flags::{FlagStore, store_on, store_refused, store_told};
+pub use view::View;
+pub use viewing::{left_by, noop_told};

@@ -1,17 +1,24 @@
 // What a command needs of the store (RFC 9051, 6).
 ghost use Rattle.std.specs.Prelude.{◌≡◌, IfOk};
-ghost use Rattle.mur_model.specs.Act.{need_off, need_in, need_of, not_yet};
+ghost use Rattle.mur_model.specs.Act.{need_off, need_in, need_begun, need_selected, need_of, need_unselected, not_yet};
+ghost use Rattle.mur_model.specs.Act.{nothing_new, status_told, wants_selected};
+ghost use Rattle.mur_model.specs.Viewing.{at_mailbox};
 
 use crate::append::{append, new_message};
 use crate::command::{Command, StatusItems};
 use crate::create::create;
+use crate::fetch::Fetching;
 use crate::login::login;
-use crate::reply::{BadText, Verdict};
-use crate::session::Sess;
+use crate::reply::{BadText, NoText, Verdict, completed};
+use crate::select::{Opening, select};
+use crate::session::{Sess, Turn};
 use crate::setting::Setting;
 use crate::status::{status, tells_messages_alone};
-use mail_message::Message;
-use mur_base::{Bytes, MailName, Memory, UserName};
+use crate::store_flags::FlagStore;
+use crate::view::View;
+use crate::viewing::{close, expunge, fetch, left_by, store};
+use mail_message::{Message, Uids};
+use mur_base::{Bytes, Copied, MailName, Memory, UserName};
 use std::alloc::Global;
 
 /// What is to be done at one mailbox.
@@ -23,12 +30,30 @@ pub enum Work {
     Append(Message),
     /// STATUS: it is looked at, and told under this name.
     Status(Bytes, StatusItems),
+    /// SELECT or EXAMINE.
+    Select(Opening),
+    /// A command of a session that has it selected.
+    Viewed(View, ViewWork),
 }
 
-/// What a command needs: nothing more, as it is refused; a session for this user; or work at a mailbox.
+/// What is to be done at the mailbox of a view.
+#[derive(Drop)]
+pub enum ViewWork {
+    /// NOOP: it is looked at.
+    Noop,
+    /// CLOSE: the messages with `\Deleted` are taken away, and it is selected no more.
+    Close,
+    /// EXPUNGE, of all messages or of those with some UIDs.
+    Expunge(Option<Uids>),
+    Store(FlagStore),
+    Fetch(Fetching),
+}
+
+/// What a command needs: nothing more, as it is refused or as this comes of it at once; a session for this user; or work at a mailbox.
 #[derive(Drop)]
 pub enum Need {
     Refusal(Verdict),
+    Turned(Turn),
     Login(UserName),
     Mailbox(MailName, Work),
 }
@@ -42,6 +67,7 @@ pub fn begin(alloc: Global, with: &Setting, sess: &Sess, command: Command) -> Re
     match sess {
         Sess::Off => begin_off(alloc, with, command),
         Sess::In(user) => begin_in(alloc, with, user, command),
+        Sess::Selected(view) => begin_selected(alloc, with, view, command),
         Sess::Ended => Ok(Need::Refusal(Verdict::Bad(BadText::State))),
     }
 }
@@ -52,11 +78,44 @@ fn begin_off(alloc: Global, with: &Setting, command: Command) -> Result<Need, Me
 {
     match command {
         Command::Login(name, password) => login(alloc, &with.users, &name, &password),
-        Command::Create(_) | Command::Append(_, _, _, _) | Command::Status(_, _) => {
-            Ok(Need::Refusal(Verdict::Bad(BadText::State)))
-        }
+        Command::Noop => nothing_new(alloc),
+        Command::Create(_)
+        | Command::Append(..)
+        | Command::Status(..)
+        | Command::Select(_)
+        | Command::Examine(_)
+        | Command::Close
+        | Command::Unselect
+        | Command::Expunge(_)
+        | Command::Store(..)
+        | Command::Fetch(..)
+        | Command::LeftOut(_) => Ok(Need::Refusal(Verdict::Bad(BadText::State))),
         _ => Ok(not_yet()),
     }
+}
+
+/// Whether a command wants a mailbox to be selected.
+#[tactic(auto, unfolding(crate::specs::Act::wants_selected))]
+fn wants_selected(command: &Command) -> bool
+    ensures { result ≡ wants_selected command.now }
+{
+    matches!(
+        command,
+        Command::Close
+            | Command::Unselect
+            | Command::Expunge(_)
+            | Command::Store(..)
+            | Command::Fetch(..)
+    )
+}
+
+fn nothing_new(alloc: Global) -> Result<Need, Memory>
+    ensures { IfOk result (λ need. need ≡ nothing_new) }
+{
+    Ok(Need::Turned(Turn {
+        session: None,
+        reply: completed(alloc, b"NOOP")?,
+    }))
 }
 
 #[tactic(auto, unfolding(crate::specs::Act::need_in))]
@@ -69,21 +128,97 @@ fn begin_in(
     ensures { IfOk result (λ need. need ≡ need_in with.now user.now command) }
 {
     match command {
-        Command::Login(_, _) => Ok(Need::Refusal(Verdict::Bad(BadText::State))),
+        Command::Noop => nothing_new(alloc),
+        it => begin_unselected(alloc, with, user, it),
+    }
+}
+
+fn begin_unselected(
+    alloc: Global,
+    with: &Setting,
+    user: &UserName,
+    command: Command,
+) -> Result<Need, Memory>
+    ensures { IfOk result (λ need. need ≡ need_unselected with.now user.now command) }
+{
+    if wants_selected(&command) {
+        return Ok(Need::Refusal(Verdict::Bad(BadText::State)));
+    }
+    begin_begun(alloc, with, user, false, command)
+}
+
+/// What a command needs that a session has whether a mailbox is selected or not.
+#[tactic(auto, unfolding(crate::specs::Act::need_begun))]
+fn begin_begun(
+    alloc: Global,
+    with: &Setting,
+    user: &UserName,
+    is_selected: bool,
+    command: Command,
+) -> Result<Need, Memory>
+    ensures { IfOk result (λ need. need ≡ need_begun with.now user.now is_selected command) }
+{
+    match command {
+        Command::Login(..) => Ok(Need::Refusal(Verdict::Bad(BadText::State))),
         Command::Create(text) => create(alloc, with, user, text.as_slice()),
         Command::Append(text, flags, date, body) => {
             let message = new_message(with, flags, date, body);
             append(alloc, with, user, text.as_slice(), message)
         }
-        Command::Status(text, items) => {
-            if tells_messages_alone(&items) {
-                status(alloc, with, user, text.as_slice(), items)
-            } else {
-                Ok(not_yet())
-            }
-        }
+        Command::Status(text, items) => status_told(alloc, with, user, &text, items),
+        Command::Select(text) => select(alloc, with, user, text.as_slice(), true, is_selected),
+        Command::Examine(text) => select(alloc, with, user, text.as_slice(), false, is_selected),
+        Command::LeftOut(_) => Ok(Need::Refusal(Verdict::No(NoText::Cannot))),
         _ => Ok(not_yet()),
     }
+}
+
+fn status_told(
+    alloc: Global,
+    with: &Setting,
+    user: &UserName,
+    text: &Bytes,
+    items: StatusItems,
+) -> Result<Need, Memory>
+    ensures { IfOk result (λ need. need ≡ status_told with.now user.now text.now items) }
+{
+    if tells_messages_alone(&items) {
+        status(alloc, with, user, text.as_slice(), items)
+    } else {
+        Ok(not_yet())
+    }
+}
+
+#[tactic(auto, unfolding(crate::specs::Act::need_selected))]
+fn begin_selected(
+    alloc: Global,
+    with: &Setting,
+    view: &View,
+    command: Command,
+) -> Result<Need, Memory>
+    ensures { IfOk result (λ need. need ≡ need_selected with.now view.now command) }
+{
+    match command {
+        Command::Noop => work_at_view(alloc, view, ViewWork::Noop),
+        Command::Close => close(alloc, view),
+        Command::Unselect => Ok(Need::Turned(left_by(alloc, view, b"UNSELECT")?)),
+        Command::Expunge(only) => expunge(alloc, view, &only),
+        Command::Store(by_uid, set, mode, is_silent, flags) => {
+            store(alloc, view, by_uid, &set, mode, is_silent, flags)
+        }
+        Command::Fetch(by_uid, set, items) => fetch(alloc, view, by_uid, &set, &items),
+        it => begin_begun(alloc, with, &view.user, true, it),
+    }
+}
+
+/// Work at the mailbox of a view.
+pub fn work_at_view(alloc: Global, view: &View, work: ViewWork) -> Result<Need, Memory>
+    ensures { IfOk result (λ need. need ≡ at_mailbox view.now work) }
+{
+    Ok(Need::Mailbox(
+        view.name.copy(alloc)?,
+        Work::Viewed(view.copy(alloc)?, work),
+    ))
 }
 
 /// The refusal of a command that is read and that no state has yet.

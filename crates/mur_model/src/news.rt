@@ -2,7 +2,7 @@
 ghost use Rattle.std.specs.Prelude.{◌≡◌, ◌++◌, ℕ, [], length, true, IfOk, OnOk};
 ghost use Rattle.mail_message.specs.RowOrder.{AreRising};
 ghost use Rattle.mur_model.specs.ClientView.{Known, Agrees, known_after_all, uids};
-ghost use Rattle.mur_model.specs.News.{news, told_of, expunge_lines, rows_there, rows_behind, is_above};
+ghost use Rattle.mur_model.specs.News.{is_among, news, told_of, expunge_lines, rows_there, rows_behind, is_above};
 ghost use Rattle.mur_model.specs.News.{fresh_rows, exists_lines, changed_lines, changed_line, flag_parts};
 ghost use Rattle.mur_model.specs.SameFlags.{is_same_flags};
 ghost use Rattle.std.specs.Option.{option_copied};
@@ -12,6 +12,7 @@ use mail_fetch::{flags_part, uid_part};
 use mail_message::{FlagSet, OrderedRows, Row, Rows};
 use mur_base::{Copied, Memory};
 use std::alloc::Global;
+use std::collections::BTreeSet;
 
 /// What a client is told, and the rows of its view behind it.
 #[derive(Drop)]
@@ -27,9 +28,9 @@ pub fn news_of(
     rows: &OrderedRows,
     now: &OrderedRows,
     expunges: bool,
-    told: &OrderedRows,
+    told: &BTreeSet<u32>,
 ) -> Result<Told, Memory>
-    ensures news { IfOk result (λ it. it ≡ news rows.now now.now expunges told.now) }
+    ensures news { IfOk result (λ it. it ≡ news rows.now now.now expunges told.now.keys) }
     ensures client { IfOk result (λ it. (known : Known) → Agrees known (uids rows.now) → Agrees (known_after_all known it.lines) (uids it.rows)) }
 {
     news_by(alloc, rows, now, expunges, told)
@@ -41,9 +42,9 @@ fn news_by(
     rows: &OrderedRows,
     now: &OrderedRows,
     expunges: bool,
-    told: &OrderedRows,
+    told: &BTreeSet<u32>,
 ) -> Result<Told, Memory>
-    ensures { IfOk result (λ it. it ≡ news rows.now now.now expunges told.now) }
+    ensures { IfOk result (λ it. it ≡ news rows.now now.now expunges told.now.keys) }
 {
     let mut lines = ReplyLines::new(alloc);
     if expunges {
@@ -56,7 +57,7 @@ fn news_by(
 }
 
 /// The number of a message. Want of memory where it has more than 32 bits.
-fn number_of(count: usize) -> Result<u32, Memory>
+pub fn number_of(count: usize) -> Result<u32, Memory>
     ensures { IfOk result (λ number. number ≡ count) }
 {
     u32::try_from(count).map_err(|_| Memory)
@@ -97,9 +98,9 @@ fn told_of(
     lines: ReplyLines,
     rows: &OrderedRows,
     now: &OrderedRows,
-    told: &OrderedRows,
+    told: &BTreeSet<u32>,
 ) -> Result<Told, Memory>
-    ensures { IfOk result (λ it. it ≡ told_of lines rows.now now.now told.now) }
+    ensures { IfOk result (λ it. it ≡ told_of lines rows.now now.now told.now.keys) }
 {
     let mut lines = lines;
     let view = view_of(alloc, rows, now)?;
@@ -171,26 +172,32 @@ fn put_changed(
     lines: &mut ReplyLines,
     rows: &OrderedRows,
     now: &OrderedRows,
-    told: &OrderedRows,
+    told: &BTreeSet<u32>,
 ) -> Result<(), Memory>
-    ensures { OnOk result (lines.new ≡ lines.old ++ changed_lines now.now told.now 1 rows.now) }
+    ensures { OnOk result (lines.new ≡ lines.old ++ changed_lines now.now told.now.keys 1 rows.now) }
 {
     let mut near = 0;
-    let mut near_told = 0;
     let mut number = 0u32;
     for row in rows.as_slice() {
         number = number.checked_add(1).ok_or(Memory)?;
         let it = now.find(row.uid, &mut near);
-        let is_told = told.find(row.uid, &mut near_told).is_some();
+        let is_told = is_among(told, row.uid);
         put_changed_line(alloc, lines, number, row, it, is_told)?;
     }
     Ok(())
 }
 
-fn is_same_flags(one: &FlagSet, other: &FlagSet) -> bool
+pub fn is_same_flags(one: &FlagSet, other: &FlagSet) -> bool
     ensures { result ≡ is_same_flags one.now other.now }
 {
     one.is_same(other)
+}
+
+#[tactic(auto, unfolding(crate::specs::News::is_among))]
+fn is_among(uids: &BTreeSet<u32>, uid: u32) -> bool
+    ensures { result ≡ is_among uids.now.keys uid }
+{
+    uids.contains(&uid)
 }
 
 fn put_changed_line(

@@ -4,18 +4,19 @@ ghost use Rattle.mur_model.specs.Selected.{gone, with_news};
 
 use crate::news::Told;
 use crate::reply::{Bye, Reply, ReplyLine, ReplyLines, Verdict};
-use crate::view::{View, Viewed};
-use mur_base::Memory;
+use crate::session::{Sess, Turn};
+use crate::view::View;
+use mur_base::{Copied, Memory};
 use std::alloc::Global;
 
 /// The mailbox is gone, and the session ends (RFC 9051, 7.1.5).
-pub fn gone(alloc: Global) -> Result<Viewed, Memory>
-    ensures { IfOk result (λ viewed. viewed ≡ gone) }
+pub fn gone(alloc: Global) -> Result<Turn, Memory>
+    ensures { IfOk result (λ turn. turn ≡ gone) }
 {
     let mut lines = ReplyLines::new(alloc);
     lines.push(ReplyLine::Bye(Bye::Gone))?;
-    Ok(Viewed {
-        view: None,
+    Ok(Turn {
+        session: Some(Sess::Ended),
         reply: Reply {
             lines,
             verdict: Verdict::Nothing,
@@ -25,19 +26,25 @@ pub fn gone(alloc: Global) -> Result<Viewed, Memory>
 
 /// The reply with news behind its own lines, and the view that was told.
 pub fn with_news(
-    view: View,
+    alloc: Global,
+    view: &View,
     lines: ReplyLines,
     told: Told,
     verdict: Verdict,
-) -> Result<Viewed, Memory>
-    ensures { IfOk result (λ viewed. viewed ≡ with_news view lines told verdict) }
+) -> Result<Turn, Memory>
+    ensures { IfOk result (λ turn. turn ≡ with_news view.now lines told verdict) }
 {
-    let mut view = view;
     let mut lines = lines;
     put_all(&mut lines, told.lines)?;
-    view.rows = told.rows;
-    Ok(Viewed {
-        view: Some(view),
+    let view = View {
+        user: view.user.copy(alloc)?,
+        name: view.name.copy(alloc)?,
+        serial: view.serial,
+        is_writable: view.is_writable,
+        rows: told.rows,
+    };
+    Ok(Turn {
+        session: Some(Sess::Selected(view)),
         reply: Reply { lines, verdict },
     })
 }

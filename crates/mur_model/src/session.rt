@@ -1,4 +1,6 @@
 // The session of a connection (RFC 9051, 3).
+use crate::reply::Reply;
+use crate::view::View;
 use mur_base::UserName;
 
 /// The state of a session.
@@ -8,6 +10,16 @@ pub enum Sess {
     Off,
     /// Authenticated, with no mailbox selected.
     In(UserName),
-    /// Logged out.
+    /// Authenticated, with a mailbox selected.
+    Selected(View),
+    /// Logged out, or its mailbox is gone.
     Ended,
+}
+
+/// What a command leaves of its session, and its reply.
+#[derive(Drop)]
+pub struct Turn {
+    /// The session behind the command. None where it is as it was.
+    pub session: Option<Sess>,
+    pub reply: Reply,
 }

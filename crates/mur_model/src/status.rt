@@ -1,6 +1,6 @@
 // STATUS (RFC 9051, 6.3.11).
 ghost use Rattle.std.specs.Prelude.{◌≡◌, IfOk, map};
-ghost use Rattle.mur_model.specs.Left.{store_after};
+ghost use Rattle.mur_model.specs.Left.{replied, store_after};
 ghost use Rattle.mur_model.specs.Store.{box_at};
 ghost use Rattle.mur_model.specs.Rights.{has_rights};
 ghost use Rattle.mur_model.specs.Status.{status, status_by, is_messages, tells_messages_alone, count_of, status_reply, status_on};
@@ -112,7 +112,7 @@ pub fn status_at(
     shown: Bytes,
     items: &StatusItems,
 ) -> Result<Reply, Memory>
-    ensures reply { IfOk result (λ reply. reply ≡ (status_on shown items.now (box_at store.now name.now)).reply) }
+    ensures reply { IfOk result (λ reply. replied reply ≡ (status_on shown items.now (box_at store.now name.now)).turn) }
     ensures kept { store_after store.now name.now (status_on shown items.now (box_at store.now name.now)).left ≡ store.now }
 {
     match store.boxes.get(name) {

@@ -1,18 +1,22 @@
 // STORE and UID STORE (RFC 9051, 6.4.6 and 6.4.9).
 ghost use Rattle.std.specs.Prelude.{◌≡◌, ◌≢◌, ◌++◌, IfOk, OnOk, Some};
 ghost use Rattle.std.specs.Option.{option_copied};
-ghost use Rattle.mur_model.specs.Selected.{IsWorked};
-ghost use Rattle.mur_model.specs.StoreFlags.{store_on, store_at, told_of, refused_for};
-ghost use Rattle.mur_model.specs.StoreFlags.{store_name, stored_line, stored_lines, own_lines, some_gone, store_code};
+ghost use Rattle.mur_model.specs.Left.{IsLeft};
+ghost use Rattle.mur_model.specs.Selected.{rows_of};
+ghost use Rattle.mur_model.specs.StoreFlags.{store_on, store_at, store_told, store_refused};
+ghost use Rattle.mur_model.specs.StoreFlags.{store_name, stored_line, stored_lines, own_lines, some_gone, code_for};
 
+use crate::named_rows::uids_of;
 use crate::news::{flag_parts, news_of};
 use crate::reply::{Code, NoText, ReplyLine, ReplyLines, Verdict};
 use crate::selected::{gone, with_news};
-use crate::view::{View, Viewed};
+use crate::session::Turn;
+use crate::view::View;
 use mail_message::{FlagSet, MailBox, Mode, OrderedRows, Row, Uids};
-use mail_store::{StoreFault, set_flags};
+use mail_store::{StoreFault, set_flags, set_of};
 use mur_base::{Bytes, Memory};
 use std::alloc::Global;
+use std::collections::BTreeSet;
 
 /// A STORE whose messages are named by their UIDs, whichever way its client named them.
 #[derive(Drop)]
@@ -29,11 +33,11 @@ pub struct FlagStore {
 #[tactic(auto, unfolding(crate::specs::StoreFlags::store_on, crate::specs::Selected::at_view, crate::specs::Left::box_after))]
 pub fn store_on(
     alloc: Global,
-    view: View,
+    view: &View,
     mailbox: &mut MailBox,
     it: &FlagStore,
-) -> Result<Viewed, Memory>
-    ensures { IfOk result (λ viewed. IsWorked mailbox.old (store_on view it.now (Some mailbox.old)) mailbox.new viewed) }
+) -> Result<Turn, Memory>
+    ensures { IfOk result (λ turn. IsLeft mailbox.old (store_on view.now it.now (Some mailbox.old)) mailbox.new turn) }
 {
     if mailbox.serial() == view.serial {
         store_at(alloc, view, mailbox, it)
@@ -44,11 +48,11 @@ pub fn store_on(
 
 fn store_at(
     alloc: Global,
-    view: View,
+    view: &View,
     mailbox: &mut MailBox,
     it: &FlagStore,
-) -> Result<Viewed, Memory>
-    ensures { IfOk result (λ viewed. IsWorked mailbox.old (store_at view it.now mailbox.old) mailbox.new viewed) }
+) -> Result<Turn, Memory>
+    ensures { IfOk result (λ turn. IsLeft mailbox.old (store_at view.now it.now mailbox.old) mailbox.new turn) }
 {
     match set_flags(alloc, mailbox, it.uids.as_slice(), it.mode, &it.flags) {
         Ok(changes) => stored(alloc, view, mailbox, it, &changes),
@@ -56,47 +60,66 @@ fn store_at(
     }
 }
 
-/// What is told behind a STORE that changed these rows.
 fn stored(
     alloc: Global,
-    view: View,
+    view: &View,
     mailbox: &MailBox,
     it: &FlagStore,
     changes: &OrderedRows,
-) -> Result<Viewed, Memory>
-    ensures { IfOk result (λ viewed. viewed ≡ told_of view it.now changes.now mailbox.now) }
+) -> Result<Turn, Memory>
+    ensures { IfOk result (λ turn. turn ≡ store_told view.now it.now changes.now (rows_of mailbox.now)) }
 {
     let now = mailbox.look(alloc)?.rows;
-    let mut lines = ReplyLines::new(alloc);
-    put_own_lines(alloc, &mut lines, it, changes, &view.rows)?;
-    let news = news_of(alloc, &view.rows, &now, it.by_uid, changes)?;
-    let code = store_code(it.by_uid, &now, it.uids.as_slice());
-    let verdict = Verdict::Ok(code, Bytes::from_slice(alloc, store_name(it.by_uid))?);
-    with_news(view, lines, news, verdict)
+    store_told(alloc, view, it, changes, &now)
 }
 
-/// What is told where a message would have too many keywords.
+/// What is told where these rows were changed and the mailbox has those now.
+pub fn store_told(
+    alloc: Global,
+    view: &View,
+    it: &FlagStore,
+    changes: &OrderedRows,
+    now: &OrderedRows,
+) -> Result<Turn, Memory>
+    ensures { IfOk result (λ turn. turn ≡ store_told view.now it.now changes.now now.now) }
+{
+    let mut lines = ReplyLines::new(alloc);
+    put_own_lines(alloc, &mut lines, it, changes, &view.rows)?;
+    let told = set_of(alloc, uids_of(alloc, changes.as_slice())?.as_slice())?;
+    let news = news_of(alloc, &view.rows, now, it.by_uid, &told)?;
+    let code = code_for(it.by_uid, now, it.uids.as_slice());
+    let verdict = Verdict::Ok(code, Bytes::from_slice(alloc, store_name(it.by_uid))?);
+    with_news(alloc, view, lines, news, verdict)
+}
+
 fn refused_for(
     alloc: Global,
-    view: View,
+    view: &View,
     mailbox: &MailBox,
     it: &FlagStore,
     fault: StoreFault,
-) -> Result<Viewed, Memory>
-    ensures { IfOk result (λ viewed. (fault ≢ StoreFault.Memory) ×
-        (viewed ≡ refused_for view it.now mailbox.now)) }
+) -> Result<Turn, Memory>
+    ensures { IfOk result (λ turn. (fault ≢ StoreFault.Memory) × (turn ≡ store_refused view.now it.now (rows_of mailbox.now))) }
 {
     if matches!(fault, StoreFault::Memory) {
         return Err(Memory);
     }
     let now = mailbox.look(alloc)?.rows;
-    let news = news_of(alloc, &view.rows, &now, it.by_uid, &OrderedRows::new(alloc))?;
-    with_news(
-        view,
-        ReplyLines::new(alloc),
-        news,
-        Verdict::No(NoText::Limit),
-    )
+    store_refused(alloc, view, it, &now)
+}
+
+/// What is told where a message would have too many keywords.
+pub fn store_refused(
+    alloc: Global,
+    view: &View,
+    it: &FlagStore,
+    now: &OrderedRows,
+) -> Result<Turn, Memory>
+    ensures { IfOk result (λ turn. turn ≡ store_refused view.now it.now now.now) }
+{
+    let news = news_of(alloc, &view.rows, now, it.by_uid, &BTreeSet::new(alloc))?;
+    let verdict = Verdict::No(NoText::Limit);
+    with_news(alloc, view, ReplyLines::new(alloc), news, verdict)
 }
 
 fn put_own_lines(
@@ -167,8 +190,9 @@ fn some_gone(now: &OrderedRows, uids: &[u32]) -> bool
     false
 }
 
-fn store_code(by_uid: bool, now: &OrderedRows, uids: &[u32]) -> Code
-    ensures { result ≡ store_code by_uid now.now uids.now }
+/// The code of a command by numbers, some of whose messages are no more (RFC 9051, 7.1: EXPUNGEISSUED).
+pub fn code_for(by_uid: bool, now: &OrderedRows, uids: &[u32]) -> Code
+    ensures { result ≡ code_for by_uid now.now uids.now }
 {
     if !by_uid && some_gone(now, uids) {
         Code::ExpungeIssued

@@ -1,7 +1,7 @@
 // What a client knows of the mailbox that it selected (RFC 9051, 3.3).
-use crate::reply::Reply;
 use mail_message::OrderedRows;
-use mur_base::{MailName, UserName};
+use mur_base::{Copied, MailName, Memory, UserName};
+use std::alloc::Global;
 
 /// A selected mailbox as its client was last told.
 #[derive(Drop)]
@@ -16,9 +16,14 @@ pub struct View {
     pub rows: OrderedRows,
 }
 
-/// What a command of a selected session leaves: its view, or none where the mailbox is gone and the session ends; and its reply.
-#[derive(Drop)]
-pub struct Viewed {
-    pub view: Option<View>,
-    pub reply: Reply,
+impl Copied for View {
+    fn copy(&self, alloc: Global) -> Result<View, Memory> {
+        Ok(View {
+            user: self.user.copy(alloc)?,
+            name: self.name.copy(alloc)?,
+            serial: self.serial,
+            is_writable: self.is_writable,
+            rows: self.rows.copy(alloc)?,
+        })
+    }
 }

@@ -1,0 +1,12 @@
+-- What each command keeps that a frame spells: its flags have keywords by their rule (RFC 9051, 9: flag-keyword), and its message is a part of
+-- the frame.
+use Rattle.std.specs.Prelude.{ℕ, ◌<◌, ⊤, length}
+use Rattle.mail_message.specs.FlagSets.{HasRuledKeywords}
+use Rattle.mur_model.specs.declared.command.Command.{Command}
+use Rattle.mur_model.specs.declared.command.Command.TheVariants.{Append, Store}
+
+-- of a frame of fewer bytes than the limit
+abbrev pub IsRuled : ℕ → Command → Type 0
+IsRuled limit (Append mailbox flags date message) = HasRuledKeywords flags × (length message < limit)
+IsRuled limit (Store by_uid set mode is_silent flags) = HasRuledKeywords flags
+IsRuled limit it = ⊤

@@ -1,0 +1,142 @@
+// One session over one home of mailboxes: what its client is told.
+use crate::home::{self, ID};
+use anyhow::{Result, anyhow};
+use backend_core::{BackInput, Backend};
+use imap_command::read_request;
+use imap_reply::write;
+use link_msg::{AnswerBody, FrontAsk, LinkMsg, Out};
+use mail_message::date;
+use mur_base::{Bytes, Items, MailName, User, Users, node_name, user_name};
+use mur_model::{
+    Need, Reply, ReplyLines, Request, Sess, Setting, Tag, Turn, Work, begin, completed, turned,
+};
+use session_core::{Asking, asked_for, finish};
+use std::alloc::Global;
+
+/// Whether steps of a session and of its home, one after the other, give what stands behind them. A step behind which nothing
+/// stands is carried out alone.
+pub fn hold(alloc: Global, steps: &[&str]) -> Result<bool> {
+    let setting = setting(alloc)?;
+    let mut home = home::empty(alloc)?;
+    let mut session = Sess::In(user_name(alloc, b"bob")?);
+    for step in steps {
+        let (given, want) = match step.split_once(" = ") {
+            Some((given, want)) => (given, Some(want)),
+            None => (*step, None),
+        };
+        let text = match given.split_once(' ') {
+            Some(("home", words)) => home::text_of(alloc, &mut home, words)?,
+            _ => told(alloc, &setting, &mut home, &mut session, given)?,
+        };
+        if let Some(want) = want {
+            if text.as_slice() != want.as_bytes() {
+                return Ok(false);
+            }
+        }
+    }
+    Ok(true)
+}
+
+/// A service of which bob is the only user.
+fn setting(alloc: Global) -> Result<Setting> {
+    let Some(date) = date(b" 1-Jan-2026 00:00:00 +0000") else {
+        return Err(anyhow!("no date"));
+    };
+    let mut users = Items::new(alloc);
+    users.push(User {
+        name: user_name(alloc, b"bob")?,
+        password: Bytes::from_slice(alloc, b"x")?,
+        admin: false,
+    })?;
+    match Users::new(users) {
+        Ok(users) => Ok(Setting { users, date }),
+        Err(_) => Err(anyhow!("no users")),
+    }
+}
+
+/// What the client is told for a line; nothing once its session has ended.
+fn told(
+    alloc: Global,
+    setting: &Setting,
+    home: &mut Backend,
+    session: &mut Sess,
+    line: &str,
+) -> Result<Bytes> {
+    if matches!(session, Sess::Ended) {
+        return Ok(Bytes::new(alloc));
+    }
+    let mut frame = Bytes::from_slice(alloc, line.as_bytes())?;
+    frame.extend_from_slice(b"\r\n")?;
+    let Request::Command(tag, command) = read_request(alloc, frame.as_slice())? else {
+        return Err(anyhow!("no command: {line}"));
+    };
+    let need = begin(alloc, setting, session, command)?;
+    let turn = turn_of(alloc, home, need)?;
+    let reply = turned(session, turn);
+    text_of(alloc, &tag, &reply)
+}
+
+/// What comes of a command that needs this.
+fn turn_of(alloc: Global, home: &mut Backend, need: Need) -> Result<Turn> {
+    match need {
+        Need::Refusal(verdict) => Ok(Turn {
+            session: None,
+            reply: Reply {
+                lines: ReplyLines::new(alloc),
+                verdict,
+            },
+        }),
+        Need::Turned(turn) => Ok(turn),
+        Need::Login(user) => Ok(Turn {
+            session: Some(Sess::In(user)),
+            reply: completed(alloc, b"LOGIN")?,
+        }),
+        Need::Mailbox(name, work) => work_at(alloc, home, name, work),
+    }
+}
+
+/// What comes of some work at a mailbox.
+fn work_at(alloc: Global, home: &mut Backend, name: MailName, work: Work) -> Result<Turn> {
+    let Asking {
+        op,
+        selected,
+        awaited,
+    } = asked_for(alloc, &name, work)?;
+    let ask = FrontAsk {
+        id: ID,
+        user: user_name(alloc, b"bob")?,
+        name,
+        selected,
+        op,
+    };
+    match finish(alloc, &awaited, answer_of(alloc, home, ask)?)? {
+        Some(turn) => Ok(turn),
+        None => Err(anyhow!("an answer that doesn't fit")),
+    }
+}
+
+fn answer_of(alloc: Global, home: &mut Backend, ask: FrontAsk) -> Result<AnswerBody> {
+    let input = BackInput::FromFront(node_name(alloc, b"f1")?, ask);
+    let plan = home.plan(alloc, input)?;
+    for out in home.settle(plan).into_vec() {
+        if let Out::Link(_, LinkMsg::Answer(answer)) = out {
+            return Ok(answer.body);
+        }
+    }
+    Err(anyhow!("no answer"))
+}
+
+/// A reply with a `/` for each CRLF.
+fn text_of(alloc: Global, tag: &Tag, reply: &Reply) -> Result<Bytes> {
+    let mut lines = Bytes::new(alloc);
+    write(tag, reply, &mut lines)?;
+    let mut text = Bytes::new(alloc);
+    for byte in lines.as_slice() {
+        match *byte {
+            b'\r' => (),
+            b'\n' => text.push(b'/')?,
+            other => text.push(other)?,
+        }
+    }
+    Ok(text)
+}

@@ -1,0 +1,131 @@
+// The messages that a command of a selected session names (RFC 9051, 9: sequence-set; 6.4.9).
+ghost use Rattle.std.specs.Prelude.{◌≡◌, length, IfOk};
+ghost use Rattle.std.specs.List.{zip};
+ghost use Rattle.mail_message.specs.Sets.{set_at};
+ghost use Rattle.mur_model.specs.ClientView.{uids};
+ghost use Rattle.mur_model.specs.NamedRows.{has_number, has_numbers, has_all_numbers, last_uid, named_uids, numbers_from, picked, uids_by};
+
+use crate::news::number_of;
+use mail_message::{OrderedRows, Row, SetEnd, SetPart, SetParts, Uids};
+use mail_search::marks_of_set;
+use mur_base::Memory;
+use std::alloc::Global;
+
+/// Whether each number of a set is that of a message, of so many.
+pub fn has_all_numbers(count: usize, set: &SetParts) -> bool
+    ensures { result ≡ has_all_numbers count set.now }
+{
+    set.as_slice().iter().all(|part| has_numbers(count, *part))
+}
+
+fn has_numbers(count: usize, part: SetPart) -> bool
+    ensures { result ≡ has_numbers count part }
+{
+    match part {
+        SetPart::One(end) => has_number(count, end),
+        SetPart::Range(one, other) => has_number(count, one) && has_number(count, other),
+    }
+}
+
+fn has_number(count: usize, end: SetEnd) -> bool
+    ensures { result ≡ has_number count end }
+{
+    match end {
+        SetEnd::Number(number) => number as usize <= count,
+        SetEnd::Last => 0 < count,
+    }
+}
+
+/// The UIDs of the messages that a set names, in rising order, by their numbers or by their UIDs. The set is brought into order once;
+/// then time is linear in the rows.
+#[tactic(auto, unfolding(crate::specs::NamedRows::named_uids))]
+pub fn named_uids(
+    alloc: Global,
+    by_uid: bool,
+    set: &SetParts,
+    rows: &OrderedRows,
+) -> Result<Uids, Memory>
+    ensures { IfOk result (λ uids. uids ≡ named_uids by_uid set.now rows.now) }
+{
+    let rows = rows.as_slice();
+    if by_uid {
+        let numbers = uids_of(alloc, rows)?;
+        uids_by(alloc, &set_at(alloc, last_uid(rows), set)?, &numbers, rows)
+    } else {
+        let numbers = numbers_of(alloc, rows)?;
+        uids_by(
+            alloc,
+            &set_at(alloc, number_of(rows.len())?, set)?,
+            &numbers,
+            rows,
+        )
+    }
+}
+
+fn uids_by(alloc: Global, set: &SetParts, numbers: &Uids, rows: &[Row]) -> Result<Uids, Memory>
+    requires { length numbers.now ≡ length rows.now }
+    ensures { IfOk result (λ picked. picked ≡ uids_by set.now numbers.now rows.now) }
+{
+    let marks = marks_of_set(alloc, set.as_slice(), numbers.as_slice())?;
+    picked(alloc, rows, &marks)
+}
+
+/// The set with a number in the place of `*`.
+fn set_at(alloc: Global, last: u32, set: &SetParts) -> Result<SetParts, Memory>
+    ensures { IfOk result (λ made. made ≡ set_at last set.now) }
+{
+    let mut made = SetParts::new(alloc);
+    for part in set.as_slice() {
+        made.push(part.at(last))?;
+    }
+    Ok(made)
+}
+
+/// The UID of the last row, 0 where there is none.
+fn last_uid(rows: &[Row]) -> u32
+    ensures { result ≡ last_uid rows.now }
+{
+    match rows.last() {
+        Some(row) => row.uid,
+        None => 0,
+    }
+}
+
+pub fn uids_of(alloc: Global, rows: &[Row]) -> Result<Uids, Memory>
+    ensures list { IfOk result (λ list. list ≡ uids rows.now) }
+    ensures length { IfOk result (λ list. length list ≡ length rows.now) }
+{
+    let mut list = Uids::new(alloc);
+    for row in rows {
+        list.push(row.uid)?;
+    }
+    Ok(list)
+}
+
+/// The numbers of rows, from 1 on.
+fn numbers_of(alloc: Global, rows: &[Row]) -> Result<Uids, Memory>
+    ensures list { IfOk result (λ list. list ≡ numbers_from 1 rows.now) }
+    ensures length { IfOk result (λ list. length list ≡ length rows.now) }
+{
+    let mut list = Uids::new(alloc);
+    let mut number = 0u32;
+    for _row in rows {
+        number = number.checked_add(1).ok_or(Memory)?;
+        list.push(number)?;
+    }
+    Ok(list)
+}
+
+/// The UIDs of the rows that have a mark.
+fn picked(alloc: Global, rows: &[Row], marks: &[bool]) -> Result<Uids, Memory>
+    requires { length marks.now ≡ length rows.now }
+    ensures { IfOk result (λ list. list ≡ picked (zip rows.now marks.now)) }
+{
+    let mut list = Uids::new(alloc);
+    for (at, row) in rows.iter().enumerate() {
+        if marks[at] {
+            list.push(row.uid)?;
+        }
+    }
+    Ok(list)
+}

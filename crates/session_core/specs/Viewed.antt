@@ -1,0 +1,33 @@
+-- The commands of a selected session: what is told when the home has answered. A mailbox that the home hasn't any more, or that is another of its name,
+-- is gone.
+use Rattle.std.specs.Prelude.{ℕ, List, codes, Option, None, Some}
+use Rattle.link_msg.specs.declared.answer.AnswerBody.{AnswerBody}
+use Rattle.link_msg.specs.declared.answer.AnswerBody.TheVariants.{Done, NotNow}
+use Rattle.link_msg.specs.declared.outcome.Outcome.{Outcome}
+use Rattle.link_msg.specs.declared.outcome.Outcome.TheVariants.{None as nothing, Messages, Rows, Uids, Limit as full, Gone}
+use Rattle.mail_message.specs.declared.message.Snapshot.{Snapshot}
+use Rattle.mur_model.specs.declared.need.ViewWork.{ViewWork}
+use Rattle.mur_model.specs.declared.need.ViewWork.TheVariants.{Noop, Close, Expunge, Store, Fetch}
+use Rattle.mur_model.specs.declared.session.Turn.{Turn}
+use Rattle.mur_model.specs.declared.view.View.{View}
+use Rattle.mur_model.specs.Expunge.{expunge_told}
+use Rattle.mur_model.specs.Fetch.{fetch_told}
+use Rattle.mur_model.specs.Selected.{gone}
+use Rattle.mur_model.specs.StoreFlags.{store_told, store_refused}
+use Rattle.mur_model.specs.Viewing.{noop_told, left_by}
+
+-- the outcomes that the operation of each command can have
+unfoldable pub viewed_done : View → ViewWork → Outcome → Snapshot → Option Turn
+viewed_done view Noop nothing seen = Some (noop_told view seen.rows)
+viewed_done view Close (Uids uids) seen = Some (left_by view (codes "CLOSE"))
+viewed_done view (Expunge only) (Uids uids) seen = Some (expunge_told view only seen.rows)
+viewed_done view (Store it) (Rows changes) seen = Some (store_told view it changes seen.rows)
+viewed_done view (Store it) full seen = Some (store_refused view it seen.rows)
+viewed_done view (Fetch it) (Messages before) seen = Some (fetch_told view it before seen.rows)
+viewed_done view work Gone seen = Some gone
+viewed_done view work outcome seen = None
+
+unfoldable pub viewed_turn : View → ViewWork → AnswerBody → Option Turn
+viewed_turn view work (Done outcome seen) = viewed_done view work outcome seen
+viewed_turn view work NotNow = Some gone
+viewed_turn view work body = None

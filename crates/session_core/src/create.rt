@@ -1,0 +1,31 @@
+// CREATE.
+ghost use Rattle.std.specs.Prelude.{◌≡◌, IfOk};
+ghost use Rattle.session_core.specs.Create.{create_reply, reply_to_done};
+
+use link_msg::{AnswerBody, Outcome};
+use mur_base::Memory;
+use mur_model::{NoText, Reply, completed, refused};
+use std::alloc::Global;
+
+/// What is replied to the answer of a CREATE; nothing to one that it can't have.
+#[tactic(auto, unfolding(crate::specs::Create::create_reply))]
+pub fn create_reply(alloc: Global, body: AnswerBody) -> Result<Option<Reply>, Memory>
+    ensures { IfOk result (λ reply. reply ≡ create_reply body) }
+{
+    match body {
+        AnswerBody::Done(outcome, _) => reply_to_done(alloc, &outcome),
+        _ => Ok(None),
+    }
+}
+
+#[tactic(auto, unfolding(crate::specs::Create::reply_to_done))]
+fn reply_to_done(alloc: Global, outcome: &Outcome) -> Result<Option<Reply>, Memory>
+    ensures { IfOk result (λ reply. reply ≡ reply_to_done outcome.now) }
+{
+    match outcome {
+        Outcome::None => Ok(Some(completed(alloc, b"CREATE")?)),
+        Outcome::Exists => Ok(Some(refused(alloc, NoText::AlreadyExists))),
+        Outcome::Limit => Ok(Some(refused(alloc, NoText::Limit))),
+        _ => Ok(None),
+    }
+}

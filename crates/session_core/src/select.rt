@@ -1,0 +1,47 @@
+// SELECT and EXAMINE.
+ghost use Rattle.std.specs.Prelude.{◌≡◌, IfOk};
+ghost use Rattle.session_core.specs.Select.{select_turn, select_done};
+
+use link_msg::{AnswerBody, Outcome};
+use mail_message::Snapshot;
+use mur_base::{MailName, Memory};
+use mur_model::{NoText, Opening, Turn, select_told, unselected};
+use std::alloc::Global;
+
+/// What comes of the answer to a SELECT or an EXAMINE; nothing of one that it can't have.
+#[tactic(auto, unfolding(crate::specs::Select::select_turn))]
+pub fn select_turn(
+    alloc: Global,
+    name: &MailName,
+    it: &Opening,
+    body: AnswerBody,
+) -> Result<Option<Turn>, Memory>
+    ensures { IfOk result (λ turn. turn ≡ select_turn name.now it.now body) }
+{
+    match body {
+        AnswerBody::Done(outcome, seen) => select_done(alloc, name, it, &outcome, seen),
+        AnswerBody::NotNow => Ok(Some(unselected(
+            alloc,
+            &it.user,
+            it.was_selected,
+            NoText::NonExistent,
+        )?)),
+        _ => Ok(None),
+    }
+}
+
+#[tactic(auto, unfolding(crate::specs::Select::select_done))]
+fn select_done(
+    alloc: Global,
+    name: &MailName,
+    it: &Opening,
+    outcome: &Outcome,
+    seen: Snapshot,
+) -> Result<Option<Turn>, Memory>
+    ensures { IfOk result (λ turn. turn ≡ select_done name.now it.now outcome.now seen) }
+{
+    match outcome {
+        Outcome::None => Ok(Some(select_told(alloc, it, name, seen)?)),
+        _ => Ok(None),
+    }
+}

@@ -1,0 +1,46 @@
+// STATUS.
+ghost use Rattle.std.specs.Prelude.{◌≡◌, IfOk};
+ghost use Rattle.session_core.specs.Status.{status_reply, reply_to_done};
+
+use link_msg::{AnswerBody, Outcome};
+use mail_message::Snapshot;
+use mur_base::{Bytes, Memory};
+use mur_model::{NoText, Reply, StatusItems, refused, status_reply as reply_with_counts};
+use std::alloc::Global;
+
+/// What is replied to the answer of a STATUS under this name; nothing to one that it can't have.
+#[tactic(auto, unfolding(crate::specs::Status::status_reply))]
+pub fn status_reply(
+    alloc: Global,
+    shown: &Bytes,
+    items: &StatusItems,
+    body: AnswerBody,
+) -> Result<Option<Reply>, Memory>
+    ensures { IfOk result (λ reply. reply ≡ status_reply shown.now items.now body) }
+{
+    match body {
+        AnswerBody::Done(outcome, seen) => reply_to_done(alloc, shown, items, &outcome, &seen),
+        AnswerBody::NotNow => Ok(Some(refused(alloc, NoText::NonExistent))),
+        _ => Ok(None),
+    }
+}
+
+#[tactic(auto, unfolding(crate::specs::Status::reply_to_done))]
+fn reply_to_done(
+    alloc: Global,
+    shown: &Bytes,
+    items: &StatusItems,
+    outcome: &Outcome,
+    seen: &Snapshot,
+) -> Result<Option<Reply>, Memory>
+    ensures { IfOk result (λ reply. reply ≡ reply_to_done shown.now items.now outcome.now seen.now) }
+{
+    match outcome {
+        Outcome::None => {
+            let shown = Bytes::from_slice(alloc, shown.as_slice())?;
+            let reply = reply_with_counts(alloc, shown, items, seen.rows.len() as u64)?;
+            Ok(Some(reply))
+        }
+        _ => Ok(None),
+    }
+}
