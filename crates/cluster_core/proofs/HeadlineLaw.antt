@@ -2,6 +2,7 @@
 use Rattle.std.proofs.Common.{◌≡◌, List, refl, sym, subst}
 use Rattle.std.specs.Prelude.{All}
 use Rattle.std.proofs.Math.Logic.{⊎_elim}
+use Rattle.imap_command.specs.Ruled.{IsDate}
 use Rattle.mur_base.specs.declared.point.Point.{Point}
 use Rattle.mur_config.specs.declared.config.Config.{Config}
 use Rattle.mur_config.specs.Nodes.{AreNodes}
@@ -30,11 +31,11 @@ unfolding history_of
 refuses world = all_points world (λ (mark : Mark). mark ≡ mark) (λ (point : Point). HasCause point.what)
     (λ mark point same is. has_cause world mark point is) world.marks (anything world world.marks)
 
-pub one_server : (config : Config) (events : List Event) → AreNodes config.nodes → IsOneServer config events
-one_server config events are = record {
+pub one_server : (config : Config) (events : List Event) → AreNodes config.nodes → IsDate config.date → IsOneServer config events
+one_server config events are date_is = record {
   by_steps = by_steps (start config) events;
   one_node = one_node_each (start config) (unrolled (start config) events);
-  one_store = told_by_one_store config events are;
+  one_store = told_by_one_store config events are date_is;
   one_home = keeps_one_home_each config events are;
   refusals = refuses (run (start config) events);
 }

@@ -2,6 +2,7 @@
 use Rattle.std.proofs.Common.{◌≡◌, ℕ, List, [], ◌∷◌, ◌++◌, Option}
 use Rattle.std.specs.Prelude.{All}
 use Rattle.std.proofs.lemmas.List.Elements.{All-nil, All-cons, All-head, All-tail, All-push}
+use Rattle.imap_command.specs.Ruled.{IsDate}
 use Rattle.imap_reply.specs.SoundRequests.{IsShortFrame, IsSoundRequest, IsSoundStore}
 use Rattle.imap_reply.specs.Transcript.{transcript_of}
 use Rattle.imap_reply.specs.TranscriptRead.{IsAnswerReadAsMeant, IsAllReadAsMeant}
@@ -52,9 +53,9 @@ pub heard_sound : (heard : Heard) (requests : List Request) → AskFor (frames_h
 heard_sound heard requests asked = requests_sound (frames_heard heard) requests asked (heard_short heard)
 
 pub read_of_legal : (setting : Setting) (first : Course) (talk : Talk) (points : List Point) (last : Course) → IsLegal setting first talk points last
-    → IsSoundStore first.store → ((conn : ℕ) → All IsSoundRequest (talk.requests conn))
+    → IsDate setting.date → IsSoundStore first.store → ((conn : ℕ) → All IsSoundRequest (talk.requests conn))
     → (conn : ℕ) (given : List ℕ) (bytes : Option (List ℕ)) → given ≡ transcript_of bytes (talk.answers conn)
     → IsAllReadAsMeant given bytes (talk.answers conn)
-read_of_legal setting first talk points last legal sound asked conn given bytes is =
+read_of_legal setting first talk points last legal date_is sound asked conn given bytes is =
     all_read_as_meant given bytes (talk.answers conn) is
-    (each_answer setting talk IsSoundRequest HasSoundStore IsAnswerReadAsMeant (answers_read setting) asked first points last legal sound conn)
+    (each_answer setting talk IsSoundRequest HasSoundStore IsAnswerReadAsMeant (answers_read setting date_is) asked first points last legal sound conn)

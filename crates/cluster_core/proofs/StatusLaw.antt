@@ -48,7 +48,7 @@ seen store home name shown items held same = record {
   free = tt;
   body = _;
   is_body = refl;
-  shown = ap (λ n. Some (replied (model_reply shown items n))) (length-map held.content.messages row_of);
+  shown = refl;
   still = same;
   unless = λ h. absurd (apart h);
 }

@@ -8,6 +8,7 @@ use Rattle.std.proofs.lemmas.List.Elements.{All-append, All-nil, All-cons, All-w
 use Rattle.std.proofs.lemmas.List.Sums.{sum_by-append}
 use Rattle.std.proofs.lemmas.Option.{slice_get_within}
 use Rattle.mur_base.specs.declared.point.AskId.{AskId}
+use Rattle.imap_command.specs.Ruled.{IsDate}
 use Rattle.imap_reply.proofs.SoundStores.{empty_is}
 use Rattle.mur_base.specs.declared.point.Point.{Point}
 use Rattle.mur_config.specs.declared.config.Config.{Config}
@@ -131,11 +132,11 @@ stands_in_time setting now later story whole home last_home told all behind so =
     told_within conn = omega (arith, ap length (so conn).parts, length-append (story.told conn) (so conn).rest)
 
 -- the law at a step, of a run that ends so
-told_so_far : (config : Config) (talk : Talk) (before later : List Event) → AreNodes config.nodes
+told_so_far : (config : Config) (talk : Talk) (before later : List Event) → AreNodes config.nodes → IsDate config.date
     → IsKeptAt config talk (λ conn. heard_from config conn nobody before) (run_steps (start config) before)
     → (last : KeepsLaw config (λ conn. heard_from config conn nobody (before ++ later)) (run_steps (start config) (before ++ later)))
     → IsToldSoFar config talk (history_of (run_steps (start config) (before ++ later))) before (run_steps (start config) before)
-told_so_far config talk before later are now last =
+told_so_far config talk before later are date_is now last =
     let law = now.law in
     let world : World = run_steps (start config) before in
     let heard : ℕ → Heard = λ conn. heard_from config conn nobody before in
@@ -152,7 +153,7 @@ told_so_far config talk before later are now last =
       goes_on = now.more;
       asked = asked;
       given = λ conn. (says conn).given;
-      read = λ conn. read_of_legal (setting_of config) first_course (told_of law.story) (history_of world) legal.last legal.legal empty_is
+      read = λ conn. read_of_legal (setting_of config) first_course (told_of law.story) (history_of world) legal.last legal.legal date_is empty_is
           (λ other. heard_sound (heard other) (law.story.talk.requests other) (asked other)) conn (given_to world conn) (bytes_heard (heard conn))
           (says conn).given;
       last = legal.last;
@@ -165,25 +166,25 @@ told_so_far config talk before later are now last =
           subst (λ r. IsAnsweredThrough r (law.story.told conn)) (sym (law.requests conn)) ((says conn).waits_not empty stays);
     }
 
-told_at : (config : Config) (talk : Talk) (steps before later : List Event) → steps ≡ before ++ later → AreNodes config.nodes
+told_at : (config : Config) (talk : Talk) (steps before later : List Event) → steps ≡ before ++ later → AreNodes config.nodes → IsDate config.date
     → IsKeptAt config talk (λ conn. heard_from config conn nobody before) (run_steps (start config) before)
     → (last : KeepsLaw config (λ conn. heard_from config conn nobody steps) (run_steps (start config) steps))
     → IsToldSoFar config talk (history_of (run_steps (start config) steps)) before (run_steps (start config) before)
-told_at config talk steps before later e are now last =
+told_at config talk steps before later e are date_is now last =
     subst (λ s. IsToldSoFar config talk (history_of (run_steps (start config) s)) before (run_steps (start config) before)) (sym e)
-    (told_so_far config talk before later are now (subst (λ s. KeepsLaw config (λ conn. heard_from config conn nobody s) (run_steps (start config) s)) e last))
+    (told_so_far config talk before later are date_is now (subst (λ s. KeepsLaw config (λ conn. heard_from config conn nobody s) (run_steps (start config) s)) e last))
 
 pub kept_all : (config : Config) (events : List Event) (are : AreNodes config.nodes)
     → KeepsAll config (told_of (start_keeps config are).story) (λ conn. nobody) (start config) (unrolled (start config) events)
 kept_all config events are = run_keeps config (λ conn. nobody) (start config) (unrolled (start config) events) (start_keeps config are)
 
-pub told_by_one_store : (config : Config) (events : List Event) → AreNodes config.nodes → IsToldByOneStore config events
-told_by_one_store config events are =
+pub told_by_one_store : (config : Config) (events : List Event) → AreNodes config.nodes → IsDate config.date → IsToldByOneStore config events
+told_by_one_store config events are date_is =
     let steps : List Event = unrolled (start config) events in
     let all = kept_all config events are in
     let last = (all.at steps [] (sym (append-nil steps))).law in
     record {
       talk = all.talk;
-      at_each_step = λ before later e. told_at config all.talk steps before later e are (all.at before later e) last;
+      at_each_step = λ before later e. told_at config all.talk steps before later e are date_is (all.at before later e) last;
       steps_rise = steps_rise (setting_of config) (run_steps (start config) steps) last.story last.backend last.is_told;
     }

@@ -20,15 +20,18 @@ use Rattle.mail_store.specs.Store.{rows_stored, stored, has_too_many_flags}
 use Rattle.mur_base.specs.declared.home.Phase.TheVariants.{Open as open_here}
 use Rattle.mur_model.specs.declared.fetch.Fetching.{Fetching}
 use Rattle.mur_model.specs.declared.need.ViewWork.{ViewWork}
-use Rattle.mur_model.specs.declared.need.ViewWork.TheVariants.{Noop, Close, Expunge, Store as store_work, Fetch}
+use Rattle.mur_model.specs.declared.need.ViewWork.TheVariants.{Noop, Close, Expunge, Store as store_work, Fetch, Search}
 use Rattle.mur_model.specs.declared.need.Work.TheVariants.{Viewed as viewed_work}
+use Rattle.mur_model.specs.declared.search.Searching.{Searching}
 use Rattle.mur_model.specs.declared.store.Store.{Store}
 use Rattle.mur_model.specs.declared.store_flags.FlagStore.{FlagStore}
 use Rattle.mur_model.specs.declared.view.View.{View}
 use Rattle.mur_model.specs.Act.{MayWork}
+use Rattle.mur_model.specs.ClientView.{uids}
 use Rattle.mur_model.specs.Expunge.{expunge_on, expunge_at}
 use Rattle.mur_model.specs.Fetch.{fetch_on, fetch_at, sees}
 use Rattle.mur_model.specs.Left.{Worked, store_after, kept}
+use Rattle.mur_model.specs.Search.{search_on, search_at}
 use Rattle.mur_model.specs.Selected.{at_view, gone}
 use Rattle.mur_model.specs.StoreFlags.{store_on, store_at, stored_at}
 use Rattle.mur_model.specs.Viewing.{viewed_on, noop_at, close_at}
@@ -82,6 +85,7 @@ tells_gone view Close = refl
 tells_gone view (Expunge only) = refl
 tells_gone view (store_work it) = refl
 tells_gone view (Fetch it) = refl
+tells_gone view (Search it) = refl
 
 -- the home has another mailbox of the name
 another : (store : Store) (home : Backend) (name : List ℕ) (view : View) (it : ViewWork) → IsStoreOf store home
@@ -204,6 +208,15 @@ reads_by store home name view it held false s at e same = rw s (record {
   unless = λ _. refl;
 })
 
+searches : (store : Store) (home : Backend) (name : List ℕ) (view : View) (it : Searching) → IsStoreOf store home
+    → DoesAlike store home name view (Search it) (search_at view it) (λ content. read_to content (uids view.rows) false)
+unfolding viewed_turn viewed_done store_after read_in
+searches store home name view it same held at e = record {
+  shown = refl;
+  still = kept_alike store home name held at same;
+  unless = λ _. refl;
+}
+
 -- ---- a look
 
 looks : (store : Store) (home : Backend) (name : List ℕ) (view : View) (held : Held) → IsStoreOf store home
@@ -260,3 +273,11 @@ unfolding viewed_on fetch_on read_step
 fetch_views store home name view it found at same =
     operates store home name view (Fetch it) (fetch_at view it) (λ content. read_to content it.uids (sees view it)) found at
     (λ held there e. reads_by store home name view it held (sees view it) refl there e same) same
+
+pub search_views : (store : Store) (home : Backend) (name : List ℕ) (view : View) (it : Searching) (found : Option Held)
+    → held_at home name ≡ found → IsStoreOf store home
+    → ViewsAlike store home name view (Search it) found (read_step home name (Some view.serial) (uids view.rows) false found)
+unfolding viewed_on search_on read_step
+search_views store home name view it found at same =
+    operates store home name view (Search it) (search_at view it) (λ content. read_to content (uids view.rows) false) found at
+    (searches store home name view it same) same

@@ -1,6 +1,7 @@
 // The cluster as one value.
 ghost use Rattle.std.specs.Prelude.{◌≡◌, ◌<◌, ◌^◌, List, IfOk, OnOk};
 ghost use Rattle.mur_config.specs.declared.config.Config.{Config};
+ghost use Rattle.imap_command.specs.Ruled.{IsDate};
 ghost use Rattle.mur_config.specs.Nodes.{AreNodes};
 ghost use Rattle.schedule_text.specs.declared.event.Event.{Event};
 ghost use Rattle.schedule_text.specs.Brings.{steps_of_all, bytes_of_all};
@@ -64,6 +65,7 @@ impl Cluster {
     pub fn new(alloc: Global, config: &Config) -> Result<Cluster, Memory>
         ensures start { IfOk result (λ cluster. cluster ≡ start config.now) }
         ensures nodes { AreNodes config.now.nodes }
+        ensures date { IsDate config.now.date }
     {
         Ok(Cluster {
             alloc,
@@ -139,5 +141,5 @@ pub fn run(alloc: Global, config: &Config, events: Events) -> Result<Cluster, Me
 
 /// The headline as a law of its own: it holds of every configuration and of all events. The call does nothing.
 pub fn headline()
-    ensures { (config : Config) (events : List Event) → AreNodes config.nodes → IsOneServer config events }
+    ensures { (config : Config) (events : List Event) → AreNodes config.nodes → IsDate config.date → IsOneServer config events }
 {}

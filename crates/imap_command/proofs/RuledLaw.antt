@@ -1,9 +1,9 @@
--- Each command that a frame spells has keywords by their rule, and a message that is no longer than the frame.
+-- Each command that a frame spells has keywords by their rule, a date that is one, and a message that is no longer than the frame.
 use Rattle.std.proofs.Common.{⊎_elim, ◌≡◌, ℕ, zero, suc, ◌<◌, ◌≤◌, List, [], ◌∷◌, ◌++◌, length, Bool, true, false, ◌==◌, inl, inr}
 use Rattle.std.proofs.Common.{sym, ap, subst, arith, Some, None}
 use Rattle.std.proofs.Common.{length-append}
 use Rattle.std.specs.List.{list_all}
-use Rattle.std.specs.Prelude.{All}
+use Rattle.std.specs.Prelude.{All, IfSome}
 use Rattle.std.proofs.lemmas.List.Elements.{All-nil, All-cons}
 use Rattle.grammar.specs.Forms.{Form, ◌and◌, behind, ◌spaced◌}
 use Rattle.grammar.specs.Numbers.{value_of}
@@ -25,7 +25,7 @@ use Rattle.imap_command.specs.Characters.{is_char8}
 use Rattle.imap_command.specs.Commands.{arguments, uid_arguments}
 use Rattle.imap_command.specs.Date.{date_time}
 use Rattle.imap_command.specs.Flags.{any_keyword, flag_list, flag_list_part, store_flags, store_flags_part}
-use Rattle.imap_command.specs.Ruled.{IsRuled}
+use Rattle.imap_command.specs.Ruled.{IsDate, IsRuled}
 use Rattle.imap_command.specs.Spells.{Spells, commands, line, tagged_command}
 use Rattle.imap_command.specs.Sets.{set}
 use Rattle.imap_command.specs.Store.{store, store_mode}
@@ -134,17 +134,19 @@ module _ (limit : ℕ) where
       )
 
   abbrev OfDated : Dated → Type 0
-  OfDated x = length x.1 < limit
+  OfDated x = IfSome x.0 IsDate × (length x.1 < limit)
+
+  is_date_time : Under date_time.part IsDate
+  is_date_time bytes date j below = j.goes_on.begins.1
 
   short_dated : Under dated.part OfDated
   short_dated =
       under_choose (λ c. c == 34) with_date.part without_date.part OfDated
-      (under_made (λ x. (Some x.0, x.1)) (date_time spaced message).part OfDated
-      (λ bytes x l below. (under_spaced date_time message Any IsShort (any_under date_time.part) short_literal bytes x l below).1))
-      (under_made (λ body. (None, body)) literal OfDated short_literal)
+      (under_made (λ x. (Some x.0, x.1)) (date_time spaced message).part OfDated (under_spaced date_time message IsDate IsShort is_date_time short_literal))
+      (under_made (λ body. (None, body)) literal OfDated (λ bytes body l below. (tt, short_literal bytes body l below)))
 
   abbrev OfFlagged : Flags × Dated → Type 0
-  OfFlagged x = HasRuledKeywords x.0 × (length x.1.1 < limit)
+  OfFlagged x = HasRuledKeywords x.0 × OfDated x.1
 
   ruled_list : Under flag_list_part HasRuledKeywords
   ruled_list bytes flags l below = ruled flags (only_list bytes flags l)

@@ -2,9 +2,8 @@
 use Rattle.std.proofs.Common.{◌≡◌, ℕ, ◌==◌, Bool, true, false, ◌∙◌, if◌then◌else◌, List, [], ◌∷◌, ◌++◌, length, refl, sym, subst, codes}
 use Rattle.std.proofs.Common.{Option, None, Some}
 use Rattle.std.specs.Prelude.{All, ⊤}
-use Rattle.std.specs.List.{list_all}
 use Rattle.std.specs.Str.{bytes_eq}
-use Rattle.std.proofs.lemmas.List.Elements.{All-nil, All-append}
+use Rattle.std.proofs.lemmas.List.Elements.{All-nil, All-cons, All-append}
 use Rattle.std.proofs.lemmas.List.Folds.{list_any_none}
 use Rattle.mur_base.specs.Inbox.{taken_name}
 use Rattle.mur_base.specs.Names.{mail_name_fault}
@@ -31,14 +30,16 @@ use Rattle.mur_model.specs.declared.need.ViewWork.TheVariants as view_work
 use Rattle.mur_model.specs.declared.need.Work.{Work}
 use Rattle.mur_model.specs.declared.need.Work.TheVariants.{Make, Append as append_work, Status as status_work, Select as select_work, Viewed as viewed_work}
 use Rattle.mur_model.specs.declared.news.Told.{Told}
-use Rattle.mur_model.specs.declared.reply.BadText.TheVariants.{State, Syntax}
+use Rattle.mur_model.specs.declared.reply.BadText.TheVariants.{State}
 use Rattle.mur_model.specs.declared.reply.NoText.{NoText}
 use Rattle.mur_model.specs.declared.reply.NoText.TheVariants.{NonExistent, NoPerm}
 use Rattle.mur_model.specs.declared.reply.ReplyLine.{ReplyLine}
+use Rattle.mur_model.specs.declared.reply.ReplyLine.TheVariants.{Search}
 use Rattle.mur_model.specs.declared.reply.Verdict.{Verdict}
 use Rattle.mur_model.specs.declared.reply.Verdict.TheVariants.{No as no_reply, Bad as bad_reply}
 use Rattle.mur_model.specs.declared.request.Request.{Request}
 use Rattle.mur_model.specs.declared.request.Request.TheVariants.{Command as a_command, Unknown as unknown, TooBig as too_big}
+use Rattle.mur_model.specs.declared.search.Searching.{Searching}
 use Rattle.mur_model.specs.declared.select.Opening.{Opening}
 use Rattle.mur_model.specs.declared.session.Sess.{Sess}
 use Rattle.mur_model.specs.declared.session.Sess.TheVariants.{Off, In, Selected as selected, Ended}
@@ -48,23 +49,27 @@ use Rattle.mur_model.specs.declared.store.Store.{Store}
 use Rattle.mur_model.specs.declared.store_flags.FlagStore.{FlagStore}
 use Rattle.mur_model.specs.declared.view.View.{View}
 use Rattle.mur_model.specs.Act.{act_by, act_of, work_on, worked_at, session_after}
-use Rattle.mur_model.specs.Act.{need_of, need_off, need_in, need_begun, need_selected, need_unselected, not_yet, wants_selected}
+use Rattle.mur_model.specs.Act.{need_of, need_off, need_in, need_begun, need_selected, need_unselected, wants_selected}
 use Rattle.mur_model.specs.Answer.{answer_of}
 use Rattle.mur_model.specs.Append.{new_message, append, append_as, append_by, append_on, append_to, append_reply}
+use Rattle.mur_model.specs.ClientView.{uids}
 use Rattle.mur_model.specs.Create.{create, create_meant, create_as, create_by, create_on, make, without_separator, is_inbox}
 use Rattle.mur_model.specs.Expunge.{expunge_on, expunge_at, expunge_told}
 use Rattle.mur_model.specs.Fetch.{fetch_on, fetch_at, fetch_told, fetch_lines, sees, seen_flags}
 use Rattle.mur_model.specs.Left.{Worked, replied, kept, changed}
+use Rattle.mur_model.specs.Keys.{have_all_numbers, keys_at}
 use Rattle.mur_model.specs.Login.{login, login_as, login_by}
+use Rattle.mur_model.specs.NamedRows.{last_uid}
 use Rattle.mur_model.specs.News.{news}
 use Rattle.mur_model.specs.Reply.{reply_of}
 use Rattle.mur_model.specs.Rights.{user_named, has_rights, may_create}
 use Rattle.mur_model.specs.Select.{select, select_as, select_by, select_on, select_told, opening, unselected}
+use Rattle.mur_model.specs.Search.{search_at, search_on, search_told}
 use Rattle.mur_model.specs.Selected.{at_view, gone, rows_of, with_news}
-use Rattle.mur_model.specs.Status.{status, status_as, status_by, status_on, status_reply, tells_messages_alone}
+use Rattle.mur_model.specs.Status.{status, status_as, status_by, status_on, status_reply}
 use Rattle.mur_model.specs.Store.{box_at, is_spent}
 use Rattle.mur_model.specs.StoreFlags.{store_on, store_at, stored_at, store_told, store_refused, own_lines}
-use Rattle.mur_model.specs.Viewing.{at_mailbox, close_at, expunge_named, fetch_named, is_told, left_by, names_messages, no_such_number, noop_at}
+use Rattle.mur_model.specs.Viewing.{at_mailbox, close_at, expunge_named, fetch_named, left_by, names_messages, no_such_number, noop_at}
 use Rattle.mur_model.specs.Viewing.{noop_told, read_only, store_named, viewed_on}
 use Rattle.imap_reply.specs.SessionEnds.{has_ended, ends_session, TurnEnds}
 use Rattle.imap_reply.specs.Transcript.{is_bye, ends}
@@ -114,6 +119,11 @@ fetch_ends view it before now =
     news_ends view (fetch_lines it view.rows now before) now it.by_uid _ _
     (each_fetch IsNoBye IsAny IsAny it (λ number message row changes one is. refl) view.rows now before (any_all now) (any_all before))
 
+pub search_ends : (view : View) (it : Searching) (messages : List Message) (now : List Row) → TurnEnds (search_told view it messages now)
+unfolding is_bye
+search_ends view it messages now =
+    news_ends view (Search it.by_uid _ ∷ []) now it.by_uid [] _ (All-cons IsNoBye (Search it.by_uid _) [] refl (All-nil IsNoBye))
+
 pub select_ends : (it : Opening) (name : List ℕ) (seen : Snapshot) → TurnEnds (select_told it name seen)
 unfolding ends is_bye
 select_ends it name seen = by it.was_selected it.is_writable
@@ -138,9 +148,9 @@ pub plain_ends : (verdict : Verdict) → TurnEnds (replied (reply_of verdict))
 unfolding ends
 plain_ends verdict = refl
 
-pub count_ends : (shown : List ℕ) (items : List StatusItem) (messages : ℕ) → TurnEnds (replied (status_reply shown items messages))
+pub count_ends : (shown : List ℕ) (items : List StatusItem) (seen : Snapshot) → TurnEnds (replied (status_reply shown items seen))
 unfolding status_reply is_bye ends
-count_ends shown items messages = refl
+count_ends shown items seen = refl
 
 -- the work at a mailbox
 
@@ -167,7 +177,7 @@ appended_ends message (Some box) = appended_by message box (append_fault box (me
 counted_ends : (shown : List ℕ) (items : List StatusItem) (box : Option Content) → TurnEnds (status_on shown items box).turn
 unfolding status_on
 counted_ends shown items None = plain_ends (no_reply NonExistent)
-counted_ends shown items (Some box) = count_ends shown items (length box.messages)
+counted_ends shown items (Some box) = count_ends shown items (snapshot_of box)
 
 selected_ends : (it : Opening) (name : List ℕ) (box : Option Content) → TurnEnds (select_on it name box).turn
 unfolding select_on
@@ -203,7 +213,7 @@ fetched_ends view it box =
     (fetch_ends view it before (rows_of after)) (fetch_ends view it before (rows_of box))
 
 view_ends : (view : View) (work : ViewWork) (box : Option Content) → TurnEnds (viewed_on view work box).turn
-unfolding viewed_on expunge_on store_on fetch_on
+unfolding viewed_on expunge_on store_on fetch_on search_on
 view_ends view view_work.Noop box = viewed_ends view (noop_at view) box (λ there. noop_ends view (rows_of there))
 view_ends view view_work.Close box = viewed_ends view (close_at view) box (λ there. left_ends view (codes "CLOSE"))
 view_ends view (view_work.Expunge only) box =
@@ -212,6 +222,8 @@ view_ends view (view_work.Store it) box =
     viewed_ends view (store_at view it) box
     (λ there. stored_ends view it there (has_too_many_flags (rows_stored there it.uids it.mode it.flags)))
 view_ends view (view_work.Fetch it) box = viewed_ends view (fetch_at view it) box (fetched_ends view it)
+view_ends view (view_work.Search it) box =
+    viewed_ends view (search_at view it) box (λ there. search_ends view it (messages_at there.messages (uids view.rows)) (rows_of there))
 
 pub work_ends : (name : List ℕ) (work : Work) (serial : ℕ) (spent : Bool) (box : Option Content) → TurnEnds (work_on name work serial spent box).turn
 unfolding work_on
@@ -302,8 +314,7 @@ begun_ends setting user is_selected (command.Create text) =
 begun_ends setting user is_selected (command.Append text flags date body) =
     append_ends setting user (taken_name user text) (new_message setting flags date body) (mail_name_fault (taken_name user text))
 begun_ends setting user is_selected (command.Status text items) =
-    either_needs (tells_messages_alone items) (status setting user text items) not_yet
-    (status_ends setting user (taken_name user text) items (mail_name_fault (taken_name user text))) tt
+    status_ends setting user (taken_name user text) items (mail_name_fault (taken_name user text))
 begun_ends setting user is_selected (command.Select text) =
     select_as_ends setting user (taken_name user text) true is_selected (mail_name_fault (taken_name user text))
 begun_ends setting user is_selected (command.Examine text) =
@@ -336,9 +347,10 @@ view_needs setting view (command.Store by_uid set mode is_silent flags) =
     (if view.is_writable then store_named view by_uid set mode is_silent flags else read_only) no_such_number
     (either_needs view.is_writable (store_named view by_uid set mode is_silent flags) read_only tt tt) tt
 view_needs setting view (command.Fetch by_uid set items) =
-    either_needs (list_all is_told items)
-    (if names_messages view by_uid set then fetch_named view by_uid set items else no_such_number) (Refusal (bad_reply Syntax))
-    (either_needs (names_messages view by_uid set) (fetch_named view by_uid set items) no_such_number tt tt) tt
+    either_needs (names_messages view by_uid set) (fetch_named view by_uid set items) no_such_number tt tt
+view_needs setting view (command.Search by_uid keys) =
+    let placed = keys_at (length view.rows) (last_uid view.rows) keys in
+    either_needs (have_all_numbers (length view.rows) keys) (at_mailbox view (view_work.Search (record { by_uid = by_uid; keys = placed }))) no_such_number tt tt
 view_needs setting view it = begun_ends setting view.user true it
 
 pub need_ends : (setting : Setting) (session : Sess) (it : Command) → NeedEnds (need_of setting session it)

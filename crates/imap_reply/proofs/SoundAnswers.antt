@@ -1,17 +1,14 @@
 -- The texts of each answer of a sound store to a sound request are sound, so a client reads what was meant; and the store stays sound.
 use Rattle.std.proofs.Common.{◌≡◌, ℕ, ◌^◌, Bool, true, false, if◌then◌else◌, List, [], ◌∷◌, ◌++◌, codes, refl}
 use Rattle.std.proofs.Common.{Option, None, Some}
-use Rattle.std.specs.Prelude.{All, ⊤}
-use Rattle.std.specs.List.{list_all, list_any}
+use Rattle.std.specs.Prelude.{All, IfSome, ⊤, unwrap_or, length}
 use Rattle.std.specs.Str.{bytes_eq}
-use Rattle.std.proofs.lemmas.Bool.{and_parts}
-use Rattle.std.proofs.lemmas.List.Elements.{All-nil, All-cons, All-append}
+use Rattle.std.proofs.lemmas.List.Elements.{All-nil}
 use Rattle.mur_base.specs.declared.name.NameFault.{NameFault}
 use Rattle.mur_base.specs.declared.user.User.{User}
 use Rattle.mur_base.specs.Inbox.{taken_name, shown_name}
 use Rattle.mur_base.specs.Names.{mail_name_fault}
 use Rattle.mail_message.specs.Literals.{IsPlain}
-use Rattle.mail_message.specs.declared.item.Item.{Item}
 use Rattle.mail_message.specs.declared.message.Message.{Message}
 use Rattle.mail_message.specs.declared.set.SetPart.{SetPart}
 use Rattle.mur_model.specs.declared.command.Command.{Command}
@@ -38,16 +35,18 @@ use Rattle.mur_model.specs.Answer.{answer_of}
 use Rattle.mur_model.specs.Append.{new_message, append, append_as, append_by}
 use Rattle.mur_model.specs.Create.{create, create_meant, create_as, create_by, without_separator, is_inbox}
 use Rattle.mur_model.specs.History.{Course}
+use Rattle.mur_model.specs.Keys.{have_all_numbers, keys_at}
 use Rattle.mur_model.specs.Login.{login, login_as, login_by}
+use Rattle.mur_model.specs.NamedRows.{last_uid}
 use Rattle.mur_model.specs.Rights.{user_named, has_rights, may_create}
 use Rattle.mur_model.specs.Select.{select, select_as, select_by}
 use Rattle.mur_model.specs.Select.{opening}
-use Rattle.mur_model.specs.Status.{status, status_as, status_by, tells_messages_alone}
+use Rattle.mur_model.specs.Status.{status, status_as, status_by}
 use Rattle.mur_model.specs.Store.{box_at, is_spent}
-use Rattle.mur_model.specs.Viewing.{at_mailbox, each_once, expunge_named, fetch_named, is_told, left_by, names_messages, no_such_number}
-use Rattle.mur_model.specs.Viewing.{read_only, same_item, store_named}
+use Rattle.mur_model.specs.Viewing.{at_mailbox, expunge_named, fetch_named, left_by, names_messages, no_such_number}
+use Rattle.mur_model.specs.Viewing.{read_only, store_named}
 use Rattle.mur_model.proofs.EachAnswer.{Keeps}
-use Rattle.imap_command.specs.Ruled.{IsRuled}
+use Rattle.imap_command.specs.Ruled.{IsDate, IsRuled}
 use Rattle.imap_reply.specs.SoundRequests.{IsSoundRequest, IsSoundMessage, IsSoundStore}
 use Rattle.imap_reply.specs.SoundTexts.{IsSoundTag, IsSoundLine, IsSoundVerdict}
 use Rattle.imap_reply.specs.TranscriptRead.{IsAnswerReadAsMeant}
@@ -55,7 +54,7 @@ use Rattle.imap_reply.proofs.NoForgery.{read_as_meant}
 use Rattle.imap_reply.proofs.PlainNames.{shown_plain}
 use Rattle.imap_reply.proofs.SoundStores.{box_is}
 use Rattle.imap_reply.proofs.SoundStores.{store_is}
-use Rattle.imap_reply.proofs.SoundWorks.{IsTold, SoundReply, SoundWork, SoundWorked, left_sound, unselected_sound, work_sound}
+use Rattle.imap_reply.proofs.SoundWorks.{SoundReply, SoundWork, SoundWorked, left_sound, unselected_sound, work_sound}
 use Rattle.imap_reply.specs.ReadAsMeant.{IsReadAsMeant}
 use Rattle.mur_model.specs.declared.command.Tag.{Tag}
 
@@ -135,78 +134,65 @@ off_sound setting (command.Login user password) = login_sound (user_named settin
 off_sound setting command.Noop = record { lines = All-nil IsSoundLine; verdict = refl }
 off_sound setting it = tt
 
-begun_sound : (setting : Setting) (user : List ℕ) (is_selected : Bool) (it : Command) → IsSoundCommand it → SoundNeed (need_begun setting user is_selected it)
+new_dated : (date : Option (List ℕ)) (other : List ℕ) → IsDate other → IfSome date IsDate → IsDate (unwrap_or date other)
+new_dated None other or is = or
+new_dated (Some date) other or is = is
+
+begun_sound : (setting : Setting) (user : List ℕ) (is_selected : Bool) (it : Command) → IsDate setting.date → IsSoundCommand it → SoundNeed (need_begun setting user is_selected it)
 unfolding need_begun create create_meant append status select IsSoundVerdict
-begun_sound setting user is_selected (command.Create text) sound =
+begun_sound setting user is_selected (command.Create text) date_is sound =
     let meant = without_separator text in
     create_sound setting user (taken_name user meant) (is_inbox meant) (mail_name_fault (taken_name user meant))
-begun_sound setting user is_selected (command.Append text flags date body) sound =
+begun_sound setting user is_selected (command.Append text flags date body) date_is sound =
     append_sound setting user (taken_name user text) (new_message setting flags date body) (mail_name_fault (taken_name user text))
-    (record { ruled = sound.0; counted = sound.1 })
-begun_sound setting user is_selected (command.Status text items) sound =
-    either_need (tells_messages_alone items) (status setting user text items) not_yet
-    (status_sound setting user (taken_name user text) items (mail_name_fault (taken_name user text)) refl) tt
-begun_sound setting user is_selected (command.Select text) sound =
+    (record { ruled = sound.0; dated = new_dated date setting.date date_is sound.1.0; counted = sound.1.1 })
+begun_sound setting user is_selected (command.Status text items) date_is sound =
+    status_sound setting user (taken_name user text) items (mail_name_fault (taken_name user text)) refl
+begun_sound setting user is_selected (command.Select text) date_is sound =
     select_sound setting user (taken_name user text) true is_selected (mail_name_fault (taken_name user text)) refl
-begun_sound setting user is_selected (command.Examine text) sound =
+begun_sound setting user is_selected (command.Examine text) date_is sound =
     select_sound setting user (taken_name user text) false is_selected (mail_name_fault (taken_name user text)) refl
-begun_sound setting user is_selected it sound = tt
+begun_sound setting user is_selected it date_is sound = tt
 
-unselected_need : (setting : Setting) (user : List ℕ) (it : Command) → IsSoundCommand it → SoundNeed (need_unselected setting user it)
+unselected_need : (setting : Setting) (user : List ℕ) (it : Command) → IsDate setting.date → IsSoundCommand it → SoundNeed (need_unselected setting user it)
 unfolding IsSoundVerdict
-unselected_need setting user it sound =
-    either_need (wants_selected it) (Refusal (bad_reply State)) (need_begun setting user false it) tt (begun_sound setting user false it sound)
+unselected_need setting user it date_is sound =
+    either_need (wants_selected it) (Refusal (bad_reply State)) (need_begun setting user false it) tt (begun_sound setting user false it date_is sound)
 
-in_sound : (setting : Setting) (user : List ℕ) (it : Command) → IsSoundCommand it → SoundNeed (need_in setting user it)
+in_sound : (setting : Setting) (user : List ℕ) (it : Command) → IsDate setting.date → IsSoundCommand it → SoundNeed (need_in setting user it)
 unfolding need_in IsSoundVerdict
-in_sound setting user command.Noop sound = record { lines = All-nil IsSoundLine; verdict = refl }
-in_sound setting user it sound = unselected_need setting user it sound
+in_sound setting user command.Noop date_is sound = record { lines = All-nil IsSoundLine; verdict = refl }
+in_sound setting user it date_is sound = unselected_need setting user it date_is sound
 
 expunge_need : (view : View) (only : Option (List SetPart)) → SoundNeed (expunge_named view only)
 expunge_need view None = tt
 expunge_need view (Some set) = tt
 
--- each item that is told, once
-
-once_by : (there : Bool) (told : List Item) (it : Item) → All IsTold told → IsTold it → All IsTold (if there then told else told ++ it ∷ [])
-once_by true told it all is = all
-once_by false told it all is = All-append IsTold told (it ∷ []) all (All-cons IsTold it [] is (All-nil IsTold))
-
-once : (told items : List Item) → All IsTold told → list_all is_told items ≡ true → All IsTold (each_once told items)
-once told [] all told_all = all
-once told (it ∷ items) all told_all =
-    let both = and_parts (is_told it) (list_all is_told items) told_all in
-    let there = list_any (same_item it) told in
-    once (if there then told else told ++ it ∷ []) items (once_by there told it all both.0) both.1
-
-fetch_need : (view : View) (by_uid : Bool) (set : List SetPart) (items : List Item) (test : Bool) → list_all is_told items ≡ test
-    → SoundNeed (if test then if names_messages view by_uid set then fetch_named view by_uid set items else no_such_number else Refusal (bad_reply Syntax))
-unfolding IsSoundVerdict
-fetch_need view by_uid set items true all =
-    either_need (names_messages view by_uid set) (fetch_named view by_uid set items) no_such_number (once [] items (All-nil IsTold) all) tt
-fetch_need view by_uid set items false all = tt
-
-view_need : (setting : Setting) (view : View) (it : Command) → IsSoundCommand it → SoundNeed (need_selected setting view it)
+view_need : (setting : Setting) (view : View) (it : Command) → IsDate setting.date → IsSoundCommand it → SoundNeed (need_selected setting view it)
 unfolding need_selected IsSoundVerdict
-view_need setting view command.Noop sound = tt
-view_need setting view command.Close sound =
+view_need setting view command.Noop date_is sound = tt
+view_need setting view command.Close date_is sound =
     either_need view.is_writable (at_mailbox view view_work.Close) (Turned (left_by view (codes "CLOSE"))) tt (left_sound view (codes "CLOSE") refl)
-view_need setting view command.Unselect sound = left_sound view (codes "UNSELECT") refl
-view_need setting view (command.Expunge only) sound =
+view_need setting view command.Unselect date_is sound = left_sound view (codes "UNSELECT") refl
+view_need setting view (command.Expunge only) date_is sound =
     either_need view.is_writable (expunge_named view only) read_only (expunge_need view only) tt
-view_need setting view (command.Store by_uid set mode is_silent flags) sound =
+view_need setting view (command.Store by_uid set mode is_silent flags) date_is sound =
     either_need (names_messages view by_uid set)
     (if view.is_writable then store_named view by_uid set mode is_silent flags else read_only) no_such_number
     (either_need view.is_writable (store_named view by_uid set mode is_silent flags) read_only sound tt) tt
-view_need setting view (command.Fetch by_uid set items) sound = fetch_need view by_uid set items (list_all is_told items) refl
-view_need setting view it sound = begun_sound setting view.user true it sound
+view_need setting view (command.Fetch by_uid set items) date_is sound =
+    either_need (names_messages view by_uid set) (fetch_named view by_uid set items) no_such_number tt tt
+view_need setting view (command.Search by_uid keys) date_is sound =
+    let placed = keys_at (length view.rows) (last_uid view.rows) keys in
+    either_need (have_all_numbers (length view.rows) keys) (at_mailbox view (view_work.Search (record { by_uid = by_uid; keys = placed }))) no_such_number tt tt
+view_need setting view it date_is sound = begun_sound setting view.user true it date_is sound
 
-need_sound : (setting : Setting) (session : Sess) (it : Command) → IsSoundCommand it → SoundNeed (need_of setting session it)
+need_sound : (setting : Setting) (session : Sess) (it : Command) → IsDate setting.date → IsSoundCommand it → SoundNeed (need_of setting session it)
 unfolding need_of IsSoundVerdict
-need_sound setting Off it sound = off_sound setting it
-need_sound setting (In user) it sound = in_sound setting user it sound
-need_sound setting (selected view) it sound = view_need setting view it sound
-need_sound setting Ended it sound = tt
+need_sound setting Off it date_is sound = off_sound setting it
+need_sound setting (In user) it date_is sound = in_sound setting user it date_is sound
+need_sound setting (selected view) it date_is sound = view_need setting view it date_is sound
+need_sound setting Ended it date_is sound = tt
 
 -- what comes of it
 
@@ -235,30 +221,32 @@ sound_by : (tag : Tag) (reply : Reply) → IsSoundTag tag → SoundReply reply �
 sound_by tag reply tagged sound = read_as_meant tag reply (record { tag_is = tagged; lines = sound.lines; verdict = sound.verdict })
 
 -- whatever a sound store is asked soundly, the answer is read as it was meant
-pub answer_read : (setting : Setting) (store : Store) (session : Sess) (request : Request) (serial : ℕ) → IsSoundStore store → IsSoundRequest request
+pub answer_read : (setting : Setting) (store : Store) (session : Sess) (request : Request) (serial : ℕ) → IsDate setting.date → IsSoundStore store
+    → IsSoundRequest request
     → IsAnswerReadAsMeant (answer_of setting store session request serial).answer
 unfolding answer_of act_of IsSoundVerdict
-answer_read setting store session (a_command tag it) serial all sound =
+answer_read setting store session (a_command tag it) serial date_is all sound =
     sound_by tag (act_by store session serial (need_of setting session it)).reply sound.0
-    (act_sound store session serial (need_of setting session it) all (need_sound setting session it sound.1))
-answer_read setting store session (unknown tag) serial all sound = sound_by tag _ sound (record { lines = All-nil IsSoundLine; verdict = tt })
-answer_read setting store session (too_big tag) serial all sound = sound_by tag _ sound (record { lines = All-nil IsSoundLine; verdict = tt })
+    (act_sound store session serial (need_of setting session it) all (need_sound setting session it date_is sound.1))
+answer_read setting store session (unknown tag) serial date_is all sound = sound_by tag _ sound (record { lines = All-nil IsSoundLine; verdict = tt })
+answer_read setting store session (too_big tag) serial date_is all sound = sound_by tag _ sound (record { lines = All-nil IsSoundLine; verdict = tt })
 
 -- and the store stays sound
-pub answer_kept : (setting : Setting) (store : Store) (session : Sess) (request : Request) (serial : ℕ) → IsSoundStore store → IsSoundRequest request
+pub answer_kept : (setting : Setting) (store : Store) (session : Sess) (request : Request) (serial : ℕ) → IsDate setting.date → IsSoundStore store
+    → IsSoundRequest request
     → IsSoundStore (answer_of setting store session request serial).store
 unfolding answer_of act_of
-answer_kept setting store session (a_command tag it) serial all sound =
-    act_kept store session serial (need_of setting session it) all (need_sound setting session it sound.1)
-answer_kept setting store session (unknown tag) serial all sound = all
-answer_kept setting store session (too_big tag) serial all sound = all
+answer_kept setting store session (a_command tag it) serial date_is all sound =
+    act_kept store session serial (need_of setting session it) all (need_sound setting session it date_is sound.1)
+answer_kept setting store session (unknown tag) serial date_is all sound = all
+answer_kept setting store session (too_big tag) serial date_is all sound = all
 
 abbrev pub HasSoundStore : Course → Type 0
 HasSoundStore course = IsSoundStore course.store
 
 -- so each answer of a legal history of sound requests is read as it was meant, where the store is sound at first
-pub answers_read : (setting : Setting) → Keeps setting IsSoundRequest HasSoundStore IsAnswerReadAsMeant
-answers_read setting = record {
-  kept = λ course conn request serial all sound. answer_kept setting course.store (course.sessions conn) request serial all sound;
-  told = λ course conn request serial all sound. answer_read setting course.store (course.sessions conn) request serial all sound;
+pub answers_read : (setting : Setting) → IsDate setting.date → Keeps setting IsSoundRequest HasSoundStore IsAnswerReadAsMeant
+answers_read setting date_is = record {
+  kept = λ course conn request serial all sound. answer_kept setting course.store (course.sessions conn) request serial date_is all sound;
+  told = λ course conn request serial all sound. answer_read setting course.store (course.sessions conn) request serial date_is all sound;
 }

@@ -89,7 +89,7 @@ put (other ∷ messages) message all one =
     (put messages message (All-tail IsSoundMessage other messages all) one)
 
 labelled : (message : Message) (flags : Flags) → HasRuledKeywords flags → IsSoundMessage message → IsSoundMessage (relabelled message flags)
-labelled message flags ruled is = record { ruled = ruled; counted = is.counted }
+labelled message flags ruled is = record { ruled = ruled; dated = is.dated; counted = is.counted }
 
 labelled_by : (test : Bool) (message : Message) (flags : Flags) → HasRuledKeywords flags → IsSoundMessage message
     → IsSoundMessage (if test then relabelled message flags else message)
@@ -162,7 +162,7 @@ expunged_is box only all =
 
 pub appended_is : (box : Content) (message : Message) → IsSoundMessage message → IsSoundBox box → IsSoundBox (appended box (message ∷ []))
 appended_is box message is all =
-    put box.messages (record message { uid = box.next }) all (record { ruled = is.ruled; counted = is.counted })
+    put box.messages (record message { uid = box.next }) all (record { ruled = is.ruled; dated = is.dated; counted = is.counted })
 
 -- the store
 

@@ -5,14 +5,12 @@ use Rattle.std.specs.Prelude.{All, IfSome, ⊤}
 use Rattle.std.specs.List.{list_any}
 use Rattle.std.proofs.lemmas.List.Elements.{All-nil, All-cons, All-append, All-map, All-weaker, All-from_recursion}
 use Rattle.mail_fetch.specs.Parts.{part_text}
-use Rattle.mail_fetch.proofs.PartLaws.{body_is_part, flags_is_part, uid_is_part}
+use Rattle.mail_fetch.proofs.PartLaws.{flags_is_part, item_is_part, uid_is_part}
 use Rattle.mail_message.specs.Boxes.{Content, messages_at, relabelled, snapshot_of}
 use Rattle.mail_message.specs.FlagSets.{HasRuledKeywords}
 use Rattle.mail_message.specs.Keywords.{keyword_fault}
 use Rattle.mail_message.specs.Literals.{IsPart, IsPlain}
 use Rattle.mail_message.specs.declared.flag_name.FlagName.TheVariants.{Keyword}
-use Rattle.mail_message.specs.declared.item.Item.{Item}
-use Rattle.mail_message.specs.declared.item.Item.TheVariants as item
 use Rattle.mail_message.specs.declared.message.Message.{Message}
 use Rattle.mail_message.specs.declared.message.Row.{Row}
 use Rattle.mail_message.specs.declared.message.Snapshot.{Snapshot}
@@ -32,25 +30,28 @@ use Rattle.mur_model.specs.declared.reply.NoText.{NoText}
 use Rattle.mur_model.specs.declared.reply.NoText.TheVariants.{NonExistent}
 use Rattle.mur_model.specs.declared.reply.Reply.{Reply}
 use Rattle.mur_model.specs.declared.reply.ReplyLine.{ReplyLine}
-use Rattle.mur_model.specs.declared.reply.ReplyLine.TheVariants.{Bye, Closed, Exists, Flags, Listed, UidNext, UidValidity}
+use Rattle.mur_model.specs.declared.reply.ReplyLine.TheVariants.{Bye, Closed, Exists, Flags, Listed, Search, UidNext, UidValidity}
 use Rattle.mur_model.specs.declared.reply.Bye.TheVariants.{Gone}
 use Rattle.mur_model.specs.declared.reply.Verdict.{Verdict}
+use Rattle.mur_model.specs.declared.search.Searching.{Searching}
 use Rattle.mur_model.specs.declared.select.Opening.{Opening}
 use Rattle.mur_model.specs.declared.store_flags.FlagStore.{FlagStore}
 use Rattle.mur_model.specs.declared.view.View.{View}
 use Rattle.mur_model.specs.Act.{work_on}
 use Rattle.mur_model.specs.Append.{append_on, append_to, append_reply}
+use Rattle.mur_model.specs.ClientView.{uids}
 use Rattle.mur_model.specs.Create.{create_on, make}
 use Rattle.mur_model.specs.Expunge.{expunge_on, expunge_at, expunge_name}
-use Rattle.mur_model.specs.Fetch.{fetch_on, fetch_at, fetch_told, fetch_name, fetch_lines, is_flags, is_uid, items_told, sees, seen_flags}
+use Rattle.mur_model.specs.Fetch.{fetch_on, fetch_at, fetch_told, fetch_name, fetch_lines, items_told, sees, seen_flags}
 use Rattle.mur_model.specs.Left.{Worked, kept, changed}
 use Rattle.mur_model.specs.News.{news, flag_parts}
 use Rattle.mur_model.specs.Select.{closed_lines, flags_in, keywords_in, permanent_line, select_lines, select_name}
 use Rattle.mur_model.specs.Select.{select_on, system_flags, unselected}
+use Rattle.mur_model.specs.Search.{found_uids, numbers_told, search_at, search_name, search_on}
 use Rattle.mur_model.specs.Selected.{at_view, gone, rows_of, with_news}
 use Rattle.mur_model.specs.Status.{status_on, status_reply}
 use Rattle.mur_model.specs.StoreFlags.{store_on, store_at, stored_at, store_name, own_lines}
-use Rattle.mur_model.specs.Viewing.{close_at, is_told, left_by}
+use Rattle.mur_model.specs.Viewing.{close_at, left_by}
 use Rattle.mur_model.specs.Viewing.{noop_at, viewed_on}
 use Rattle.imap_reply.specs.SoundRequests.{IsSoundMessage, IsSoundBox}
 use Rattle.imap_reply.specs.SoundTexts.{IsSoundFlag, IsSoundLine, IsSoundVerdict}
@@ -68,9 +69,6 @@ pub record SoundWorked (worked : Worked) : Type 0 where
 
 -- what is told of a mailbox
 
-abbrev pub IsTold : Item → Type 0
-IsTold it = is_told it ≡ true
-
 row_parts : (by_uid : Bool) (row : Row) → IsSoundRow row → All IsPart (flag_parts by_uid row)
 row_parts true row is = All-from_recursion IsPart (flag_parts true row) (uid_is_part row.uid, (flags_is_part row.flags is, tt))
 row_parts false row is = All-from_recursion IsPart (flag_parts false row) (flags_is_part row.flags is, tt)
@@ -79,31 +77,12 @@ of_lines : OfLines IsSoundLine IsSoundRow
 unfolding IsSoundLine
 of_lines = record { exists = λ count. tt; expunge = λ number. tt; flags = λ by_uid number row is. row_parts by_uid row is }
 
-part : (it : Item) (message : Message) (row : Row) → IsSoundMessage message → IsSoundRow row → IsTold it → IsPart (part_text it (relabelled message row.flags))
-part item.Flags message row one is told = flags_is_part row.flags is
-part item.Uid message row one is told = uid_is_part message.uid
-part (item.Body None) message row one is told = body_is_part None message.body one.counted
-part (item.BodyPeek None) message row one is told = body_is_part None message.body one.counted
-part it message row one is told = cc
-
-item_if : (test : Bool) (it : Item) → IsTold it → All IsTold (if test then it ∷ [] else [])
-item_if true it told = All-cons IsTold it [] told (All-nil IsTold)
-item_if false it told = All-nil IsTold
-
-all_told : (it : Fetching) (changes : Bool) → All IsTold it.items → All IsTold (items_told it changes)
-all_told it changes all =
-    let first = it.by_uid && not (list_any is_uid it.items) in
-    let last = changes && not (list_any is_flags it.items) in
-    All-append IsTold ((if first then item.Uid ∷ [] else []) ++ it.items) (if last then item.Flags ∷ [] else [])
-    (All-append IsTold (if first then item.Uid ∷ [] else []) it.items (item_if first item.Uid refl) all) (item_if last item.Flags refl)
-
-fetched_sound : (it : Fetching) → All IsTold it.items → (number : ℕ) (message : Message) (row : Row) (changes : Bool) → IsSoundMessage message → IsSoundRow row
+fetched_sound : (it : Fetching) (number : ℕ) (message : Message) (row : Row) (changes : Bool) → IsSoundMessage message → IsSoundRow row
     → IsSoundLine (fetched it number message row changes)
 unfolding IsSoundLine
-fetched_sound it told number message row changes one is =
+fetched_sound it number message row changes one is =
     All-map IsPart (λ asked. part_text asked (relabelled message row.flags)) (items_told it changes)
-    (All-weaker IsTold (λ asked. IsPart (part_text asked (relabelled message row.flags))) (λ asked one_told. part asked message row one is one_told)
-    (items_told it changes) (all_told it changes told))
+    (λ k d within. item_is_part d (relabelled message row.flags) is one.dated one.counted)
 
 news_sound : (view : View) (lines : List ReplyLine) (now : List Row) (expunges : Bool) (known : List ℕ) (verdict : Verdict) → All IsSoundLine lines
     → All IsSoundRow now → IsSoundVerdict verdict → SoundReply (with_news view lines (news view.rows now expunges known) verdict).reply
@@ -172,7 +151,8 @@ SoundViewWork view_work.Noop = ⊤
 SoundViewWork view_work.Close = ⊤
 SoundViewWork (view_work.Expunge only) = ⊤
 SoundViewWork (view_work.Store it) = HasRuledKeywords it.flags
-SoundViewWork (view_work.Fetch it) = All IsTold it.items
+SoundViewWork (view_work.Fetch it) = ⊤
+SoundViewWork (view_work.Search it) = ⊤
 
 abbrev pub SoundWork : Work → Type 0
 SoundWork Make = ⊤
@@ -266,36 +246,51 @@ stored_sound view it box false ruled all =
           (store_plain it.by_uid);
     }
 
-told_sound : (view : View) (it : Fetching) (before : List Message) (now : List Row) → All IsTold it.items → All IsSoundMessage before → All IsSoundRow now
+told_sound : (view : View) (it : Fetching) (before : List Message) (now : List Row) → All IsSoundMessage before → All IsSoundRow now
     → SoundReply (fetch_told view it before now).reply
 unfolding IsSoundVerdict
-told_sound view it before now told each all =
+told_sound view it before now each all =
     news_sound view (fetch_lines it view.rows now before) now it.by_uid _ _
-    (each_fetch IsSoundLine IsSoundRow IsSoundMessage it (fetched_sound it told) view.rows now before all each) all (fetch_plain it.by_uid)
+    (each_fetch IsSoundLine IsSoundRow IsSoundMessage it (fetched_sound it) view.rows now before all each) all (fetch_plain it.by_uid)
 
 seen_ruled : HasRuledKeywords seen_flags
 seen_ruled = All-nil (λ keyword. keyword_fault keyword ≡ None)
 
-fetch_sound : (view : View) (it : Fetching) (box : Content) → All IsTold it.items → IsSoundBox box → SoundWorked (fetch_at view it box)
-fetch_sound view it box told all =
+fetch_sound : (view : View) (it : Fetching) (box : Content) → IsSoundBox box → SoundWorked (fetch_at view it box)
+fetch_sound view it box all =
     let before = messages_at box.messages it.uids in
     let each = messages_found box.messages it.uids all in
     let box_after = stored box it.uids Add seen_flags in
     let after = stored_is box it.uids Add seen_flags seen_ruled all in
     either_sound (sees view it) (record { left = changed box_after; turn = fetch_told view it before (rows_of box_after) })
     (record { left = kept; turn = fetch_told view it before (rows_of box) })
-    (record { left = after; reply = told_sound view it before (rows_of box_after) told each (rows_are box_after after) })
-    (record { left = tt; reply = told_sound view it before (rows_of box) told each (rows_are box all) })
+    (record { left = after; reply = told_sound view it before (rows_of box_after) each (rows_are box_after after) })
+    (record { left = tt; reply = told_sound view it before (rows_of box) each (rows_are box all) })
+
+search_plain : (by_uid : Bool) → IsPlain (search_name by_uid)
+search_plain true = refl
+search_plain false = refl
+
+search_sound : (view : View) (it : Searching) (box : Content) → IsSoundBox box → SoundWorked (search_at view it box)
+unfolding IsSoundLine IsSoundVerdict
+search_sound view it box all =
+    let numbers = numbers_told it.by_uid view.rows (found_uids it view.rows (messages_at box.messages (uids view.rows))) in
+    record {
+      left = tt;
+      reply = news_sound view (Search it.by_uid numbers ∷ []) (rows_of box) it.by_uid [] _
+          (All-cons IsSoundLine (Search it.by_uid numbers) [] tt (All-nil IsSoundLine)) (rows_are box all) (search_plain it.by_uid);
+    }
 
 view_sound : (view : View) (work : ViewWork) (box : Option Content) → SoundViewWork work → IfSome box IsSoundBox → SoundWorked (viewed_on view work box)
-unfolding viewed_on expunge_on store_on fetch_on
+unfolding viewed_on expunge_on store_on fetch_on search_on
 view_sound view view_work.Noop box sound all = viewed_sound view (noop_at view) box all (noop_sound view)
 view_sound view view_work.Close box sound all = viewed_sound view (close_at view) box all (close_sound view)
 view_sound view (view_work.Expunge only) box sound all = viewed_sound view (expunge_at view only) box all (expunge_sound view only)
 view_sound view (view_work.Store it) box sound all =
     viewed_sound view (store_at view it) box all
     (λ there is. stored_sound view it there (has_too_many_flags (rows_stored there it.uids it.mode it.flags)) sound is)
-view_sound view (view_work.Fetch it) box sound all = viewed_sound view (fetch_at view it) box all (λ there is. fetch_sound view it there sound is)
+view_sound view (view_work.Fetch it) box sound all = viewed_sound view (fetch_at view it) box all (fetch_sound view it)
+view_sound view (view_work.Search it) box sound all = viewed_sound view (search_at view it) box all (search_sound view it)
 
 pub work_sound : (name : List ℕ) (work : Work) (serial : ℕ) (spent : Bool) (box : Option Content) → SoundWork work → IfSome box IsSoundBox
     → SoundWorked (work_on name work serial spent box)

@@ -1,7 +1,7 @@
 -- What keeps the texts of replies sound: requests as the grammar reads them, and a store in which such messages alone came.
 use Rattle.std.specs.Prelude.{◌<◌, ◌^◌, ⊤, length, All}
 use Rattle.std.specs.Map.{values_of}
-use Rattle.imap_command.specs.Ruled.{IsRuled}
+use Rattle.imap_command.specs.Ruled.{IsDate, IsRuled}
 use Rattle.imap_wire.specs.declared.frame.Frame.{Frame}
 use Rattle.imap_wire.specs.declared.frame.Frame.TheVariants.{Whole}
 use Rattle.mail_message.specs.Boxes.{Content}
@@ -22,9 +22,10 @@ IsSoundRequest (command tag it) = IsSoundTag tag × IsRuled (2 ^ 64) it
 IsSoundRequest (unknown tag) = IsSoundTag tag
 IsSoundRequest (too_big tag) = IsSoundTag tag
 
--- keywords by their rule, and a body that a literal can hold (RFC 9051, 9: flag-keyword, literal)
+-- keywords by their rule, a date, and a body that a literal can hold (RFC 9051, 9: flag-keyword, date-time, literal)
 pub record IsSoundMessage (message : Message) : Type 0 where
   pub ruled : HasRuledKeywords message.flags
+  pub dated : IsDate message.date
   pub counted : length message.body < 2 ^ 64
 
 abbrev pub IsSoundBox : Content → Type 0

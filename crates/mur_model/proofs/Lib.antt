@@ -7,3 +7,4 @@ mod ViewLaw
 mod StoreLaw
 mod FlagLaw
 mod ViewedLaw
+mod KeysLaw

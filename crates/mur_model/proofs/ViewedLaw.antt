@@ -11,6 +11,7 @@ use Rattle.mur_model.specs.declared.view.View.{View}
 use Rattle.mur_model.specs.Expunge.{expunge_on, expunge_at}
 use Rattle.mur_model.specs.Fetch.{fetch_on, fetch_at, sees}
 use Rattle.mur_model.specs.Left.{Left, kept, made, changed, Worked, IsLeft, box_after, store_after}
+use Rattle.mur_model.specs.Search.{search_on, search_at}
 use Rattle.mur_model.specs.Selected.{at_view, gone}
 use Rattle.mur_model.specs.Store.{box_at, with_box}
 use Rattle.mur_model.specs.StoreFlags.{store_on, store_at, stored_at}
@@ -38,13 +39,14 @@ stored_made view it box true = tt
 stored_made view it box false = tt
 
 viewed_made : (view : View) (it : ViewWork) (box : Option Content) → NoneMade (viewed_on view it box).left
-unfolding viewed_on expunge_on store_on fetch_on NoneMade
+unfolding viewed_on expunge_on store_on fetch_on search_on NoneMade
 viewed_made view work.Noop box = at_view_made view (noop_at view) box (λ content. tt)
 viewed_made view work.Close box = at_view_made view (close_at view) box (λ content. tt)
 viewed_made view (work.Expunge only) box = at_view_made view (expunge_at view only) box (λ content. tt)
 viewed_made view (work.Store it) box =
     at_view_made view (store_at view it) box (λ content. stored_made view it content (has_too_many_flags (rows_stored content it.uids it.mode it.flags)))
 viewed_made view (work.Fetch it) box = at_view_made view (fetch_at view it) box (λ content. none_left _ _ (sees view it) tt tt)
+viewed_made view (work.Search it) box = at_view_made view (search_at view it) box (λ content. tt)
 
 left_by : (store : Store) (name : List ℕ) (box : Content) (left : Left) → NoneMade left → box_at store name ≡ Some box
     → with_box store name (box_after box left) ≡ store_after store name left
@@ -66,12 +68,13 @@ viewed_there store name view it box left turn there is =
 
 -- no mailbox has the name
 nothing_there : (view : View) (it : ViewWork) → viewed_on view it None ≡ record { left = kept; turn = gone }
-unfolding viewed_on expunge_on store_on fetch_on at_view
+unfolding viewed_on expunge_on store_on fetch_on search_on at_view
 nothing_there view work.Noop = refl
 nothing_there view work.Close = refl
 nothing_there view (work.Expunge only) = refl
 nothing_there view (work.Store it) = refl
 nothing_there view (work.Fetch it) = refl
+nothing_there view (work.Search it) = refl
 
 pub viewed_nowhere : (store : Store) (name : List ℕ) (view : View) (it : ViewWork) (turn : Turn) → box_at store name ≡ None → turn ≡ gone
     → (store ≡ store_after store name (viewed_on view it (box_at store name)).left) × (turn ≡ (viewed_on view it (box_at store name)).turn)

@@ -4,7 +4,6 @@ use Rattle.std.specs.Prelude.{◌≡◌, ℕ, ⊤, Bool, true, false, if◌then�
 use Rattle.mail_message.specs.Boxes.{Content}
 use Rattle.mur_model.specs.declared.command.Command.{Command}
 use Rattle.mur_model.specs.declared.command.Command.TheVariants as command
-use Rattle.mur_model.specs.declared.command.StatusItem.{StatusItem}
 use Rattle.mur_model.specs.declared.need.Need.{Need}
 use Rattle.mur_model.specs.declared.need.Need.TheVariants.{Refusal, Login as begins, Turned, Mailbox}
 use Rattle.mur_model.specs.declared.need.ViewWork.TheVariants as work
@@ -25,9 +24,9 @@ use Rattle.mur_model.specs.Left.{Worked, replied, store_after}
 use Rattle.mur_model.specs.Login.{login}
 use Rattle.mur_model.specs.Reply.{reply_of, completed}
 use Rattle.mur_model.specs.Select.{select, select_on}
-use Rattle.mur_model.specs.Status.{status, status_on, tells_messages_alone}
+use Rattle.mur_model.specs.Status.{status, status_on}
 use Rattle.mur_model.specs.Store.{box_at, is_spent, IsFree}
-use Rattle.mur_model.specs.Viewing.{at_mailbox, close, expunge, fetch, left_by, store, viewed_on}
+use Rattle.mur_model.specs.Viewing.{at_mailbox, close, expunge, fetch, left_by, search, store, viewed_on}
 
 -- the refusal of a command that is read and that no state has yet
 abbrev pub not_yet : Need
@@ -62,16 +61,12 @@ need_off setting (command.Fetch by_uid set items) = Refusal (bad_reply State)
 need_off setting (command.LeftOut line) = Refusal (bad_reply State)
 need_off setting it = not_yet
 
--- a home tells of the number of messages alone yet
-abbrev pub status_told : Setting → List ℕ → List ℕ → List StatusItem → Need
-status_told setting user text items = if tells_messages_alone items then status setting user text items else not_yet
-
 -- a command of this user that a session has whether a mailbox is selected or not
 unfoldable pub need_begun : Setting → List ℕ → Bool → Command → Need
 need_begun setting user is_selected (command.Login name password) = Refusal (bad_reply State)
 need_begun setting user is_selected (command.Create text) = create setting user text
 need_begun setting user is_selected (command.Append text flags date body) = append setting user text (new_message setting flags date body)
-need_begun setting user is_selected (command.Status text items) = status_told setting user text items
+need_begun setting user is_selected (command.Status text items) = status setting user text items
 need_begun setting user is_selected (command.Select text) = select setting user text true is_selected
 need_begun setting user is_selected (command.Examine text) = select setting user text false is_selected
 need_begun setting user is_selected (command.LeftOut line) = Refusal (no_reply Cannot)
@@ -93,6 +88,7 @@ need_selected setting view command.Unselect = Turned (left_by view (codes "UNSEL
 need_selected setting view (command.Expunge only) = expunge view only
 need_selected setting view (command.Store by_uid set mode is_silent flags) = store view by_uid set mode is_silent flags
 need_selected setting view (command.Fetch by_uid set items) = fetch view by_uid set items
+need_selected setting view (command.Search by_uid keys) = search view by_uid keys
 need_selected setting view it = need_begun setting view.user true it
 
 -- what a command needs of the store

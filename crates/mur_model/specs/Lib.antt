@@ -17,5 +17,7 @@ pub mod Expunge
 pub mod StoreFlags
 pub mod NamedRows
 pub mod Select
+pub mod Keys
+pub mod Search
 pub mod Fetch
 pub mod Viewing

@@ -1,12 +1,13 @@
 -- STATUS (RFC 9051, 6.3.11): how much of each item there is, in the order in which they were asked.
-use Rattle.std.specs.Prelude.{ℕ, Bool, true, false, List, [], ◌∷◌, map, length, Option, None, Some, codes}
-use Rattle.std.specs.List.{list_all}
-use Rattle.mail_message.specs.Boxes.{Content}
+use Rattle.std.specs.Prelude.{ℕ, Bool, true, false, not, List, [], ◌∷◌, map, length, count_by, Option, None, Some, codes}
+use Rattle.mail_message.specs.Boxes.{Content, snapshot_of}
+use Rattle.mail_message.specs.declared.message.Row.{Row}
+use Rattle.mail_message.specs.declared.message.Snapshot.{Snapshot}
 use Rattle.mur_base.specs.Inbox.{taken_name, shown_name}
 use Rattle.mur_base.specs.Names.{mail_name_fault}
 use Rattle.mur_base.specs.declared.name.NameFault.{NameFault}
 use Rattle.mur_model.specs.declared.command.StatusItem.{StatusItem}
-use Rattle.mur_model.specs.declared.command.StatusItem.TheVariants.{Messages}
+use Rattle.mur_model.specs.declared.command.StatusItem.TheVariants.{Messages, UidNext, UidValidity, Unseen, Deleted, Size}
 use Rattle.mur_model.specs.declared.need.Need.{Need}
 use Rattle.mur_model.specs.declared.need.Need.TheVariants.{Refusal, Mailbox}
 use Rattle.mur_model.specs.declared.need.Work.TheVariants.{Status as status_work}
@@ -32,26 +33,32 @@ status_as setting user name items None = status_by user name items (has_rights s
 unfoldable pub status : Setting → List ℕ → List ℕ → List StatusItem → Need
 status setting user text items = status_as setting user (taken_name user text) items (mail_name_fault (taken_name user text))
 
--- the number of messages
-abbrev pub is_messages : StatusItem → Bool
-is_messages Messages = true
-is_messages item = false
+-- how many messages don't have \Seen, and how many have \Deleted
+abbrev pub unseen : List Row → ℕ
+unseen rows = count_by (λ (row : Row). not row.flags.system.seen) rows
 
--- nothing but the number of messages is asked for; a home tells no more yet
-abbrev pub tells_messages_alone : List StatusItem → Bool
-tells_messages_alone items = list_all is_messages items
+abbrev pub deleted : List Row → ℕ
+deleted rows = count_by (λ (row : Row). row.flags.system.deleted) rows
 
--- how much of an item there is where there are so many messages; another item is refused before it comes here
-unfoldable pub count_of : ℕ → StatusItem → StatusCount
-count_of messages item = record { item = item; count = messages }
+-- how much of an item there is in a mailbox that looks so
+unfoldable pub amount : Snapshot → StatusItem → ℕ
+amount seen Messages = length seen.rows
+amount seen UidNext = seen.next
+amount seen UidValidity = seen.serial
+amount seen Unseen = unseen seen.rows
+amount seen Deleted = deleted seen.rows
+amount seen Size = seen.size
 
--- what is told of a mailbox with so many messages
-unfoldable pub status_reply : List ℕ → List StatusItem → ℕ → Reply
-status_reply shown items messages = record {
-  lines = status_line shown (map (count_of messages) items) ∷ [];
+abbrev pub count_of : Snapshot → StatusItem → StatusCount
+count_of seen item = record { item = item; count = amount seen item }
+
+-- what is told of a mailbox that looks so
+unfoldable pub status_reply : List ℕ → List StatusItem → Snapshot → Reply
+status_reply shown items seen = record {
+  lines = status_line shown (map (count_of seen) items) ∷ [];
   verdict = ok_reply no_code (codes "STATUS");
 }
 
 unfoldable pub status_on : List ℕ → List StatusItem → Option Content → Worked
 status_on shown items None = record { left = kept; turn = replied (refused NonExistent) }
-status_on shown items (Some box) = record { left = kept; turn = replied (status_reply shown items (length box.messages)) }
+status_on shown items (Some box) = record { left = kept; turn = replied (status_reply shown items (snapshot_of box)) }

@@ -1,10 +1,12 @@
 -- The commands of a selected session (RFC 9051, 6.4): what each needs, and its work at the mailbox of the view.
-use Rattle.std.specs.Prelude.{ℕ, Bool, true, false, ◌||◌, if◌then◌else◌, List, [], ◌∷◌, ◌++◌, length, Option, None, Some, codes}
-use Rattle.std.specs.List.{list_all, list_any}
+use Rattle.std.specs.Prelude.{ℕ, Bool, true, false, ◌||◌, ◌&&◌, ◌==◌, if◌then◌else◌, List, [], ◌∷◌, ◌++◌, length, Option, None, Some, codes}
+use Rattle.std.specs.List.{list_any}
 use Rattle.mail_message.specs.Boxes.{Content}
 use Rattle.mail_message.specs.FlagSets.{Flags}
 use Rattle.mail_message.specs.declared.item.Item.{Item}
 use Rattle.mail_message.specs.declared.item.Item.TheVariants as item
+use Rattle.mail_message.specs.declared.item.Partial.{Partial}
+use Rattle.mail_message.specs.declared.key.Key.{Key}
 use Rattle.mail_message.specs.declared.message.Row.{Row}
 use Rattle.mail_message.specs.declared.mode.Mode.{Mode}
 use Rattle.mail_message.specs.declared.set.SetPart.{SetPart}
@@ -14,7 +16,7 @@ use Rattle.mur_model.specs.declared.need.Need.TheVariants.{Refusal, Turned, Mail
 use Rattle.mur_model.specs.declared.need.ViewWork.{ViewWork}
 use Rattle.mur_model.specs.declared.need.ViewWork.TheVariants as work
 use Rattle.mur_model.specs.declared.need.Work.TheVariants.{Viewed}
-use Rattle.mur_model.specs.declared.reply.BadText.TheVariants.{Message, Syntax}
+use Rattle.mur_model.specs.declared.reply.BadText.TheVariants.{Message}
 use Rattle.mur_model.specs.declared.reply.Code.TheVariants.{None as no_code}
 use Rattle.mur_model.specs.declared.reply.NoText.TheVariants.{Cannot}
 use Rattle.mur_model.specs.declared.reply.Verdict.TheVariants.{Ok as ok_reply, No as no_reply, Bad as bad_reply}
@@ -24,9 +26,11 @@ use Rattle.mur_model.specs.declared.view.View.{View}
 use Rattle.mur_model.specs.Expunge.{expunge_on}
 use Rattle.mur_model.specs.Fetch.{fetch_on}
 use Rattle.mur_model.specs.Left.{Worked, kept, changed}
-use Rattle.mur_model.specs.NamedRows.{has_all_numbers, named_uids}
+use Rattle.mur_model.specs.Keys.{have_all_numbers, keys_at}
+use Rattle.mur_model.specs.NamedRows.{has_all_numbers, last_uid, named_uids}
 use Rattle.mur_model.specs.News.{news}
 use Rattle.mur_model.specs.Reply.{completed}
+use Rattle.mur_model.specs.Search.{search_on}
 use Rattle.mur_model.specs.Selected.{at_view, rows_of, with_news}
 use Rattle.mur_model.specs.StoreFlags.{store_on}
 
@@ -85,35 +89,39 @@ store view by_uid set mode is_silent flags =
     then if view.is_writable then store_named view by_uid set mode is_silent flags else read_only
     else no_such_number
 
+-- the same part of a body, or all of it both times
+abbrev pub same_partial : Option Partial → Option Partial → Bool
+same_partial None None = true
+same_partial (Some one) (Some other) = one.from == other.from && (one.count == other.count)
+same_partial one other = false
+
 -- an item stands in a line once, where it was asked for first
 abbrev pub same_item : Item → Item → Bool
 same_item item.Flags item.Flags = true
 same_item item.Uid item.Uid = true
-same_item (item.Body None) (item.Body None) = true
-same_item (item.BodyPeek None) (item.BodyPeek None) = true
+same_item item.InternalDate item.InternalDate = true
+same_item item.Size item.Size = true
+same_item (item.Body one) (item.Body other) = same_partial one other
+same_item (item.BodyPeek one) (item.BodyPeek other) = same_partial one other
 same_item one other = false
 
 abbrev pub each_once : List Item → List Item → List Item
 each_once told [] = told
 each_once told (it ∷ items) = each_once (if list_any (same_item it) told then told else told ++ it ∷ []) items
 
--- the items that are told yet
-abbrev pub is_told : Item → Bool
-is_told item.Flags = true
-is_told item.Uid = true
-is_told (item.Body None) = true
-is_told (item.BodyPeek None) = true
-is_told it = false
-
 abbrev pub fetch_named : View → Bool → List SetPart → List Item → Need
 fetch_named view by_uid set items =
     at_mailbox view (work.Fetch (record { by_uid = by_uid; uids = named_uids by_uid set view.rows; items = each_once [] items }))
 
 abbrev pub fetch : View → Bool → List SetPart → List Item → Need
-fetch view by_uid set items =
-    if list_all is_told items
-    then if names_messages view by_uid set then fetch_named view by_uid set items else no_such_number
-    else Refusal (bad_reply Syntax)
+fetch view by_uid set items = if names_messages view by_uid set then fetch_named view by_uid set items else no_such_number
+
+-- each sequence number in the keys of a SEARCH is a message's, in a UID SEARCH too; `*` is the last one
+abbrev pub search : View → Bool → List Key → Need
+search view by_uid keys =
+    if have_all_numbers (length view.rows) keys
+    then at_mailbox view (work.Search (record { by_uid = by_uid; keys = keys_at (length view.rows) (last_uid view.rows) keys }))
+    else no_such_number
 
 -- ---- the work
 
@@ -123,3 +131,4 @@ viewed_on view work.Close box = at_view view (close_at view) box
 viewed_on view (work.Expunge only) box = expunge_on view only box
 viewed_on view (work.Store it) box = store_on view it box
 viewed_on view (work.Fetch it) box = fetch_on view it box
+viewed_on view (work.Search it) box = search_on view it box

@@ -8,6 +8,7 @@ mod command;
 mod create;
 mod expunge;
 mod fetch;
+mod keys;
 mod login;
 mod named_rows;
 mod need;
@@ -15,6 +16,7 @@ mod news;
 mod reply;
 mod request;
 mod rights;
+mod search;
 mod select;
 mod selected;
 mod session;
@@ -37,6 +39,7 @@ pub use reply::{
     StatusCount, StatusCounts, Verdict, completed, refused,
 };
 pub use request::{Answer, Answers, Request, Requests};
+pub use search::{Searching, search_told};
 pub use select::{Opening, select_told, unselected};
 pub use selected::gone;
 pub use session::{Sess, Turn};

@@ -71,7 +71,7 @@ fn uids_by(alloc: Global, set: &SetParts, numbers: &Uids, rows: &[Row]) -> Resul
 }
 
 /// The set with a number in the place of `*`.
-fn set_at(alloc: Global, last: u32, set: &SetParts) -> Result<SetParts, Memory>
+pub fn set_at(alloc: Global, last: u32, set: &SetParts) -> Result<SetParts, Memory>
     ensures { IfOk result (λ made. made ≡ set_at last set.now) }
 {
     let mut made = SetParts::new(alloc);
@@ -82,7 +82,7 @@ fn set_at(alloc: Global, last: u32, set: &SetParts) -> Result<SetParts, Memory>
 }
 
 /// The UID of the last row, 0 where there is none.
-fn last_uid(rows: &[Row]) -> u32
+pub fn last_uid(rows: &[Row]) -> u32
     ensures { result ≡ last_uid rows.now }
 {
     match rows.last() {

@@ -1,7 +1,7 @@
 // What a command needs of the store (RFC 9051, 6).
 ghost use Rattle.std.specs.Prelude.{◌≡◌, IfOk};
 ghost use Rattle.mur_model.specs.Act.{need_off, need_in, need_begun, need_selected, need_of, need_unselected, not_yet};
-ghost use Rattle.mur_model.specs.Act.{nothing_new, status_told, wants_selected};
+ghost use Rattle.mur_model.specs.Act.{nothing_new, wants_selected};
 ghost use Rattle.mur_model.specs.Viewing.{at_mailbox};
 
 use crate::append::{append, new_message};
@@ -10,13 +10,14 @@ use crate::create::create;
 use crate::fetch::Fetching;
 use crate::login::login;
 use crate::reply::{BadText, NoText, Verdict, completed};
+use crate::search::Searching;
 use crate::select::{Opening, select};
 use crate::session::{Sess, Turn};
 use crate::setting::Setting;
-use crate::status::{status, tells_messages_alone};
+use crate::status::status;
 use crate::store_flags::FlagStore;
 use crate::view::View;
-use crate::viewing::{close, expunge, fetch, left_by, store};
+use crate::viewing::{close, expunge, fetch, left_by, search, store};
 use mail_message::{Message, Uids};
 use mur_base::{Bytes, Copied, MailName, Memory, UserName};
 use std::alloc::Global;
@@ -47,6 +48,7 @@ pub enum ViewWork {
     Expunge(Option<Uids>),
     Store(FlagStore),
     Fetch(Fetching),
+    Search(Searching),
 }
 
 /// What a command needs: nothing more, as it is refused or as this comes of it at once; a session for this user; or work at a mailbox.
@@ -165,27 +167,11 @@ fn begin_begun(
             let message = new_message(with, flags, date, body);
             append(alloc, with, user, text.as_slice(), message)
         }
-        Command::Status(text, items) => status_told(alloc, with, user, &text, items),
+        Command::Status(text, items) => status(alloc, with, user, text.as_slice(), items),
         Command::Select(text) => select(alloc, with, user, text.as_slice(), true, is_selected),
         Command::Examine(text) => select(alloc, with, user, text.as_slice(), false, is_selected),
         Command::LeftOut(_) => Ok(Need::Refusal(Verdict::No(NoText::Cannot))),
         _ => Ok(not_yet()),
-    }
-}
-
-fn status_told(
-    alloc: Global,
-    with: &Setting,
-    user: &UserName,
-    text: &Bytes,
-    items: StatusItems,
-) -> Result<Need, Memory>
-    ensures { IfOk result (λ need. need ≡ status_told with.now user.now text.now items) }
-{
-    if tells_messages_alone(&items) {
-        status(alloc, with, user, text.as_slice(), items)
-    } else {
-        Ok(not_yet())
     }
 }
 
@@ -207,6 +193,7 @@ fn begin_selected(
             store(alloc, view, by_uid, &set, mode, is_silent, flags)
         }
         Command::Fetch(by_uid, set, items) => fetch(alloc, view, by_uid, &set, &items),
+        Command::Search(by_uid, keys) => search(alloc, view, by_uid, &keys),
         it => begin_begun(alloc, with, &view.user, true, it),
     }
 }

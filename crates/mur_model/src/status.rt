@@ -3,7 +3,7 @@ ghost use Rattle.std.specs.Prelude.{◌≡◌, IfOk, map};
 ghost use Rattle.mur_model.specs.Left.{replied, store_after};
 ghost use Rattle.mur_model.specs.Store.{box_at};
 ghost use Rattle.mur_model.specs.Rights.{has_rights};
-ghost use Rattle.mur_model.specs.Status.{status, status_by, is_messages, tells_messages_alone, count_of, status_reply, status_on};
+ghost use Rattle.mur_model.specs.Status.{status, status_by, unseen as count_unseen, deleted as count_deleted, count_of, status_reply, status_on};
 
 use crate::command::{StatusItem, StatusItems};
 use crate::need::{Need, Work};
@@ -13,21 +13,9 @@ use crate::reply::{
 use crate::rights::has_rights;
 use crate::setting::Setting;
 use crate::store::Store;
+use mail_message::{Row, Snapshot};
 use mur_base::{Bytes, MailName, Memory, NameFault, UserName, shown, taken};
 use std::alloc::Global;
-
-/// Whether nothing but the number of messages is asked for.
-pub fn tells_messages_alone(items: &StatusItems) -> bool
-    ensures { result ≡ tells_messages_alone items.now }
-{
-    items.as_slice().iter().all(|item| is_messages(*item))
-}
-
-fn is_messages(item: StatusItem) -> bool
-    ensures { result ≡ is_messages item }
-{
-    matches!(item, StatusItem::Messages)
-}
 
 /// What STATUS of a mailbox needs: the mailbox, where the user has rights to it.
 #[tactic(auto, unfolding(crate::specs::Status::status, crate::specs::Status::status_as))]
@@ -64,17 +52,19 @@ fn status_by(
     Ok(Need::Mailbox(name, Work::Status(shown, items)))
 }
 
-/// What is told of a mailbox with so many messages, under the name as it is shown.
+/// What is told of a mailbox that looks so, under the name as it is shown. It looks at each row once.
 #[tactic(auto, unfolding(crate::specs::Status::status_reply))]
 pub fn status_reply(
     alloc: Global,
     shown: Bytes,
     items: &StatusItems,
-    messages: u64,
+    seen: &Snapshot,
 ) -> Result<Reply, Memory>
-    ensures { IfOk result (λ reply. reply ≡ status_reply shown items.now messages) }
+    ensures { IfOk result (λ reply. reply ≡ status_reply shown items.now seen.now) }
 {
-    let counts = counts_of(alloc, items, messages)?;
+    let unseen = unseen(seen.rows.as_slice());
+    let deleted = deleted(seen.rows.as_slice());
+    let counts = counts_of(alloc, items, seen, unseen, deleted)?;
     let mut lines = ReplyLines::new(alloc);
     lines.push(ReplyLine::Status(shown, counts))?;
     Ok(Reply {
@@ -83,24 +73,53 @@ pub fn status_reply(
     })
 }
 
-fn counts_of(alloc: Global, items: &StatusItems, messages: u64) -> Result<StatusCounts, Memory>
-    ensures { IfOk result (λ counts. counts ≡ map (count_of messages) items.now) }
+/// How many messages don't have `\Seen`.
+fn unseen(rows: &[Row]) -> usize
+    ensures { result ≡ count_unseen rows.now }
+{
+    rows.iter().filter(|row| !row.flags.system().seen).count()
+}
+
+/// How many messages have `\Deleted`.
+fn deleted(rows: &[Row]) -> usize
+    ensures { result ≡ count_deleted rows.now }
+{
+    rows.iter().filter(|row| row.flags.system().deleted).count()
+}
+
+fn counts_of(
+    alloc: Global,
+    items: &StatusItems,
+    seen: &Snapshot,
+    unseen: usize,
+    deleted: usize,
+) -> Result<StatusCounts, Memory>
+    requires unseen { unseen ≡ count_unseen (seen.now).rows }
+    requires deleted { deleted ≡ count_deleted (seen.now).rows }
+    ensures { IfOk result (λ counts. counts ≡ map (count_of seen.now) items.now) }
 {
     let mut counts = StatusCounts::new(alloc);
     for item in items.as_slice() {
-        counts.push(count_of(messages, *item))?;
+        counts.push(count_of(seen, unseen, deleted, *item))?;
     }
     Ok(counts)
 }
 
-#[tactic(auto, unfolding(crate::specs::Status::count_of))]
-fn count_of(messages: u64, item: StatusItem) -> StatusCount
-    ensures { result ≡ count_of messages item }
+#[tactic(auto, unfolding(crate::specs::Status::amount))]
+fn count_of(seen: &Snapshot, unseen: usize, deleted: usize, item: StatusItem) -> StatusCount
+    requires unseen { unseen ≡ count_unseen (seen.now).rows }
+    requires deleted { deleted ≡ count_deleted (seen.now).rows }
+    ensures { result ≡ count_of seen.now item }
 {
-    StatusCount {
-        item,
-        count: messages,
-    }
+    let count = match item {
+        StatusItem::Messages => seen.rows.len() as u64,
+        StatusItem::UidNext => u64::from(seen.next),
+        StatusItem::UidValidity => u64::from(seen.serial),
+        StatusItem::Unseen => unseen as u64,
+        StatusItem::Deleted => deleted as u64,
+        StatusItem::Size => seen.size,
+    };
+    StatusCount { item, count }
 }
 
 /// Tells of a mailbox, if it is there.
@@ -116,7 +135,7 @@ pub fn status_at(
     ensures kept { store_after store.now name.now (status_on shown items.now (box_at store.now name.now)).left ≡ store.now }
 {
     match store.boxes.get(name) {
-        Some(mailbox) => status_reply(alloc, shown, items, mailbox.len() as u64),
+        Some(mailbox) => status_reply(alloc, shown, items, &mailbox.look(alloc)?),
         None => Ok(refused(alloc, NoText::NonExistent)),
     }
 }

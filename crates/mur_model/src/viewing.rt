@@ -1,25 +1,29 @@
 // The commands of a selected session (RFC 9051, 6.4).
 ghost use Rattle.std.specs.Prelude.{◌≡◌, [], IfOk, Some};
-ghost use Rattle.std.specs.List.{list_all, list_any};
+ghost use Rattle.std.specs.List.{list_any};
 ghost use Rattle.mur_model.specs.Left.{IsLeft, store_after};
 ghost use Rattle.mur_model.specs.Selected.{at_view};
 ghost use Rattle.mur_model.specs.Store.{box_at};
-ghost use Rattle.mur_model.specs.Viewing.{close, expunge, store, fetch, left_by, noop_told, is_told, same_item, each_once};
+ghost use Rattle.mur_model.specs.Viewing.{close, expunge, store, fetch, search, left_by, noop_told, same_partial, same_item, each_once};
 ghost use Rattle.mur_model.specs.Viewing.{read_only, no_such_number, names_messages};
 ghost use Rattle.mur_model.specs.Viewing.{viewed_on, noop_at, close_at};
 
 use crate::expunge::expunge_on;
 use crate::fetch::{Fetching, fetch_on};
-use crate::named_rows::{has_all_numbers, named_uids};
+use crate::keys::{have_all_numbers, keys_at};
+use crate::named_rows::{has_all_numbers, last_uid, named_uids};
 use crate::need::{Need, ViewWork, work_at_view};
-use crate::news::news_of;
+use crate::news::{news_of, number_of};
 use crate::reply::{BadText, Code, NoText, ReplyLines, Verdict, completed};
+use crate::search::{Searching, search_on};
 use crate::selected::{gone, with_news};
 use crate::session::{Sess, Turn};
 use crate::store::Store;
 use crate::store_flags::{FlagStore, store_on};
 use crate::view::View;
-use mail_message::{FetchItems, FlagSet, Item, MailBox, Mode, OrderedRows, SetParts};
+use mail_message::{
+    FetchItems, FlagSet, Item, Keys, MailBox, Mode, OrderedRows, Partial, SetParts,
+};
 use mail_store::expunge as take_deleted;
 use mur_base::{Bytes, Copied, MailName, Memory};
 use std::alloc::Global;
@@ -120,14 +124,14 @@ pub fn store(
     work_at_view(alloc, view, ViewWork::Store(it))
 }
 
-/// Whether an item is told of a message yet.
-fn is_told(item: Item) -> bool
-    ensures { result ≡ is_told item }
+fn is_same_partial(one: Option<Partial>, other: Option<Partial>) -> bool
+    ensures { result ≡ same_partial one other }
 {
-    matches!(
-        item,
-        Item::Flags | Item::Uid | Item::Body(None) | Item::BodyPeek(None)
-    )
+    match (one, other) {
+        (None, None) => true,
+        (Some(one), Some(other)) => one.from == other.from && one.count == other.count,
+        _ => false,
+    }
 }
 
 fn is_same_item(one: Item, other: Item) -> bool
@@ -136,8 +140,10 @@ fn is_same_item(one: Item, other: Item) -> bool
     match (one, other) {
         (Item::Flags, Item::Flags)
         | (Item::Uid, Item::Uid)
-        | (Item::Body(None), Item::Body(None))
-        | (Item::BodyPeek(None), Item::BodyPeek(None)) => true,
+        | (Item::InternalDate, Item::InternalDate)
+        | (Item::Size, Item::Size) => true,
+        (Item::Body(one), Item::Body(other)) => is_same_partial(one, other),
+        (Item::BodyPeek(one), Item::BodyPeek(other)) => is_same_partial(one, other),
         _ => false,
     }
 }
@@ -146,12 +152,6 @@ fn has_item(told: &[Item], item: Item) -> bool
     ensures { result ≡ list_any (same_item item) told.now }
 {
     told.iter().any(|other| is_same_item(item, *other))
-}
-
-fn are_told(items: &[Item]) -> bool
-    ensures { result ≡ list_all is_told items.now }
-{
-    items.iter().all(|item| is_told(*item))
 }
 
 /// The items, each where it was asked for first.
@@ -177,9 +177,6 @@ pub fn fetch(
 ) -> Result<Need, Memory>
     ensures { IfOk result (λ need. need ≡ fetch view.now by_uid set.now items.now) }
 {
-    if !are_told(items.as_slice()) {
-        return Ok(Need::Refusal(Verdict::Bad(BadText::Syntax)));
-    }
     if !names_messages(view, by_uid, set) {
         return Ok(no_such_number());
     }
@@ -189,6 +186,19 @@ pub fn fetch(
         items: each_once(alloc, items)?,
     };
     work_at_view(alloc, view, ViewWork::Fetch(it))
+}
+
+/// What SEARCH needs.
+pub fn search(alloc: Global, view: &View, by_uid: bool, keys: &Keys) -> Result<Need, Memory>
+    ensures { IfOk result (λ need. need ≡ search view.now by_uid keys.now) }
+{
+    let count = view.rows.len();
+    if !have_all_numbers(count, keys.as_slice()) {
+        return Ok(no_such_number());
+    }
+    let last = last_uid(view.rows.as_slice());
+    let keys = keys_at(alloc, number_of(count)?, last, keys.as_slice())?;
+    work_at_view(alloc, view, ViewWork::Search(Searching { by_uid, keys }))
 }
 
 /// Carries out the command of a selected session at the mailbox of its view, if that is there still.
@@ -225,6 +235,7 @@ fn viewed_on(
         ViewWork::Expunge(Some(uids)) => expunge_on(alloc, view, mailbox, Some(uids.as_slice())),
         ViewWork::Store(it) => store_on(alloc, view, mailbox, &it),
         ViewWork::Fetch(it) => fetch_on(alloc, view, mailbox, &it),
+        ViewWork::Search(it) => search_on(alloc, view, mailbox, &it),
     }
 }
 

@@ -1,5 +1,5 @@
 -- STATUS as a frontend has it: what it replies to the home's answer. A home that hasn't the mailbox makes it a missing one.
-use Rattle.std.specs.Prelude.{ℕ, List, length, Option, None, Some}
+use Rattle.std.specs.Prelude.{ℕ, List, Option, None, Some}
 use Rattle.link_msg.specs.declared.answer.AnswerBody.{AnswerBody}
 use Rattle.link_msg.specs.declared.answer.AnswerBody.TheVariants.{Done, NotNow}
 use Rattle.link_msg.specs.declared.outcome.Outcome.{Outcome}
@@ -12,7 +12,7 @@ use Rattle.mur_model.specs.Reply.{refused}
 use Rattle.mur_model.specs.Status.{status_reply as reply_with_counts}
 
 unfoldable pub reply_to_done : List ℕ → List StatusItem → Outcome → Snapshot → Option Reply
-reply_to_done shown items nothing seen = Some (reply_with_counts shown items (length seen.rows))
+reply_to_done shown items nothing seen = Some (reply_with_counts shown items seen)
 reply_to_done shown items outcome seen = None
 
 unfoldable pub status_reply : List ℕ → List StatusItem → AnswerBody → Option Reply

@@ -7,11 +7,12 @@ use Rattle.link_msg.specs.declared.outcome.Outcome.{Outcome}
 use Rattle.link_msg.specs.declared.outcome.Outcome.TheVariants.{None as nothing, Messages, Rows, Uids, Limit as full, Gone}
 use Rattle.mail_message.specs.declared.message.Snapshot.{Snapshot}
 use Rattle.mur_model.specs.declared.need.ViewWork.{ViewWork}
-use Rattle.mur_model.specs.declared.need.ViewWork.TheVariants.{Noop, Close, Expunge, Store, Fetch}
+use Rattle.mur_model.specs.declared.need.ViewWork.TheVariants.{Noop, Close, Expunge, Store, Fetch, Search}
 use Rattle.mur_model.specs.declared.session.Turn.{Turn}
 use Rattle.mur_model.specs.declared.view.View.{View}
 use Rattle.mur_model.specs.Expunge.{expunge_told}
 use Rattle.mur_model.specs.Fetch.{fetch_told}
+use Rattle.mur_model.specs.Search.{search_told}
 use Rattle.mur_model.specs.Selected.{gone}
 use Rattle.mur_model.specs.StoreFlags.{store_told, store_refused}
 use Rattle.mur_model.specs.Viewing.{noop_told, left_by}
@@ -24,6 +25,7 @@ viewed_done view (Expunge only) (Uids uids) seen = Some (expunge_told view only 
 viewed_done view (Store it) (Rows changes) seen = Some (store_told view it changes seen.rows)
 viewed_done view (Store it) full seen = Some (store_refused view it seen.rows)
 viewed_done view (Fetch it) (Messages before) seen = Some (fetch_told view it before seen.rows)
+viewed_done view (Search it) (Messages found) seen = Some (search_told view it found seen.rows)
 viewed_done view work Gone seen = Some gone
 viewed_done view work outcome seen = None
 

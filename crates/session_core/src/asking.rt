@@ -1,5 +1,6 @@
 // What a command asks of a home.
 ghost use Rattle.std.specs.Prelude.{◌≡◌, IfOk};
+ghost use Rattle.mur_model.specs.ClientView.{uids};
 ghost use Rattle.session_core.specs.Asking.{asked_for, unselected, view_op};
 
 use link_msg::Op;
@@ -76,7 +77,19 @@ fn view_op(alloc: Global, view: &View, work: &ViewWork) -> Result<Op, Memory>
             it.flags.copy(alloc)?,
         )),
         ViewWork::Fetch(it) => Ok(Op::Read(uids_of(alloc, &it.uids)?, sees(view, it))),
+        ViewWork::Search(_) => Ok(Op::Read(uids_in(alloc, view)?, false)),
     }
+}
+
+/// The UIDs of a view.
+fn uids_in(alloc: Global, view: &View) -> Result<Uids, Memory>
+    ensures { IfOk result (λ list. list ≡ uids (view.now).rows) }
+{
+    let mut list = Uids::new(alloc);
+    for row in view.rows.as_slice() {
+        list.push(row.uid)?;
+    }
+    Ok(list)
 }
 
 fn uids_of(alloc: Global, uids: &Uids) -> Result<Uids, Memory>

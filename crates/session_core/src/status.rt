@@ -38,7 +38,7 @@ fn reply_to_done(
     match outcome {
         Outcome::None => {
             let shown = Bytes::from_slice(alloc, shown.as_slice())?;
-            let reply = reply_with_counts(alloc, shown, items, seen.rows.len() as u64)?;
+            let reply = reply_with_counts(alloc, shown, items, seen)?;
             Ok(Some(reply))
         }
         _ => Ok(None),

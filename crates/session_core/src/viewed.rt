@@ -7,8 +7,8 @@ use link_msg::{AnswerBody, Outcome};
 use mail_message::{Snapshot, Uids};
 use mur_base::Memory;
 use mur_model::{
-    Turn, View, ViewWork, expunge_told, fetch_told, gone, left_by, noop_told, store_refused,
-    store_told,
+    Turn, View, ViewWork, expunge_told, fetch_told, gone, left_by, noop_told, search_told,
+    store_refused, store_told,
 };
 use std::alloc::Global;
 
@@ -53,6 +53,9 @@ fn viewed_done(
         (ViewWork::Store(it), Outcome::Limit) => Ok(Some(store_refused(alloc, view, it, now)?)),
         (ViewWork::Fetch(it), Outcome::Messages(before)) => {
             Ok(Some(fetch_told(alloc, view, it, before, now)?))
+        }
+        (ViewWork::Search(it), Outcome::Messages(found)) => {
+            Ok(Some(search_told(alloc, view, it, found, now)?))
         }
         _ => Ok(None),
     }

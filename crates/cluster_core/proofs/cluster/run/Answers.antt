@@ -22,11 +22,11 @@ loop-event-preserved c = record {
 pub returns : goal.returns
 returns c = record {
   ran = way_ends _ _ _ _ (empty_by_length _ (sym c.loop-event.invariant.count ∙ c.in-None.ensures.steps.0)) c.loop-event.invariant.way;
-  one_server = one_server c.args.config.now c.args.events c.in_ok-cluster.ensures.nodes;
+  one_server = one_server c.args.config.now c.args.events c.in_ok-cluster.ensures.nodes c.in_ok-cluster.ensures.date;
 }
 
 pub returns-in_err-cluster-clause-one_server : goal.returns-in_err-cluster-clause-one_server
-returns-in_err-cluster-clause-one_server c = one_server c.args.config.now c.args.events c.in_err-cluster.ensures.nodes
+returns-in_err-cluster-clause-one_server c = one_server c.args.config.now c.args.events c.in_err-cluster.ensures.nodes c.in_err-cluster.ensures.date
 
 pub returns-in_err-step-clause-one_server : goal.returns-in_err-step-clause-one_server
-returns-in_err-step-clause-one_server c = one_server c.args.config.now c.args.events c.in_ok-cluster.ensures.nodes
+returns-in_err-step-clause-one_server c = one_server c.args.config.now c.args.events c.in_ok-cluster.ensures.nodes c.in_ok-cluster.ensures.date

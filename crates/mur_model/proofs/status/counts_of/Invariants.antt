@@ -3,4 +3,4 @@ use Rattle.mur_model.specs.Status.{count_of}
 use Rattle.mur_model.proofs.status.counts_of.Given as goal
 
 abbrev pub invariant-loop-item : goal.invariant-loop-item
-invariant-loop-item l = l.counts ++ map (count_of l.messages) (drop l.item-index l.items) ≡ map (count_of l.messages) l.items
+invariant-loop-item l = l.counts ++ map (count_of l.seen) (drop l.item-index l.items) ≡ map (count_of l.seen) l.items

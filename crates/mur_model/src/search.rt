@@ -1,0 +1,142 @@
+// SEARCH and UID SEARCH (RFC 9051, 6.4.4 and 6.4.9).
+ghost use Rattle.std.specs.Prelude.{◌≡◌, length, map, IfOk, Some};
+ghost use Rattle.mur_model.specs.Left.{IsLeft};
+ghost use Rattle.mur_model.specs.ClientView.{uids};
+ghost use Rattle.mur_model.specs.Search.{number_at, numbers_told, search_line, search_name, search_told, search_on};
+ghost use Rattle.mur_model.specs.StoreFlags.{code_for};
+
+use crate::named_rows::uids_of;
+use crate::news::{news_of, number_of};
+use crate::reply::{Code, ReplyLine, ReplyLines, Verdict};
+use crate::selected::{gone, with_news};
+use crate::session::Turn;
+use crate::store_flags::code_for;
+use crate::view::View;
+use mail_message::{Keys, MailBox, Message, Messages, OrderedRows, Uids};
+use mail_search::search;
+use mur_base::{Bytes, Memory};
+use std::alloc::Global;
+use std::collections::BTreeSet;
+
+/// A SEARCH, with numbers in the place of `*`.
+#[derive(Drop)]
+pub struct Searching {
+    pub by_uid: bool,
+    pub keys: Keys,
+}
+
+/// The number of a message in a view that has it; looked for near a place first, as `OrderedRows::place` does.
+fn number_at(rows: &OrderedRows, uid: u32, near: &mut usize) -> Result<u32, Memory>
+    ensures { IfOk result (λ number. number ≡ number_at rows.now uid) }
+{
+    match rows.place(uid, near) {
+        Some(place) => number_of(place.checked_add(1).ok_or(Memory)?),
+        None => Ok(0),
+    }
+}
+
+/// The numbers of messages of a view.
+fn numbers_of(alloc: Global, rows: &OrderedRows, messages: &[Message]) -> Result<Uids, Memory>
+    ensures numbers { IfOk result (λ numbers. numbers ≡ map (λ message. number_at rows.now message.uid) messages.now) }
+    ensures length { IfOk result (λ numbers. length numbers ≡ length messages.now) }
+{
+    let mut numbers = Uids::new(alloc);
+    let mut near = 0;
+    for message in messages {
+        numbers.push(number_at(rows, message.uid, &mut near)?)?;
+    }
+    Ok(numbers)
+}
+
+/// The numbers that are told of messages with these UIDs.
+fn numbers_told(alloc: Global, by_uid: bool, rows: &OrderedRows, uids: Uids) -> Result<Uids, Memory>
+    ensures { IfOk result (λ numbers. numbers ≡ numbers_told by_uid rows.now uids) }
+{
+    if by_uid {
+        return Ok(uids);
+    }
+    numbers_by(alloc, rows, uids.as_slice())
+}
+
+fn numbers_by(alloc: Global, rows: &OrderedRows, uids: &[u32]) -> Result<Uids, Memory>
+    ensures { IfOk result (λ numbers. numbers ≡ map (λ uid. number_at rows.now uid) uids.now) }
+{
+    let mut numbers = Uids::new(alloc);
+    let mut near = 0;
+    for uid in uids {
+        numbers.push(number_at(rows, *uid, &mut near)?)?;
+    }
+    Ok(numbers)
+}
+
+/// The line of what was found among messages of a view. Each message costs what the keys cost.
+fn search_line(
+    alloc: Global,
+    rows: &OrderedRows,
+    it: &Searching,
+    messages: &Messages,
+) -> Result<ReplyLine, Memory>
+    ensures { IfOk result (λ line. line ≡ search_line it.now rows.now messages.now) }
+{
+    let numbers = numbers_of(alloc, rows, messages.as_slice())?;
+    let found = search(alloc, &it.keys, messages, &numbers)?;
+    let told = numbers_told(alloc, it.by_uid, rows, found)?;
+    Ok(ReplyLine::Search(it.by_uid, told))
+}
+
+/// Whether a message of the view is gone, where the search is by numbers.
+fn search_code(
+    alloc: Global,
+    by_uid: bool,
+    rows: &OrderedRows,
+    now: &OrderedRows,
+) -> Result<Code, Memory>
+    ensures { IfOk result (λ code. code ≡ code_for by_uid now.now (uids rows.now)) }
+{
+    let named = uids_of(alloc, rows.as_slice())?;
+    Ok(code_for(by_uid, now, named.as_slice()))
+}
+
+/// What is told where these messages of the view are there, and the mailbox has those rows now.
+pub fn search_told(
+    alloc: Global,
+    view: &View,
+    it: &Searching,
+    messages: &Messages,
+    now: &OrderedRows,
+) -> Result<Turn, Memory>
+    ensures { IfOk result (λ turn. turn ≡ search_told view.now it.now messages.now now.now) }
+{
+    let mut lines = ReplyLines::new(alloc);
+    lines.push(search_line(alloc, &view.rows, it, messages)?)?;
+    let news = news_of(alloc, &view.rows, now, it.by_uid, &BTreeSet::new(alloc))?;
+    let code = search_code(alloc, it.by_uid, &view.rows, now)?;
+    let verdict = Verdict::Ok(code, Bytes::from_slice(alloc, search_name(it.by_uid))?);
+    with_news(alloc, view, lines, news, verdict)
+}
+
+fn search_name(by_uid: bool) -> &'static [u8]
+    ensures { result.now ≡ search_name by_uid }
+{
+    if by_uid { b"UID SEARCH" } else { b"SEARCH" }
+}
+
+/// Searches the mailbox of a view, if it is still the mailbox that was selected; the mailbox stays as it is.
+#[tactic(auto, unfolding(crate::specs::Search::search_on, crate::specs::Selected::at_view, crate::specs::Left::box_after))]
+pub fn search_on(
+    alloc: Global,
+    view: &View,
+    mailbox: &mut MailBox,
+    it: &Searching,
+) -> Result<Turn, Memory>
+    ensures { IfOk result (λ turn. IsLeft mailbox.old (search_on view.now it.now (Some mailbox.old)) mailbox.new turn) }
+{
+    if mailbox.serial() == view.serial {
+        let named = uids_of(alloc, view.rows.as_slice())?;
+        let messages = mailbox.read(alloc, named.as_slice())?;
+        let now = mailbox.look(alloc)?.rows;
+        search_told(alloc, view, it, &messages, &now)
+    } else {
+        gone(alloc)
+    }
+}
