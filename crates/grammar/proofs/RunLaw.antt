@@ -1,8 +1,8 @@
 -- Runs of bytes are lawful words, and end before a byte that doesn't pass.
-use Rattle.std.proofs.Common.{◌≡◌, ℕ, ◌<◌, List, [], ◌∷◌, ◌++◌, length, Bool, true, false, ◌&&◌, refl, ap, ◌∙◌, append-nil}
+use Rattle.std.proofs.Common.{◌≡◌, ℕ, zero, suc, ◌<◌, ◌≤◌, List, [], ◌∷◌, ◌++◌, length, take, drop, get_or, Bool, true, false, ◌&&◌, refl, sym, ap, ◌∙◌, append-nil, append_assoc}
 use Rattle.std.proofs.Common.{length-append, arith, leb, leb-true, le-leb}
 use Rattle.std.specs.List.{list_all}
-use Rattle.grammar.specs.Words.{Lawful, Apart}
+use Rattle.grammar.specs.Words.{Lawful, Apart, scan, halt}
 use Rattle.grammar.specs.Runs.{run, run_upto, some}
 use Rattle.grammar.proofs.Conditions.{and_both, and_left, and_right, and_false}
 
@@ -24,6 +24,25 @@ module _ (test : ℕ → Bool) where
       by_case true = refl
       by_case false = refl
   all_push (d ∷ s) c h = ap (λ b. b && list_all test (s ++ c ∷ [])) (and_left _ _ h) ∙ all_push s c (and_right _ _ h)
+
+  -- a scan halts behind the bytes that pass
+  run_halts_behind : (front bytes : List ℕ) (n : ℕ) → list_all test front ≡ true → n ≤ length bytes → list_all test (take n bytes) ≡ true
+      → (n < length bytes → test (get_or bytes n 0) ≡ false)
+      → scan (run test) front bytes ≡ halt ((run test).whole (front ++ take n bytes)) (front ++ take n bytes) (drop n bytes)
+  run_halts_behind front [] zero all within passing ends = ap (λ s. halt ((run test).whole s) s []) (sym (append-nil front))
+  run_halts_behind front [] (suc n) all within passing ends = absurd (omega arith)
+  run_halts_behind front (c ∷ bytes) zero all within passing ends =
+      rw (all_push front c all, ends (omega arith), append-nil front) refl
+  run_halts_behind front (c ∷ bytes) (suc n) all within passing ends =
+      let first : test c ≡ true = and_left _ _ passing in
+      rw (all_push front c all, first)
+      (run_halts_behind (front ++ c ∷ []) bytes n (all_push front c all ∙ first) (omega arith) (and_right _ _ passing) (λ h. ends (omega arith))
+      ∙ ap (λ s. halt ((run test).whole s) s (drop n bytes)) (append_assoc front (c ∷ []) (take n bytes)))
+
+  pub run_halts : (bytes : List ℕ) (n : ℕ) → n ≤ length bytes → list_all test (take n bytes) ≡ true
+      → (n < length bytes → test (get_or bytes n 0) ≡ false)
+      → scan (run test) [] bytes ≡ halt ((run test).whole (take n bytes)) (take n bytes) (drop n bytes)
+  run_halts bytes n within passing ends = run_halts_behind [] bytes n refl within passing ends
 
   pub some_push : (s : List ℕ) (c : ℕ) → some (s ++ c ∷ []) ≡ true
   some_push [] c = refl

@@ -22,6 +22,11 @@ impl<C: Class> Kind for Run<C> {
         !text.is_empty()
     }
 
+    #[tactic(auto, using(crate::proofs::RunLaw::run_halts))]
+    fn scanned_len(&self, bytes: &[u8]) -> usize {
+        self.of.passing_len(bytes)
+    }
+
     ghost use Rattle.std.specs.Prelude.{refl};
 
     ghost empty_begins = { λ _. refl };

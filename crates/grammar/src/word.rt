@@ -20,23 +20,23 @@ pub trait Kind {
         requires { (words self.now).begins text.now ≡ true }
         ensures { result ≡ (words self.now).whole text.now };
 
+    /// How many bytes a scan takes: one by one, where a kind has no faster search.
+    fn scanned_len(&self, bytes: &[u8]) -> usize
+        ensures within { result ≤ length bytes.now }
+        ensures begins { (words self.now).begins (take result bytes.now) ≡ true }
+        ensures halts { scan (words self.now) [] bytes.now
+            ≡ halt ((words self.now).whole (take result bytes.now)) (take result bytes.now) (drop result bytes.now) }
+    {
+        for (i, byte) in bytes.iter().enumerate() {
+            if !self.goes_on(&bytes[..i], *byte) {
+                return i;
+            }
+        }
+        bytes.len()
+    }
+
     /// The empty text begins a word.
     ghost empty_begins: { (kind : Self) → (words kind).begins [] ≡ true };
-}
-
-/// How many bytes a scan takes.
-fn word_len<K: Kind>(kind: &K, bytes: &[u8]) -> usize
-    ensures within { result ≤ length bytes.now }
-    ensures begins { (K.words kind.now).begins (take result bytes.now) ≡ true }
-    ensures halts { scan (K.words kind.now) [] bytes.now
-        ≡ halt ((K.words kind.now).whole (take result bytes.now)) (take result bytes.now) (drop result bytes.now) }
-{
-    for (i, byte) in bytes.iter().enumerate() {
-        if !kind.goes_on(&bytes[..i], *byte) {
-            return i;
-        }
-    }
-    bytes.len()
 }
 
 /// Reads the longest text that begins a word, and gives it and the bytes behind it where it is one.
@@ -44,7 +44,7 @@ pub fn word_of<'a, K: Kind>(kind: &K, bytes: &'a [u8]) -> Result<(&'a [u8], &'a 
     ensures reads { Finds (λ x. (x.0.now, x.1.now)) result ((word (K.words kind.now)).at bytes.now) }
     ensures whole { IfOk result (λ x. (K.words kind.now).whole x.0.now ≡ true) }
 {
-    let (text, rest) = bytes.split_at(word_len(kind, bytes));
+    let (text, rest) = bytes.split_at(kind.scanned_len(bytes));
     if kind.is_whole(text) {
         Ok((text, rest))
     } else {

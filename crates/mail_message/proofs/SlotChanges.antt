@@ -165,6 +165,21 @@ filled-taken (place ∷ places) k sorted keyed =
     ∙ gone_by k place.0 place.1 (filled places) (filled (with_value nat_cmp places k None)) keyed.0 (behind place places sorted keyed.1)
     (filled-taken places k (rest_sorted place places sorted) keyed.1) (is_eq (nat_cmp k place.0)) refl
 
+filled_behind : (b : Bool) (place : ℕ × Option Message) (places others : Places)
+    → filled (cond b places (place ∷ others)) ≡ cond b (filled places) (option_to_list place.1 ++ filled others)
+filled_behind true place places others = refl
+filled_behind false place places others = refl
+
+-- the message of a place that goes is gone
+pub filled-removed : (places : Places) (k : ℕ) → IsInOrder nat_cmp places → IsKeyed places
+    → filled (without_key nat_cmp places k) ≡ without_uid (filled places) k
+unfolding At
+filled-removed [] k sorted keyed = refl
+filled-removed (place ∷ places) k sorted keyed =
+    filled_behind (is_eq (nat_cmp k place.0)) place places (without_key nat_cmp places k)
+    ∙ gone_by k place.0 place.1 (filled places) (filled (without_key nat_cmp places k)) keyed.0 (behind place places sorted keyed.1)
+    (filled-removed places k (rest_sorted place places sorted) keyed.1) (is_eq (nat_cmp k place.0)) refl
+
 lower_by : (j k q : ℕ) (slot : Option Message) (found : Option (Option Message)) → nat_cmp j q ≡ Less → (is_some found ≡ true → j < k)
     → (b : Bool) → is_eq (nat_cmp k q) ≡ b → is_some (cond b (Some slot) found) ≡ true → j < k
 lower_by j k q slot found first ih true h there = subst (λ x. j < x) (sym (same_key k q h)) (below j q first)

@@ -3,12 +3,12 @@ ghost use Rattle.std.specs.Prelude.{◌≡◌, ℕ, false, ◌+◌, ◌≤◌, �
 ghost use Rattle.std.specs.List.{filter, fold, list_any};
 ghost use Rattle.std.specs.Option.{option_copied};
 ghost use Rattle.mail_message.specs.Boxes.{empty_box, message_at, messages_after, next_after, content_after, content_after_all};
-ghost use Rattle.mail_message.specs.Boxes.{messages_at, snapshot_of, uids_of, is_deleted, is_touched, IsRising};
+ghost use Rattle.mail_message.specs.Boxes.{messages_at, snapshot_of, uids_of, without_uid, is_deleted, is_touched, IsRising};
 ghost use Rattle.mail_message.specs.Slots.{filled, HasPlaceFor, HasPlaces, KeepsPlaces};
 
 use crate::change::{Change, Changes};
 use crate::message::{Message, Messages, Snapshot, Uids};
-use crate::slots::{Slots, clear_all};
+use crate::slots::{Slots, clear_all, remove_all};
 use mur_base::limits::MAILBOX_MESSAGE_LIMIT;
 use mur_base::{Bytes, Copied, Memory};
 use std::alloc::Global;
@@ -160,6 +160,13 @@ impl MailBox {
         carry_out_all(&mut self.slots, &mut self.next, changes.into_vec());
         clear_all(&mut self.slots, &gone);
         Ok(())
+    }
+
+    /// Takes the messages with some UIDs away, if they are there. It wants no memory, and each takes time logarithmic in the messages.
+    pub fn remove_all(&mut self, uids: &[u32])
+        ensures { self.new ≡ record self.old { messages = fold without_uid self.old.messages uids.now } }
+    {
+        remove_all(&mut self.slots, uids);
     }
 }
 

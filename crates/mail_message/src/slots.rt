@@ -1,6 +1,6 @@
 // Messages by UID, with empty places, so that a list of changes that wants memory takes it before it changes anything.
 ghost use Rattle.std.specs.Prelude.{◌≡◌, ◌≤◌, [], IfOk, OnOk, OnErr, length, map, None, Some, IsTrue};
-ghost use Rattle.std.specs.List.{filter};
+ghost use Rattle.std.specs.List.{filter, fold};
 ghost use Rattle.std.specs.Option.{option_copied, option_map};
 ghost use Rattle.std.specs.Ordering.{nat_cmp};
 ghost use Rattle.mur_base.specs.Map.{with_value, with_entry, without_key, value_at, IsInOrder};
@@ -152,6 +152,13 @@ impl Slots {
         write(&mut self.map, uid, None);
     }
 
+    /// Takes the message with a UID away, and its place with it.
+    pub fn remove(&mut self, uid: u32)
+        ensures { filled self.new ≡ without_uid (filled self.old) uid }
+    {
+        remove(&mut self.map, uid);
+    }
+
     /// Gives the message with a UID other flags, if it is there.
     pub fn set_flags(&mut self, uid: u32, flags: FlagSet)
         ensures messages { filled self.new ≡ map (with_flags uid flags) (filled self.old) }
@@ -176,6 +183,15 @@ pub fn clear_all(slots: &mut Slots, uids: &[u32])
 {
     for uid in uids {
         slots.clear(*uid);
+    }
+}
+
+/// Takes the messages with some UIDs away, and their places with them.
+pub fn remove_all(slots: &mut Slots, uids: &[u32])
+    ensures { filled slots.new ≡ fold without_uid (filled slots.old) uids.now }
+{
+    for uid in uids {
+        slots.remove(*uid);
     }
 }
 

@@ -1,8 +1,7 @@
 -- What EXPUNGE does to a mailbox (RFC 9051, 6.4.3 and 6.4.9).
-use Rattle.std.specs.Prelude.{ℕ, Bool, if◌then◌else◌, List, [], ◌∷◌, ◌++◌, map, Option, Some, None}
+use Rattle.std.specs.Prelude.{ℕ, if◌then◌else◌, List, [], ◌∷◌, ◌++◌, map, Option, Some, None}
 use Rattle.std.specs.List.{filter}
 use Rattle.mail_message.specs.declared.message.Message.{Message}
-use Rattle.mail_message.specs.declared.change.Change.{Change}
 use Rattle.mail_message.specs.declared.change.Change.TheVariants.{Gone}
 use Rattle.mail_message.specs.Boxes.{Content, is_deleted, message_at, uids_of, content_after_all}
 use Rattle.mail_store.specs.Named.{set_of}

@@ -1,13 +1,12 @@
 // EXPUNGE.
-ghost use Rattle.std.specs.Prelude.{◌≡◌, ◌==◌, ℕ, false, IfOk, OnOk, OnErr, map};
+ghost use Rattle.std.specs.Prelude.{◌≡◌, ◌==◌, ℕ, false, IfOk, OnOk, OnErr};
 ghost use Rattle.std.specs.List.{list_any};
-ghost use Rattle.std.specs.Option.{option_map, option_copied};
+ghost use Rattle.std.specs.Option.{option_copied};
 ghost use Rattle.mail_message.specs.Boxes.{message_at};
-ghost use Rattle.mail_message.specs.declared.change.Change.TheVariants.{Gone};
 ghost use Rattle.mail_store.specs.Expunge.{expunged, expunged_uids, deleted_among};
 
 use crate::named::set_of;
-use mail_message::{Change, Changes, MailBox, Uids};
+use mail_message::{MailBox, Uids};
 use mur_base::Memory;
 use std::alloc::Global;
 use std::collections::BTreeSet;
@@ -29,8 +28,7 @@ pub fn expunge(alloc: Global, to: &mut MailBox, only: Option<&[u32]>) -> Result<
         None => to.deleted(alloc)?,
         Some(uids) => deleted_among(alloc, to, &set_of(alloc, uids)?)?,
     };
-    let changes = gone(alloc, uids.as_slice())?;
-    to.apply_all(alloc, changes)?;
+    to.remove_all(uids.as_slice());
     Ok(uids)
 }
 
@@ -46,14 +44,4 @@ fn deleted_among(alloc: Global, from: &MailBox, named: &BTreeSet<u32>) -> Result
         }
     }
     Ok(uids)
-}
-
-fn gone(alloc: Global, uids: &[u32]) -> Result<Changes, Memory>
-    ensures { IfOk result (λ changes. changes ≡ map (λ uid. Gone uid) uids.now) }
-{
-    let mut changes = Changes::new(alloc);
-    for uid in uids {
-        changes.push(Change::Gone(*uid))?;
-    }
-    Ok(changes)
 }

@@ -1,4 +1,5 @@
 mod TextLaws
+mod PutLaws
 mod CutLaws
 mod CutWords
 mod OpenedLaws

@@ -4,7 +4,7 @@ use Rattle.std.proofs.Common.{sym, ap, ◌∙◌, append_assoc, arith}
 use Rattle.std.proofs.lemmas.Bool.{eqb-true}
 use Rattle.std.proofs.lemmas.Bool.Decides.{nat_tests}
 use Rattle.schedule_text.specs.declared.text.Spelling.TheVariants.{Between}
-use Rattle.schedule_text.specs.Text.{bytes_of, bytes_from, bytes_behind, with_byte, character_at, at_end, text_of, spelling_of, is_printed, hex_digit}
+use Rattle.schedule_text.specs.Text.{bytes_of, bytes_from, with_byte, character_at, text_of, spelling_of, is_printed, hex_digit}
 use Rattle.schedule_text.specs.Text.{hex_value, between_spellings, behind_escape, first_digit, second_digit}
 
 -- bytes behind those that were read

@@ -1,5 +1,5 @@
 // Bytes as printable text, in schedules and in outputs.
-ghost use Rattle.std.specs.Prelude.{◌≡◌, ◌<◌, ◌++◌, IfOk, IfSome, OnOk};
+ghost use Rattle.std.specs.Prelude.{◌≡◌, ◌<◌, [], ◌∷◌, ◌++◌, IfOk, IfSome, OnOk, IsTrue};
 ghost use Rattle.std.specs.Option.{ForSome};
 ghost use Rattle.schedule_text.specs.Text.{spelling_of, name_spelling_of, text_of, name_text_of, bytes_of, is_printed, hex_digit, hex_value, character_at};
 ghost use Rattle.schedule_text.specs.Text.{between_spellings, behind_escape, first_digit, second_digit, IsSpelling, KeepsSpelling};
@@ -33,15 +33,30 @@ pub enum Character {
 
 /// Writes bytes in their one canonical spelling, which `read_text` reads back: a byte from 0x20 to 0x7E other than
 /// `\` as itself, then `\r`, `\n`, `\\`, and any other as `\x` with two lower case digits. Want of memory spends `out`.
+///
+/// A run of bytes that stand for themselves is put at once.
 #[tactic(auto, unfolding(crate::specs::Text::text_of))]
 pub fn put_text(bytes: &[u8], out: &mut Bytes) -> Result<(), Memory>
     ensures written { OnOk result (out.new ≡ out.old ++ text_of bytes.now) }
     ensures read_back { bytes_of (text_of bytes.now) ≡ Some bytes.now }
 {
-    for byte in bytes {
-        put_byte(*byte, out)?;
+    let mut from = 0;
+    for (at, byte) in bytes.iter().enumerate() {
+        if !is_plain(*byte) {
+            out.extend_from_slice(&bytes[from..at])?;
+            put_byte(*byte, out)?;
+            from = at + 1;
+        }
     }
-    Ok(())
+    out.extend_from_slice(&bytes[from..])
+}
+
+/// Whether a byte stands for itself.
+#[tactic(auto, unfolding(crate::specs::Text::spelling_of, crate::specs::Text::is_printed))]
+fn is_plain(byte: u8) -> bool
+    ensures { IsTrue result → spelling_of byte ≡ byte ∷ [] }
+{
+    is_printed(byte) && byte != b'\\'
 }
 
 /// Writes a name as `put_text` does, but for a space, which is written `\x20`.

@@ -1,4 +1,4 @@
-use Rattle.std.proofs.Common.{◌≡◌, ◌==◌, ℕ, false, ◌∙◌, ap, sym}
+use Rattle.std.proofs.Common.{◌==◌, ℕ, ◌∙◌, ap, sym}
 use Rattle.std.specs.List.{list_any}
 use Rattle.mail_message.specs.Boxes.{is_touched}
 use Rattle.mail_store.proofs.AppendLaws.{next-appended}

@@ -1,7 +1,5 @@
 use Rattle.std.proofs.Common.{◌≡◌, [], sym, subst, arith}
-use Rattle.std.specs.Map.Iter.{deref}
 use Rattle.std.proofs.lemmas.Grind.{common_steps}
-use Rattle.std.proofs.lemmas.Map.Iter.{rest_all}
 use Rattle.mail_message.specs.RowOrder.{AreRising}
 use Rattle.mail_store.specs.Store.{stored_rows}
 use Rattle.mail_store.proofs.RisingLaw.{rising-stored}

@@ -1,4 +1,4 @@
-use Rattle.std.proofs.Common.{◌≡◌, ◌++◌, Bool, false}
+use Rattle.std.proofs.Common.{◌≡◌, ◌++◌, false}
 use Rattle.mail_store.specs.Store.{stored_rows, has_too_many_flags}
 use Rattle.mail_store.proofs.store.rows_after.Given as goal
 

@@ -1,6 +1,6 @@
 use Rattle.std.proofs.Common.{subst, sym, arith}
 use Rattle.std.proofs.lemmas.Grind.{common_steps}
-use Rattle.schedule_text.specs.Text.{bytes_from, bytes_behind, IsSpelling}
+use Rattle.schedule_text.specs.Text.{bytes_from, IsSpelling}
 use Rattle.schedule_text.proofs.TextLaws.{by_reading}
 use Rattle.schedule_text.proofs.text.read_text.Goals as goal
 use Rattle.schedule_text.proofs.text.read_text.Goals.{in-Inside, in-Ends+in_ok-push-in-Ends}
