@@ -4,6 +4,7 @@
 
 mod acting;
 mod append;
+mod at_once;
 mod command;
 mod create;
 mod expunge;
@@ -12,6 +13,7 @@ mod login;
 mod named_rows;
 mod need;
 mod news;
+mod plain;
 mod reply;
 mod request;
 mod rights;
