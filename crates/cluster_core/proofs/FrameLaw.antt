@@ -1,13 +1,13 @@
 -- The frames of one connection keep the law: each request gets its answer or is asked of the home, a literal its continuation, a
 -- fault its line.
 use Rattle.std.proofs.Common.{◌≡◌, ℕ, ◌+◌, List, [], ◌∷◌, ◌++◌, length, Option, None, Some, refl, sym, ◌∙◌, ap, subst, append_assoc}
-use Rattle.std.proofs.Common.{false}
+use Rattle.std.proofs.Common.{true, false}
 use Rattle.std.specs.Ordering.{nat_cmp}
 use Rattle.std.proofs.lemmas.List.{append-nil}
 use Rattle.backend_core.specs.declared.backend.Backend.{Backend}
 use Rattle.front_core.specs.declared.connection.Connection.{Connection}
 use Rattle.front_core.specs.declared.connection.Stage.TheVariants.{Reading, Asked, Ended}
-use Rattle.front_core.specs.Taken.{Turned, answers, asks, ask_for, frame_in, comes_at, frame_comes, frames_come, behind_outs}
+use Rattle.front_core.specs.Taken.{Turned, answers, answers_last, asks, ask_for, frame_in, comes_at, frame_comes, frames_come, behind_outs}
 use Rattle.imap_command.specs.Request.{request_of, too_big_request}
 use Rattle.imap_reply.specs.ByeLine.{bye_line, bye_of}
 use Rattle.imap_reply.specs.Continuation.{ready}
@@ -15,7 +15,8 @@ use Rattle.imap_reply.specs.Greeting.{greeting}
 use Rattle.imap_reply.specs.ReplyText.{reply_text}
 use Rattle.imap_reply.specs.SessionEnds.{has_ended}
 use Rattle.imap_reply.specs.Transcript.{answer_text, ends, replies_to}
-use Rattle.imap_reply.proofs.TranscriptGrows.{AreAnswered, Grows, whole_answered, too_big_answered, literal_awaited, fault_told}
+use Rattle.imap_reply.specs.Transcript.Stop.{silent}
+use Rattle.imap_reply.proofs.TranscriptGrows.{AreAnswered, Grows, whole_answered, too_big_answered, literal_awaited, fault_told, end_told}
 use Rattle.imap_wire.specs.declared.frame.Frame.{Frame}
 use Rattle.imap_wire.specs.declared.frame.FrameFault.{FrameFault}
 use Rattle.imap_wire.specs.declared.frame.Frame.TheVariants.{Whole, NeedLiteral, TooBig, Fault}
@@ -37,6 +38,7 @@ use Rattle.mur_model.specs.declared.request.Answer.{Answer}
 use Rattle.mur_model.specs.declared.request.Request.{Request}
 use Rattle.mur_model.specs.declared.request.Request.TheVariants.{Command as a_command}
 use Rattle.mur_model.specs.declared.session.Sess.{Sess}
+use Rattle.mur_model.specs.declared.session.Sess.TheVariants.{Ended as session_ended}
 use Rattle.mur_model.specs.declared.setting.Setting.{Setting}
 use Rattle.mur_model.specs.declared.store.Store.{Store}
 use Rattle.mur_model.specs.Act.{need_of}
@@ -50,11 +52,11 @@ use Rattle.cluster_core.specs.declared.world.World.{World}
 use Rattle.cluster_core.specs.Links.{sent}
 use Rattle.cluster_core.specs.World.{client_at, given_more, carry, carry_all}
 use Rattle.cluster_core.proofs.ConnectionLaw.{Story, KeepsOthers, keeps_on, GoesOnAt, stories_follow, client_with}
-use Rattle.cluster_core.proofs.ConnectionLaw.{ReadsOn, StandsOn, session_at, session_of_other}
+use Rattle.cluster_core.proofs.ConnectionLaw.{IsMade, ReadsOn, StandsOn, session_at, session_of_other}
 use Rattle.cluster_core.proofs.ConnectionLaw.OnItsWay.{there}
-use Rattle.cluster_core.proofs.ConnectionLaw.Stands.{reads, waits, faulted}
+use Rattle.cluster_core.proofs.ConnectionLaw.Stands.{reads, waits, faulted, finished}
 use Rattle.cluster_core.proofs.FrontAnswers.{IsTaken, request_taken}
-use Rattle.cluster_core.proofs.FrontAnswers.IsTaken.{here, asked}
+use Rattle.cluster_core.proofs.FrontAnswers.IsTaken.{here, last, asked}
 use Rattle.cluster_core.proofs.RequestsOf.{requests_of, requests-append, answered_lengths, next_request, replies_stop}
 use Rattle.cluster_core.proofs.ServedAlike.{IsStoreOf}
 use Rattle.cluster_core.proofs.Told.{IsTold, having_said, next_course, told_push}
@@ -81,6 +83,11 @@ answer_carried : (node : List ℕ) (world : World) (conn : ℕ) (client : Client
     → carry_all node world (to_client conn text ∷ mark ask Always ∷ []) ≡ marked_world (given_world world conn client text) ask
 unfolding carry_all carry
 answer_carried node world conn client text ask at = ap (λ w. marked_world w ask) (given_there world conn client text at)
+
+last_carried : (node : List ℕ) (world : World) (conn : ℕ) (client : Client) (text : List ℕ) (ask : AskId) → client_at world conn ≡ Some client
+    → carry_all node world (to_client conn text ∷ mark ask Always ∷ Close conn ∷ []) ≡ marked_world (given_world world conn client text) ask
+unfolding carry_all carry
+last_carried node world conn client text ask at = ap (λ w. marked_world w ask) (given_there world conn client text at)
 
 pub line_carried : (node : List ℕ) (world : World) (conn : ℕ) (client : Client) (text : List ℕ) → client_at world conn ≡ Some client
     → carry_all node world (to_client conn text ∷ []) ≡ given_world world conn client text
@@ -135,6 +142,45 @@ said_goes_on setting story conn request answer = record {
   };
 }
 
+-- one answer more is that of the one store
+said_made : (setting : Setting) (front home : List ℕ) (backend : Backend) (conn : ℕ) (frames : List Frame) (connection : Connection) (before : World)
+    (told : Story) (world : World)
+    (request : Request) (tag : Tag) (reply : Reply) (session : Sess) (text : List ℕ)
+    (was : ReadsOn setting front home backend conn frames connection before told world)
+    → numbered (was.story.talk.requests conn) (length (was.story.told conn) + 1) ≡ Some request
+    → ((store : Store) → answer_of setting store
+    (was.story.course.sessions conn) request 0 ≡ record { store = store; session = session; answer = record { tag = tag; reply = reply } })
+    → ((store : Store) → MayTake setting store (was.story.course.sessions conn) request 0)
+    → IsMade setting backend conn before told
+    (marked_world (given_world world conn (client_with front frames (was.story.told conn)) text) (record { conn = conn; command = connection.answered + 1 }))
+    (said_story setting was.story conn request (record { tag = tag; reply = reply }))
+said_made setting front home backend conn frames connection before told world request tag reply session text was number is free =
+    let story = was.story in
+    let course = story.course in
+    let answer : Answer = record { tag = tag; reply = reply } in
+    let out : answer_of setting course.store (course.sessions conn) request 0 ≡ record { store = course.store; session = session; answer = answer } =
+    is course.store in
+    let client : Client = client_with front frames (story.told conn) in
+    let lengths : length (story.talk.answers conn) ≡ connection.answered = ap length was.reading.said ∙ sym was.reading.count in
+    let after_world = marked_world (given_world world conn client text) (record { conn = conn; command = connection.answered + 1 }) in
+    let now : Story = said_story setting story conn request answer in
+    record {
+      others = keeps_on conn before world after_world was.made.others
+          (keeps_on conn world (given_world world conn client text) after_world (given_keeps world conn client text)
+          (marked_keeps conn (given_world world conn client text) _));
+      goes_on = stories_follow conn told story now was.made.goes_on (said_goes_on setting story conn request answer);
+      is_told = subst (λ n. IsTold setting world.steps
+          (world.marks ++ (record { step = world.steps; ask = record { conn = conn; command = n + 1 }; counts = Always }) ∷ []) backend now.talk now.course)
+          lengths
+          (told_push setting world.steps world.marks backend backend story.talk course conn request 0 Always
+          (subst (λ n. numbered (story.talk.requests conn) (n + 1) ≡ Some request) (sym (ap length was.reading.said)) number) (free course.store)
+          (λ h. absurd (apart h))
+          (subst (λ s. IsStoreOf s backend) (sym (ap (λ (a : Answered). a.store) out)) was.made.is_told.same) was.made.is_told);
+    }
+  where
+    apart : Always ≡ IfAnswered → ⊥
+    apart h = cc
+
 -- a request that the frontend answers by itself
 answered_here : (setting : Setting) (front home : List ℕ) (backend : Backend) (conn : ℕ) (frames next : List Frame) (connection : Connection) (before : World)
     (told : Story) (world : World)
@@ -157,7 +203,6 @@ answered_here setting front home backend conn frames next connection before told
     let same_answer : (carried_out setting course conn request 0).answer ≡ answer = ap (λ (a : Answered). a.answer) out in
     let client : Client = client_with front frames (story.told conn) in
     let text : List ℕ = reply_text tag reply in
-    let lengths : length (story.talk.answers conn) ≡ connection.answered = ap length was.reading.said ∙ sym was.reading.count in
     let world_is = answer_carried front world conn client text (record { conn = conn; command = connection.answered + 1 }) was.reading.client in
     let after_world = marked_world (given_world world conn client text) (record { conn = conn; command = connection.answered + 1 }) in
     let now : Story = said_story setting story conn request answer in
@@ -165,19 +210,7 @@ answered_here setting front home backend conn frames next connection before told
     subst (λ w. ReadsOn setting front home backend conn next (answers conn connection session tag reply).connection before told w) (sym world_is)
     (record {
       story = now;
-      made = record {
-        others = keeps_on conn before world after_world was.made.others
-            (keeps_on conn world (given_world world conn client text) after_world (given_keeps world conn client text)
-            (marked_keeps conn (given_world world conn client text) _));
-        goes_on = stories_follow conn told story now was.made.goes_on (said_goes_on setting story conn request answer);
-        is_told = subst (λ n. IsTold setting world.steps
-            (world.marks ++ (record { step = world.steps; ask = record { conn = conn; command = n + 1 }; counts = Always }) ∷ []) backend now.talk now.course)
-            lengths
-            (told_push setting world.steps world.marks backend backend story.talk course conn request 0 Always
-            (subst (λ n. numbered (story.talk.requests conn) (n + 1) ≡ Some request) (sym (ap length was.reading.said)) number) (free course.store)
-            (λ h. absurd (apart h))
-            (subst (λ s. IsStoreOf s backend) (sym (ap (λ (a : Answered). a.store) out)) was.made.is_told.same) was.made.is_told);
-      };
+      made = said_made setting front home backend conn frames connection before told world request tag reply session text was number is free;
       reading = record {
         stage_is = was.reading.stage_is;
         waiting_is = was.reading.waiting_is;
@@ -194,9 +227,49 @@ answered_here setting front home backend conn frames next connection before told
         way = was.reading.way;
       };
     })
-  where
-    apart : Always ≡ IfAnswered → ⊥
-    apart h = cc
+
+-- a request that the frontend answers by itself, and with that ends the connection: nothing that follows it is taken
+last_here : (setting : Setting) (front home : List ℕ) (backend : Backend) (conn : ℕ) (frames more : List Frame) (held : Option (List ℕ))
+    (connection : Connection) (before : World) (told : Story) (world : World)
+    (bytes : List ℕ) (request : Request) (tag : Tag) (reply : Reply) (was : ReadsOn setting front home backend conn frames connection before told world)
+    → numbered (was.story.talk.requests conn) (length (was.story.told conn) + 1) ≡ Some request
+    → ((store : Store) → answer_of setting store (was.story.course.sessions conn) request 0
+    ≡ record { store = store; session = session_ended; answer = record { tag = tag; reply = reply } })
+    → ((store : Store) → MayTake setting store (was.story.course.sessions conn) request 0)
+    → ends reply ≡ true
+    → StandsOn setting front home backend conn (frames ++ Whole bytes ∷ more) held (answers_last conn connection tag reply).connection before told
+    (carry_all front world (answers_last conn connection tag reply).outs)
+unfolding answers_last
+last_here setting front home backend conn frames more held connection before told world bytes request tag reply was number is free is_end =
+    let story = was.story in
+    let course = story.course in
+    let answer : Answer = record { tag = tag; reply = reply } in
+    let out : answer_of setting course.store (course.sessions conn) request 0 ≡ record { store = course.store; session = session_ended; answer = answer } =
+    is course.store in
+    let same_answer : (carried_out setting course conn request 0).answer ≡ answer = ap (λ (a : Answered). a.answer) out in
+    let client : Client = client_with front frames (story.told conn) in
+    let text : List ℕ = reply_text tag reply in
+    let next : List Frame = frames ++ Whole bytes ∷ more in
+    let world_is = last_carried front world conn client text (record { conn = conn; command = connection.answered + 1 }) was.reading.client in
+    let after_world = marked_world (given_world world conn client text) (record { conn = conn; command = connection.answered + 1 }) in
+    let now : Story = said_story setting story conn request answer in
+    subst (λ w. StandsOn setting front home backend conn next held (answers_last conn connection tag reply).connection before told w) (sym world_is)
+    (record {
+      story = now;
+      made = said_made setting front home backend conn frames connection before told world request tag reply session_ended text was number is free;
+      standing = record {
+        count = ap (λ n. n + 1) was.reading.count ∙ sym (length_with_item story.told conn answer);
+        client = value_at-with_value nat_cmp numbers_apart world.clients conn (record client { given = client.given ++ text }) client was.reading.client
+            ∙ ap (λ g. Some (record { at = front; given = g }))
+            (append_assoc greeting (replies_to frames (story.told conn)) text
+            ∙ ap (λ t. greeting ++ t) (sym (end_told silent frames (story.told conn) bytes more answer [] was.reading.answered is_end))
+            ∙ ap (λ a. greeting ++ replies_to next a) (sym (with_item-same story.told conn answer)));
+        stands = finished frames more bytes (story.told conn) answer refl refl was.reading.answered (with_item-same story.told conn answer) is_end
+            (with_item-same story.talk.answers conn _ ∙ ap (λ l. l ++ (carried_out setting course conn request 0).answer ∷ []) was.reading.said
+            ∙ ap (λ a. story.told conn ++ a ∷ []) same_answer ∙ sym (with_item-same story.told conn answer))
+            was.reading.way;
+      };
+    })
 
 -- a literal is waited for
 awaited_here : (setting : Setting) (front home : List ℕ) (backend : Backend) (conn : ℕ) (frames : List Frame) (connection : Connection) (before : World)
@@ -345,6 +418,13 @@ ended_drops setting home conn connection (frame ∷ frames) e =
     (frames_come setting home conn (comes_at setting home conn connection frame s).connection frames)) e
     ∙ ended_drops setting home conn connection frames e
 
+last_turned : (setting : Setting) (home : List ℕ) (conn : ℕ) (connection : Connection) (tag : Tag) (reply : Reply) (frames : List Frame)
+    → frames_come setting home conn (answers_last conn connection tag reply).connection frames
+    ≡ record { connection = (answers_last conn connection tag reply).connection; outs = [] }
+unfolding answers_last
+last_turned setting home conn connection tag reply frames =
+    ended_drops setting home conn (record connection { session = session_ended; stage = Ended; answered = connection.answered + 1 }) frames refl
+
 -- a step of a frame, and then the others
 pub came_on : (setting : Setting) (front home : List ℕ) (backend : Backend) (conn : ℕ) (all : List Frame) (held : Option (List ℕ)) (connection : Connection)
     (before : World) (told : Story) (world : World)
@@ -439,15 +519,25 @@ request_kept : (setting : Setting) (front home : List ℕ) (backend : Backend) (
     → StandsOn setting front home backend conn (frames ++ Whole bytes ∷ new) held
     (frames_come setting home conn connection (Whole bytes ∷ new)).connection before told
     (carry_all front world (frames_come setting home conn connection (Whole bytes ∷ new)).outs)
-unfolding frame_in requests_of
-request_kept setting front home backend conn frames new bytes held connection before told world was last all follow
+unfolding frame_in requests_of carry_all
+request_kept setting front home backend conn frames new bytes held connection before told world was ends_so all follow
     (here tag reply session is free stays lasts form) =
     read_on setting front home backend conn frames new (Whole bytes) held connection before told world (answers conn connection session tag reply)
     (reads_frame setting home conn connection (Whole bytes) was.reading.stage_is ∙ form connection was.reading.session_is) all follow
     (answered_here setting front home backend conn frames (frames ++ Whole bytes ∷ []) connection before told world (request_of bytes) tag reply session was
     (next_of setting front home backend conn frames new (Whole bytes) connection before told world (request_of bytes) was all refl) is free stays lasts
     (λ answer on. whole_answered frames (was.story.told conn) bytes answer was.reading.answered on))
-request_kept setting front home backend conn frames new bytes held connection before told world was last all follow (asked tag it name work is need form) =
+request_kept setting front home backend conn frames new bytes held connection before told world was ends_so all follow
+    (last tag it reply command is free is_end form) =
+    let turned : Turned = answers_last conn connection tag reply in
+    came_on setting front home backend conn (frames ++ Whole bytes ∷ new) held connection before told world (Whole bytes) new turned
+    (reads_frame setting home conn connection (Whole bytes) was.reading.stage_is ∙ form connection was.reading.session_is)
+    (subst (λ (t : Turned). StandsOn setting front home backend conn (frames ++ Whole bytes ∷ new) held t.connection before told
+    (carry_all front (carry_all front world turned.outs) t.outs)) (sym (last_turned setting home conn connection tag reply new))
+    (last_here setting front home backend conn frames new held connection before told world bytes (request_of bytes) tag reply was
+    (next_of setting front home backend conn frames new (Whole bytes) connection before told world (request_of bytes) was all refl) is free is_end))
+request_kept setting front home backend conn frames new bytes held connection before told world was ends_so all follow
+    (asked tag it name work is need form) =
     let turned : Turned = asks home conn connection tag name work in
     let waits_all : frames_come setting home conn turned.connection new ≡
     record { connection = record connection { waiting = new; stage = Asked tag (asked_for name work).awaited }; outs = [] } =
@@ -458,7 +548,7 @@ request_kept setting front home backend conn frames new bytes held connection be
     (reads_frame setting home conn connection (Whole bytes) was.reading.stage_is ∙ form connection was.reading.session_is)
     (subst (λ (t : Turned). StandsOn setting front home backend conn (frames ++ Whole bytes ∷ new) held t.connection before told
     (carry_all front (carry_all front world turned.outs) t.outs)) (sym waits_all)
-    (asked_kept setting front home backend conn frames new held connection before told world bytes tag it name work was is need last))
+    (asked_kept setting front home backend conn frames new held connection before told world bytes tag it name work was is need ends_so))
 
 big_kept : (setting : Setting) (front home : List ℕ) (backend : Backend) (conn : ℕ) (frames new : List Frame) (bytes : List ℕ) (held : Option (List ℕ))
     (connection : Connection) (before : World) (told : Story) (world : World)
@@ -475,6 +565,8 @@ big_kept setting front home backend conn frames new bytes held connection before
     (too_big_request bytes) tag reply session was
     (next_of setting front home backend conn frames new (TooBig bytes) connection before told world (too_big_request bytes) was all refl) is free stays lasts
     (λ answer on. too_big_answered frames (was.story.told conn) bytes answer was.reading.answered on))
+big_kept setting front home backend conn frames new bytes held connection before told world was all follow
+    (last tag it reply is answered free is_end form) = cc
 big_kept setting front home backend conn frames new bytes held connection before told world was all follow (asked tag it name work is need form) = cc
 
 -- all frames of a piece, or all that waited

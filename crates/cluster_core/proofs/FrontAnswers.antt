@@ -1,12 +1,12 @@
--- What a frontend does with a request: it answers by itself what the one store answers whatever its mailboxes are, or it asks a home.
-use Rattle.std.proofs.Common.{◌≡◌, ℕ, false, List, refl, ◌∙◌, ap}
-use Rattle.std.specs.Prelude.{codes}
+-- What a frontend does with a request: it answers by itself what the one store answers whatever its mailboxes are, and that may be the last
+-- answer of the connection; or it asks a home.
+use Rattle.std.proofs.Common.{◌≡◌, ℕ, true, false, List, Option, None, Some, refl, ◌∙◌, ap}
 use Rattle.front_core.specs.declared.connection.Connection.{Connection}
-use Rattle.front_core.specs.Taken.{answers, asks, need_in, request_in}
+use Rattle.front_core.specs.Taken.{answers, answers_last, asks, need_in, request_in, turns}
 use Rattle.mur_model.specs.declared.command.Command.{Command}
 use Rattle.mur_model.specs.declared.command.Tag.{Tag}
 use Rattle.mur_model.specs.declared.need.Need.{Need}
-use Rattle.mur_model.specs.declared.need.Need.TheVariants.{Refusal, Login, Turned as turned_at_once, Mailbox}
+use Rattle.mur_model.specs.declared.need.Need.TheVariants.{Refusal, Turned as turned_at_once, Mailbox}
 use Rattle.mur_model.specs.declared.need.Work.{Work}
 use Rattle.mur_model.specs.declared.reply.BadText.TheVariants.{Syntax}
 use Rattle.mur_model.specs.declared.reply.NoText.TheVariants.{Limit}
@@ -15,15 +15,16 @@ use Rattle.mur_model.specs.declared.reply.Verdict.TheVariants.{Bad as bad_reply}
 use Rattle.mur_model.specs.declared.request.Request.{Request}
 use Rattle.mur_model.specs.declared.request.Request.TheVariants.{Command as a_command, Unknown as unknown, TooBig as too_big}
 use Rattle.mur_model.specs.declared.session.Sess.{Sess}
-use Rattle.mur_model.specs.declared.session.Sess.TheVariants.{In}
+use Rattle.mur_model.specs.declared.session.Sess.TheVariants.{Off, In, Selected, Ended as session_ended}
+use Rattle.mur_model.specs.declared.session.Turn.{Turn}
 use Rattle.mur_model.specs.declared.setting.Setting.{Setting}
 use Rattle.mur_model.specs.declared.store.Store.{Store}
 use Rattle.mur_model.specs.Act.{need_of, act_by, act_of, session_after, MayAct}
 use Rattle.mur_model.specs.Answer.{answer_of, MayTake}
-use Rattle.imap_reply.specs.SessionEnds.{has_ended}
+use Rattle.imap_reply.specs.SessionEnds.{has_ended, TurnEnds}
 use Rattle.imap_reply.specs.Transcript.{ends}
-use Rattle.imap_reply.proofs.AnswersEnd.{turned_ends, turned_goes_on, ended_by}
-use Rattle.mur_model.specs.Reply.{reply_of, completed, refused}
+use Rattle.imap_reply.proofs.AnswersEnd.{turned_ends}
+use Rattle.mur_model.specs.Reply.{reply_of, refused}
 
 pub data IsTaken (setting : Setting) (home : List ℕ) (conn : ℕ) (session : Sess) (request : Request) : Type 0 where
   here : (tag : Tag) (reply : Reply) (next : Sess)
@@ -32,9 +33,50 @@ pub data IsTaken (setting : Setting) (home : List ℕ) (conn : ℕ) (session : S
       → ends reply ≡ false → has_ended next ≡ false
       → ((connection : Connection) → connection.session ≡ session → request_in setting home conn connection request ≡ answers conn connection next tag reply)
       → IsTaken setting home conn session request
+  last : (tag : Tag) (it : Command) (reply : Reply) → request ≡ a_command tag it
+      → ((store : Store) → answer_of setting store session request 0
+      ≡ record { store = store; session = session_ended; answer = record { tag = tag; reply = reply } })
+      → ((store : Store) → MayTake setting store session request 0)
+      → ends reply ≡ true
+      → ((connection : Connection) → connection.session ≡ session → request_in setting home conn connection request ≡ answers_last conn connection tag reply)
+      → IsTaken setting home conn session request
   asked : (tag : Tag) (it : Command) (name : List ℕ) (work : Work) → request ≡ a_command tag it → need_of setting session it ≡ Mailbox name work
       → ((connection : Connection) → connection.session ≡ session → request_in setting home conn connection request ≡ asks home conn connection tag name work)
       → IsTaken setting home conn session request
+
+-- what comes of a command at once
+turn_goes_on : (setting : Setting) (home : List ℕ) (conn : ℕ) (session : Sess) (tag : Tag) (it : Command) (next : Option Sess) (reply : Reply)
+    → need_of setting session it ≡ turned_at_once (record { session = next; reply = reply }) → ends reply ≡ false
+    → has_ended (session_after session next) ≡ false
+    → ((connection : Connection) → turns conn connection tag reply next ≡ answers conn connection (session_after connection.session next) tag reply)
+    → IsTaken setting home conn session (a_command tag it)
+unfolding answer_of act_of act_by MayTake MayAct request_in need_in
+turn_goes_on setting home conn session tag it next reply e stays lasts form =
+    here tag reply (session_after session next)
+    (λ store. rw e refl)
+    (λ store. rw e tt)
+    stays lasts
+    (λ connection s. ap (λ x. need_in home conn connection tag (need_of setting x it)) s ∙ ap (need_in home conn connection tag) e
+    ∙ form connection ∙ ap (λ x. answers conn connection (session_after x next) tag reply) s)
+
+turn_taken : (setting : Setting) (home : List ℕ) (conn : ℕ) (session : Sess) (tag : Tag) (it : Command) (next : Option Sess) (reply : Reply)
+    → need_of setting session it ≡ turned_at_once (record { session = next; reply = reply }) → TurnEnds (record { session = next; reply = reply })
+    → has_ended session ≡ false → IsTaken setting home conn session (a_command tag it)
+unfolding answer_of act_of act_by MayTake MayAct request_in need_in turns
+turn_taken setting home conn session tag it None reply e stays lasts =
+    turn_goes_on setting home conn session tag it None reply e stays lasts (λ connection. refl)
+turn_taken setting home conn session tag it (Some Off) reply e stays lasts =
+    turn_goes_on setting home conn session tag it (Some Off) reply e stays refl (λ connection. refl)
+turn_taken setting home conn session tag it (Some (In user)) reply e stays lasts =
+    turn_goes_on setting home conn session tag it (Some (In user)) reply e stays refl (λ connection. refl)
+turn_taken setting home conn session tag it (Some (Selected view)) reply e stays lasts =
+    turn_goes_on setting home conn session tag it (Some (Selected view)) reply e stays refl (λ connection. refl)
+turn_taken setting home conn session tag it (Some session_ended) reply e is_end lasts =
+    last tag it reply refl
+    (λ store. rw e refl)
+    (λ store. rw e tt)
+    is_end
+    (λ connection s. ap (λ x. need_in home conn connection tag (need_of setting x it)) s ∙ ap (need_in home conn connection tag) e)
 
 need_taken : (setting : Setting) (home : List ℕ) (conn : ℕ) (session : Sess) (tag : Tag) (it : Command) (need : Need) → need_of setting session it ≡ need
     → has_ended session ≡ false → IsTaken setting home conn session (a_command tag it)
@@ -46,25 +88,12 @@ need_taken setting home conn session tag it (Refusal verdict) e lasts =
     refl lasts
     (λ connection s. ap (λ x. need_in home conn connection tag (need_of setting x it)) s ∙ ap (need_in home conn connection tag) e
     ∙ ap (λ x. answers conn connection x tag (reply_of verdict)) s)
-need_taken setting home conn session tag it (Login user) e lasts =
-    here tag (completed (codes "LOGIN")) (In user)
-    (λ store. rw e refl)
-    (λ store. rw e tt)
-    refl refl
-    (λ connection s. ap (λ x. need_in home conn connection tag (need_of setting x it)) s ∙ ap (need_in home conn connection tag) e)
 need_taken setting home conn session tag it (turned_at_once turn) e lasts =
-    let goes_on = turned_goes_on setting session it turn e in
-    here tag turn.reply (session_after session turn.session)
-    (λ store. rw e refl)
-    (λ store. rw e tt)
-    (turned_ends setting session it turn e ∙ goes_on) (ended_by session turn.session lasts ∙ goes_on)
-    (λ connection s. ap (λ x. need_in home conn connection tag (need_of setting x it)) s ∙ ap (need_in home conn connection tag) e
-    ∙ ap (λ x. answers conn connection (session_after x turn.session) tag turn.reply) s)
+    turn_taken setting home conn session tag it turn.session turn.reply e (turned_ends setting session it turn e) lasts
 need_taken setting home conn session tag it (Mailbox name work) e lasts =
     asked tag it name work refl e
     (λ connection s. ap (λ x. need_in home conn connection tag (need_of setting x it)) s ∙ ap (need_in home conn connection tag) e)
 
--- no request ends a session that the frontend answers by itself
 pub request_taken : (setting : Setting) (home : List ℕ) (conn : ℕ) (session : Sess) (request : Request) → has_ended session ≡ false
     → IsTaken setting home conn session request
 unfolding answer_of MayTake request_in ends

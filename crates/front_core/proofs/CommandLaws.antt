@@ -7,7 +7,7 @@ use Rattle.imap_wire.specs.declared.frame.Frame.TheVariants.{Whole, NeedLiteral,
 use Rattle.link_msg.specs.declared.answer.BackAnswer.{BackAnswer}
 use Rattle.mur_model.specs.declared.command.Tag.{Tag}
 use Rattle.mur_model.specs.declared.need.Need.{Need}
-use Rattle.mur_model.specs.declared.need.Need.TheVariants.{Refusal, Login, Turned, Mailbox}
+use Rattle.mur_model.specs.declared.need.Need.TheVariants.{Refusal, Turned, Mailbox}
 use Rattle.mur_model.specs.declared.reply.Reply.{Reply}
 use Rattle.mur_model.specs.declared.request.Request.{Request}
 use Rattle.mur_model.specs.declared.request.Request.TheVariants.{Command as a_command, Unknown as unknown, TooBig as too_big}
@@ -22,16 +22,23 @@ use Rattle.front_core.specs.declared.connection.Stage.TheVariants.{Reading, Aske
 use Rattle.front_core.specs.Answered.{answer_comes, answer_by, turned, replied, reading_again}
 use Rattle.front_core.specs.Front.{is_asked}
 use Rattle.front_core.specs.Room.{commands_of}
-use Rattle.front_core.specs.Taken.{answers, asks, need_in, request_in, frame_in, comes_at, frame_comes, frames_come}
+use Rattle.front_core.specs.Taken.{answers, answers_last, asks, turns, need_in, request_in, frame_in, comes_at, frame_comes, frames_come}
 use Rattle.session_core.specs.declared.asking.Awaited.{Awaited}
 use Rattle.session_core.specs.Finish.{finish}
 
 module _ (setting : Setting) (home : List ℕ) (conn : ℕ) where
+  turns_count : (c : Connection) (tag : Tag) (reply : Reply) (session : Option Sess) → commands_of (turns conn c tag reply session).connection ≤ commands_of c + 1
+  unfolding turns answers answers_last is_asked
+  turns_count c tag reply None = omega arith
+  turns_count c tag reply (Some Off) = omega arith
+  turns_count c tag reply (Some (In user)) = omega arith
+  turns_count c tag reply (Some (Selected view)) = omega arith
+  turns_count c tag reply (Some session_ended) = omega arith
+
   need_counts : (c : Connection) (tag : Tag) (need : Need) → commands_of (need_in home conn c tag need).connection ≤ commands_of c + 1
   unfolding need_in answers asks is_asked
   need_counts c tag (Refusal verdict) = omega arith
-  need_counts c tag (Login user) = omega arith
-  need_counts c tag (Turned turn) = omega arith
+  need_counts c tag (Turned turn) = turns_count c tag turn.reply turn.session
   need_counts c tag (Mailbox name work) = omega arith
 
   request_counts : (c : Connection) (request : Request) → commands_of (request_in setting home conn c request).connection ≤ commands_of c + 1

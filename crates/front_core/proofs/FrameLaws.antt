@@ -1,19 +1,22 @@
 -- What a frame makes of a connection depends neither on its reader nor on the frames that wait, and changes neither.
-use Rattle.std.proofs.Common.{◌≡◌, ℕ, List, Option, refl, sym, ◌∙◌, ap}
+use Rattle.std.proofs.Common.{◌≡◌, ℕ, List, Option, None, Some, refl, sym, ◌∙◌, ap}
 use Rattle.imap_command.specs.Request.{request_of, too_big_request}
 use Rattle.imap_wire.specs.declared.frame.Frame.{Frame}
 use Rattle.imap_wire.specs.declared.frame.Frame.TheVariants.{Whole, NeedLiteral, TooBig, Fault}
 use Rattle.mur_model.specs.declared.command.Tag.{Tag}
 use Rattle.mur_model.specs.declared.need.Need.{Need}
-use Rattle.mur_model.specs.declared.need.Need.TheVariants.{Refusal, Login, Turned as turned_at_once, Mailbox}
+use Rattle.mur_model.specs.declared.need.Need.TheVariants.{Refusal, Turned as turned_at_once, Mailbox}
+use Rattle.mur_model.specs.declared.reply.Reply.{Reply}
 use Rattle.mur_model.specs.declared.request.Request.{Request}
 use Rattle.mur_model.specs.declared.request.Request.TheVariants.{Command as a_command, Unknown as unknown, TooBig as too_big}
+use Rattle.mur_model.specs.declared.session.Sess.{Sess}
+use Rattle.mur_model.specs.declared.session.Sess.TheVariants.{Off, In, Selected, Ended as session_ended}
 use Rattle.mur_model.specs.declared.setting.Setting.{Setting}
 use Rattle.mur_model.specs.Act.{need_of}
 use Rattle.front_core.specs.declared.connection.Connection.{Connection}
 use Rattle.front_core.specs.declared.connection.Stage.{Stage}
 use Rattle.front_core.specs.declared.connection.Stage.TheVariants.{Reading, Asked, Ended}
-use Rattle.front_core.specs.Taken.{Turned, answers, asks, need_in, request_in, frame_in, comes_at, frame_comes}
+use Rattle.front_core.specs.Taken.{Turned, answers, answers_last, asks, turns, need_in, request_in, frame_in, comes_at, frame_comes}
 
 -- with another reader, and other frames that wait
 abbrev pub holding : Option (List ℕ) → List Frame → Turned → Turned
@@ -24,12 +27,20 @@ reading reader turned = record turned { connection = record turned.connection { 
 
 module _ (setting : Setting) (home : List ℕ) (conn : ℕ) (reader : Option (List ℕ)) where
   module _ (waiting : List Frame) where
+    turns_apart : (c : Connection) (tag : Tag) (reply : Reply) (session : Option Sess)
+        → turns conn (record c { reader = reader; waiting = waiting }) tag reply session ≡ holding reader waiting (turns conn c tag reply session)
+    unfolding turns answers answers_last
+    turns_apart c tag reply None = refl
+    turns_apart c tag reply (Some Off) = refl
+    turns_apart c tag reply (Some (In user)) = refl
+    turns_apart c tag reply (Some (Selected view)) = refl
+    turns_apart c tag reply (Some session_ended) = refl
+
     need_apart : (c : Connection) (tag : Tag) (need : Need)
         → need_in home conn (record c { reader = reader; waiting = waiting }) tag need ≡ holding reader waiting (need_in home conn c tag need)
     unfolding need_in answers asks
     need_apart c tag (Refusal verdict) = refl
-    need_apart c tag (Login user) = refl
-    need_apart c tag (turned_at_once turn) = refl
+    need_apart c tag (turned_at_once turn) = turns_apart c tag turn.reply turn.session
     need_apart c tag (Mailbox name work) = refl
 
     request_apart : (c : Connection) (request : Request)

@@ -1,7 +1,7 @@
 -- Only a session that has begun works at a mailbox.
 use Rattle.std.specs.Prelude.{⊤}
 use Rattle.mur_model.specs.declared.need.Need.{Need}
-use Rattle.mur_model.specs.declared.need.Need.TheVariants.{Refusal, Login, Turned, Mailbox}
+use Rattle.mur_model.specs.declared.need.Need.TheVariants.{Refusal, Turned, Mailbox}
 use Rattle.mur_model.specs.declared.session.Sess.{Sess}
 use Rattle.mur_model.specs.declared.session.Sess.TheVariants.{Off, In, Selected, Ended}
 
@@ -13,6 +13,5 @@ HasBegun Ended = ⊥
 
 unfoldable pub MayNeed : Sess → Need → Type 0
 MayNeed session (Refusal verdict) = ⊤
-MayNeed session (Login user) = ⊤
 MayNeed session (Turned turn) = ⊤
 MayNeed session (Mailbox name work) = HasBegun session

@@ -1,6 +1,6 @@
 -- A connection: what a frame of its client makes of it, and what it lets out. One command at a time: frames that come behind
 -- a command which waits for a home wait with it (RFC 9051, 5.5).
-use Rattle.std.specs.Prelude.{ℕ, ◌+◌, List, [], ◌∷◌, ◌++◌, codes}
+use Rattle.std.specs.Prelude.{ℕ, ◌+◌, List, [], ◌∷◌, ◌++◌, Option, Some}
 use Rattle.imap_command.specs.Request.{request_of, too_big_request}
 use Rattle.imap_reply.specs.ByeLine.{bye_line, bye_of}
 use Rattle.imap_reply.specs.Continuation.{ready}
@@ -14,7 +14,7 @@ use Rattle.link_msg.specs.declared.out.Out.{Out}
 use Rattle.link_msg.specs.declared.out.Out.TheVariants.{Client, Close, Link, Mark}
 use Rattle.mur_model.specs.declared.command.Tag.{Tag}
 use Rattle.mur_model.specs.declared.need.Need.{Need}
-use Rattle.mur_model.specs.declared.need.Need.TheVariants.{Refusal, Login, Turned as turned_at_once, Mailbox}
+use Rattle.mur_model.specs.declared.need.Need.TheVariants.{Refusal, Turned as turned_at_once, Mailbox}
 use Rattle.mur_model.specs.declared.need.Work.{Work}
 use Rattle.mur_model.specs.declared.reply.BadText.TheVariants.{Syntax}
 use Rattle.mur_model.specs.declared.reply.NoText.TheVariants.{Limit}
@@ -26,7 +26,7 @@ use Rattle.mur_model.specs.declared.session.Sess.{Sess}
 use Rattle.mur_model.specs.declared.session.Sess.TheVariants.{Off, In, Selected, Ended as session_ended}
 use Rattle.mur_model.specs.declared.setting.Setting.{Setting}
 use Rattle.mur_model.specs.Act.{need_of, session_after}
-use Rattle.mur_model.specs.Reply.{reply_of, completed, refused}
+use Rattle.mur_model.specs.Reply.{reply_of, refused}
 use Rattle.front_core.specs.declared.connection.Connection.{Connection}
 use Rattle.front_core.specs.declared.connection.Stage.{Stage}
 use Rattle.front_core.specs.declared.connection.Stage.TheVariants.{Reading, Asked, Ended}
@@ -43,6 +43,18 @@ answers conn connection session tag reply = record {
   connection = record connection { session = session; answered = connection.answered + 1 };
   outs = Client conn (reply_text tag reply) ∷ Mark (record { conn = conn; command = connection.answered + 1 }) Always ∷ [];
 }
+
+-- the last answer of a connection; it counts as carried out in this step
+unfoldable pub answers_last : ℕ → Connection → Tag → Reply → Turned
+answers_last conn connection tag reply = record {
+  connection = record connection { session = session_ended; stage = Ended; answered = connection.answered + 1 };
+  outs = Client conn (reply_text tag reply) ∷ Mark (record { conn = conn; command = connection.answered + 1 }) Always ∷ Close conn ∷ [];
+}
+
+-- a reply that is given at once: where the session has ended nothing follows it (RFC 9051, 7.1.5)
+unfoldable pub turns : ℕ → Connection → Tag → Reply → Option Sess → Turned
+turns conn connection tag reply (Some session_ended) = answers_last conn connection tag reply
+turns conn connection tag reply session = answers conn connection (session_after connection.session session) tag reply
 
 -- the user of a session that has begun
 unfoldable pub user_of : Sess → List ℕ
@@ -69,8 +81,7 @@ asks home conn connection tag name work = record {
 
 unfoldable pub need_in : List ℕ → ℕ → Connection → Tag → Need → Turned
 need_in home conn connection tag (Refusal verdict) = answers conn connection connection.session tag (reply_of verdict)
-need_in home conn connection tag (Login user) = answers conn connection (In user) tag (completed (codes "LOGIN"))
-need_in home conn connection tag (turned_at_once turn) = answers conn connection (session_after connection.session turn.session) tag turn.reply
+need_in home conn connection tag (turned_at_once turn) = turns conn connection tag turn.reply turn.session
 need_in home conn connection tag (Mailbox name work) = asks home conn connection tag name work
 
 unfoldable pub request_in : Setting → List ℕ → ℕ → Connection → Request → Turned

@@ -6,7 +6,7 @@ ghost use Rattle.imap_reply.specs.Continuation.{ready};
 ghost use Rattle.imap_reply.specs.ReplyText.{reply_text};
 ghost use Rattle.mur_model.specs.Reply.{reply_of};
 ghost use Rattle.front_core.specs.Begun.{MayNeed};
-ghost use Rattle.front_core.specs.Taken.{frame_comes, frame_in, request_in, need_in, answers, behind_outs};
+ghost use Rattle.front_core.specs.Taken.{frame_comes, frame_in, request_in, need_in, answers, answers_last, turns, behind_outs};
 
 use crate::asks::asks;
 use crate::connection::{Connection, Stage};
@@ -16,8 +16,8 @@ use imap_wire::{Frame, FrameFault};
 use link_msg::{Counts, Out, Outs};
 use mur_base::{AskId, Bytes, Memory, NodeName};
 use mur_model::{
-    BadText, Bye, Need, NoText, Reply, ReplyLines, Request, Sess, Setting, Tag, Verdict, begin,
-    completed, refused, turned,
+    BadText, Bye, Need, NoText, Reply, ReplyLines, Request, Sess, Setting, Tag, Turn, Verdict,
+    begin, refused, turned,
 };
 use std::alloc::Global;
 
@@ -152,17 +152,50 @@ fn need_in(
             let reply = reply_of(alloc, verdict);
             answers(alloc, conn, connection, &tag, reply, outs)
         }
-        Need::Login(user) => {
-            connection.session = Sess::In(user);
-            let reply = completed(alloc, b"LOGIN")?;
-            answers(alloc, conn, connection, &tag, reply, outs)
-        }
-        Need::Turned(turn) => {
-            let reply = turned(&mut connection.session, turn);
-            answers(alloc, conn, connection, &tag, reply, outs)
-        }
+        Need::Turned(turn) => turns(alloc, conn, connection, &tag, turn, outs),
         Need::Mailbox(name, work) => asks(alloc, home, conn, connection, tag, name, work, outs),
     }
+}
+
+/// A reply that is given at once: where the session has ended nothing follows it (RFC 9051, 7.1.5).
+#[tactic(auto, using(std::proofs::lemmas::Grind::common_steps), unfolding(crate::specs::Taken::turns))]
+fn turns(
+    alloc: Global,
+    conn: u64,
+    connection: &mut Connection,
+    tag: &Tag,
+    turn: Turn,
+    outs: &mut Outs,
+) -> Result<(), Memory>
+    requires room { connection.old.answered + 1 < 2 ^ 64 }
+    ensures { OnOk result (record { connection = connection.new; outs = outs.new }
+        ≡ behind_outs outs.old (turns conn connection.old tag.now turn.reply turn.session)) }
+{
+    if let Some(Sess::Ended) = turn.session {
+        return answers_last(alloc, conn, connection, tag, turn.reply, outs);
+    }
+    let reply = turned(&mut connection.session, turn);
+    answers(alloc, conn, connection, tag, reply, outs)
+}
+
+/// The last answer of a connection.
+#[tactic(auto, using(std::proofs::lemmas::Grind::common_steps), unfolding(crate::specs::Taken::answers_last, crate::specs::Taken::answers))]
+fn answers_last(
+    alloc: Global,
+    conn: u64,
+    connection: &mut Connection,
+    tag: &Tag,
+    reply: Reply,
+    outs: &mut Outs,
+) -> Result<(), Memory>
+    requires room { connection.old.answered + 1 < 2 ^ 64 }
+    ensures { OnOk result (record { connection = connection.new; outs = outs.new }
+        ≡ behind_outs outs.old (answers_last conn connection.old tag.now reply)) }
+{
+    connection.session = Sess::Ended;
+    connection.stage = Stage::Ended;
+    answers(alloc, conn, connection, tag, reply, outs)?;
+    outs.push(Out::Close(conn))
 }
 
 fn reply_of(alloc: Global, verdict: Verdict) -> Reply

@@ -24,7 +24,7 @@ use Rattle.mur_model.specs.declared.command.Command.TheVariants as command
 use Rattle.mur_model.specs.declared.command.StatusItem.{StatusItem}
 use Rattle.mur_model.specs.declared.fetch.Fetching.{Fetching}
 use Rattle.mur_model.specs.declared.need.Need.{Need}
-use Rattle.mur_model.specs.declared.need.Need.TheVariants.{Refusal, Login as begins, Turned, Mailbox}
+use Rattle.mur_model.specs.declared.need.Need.TheVariants.{Refusal, Turned, Mailbox}
 use Rattle.mur_model.specs.declared.need.ViewWork.{ViewWork}
 use Rattle.mur_model.specs.declared.need.ViewWork.TheVariants as view_work
 use Rattle.mur_model.specs.declared.need.Work.{Work}
@@ -58,8 +58,9 @@ use Rattle.mur_model.specs.Expunge.{expunge_on, expunge_at, expunge_told}
 use Rattle.mur_model.specs.Fetch.{fetch_on, fetch_at, fetch_told, fetch_lines, sees, seen_flags}
 use Rattle.mur_model.specs.Left.{Worked, replied, kept, changed}
 use Rattle.mur_model.specs.Keys.{have_all_numbers, keys_at}
-use Rattle.mur_model.specs.Login.{login, login_as, login_by}
+use Rattle.mur_model.specs.Login.{login, login_as, login_by, login_failed}
 use Rattle.mur_model.specs.NamedRows.{last_uid}
+use Rattle.mur_model.specs.Plain.{acts_as, authenticate, authenticate_as, authenticate_by, authenticate_with, cut_at_nul, decoded}
 use Rattle.mur_model.specs.News.{news}
 use Rattle.mur_model.specs.Reply.{reply_of}
 use Rattle.mur_model.specs.Rights.{user_named, has_rights, may_create}
@@ -238,24 +239,49 @@ worked_ends store name work serial = work_ends name work serial (is_spent store.
 
 -- what a command needs
 
--- what comes of a command at once ends no session
+-- what comes of a command at once
 abbrev pub NeedEnds : Need → Type 0
-NeedEnds (Turned turn) = TurnEnds turn × (ends_session turn.session ≡ false)
+NeedEnds (Turned turn) = TurnEnds turn
 NeedEnds need = ⊤
 
 either_needs : (test : Bool) (one other : Need) → NeedEnds one → NeedEnds other → NeedEnds (if test then one else other)
 either_needs true one other is is_other = is
 either_needs false one other is is_other = is_other
 
-login_by_ends : (user : List ℕ) (known : Bool) → NeedEnds (login_by user known)
-unfolding login_by
-login_by_ends user true = tt
-login_by_ends user false = tt
+login_by_ends : (command user : List ℕ) (known : Bool) → NeedEnds (login_by command user known)
+unfolding login_by ends
+login_by_ends command user true = refl
+login_by_ends command user false = tt
 
-login_ends : (user : Option User) (password : List ℕ) → NeedEnds (login_as user password)
+login_as_ends : (command : List ℕ) (user : Option User) (password : List ℕ) → NeedEnds (login_as command user password)
 unfolding login_as
-login_ends None password = tt
-login_ends (Some user) password = login_by_ends user.name (bytes_eq user.password password)
+login_as_ends command None password = tt
+login_as_ends command (Some user) password = login_by_ends command user.name (bytes_eq user.password password)
+
+login_ends : (users : List User) (command user password : List ℕ) → NeedEnds (login users command user password)
+unfolding login
+login_ends users command user password = login_as_ends command (user_named users user) password
+
+plain_by_ends : (users : List User) (authzid : List ℕ) (rest : Option (List ℕ × List ℕ)) → NeedEnds (authenticate_by users authzid rest)
+unfolding authenticate_by
+plain_by_ends users authzid None = tt
+plain_by_ends users authzid (Some (user, password)) =
+    either_needs (acts_as authzid user) (login users (codes "AUTHENTICATE") user password) login_failed
+    (login_ends users (codes "AUTHENTICATE") user password) tt
+
+plain_as_ends : (users : List User) (parts : Option (List ℕ × List ℕ)) → NeedEnds (authenticate_as users parts)
+unfolding authenticate_as
+plain_as_ends users None = tt
+plain_as_ends users (Some (authzid, rest)) = plain_by_ends users authzid (cut_at_nul rest)
+
+plain_with_ends : (users : List User) (message : Option (List ℕ)) → NeedEnds (authenticate_with users message)
+unfolding authenticate_with
+plain_with_ends users None = tt
+plain_with_ends users (Some message) = plain_as_ends users (cut_at_nul message)
+
+plain_ends_so : (users : List User) (response : List ℕ) → NeedEnds (authenticate users response)
+unfolding authenticate
+plain_ends_so users response = plain_with_ends users (decoded response)
 
 make_ends : (name : List ℕ) (may : Bool) → NeedEnds (create_by name may)
 unfolding create_by
@@ -291,23 +317,30 @@ status_ends setting user name items None = status_by_ends user name items (has_r
 select_by_ends : (name : List ℕ) (it : Opening) (may : Bool) → NeedEnds (select_by name it may)
 unfolding select_by
 select_by_ends name it true = tt
-select_by_ends name it false = (unselected_ends it.user it.was_selected NoPerm, refl)
+select_by_ends name it false = unselected_ends it.user it.was_selected NoPerm
 
 select_as_ends : (setting : Setting) (user name : List ℕ) (is_writable was_selected : Bool) (fault : Option NameFault)
     → NeedEnds (select_as setting user name is_writable was_selected fault)
 unfolding select_as
-select_as_ends setting user name is_writable was_selected (Some fault) = (unselected_ends user was_selected NonExistent, refl)
+select_as_ends setting user name is_writable was_selected (Some fault) = unselected_ends user was_selected NonExistent
 select_as_ends setting user name is_writable was_selected None =
     select_by_ends name (opening user name is_writable was_selected) (has_rights setting.users user name)
 
 off_ends : (setting : Setting) (it : Command) → NeedEnds (need_off setting it)
-unfolding need_off login ends
-off_ends setting (command.Login user password) = login_ends (user_named setting.users user) password
-off_ends setting command.Noop = (refl, refl)
+unfolding need_off ends is_bye
+off_ends setting command.Capability = refl
+off_ends setting command.Noop = refl
+off_ends setting command.Logout = refl
+off_ends setting (command.Login user password) = login_ends setting.users (codes "LOGIN") user password
+off_ends setting (command.Authenticate (Some response)) = plain_ends_so setting.users response
+off_ends setting (command.Authenticate None) = tt
 off_ends setting it = tt
 
 begun_ends : (setting : Setting) (user : List ℕ) (is_selected : Bool) (it : Command) → NeedEnds (need_begun setting user is_selected it)
-unfolding need_begun create create_meant append status select
+unfolding need_begun create create_meant append status select ends is_bye
+begun_ends setting user is_selected command.Capability = refl
+begun_ends setting user is_selected command.Logout = refl
+begun_ends setting user is_selected (command.Enable names) = refl
 begun_ends setting user is_selected (command.Create text) =
     let meant = without_separator text in
     create_ends setting user (taken_name user meant) (is_inbox meant) (mail_name_fault (taken_name user meant))
@@ -327,7 +360,7 @@ unselected_needs setting user it =
 
 in_ends : (setting : Setting) (user : List ℕ) (it : Command) → NeedEnds (need_in setting user it)
 unfolding need_in ends
-in_ends setting user command.Noop = (refl, refl)
+in_ends setting user command.Noop = refl
 in_ends setting user it = unselected_needs setting user it
 
 expunge_needs : (view : View) (only : Option (List SetPart)) → NeedEnds (expunge_named view only)
@@ -338,8 +371,8 @@ view_needs : (setting : Setting) (view : View) (it : Command) → NeedEnds (need
 unfolding need_selected
 view_needs setting view command.Noop = tt
 view_needs setting view command.Close =
-    either_needs view.is_writable (at_mailbox view view_work.Close) (Turned (left_by view (codes "CLOSE"))) tt (left_ends view (codes "CLOSE"), refl)
-view_needs setting view command.Unselect = (left_ends view (codes "UNSELECT"), refl)
+    either_needs view.is_writable (at_mailbox view view_work.Close) (Turned (left_by view (codes "CLOSE"))) tt (left_ends view (codes "CLOSE"))
+view_needs setting view command.Unselect = left_ends view (codes "UNSELECT")
 view_needs setting view (command.Expunge only) =
     either_needs view.is_writable (expunge_named view only) read_only (expunge_needs view only) tt
 view_needs setting view (command.Store by_uid set mode is_silent flags) =
@@ -361,11 +394,7 @@ need_ends setting (selected view) it = view_needs setting view it
 need_ends setting Ended it = tt
 
 pub turned_ends : (setting : Setting) (session : Sess) (it : Command) (turn : Turn) → need_of setting session it ≡ Turned turn → TurnEnds turn
-turned_ends setting session it turn is = (subst NeedEnds is (need_ends setting session it)).0
-
-pub turned_goes_on : (setting : Setting) (session : Sess) (it : Command) (turn : Turn) → need_of setting session it ≡ Turned turn
-    → ends_session turn.session ≡ false
-turned_goes_on setting session it turn is = (subst NeedEnds is (need_ends setting session it)).1
+turned_ends setting session it turn is = subst NeedEnds is (need_ends setting session it)
 
 -- what comes of it
 
@@ -384,8 +413,7 @@ pub act_ends : (store : Store) (session : Sess) (serial : ℕ) (need : Need) →
     → ends (act_by store session serial need).reply ≡ has_ended (act_by store session serial need).session
 unfolding act_by ends
 act_ends store session serial (Refusal verdict) goes_on is = sym goes_on
-act_ends store session serial (begins user) goes_on is = refl
-act_ends store session serial (Turned turn) goes_on is = is.0 ∙ sym (ended_by session turn.session goes_on)
+act_ends store session serial (Turned turn) goes_on is = is ∙ sym (ended_by session turn.session goes_on)
 act_ends store session serial (Mailbox name work) goes_on is =
     let turn = (worked_at store name work serial).turn in
     worked_ends store name work serial ∙ sym (ended_by session turn.session goes_on)

@@ -3,7 +3,7 @@ use Rattle.std.proofs.Common.{◌≡◌, ℕ, ◌^◌, Bool, true, false, if◌t
 use Rattle.std.proofs.Common.{Option, None, Some}
 use Rattle.std.specs.Prelude.{All, IfSome, ⊤, unwrap_or, length}
 use Rattle.std.specs.Str.{bytes_eq}
-use Rattle.std.proofs.lemmas.List.Elements.{All-nil}
+use Rattle.std.proofs.lemmas.List.Elements.{All-nil, All-cons}
 use Rattle.mur_base.specs.declared.name.NameFault.{NameFault}
 use Rattle.mur_base.specs.declared.user.User.{User}
 use Rattle.mur_base.specs.Inbox.{taken_name, shown_name}
@@ -15,12 +15,15 @@ use Rattle.mur_model.specs.declared.command.Command.{Command}
 use Rattle.mur_model.specs.declared.command.Command.TheVariants as command
 use Rattle.mur_model.specs.declared.command.StatusItem.{StatusItem}
 use Rattle.mur_model.specs.declared.need.Need.{Need}
-use Rattle.mur_model.specs.declared.need.Need.TheVariants.{Refusal, Login as begins, Turned, Mailbox}
+use Rattle.mur_model.specs.declared.need.Need.TheVariants.{Refusal, Turned, Mailbox}
 use Rattle.mur_model.specs.declared.need.ViewWork.TheVariants as view_work
 use Rattle.mur_model.specs.declared.need.Work.{Work}
 use Rattle.mur_model.specs.declared.reply.BadText.TheVariants.{State, Syntax}
+use Rattle.mur_model.specs.declared.reply.Bye.TheVariants.{Logout as logout_bye}
 use Rattle.mur_model.specs.declared.reply.NoText.TheVariants.{NonExistent, NoPerm}
 use Rattle.mur_model.specs.declared.reply.Reply.{Reply}
+use Rattle.mur_model.specs.declared.reply.ReplyLine.{ReplyLine}
+use Rattle.mur_model.specs.declared.reply.ReplyLine.TheVariants.{Bye, Capability, Enabled}
 use Rattle.mur_model.specs.declared.reply.Verdict.TheVariants.{Bad as bad_reply}
 use Rattle.mur_model.specs.declared.request.Request.{Request}
 use Rattle.mur_model.specs.declared.request.Request.TheVariants.{Command as a_command, Unknown as unknown, TooBig as too_big}
@@ -33,11 +36,13 @@ use Rattle.mur_model.specs.declared.view.View.{View}
 use Rattle.mur_model.specs.Act.{act_by, act_of, worked_at, need_of, need_off, need_in, need_begun, need_selected, need_unselected, not_yet, wants_selected}
 use Rattle.mur_model.specs.Answer.{answer_of}
 use Rattle.mur_model.specs.Append.{new_message, append, append_as, append_by}
+use Rattle.mur_model.specs.AtOnce.{told_at_once}
 use Rattle.mur_model.specs.Create.{create, create_meant, create_as, create_by, without_separator, is_inbox}
 use Rattle.mur_model.specs.History.{Course}
 use Rattle.mur_model.specs.Keys.{have_all_numbers, keys_at}
-use Rattle.mur_model.specs.Login.{login, login_as, login_by}
+use Rattle.mur_model.specs.Login.{login, login_as, login_by, login_failed}
 use Rattle.mur_model.specs.NamedRows.{last_uid}
+use Rattle.mur_model.specs.Plain.{acts_as, authenticate, authenticate_as, authenticate_by, authenticate_with, cut_at_nul, decoded}
 use Rattle.mur_model.specs.Rights.{user_named, has_rights, may_create}
 use Rattle.mur_model.specs.Select.{select, select_as, select_by}
 use Rattle.mur_model.specs.Select.{opening}
@@ -60,7 +65,6 @@ use Rattle.mur_model.specs.declared.command.Tag.{Tag}
 
 abbrev SoundNeed : Need → Type 0
 SoundNeed (Refusal verdict) = IsSoundVerdict verdict
-SoundNeed (begins user) = ⊤
 SoundNeed (Turned turn) = SoundReply turn.reply
 SoundNeed (Mailbox name work) = SoundWork work
 
@@ -73,15 +77,41 @@ either_need : (test : Bool) (one other : Need) → SoundNeed one → SoundNeed o
 either_need true one other is is_other = is
 either_need false one other is is_other = is_other
 
-login_by_sound : (user : List ℕ) (known : Bool) → SoundNeed (login_by user known)
+-- the name of a command that begins a session
+login_by_sound : (command user : List ℕ) (known : Bool) → IsPlain command → SoundNeed (login_by command user known)
 unfolding login_by IsSoundVerdict
-login_by_sound user true = tt
-login_by_sound user false = tt
+login_by_sound command user true plain = record { lines = All-nil IsSoundLine; verdict = plain }
+login_by_sound command user false plain = tt
 
-login_sound : (user : Option User) (password : List ℕ) → SoundNeed (login_as user password)
+login_as_sound : (command : List ℕ) (user : Option User) (password : List ℕ) → IsPlain command → SoundNeed (login_as command user password)
 unfolding login_as IsSoundVerdict
-login_sound None password = tt
-login_sound (Some user) password = login_by_sound user.name (bytes_eq user.password password)
+login_as_sound command None password plain = tt
+login_as_sound command (Some user) password plain = login_by_sound command user.name (bytes_eq user.password password) plain
+
+login_sound : (users : List User) (command user password : List ℕ) → IsPlain command → SoundNeed (login users command user password)
+unfolding login
+login_sound users command user password plain = login_as_sound command (user_named users user) password plain
+
+plain_by_sound : (users : List User) (authzid : List ℕ) (rest : Option (List ℕ × List ℕ)) → SoundNeed (authenticate_by users authzid rest)
+unfolding authenticate_by IsSoundVerdict
+plain_by_sound users authzid None = tt
+plain_by_sound users authzid (Some (user, password)) =
+    either_need (acts_as authzid user) (login users (codes "AUTHENTICATE") user password) login_failed
+    (login_sound users (codes "AUTHENTICATE") user password refl) tt
+
+plain_as_sound : (users : List User) (parts : Option (List ℕ × List ℕ)) → SoundNeed (authenticate_as users parts)
+unfolding authenticate_as IsSoundVerdict
+plain_as_sound users None = tt
+plain_as_sound users (Some (authzid, rest)) = plain_by_sound users authzid (cut_at_nul rest)
+
+plain_with_sound : (users : List User) (message : Option (List ℕ)) → SoundNeed (authenticate_with users message)
+unfolding authenticate_with IsSoundVerdict
+plain_with_sound users None = tt
+plain_with_sound users (Some message) = plain_as_sound users (cut_at_nul message)
+
+authenticate_sound : (users : List User) (response : List ℕ) → SoundNeed (authenticate users response)
+unfolding authenticate
+authenticate_sound users response = plain_with_sound users (decoded response)
 
 create_by_sound : (name : List ℕ) (may : Bool) → SoundNeed (create_by name may)
 unfolding create_by IsSoundVerdict
@@ -128,18 +158,31 @@ select_sound setting user name is_writable was_selected (Some fault) e = unselec
 select_sound setting user name is_writable was_selected None e =
     select_by_sound name (opening user name is_writable was_selected) (has_rights setting.users user name) (shown_plain user name e)
 
+-- a line, and the name of its command
+at_once_sound : (line : ReplyLine) (name : List ℕ) → IsSoundLine line → IsPlain name → SoundReply (told_at_once line name).reply
+unfolding IsSoundVerdict
+at_once_sound line name sound plain = record { lines = All-cons IsSoundLine line [] sound (All-nil IsSoundLine); verdict = plain }
+
 off_sound : (setting : Setting) (it : Command) → SoundNeed (need_off setting it)
-unfolding need_off login IsSoundVerdict
-off_sound setting (command.Login user password) = login_sound (user_named setting.users user) password
+unfolding need_off IsSoundVerdict IsSoundLine
+off_sound setting command.Capability = at_once_sound Capability (codes "CAPABILITY") tt refl
 off_sound setting command.Noop = record { lines = All-nil IsSoundLine; verdict = refl }
+off_sound setting command.Logout = at_once_sound (Bye logout_bye) (codes "LOGOUT") tt refl
+off_sound setting (command.Login user password) = login_sound setting.users (codes "LOGIN") user password refl
+off_sound setting (command.Authenticate (Some response)) = authenticate_sound setting.users response
+off_sound setting (command.Authenticate None) = tt
 off_sound setting it = tt
 
 new_dated : (date : Option (List ℕ)) (other : List ℕ) → IsDate other → IfSome date IsDate → IsDate (unwrap_or date other)
 new_dated None other or is = or
 new_dated (Some date) other or is = is
 
-begun_sound : (setting : Setting) (user : List ℕ) (is_selected : Bool) (it : Command) → IsDate setting.date → IsSoundCommand it → SoundNeed (need_begun setting user is_selected it)
-unfolding need_begun create create_meant append status select IsSoundVerdict
+begun_sound : (setting : Setting) (user : List ℕ) (is_selected : Bool) (it : Command) → IsDate setting.date → IsSoundCommand it
+    → SoundNeed (need_begun setting user is_selected it)
+unfolding need_begun create create_meant append status select IsSoundVerdict IsSoundLine
+begun_sound setting user is_selected command.Capability date_is sound = at_once_sound Capability (codes "CAPABILITY") tt refl
+begun_sound setting user is_selected command.Logout date_is sound = at_once_sound (Bye logout_bye) (codes "LOGOUT") tt refl
+begun_sound setting user is_selected (command.Enable names) date_is sound = at_once_sound Enabled (codes "ENABLE") tt refl
 begun_sound setting user is_selected (command.Create text) date_is sound =
     let meant = without_separator text in
     create_sound setting user (taken_name user meant) (is_inbox meant) (mail_name_fault (taken_name user meant))
@@ -204,7 +247,6 @@ act_sound : (store : Store) (session : Sess) (serial : ℕ) (need : Need) → Is
     → SoundReply (act_by store session serial need).reply
 unfolding act_by IsSoundVerdict
 act_sound store session serial (Refusal verdict) all sound = record { lines = All-nil IsSoundLine; verdict = sound }
-act_sound store session serial (begins user) all sound = record { lines = All-nil IsSoundLine; verdict = refl }
 act_sound store session serial (Turned turn) all sound = sound
 act_sound store session serial (Mailbox name work) all sound = (worked_sound store name work serial all sound).reply
 
@@ -212,7 +254,6 @@ act_kept : (store : Store) (session : Sess) (serial : ℕ) (need : Need) → IsS
     → IsSoundStore (act_by store session serial need).store
 unfolding act_by
 act_kept store session serial (Refusal verdict) all sound = all
-act_kept store session serial (begins user) all sound = all
 act_kept store session serial (Turned turn) all sound = all
 act_kept store session serial (Mailbox name work) all sound =
     store_is store name (worked_at store name work serial).left (worked_sound store name work serial all sound).left all

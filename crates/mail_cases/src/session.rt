@@ -8,7 +8,7 @@ use link_msg::{AnswerBody, FrontAsk, LinkMsg, Out};
 use mail_message::date;
 use mur_base::{Bytes, Items, MailName, User, Users, node_name, user_name};
 use mur_model::{
-    Need, Reply, ReplyLines, Request, Sess, Setting, Tag, Turn, Work, begin, completed, turned,
+    Need, Reply, ReplyLines, Request, Sess, Setting, Tag, Turn, Work, begin, turned,
 };
 use session_core::{Asking, asked_for, finish};
 use std::alloc::Global;
@@ -87,10 +87,6 @@ fn turn_of(alloc: Global, home: &mut Backend, need: Need) -> Result<Turn> {
             },
         }),
         Need::Turned(turn) => Ok(turn),
-        Need::Login(user) => Ok(Turn {
-            session: Some(Sess::In(user)),
-            reply: completed(alloc, b"LOGIN")?,
-        }),
         Need::Mailbox(name, work) => work_at(alloc, home, name, work),
     }
 }

@@ -5,7 +5,7 @@ use Rattle.mail_message.specs.Boxes.{Content}
 use Rattle.mur_model.specs.declared.command.Command.{Command}
 use Rattle.mur_model.specs.declared.command.Command.TheVariants as command
 use Rattle.mur_model.specs.declared.need.Need.{Need}
-use Rattle.mur_model.specs.declared.need.Need.TheVariants.{Refusal, Login as begins, Turned, Mailbox}
+use Rattle.mur_model.specs.declared.need.Need.TheVariants.{Refusal, Turned, Mailbox}
 use Rattle.mur_model.specs.declared.need.ViewWork.TheVariants as work
 use Rattle.mur_model.specs.declared.need.Work.{Work}
 use Rattle.mur_model.specs.declared.need.Work.TheVariants.{Make, Append as append_work, Status as status_work, Select as select_work, Viewed as viewed_work}
@@ -19,9 +19,11 @@ use Rattle.mur_model.specs.declared.setting.Setting.{Setting}
 use Rattle.mur_model.specs.declared.store.Store.{Store}
 use Rattle.mur_model.specs.declared.view.View.{View}
 use Rattle.mur_model.specs.Append.{new_message, append, append_on}
+use Rattle.mur_model.specs.AtOnce.{capability, enable, logout}
 use Rattle.mur_model.specs.Create.{create, create_on}
 use Rattle.mur_model.specs.Left.{Worked, replied, store_after}
 use Rattle.mur_model.specs.Login.{login}
+use Rattle.mur_model.specs.Plain.{authenticate}
 use Rattle.mur_model.specs.Reply.{reply_of, completed}
 use Rattle.mur_model.specs.Select.{select, select_on}
 use Rattle.mur_model.specs.Status.{status, status_on}
@@ -32,6 +34,10 @@ use Rattle.mur_model.specs.Viewing.{at_mailbox, close, expunge, fetch, left_by, 
 abbrev pub not_yet : Need
 not_yet = Refusal (bad_reply Syntax)
 
+-- the refusal of a command that can't be carried out yet
+abbrev pub cannot_yet : Need
+cannot_yet = Refusal (no_reply Cannot)
+
 -- a command that wants a mailbox to be selected
 unfoldable pub wants_selected : Command → Bool
 wants_selected command.Close = true
@@ -39,6 +45,8 @@ wants_selected command.Unselect = true
 wants_selected (command.Expunge only) = true
 wants_selected (command.Store by_uid set mode is_silent flags) = true
 wants_selected (command.Fetch by_uid set items) = true
+wants_selected (command.Search by_uid keys) = true
+wants_selected (command.Copy by_uid set text) = true
 wants_selected it = false
 
 abbrev pub nothing_new : Need
@@ -46,29 +54,34 @@ nothing_new = Turned (replied (completed (codes "NOOP")))
 
 -- a command of a session that hasn't begun
 unfoldable pub need_off : Setting → Command → Need
-need_off setting (command.Login user password) = login setting.users user password
+need_off setting command.Capability = capability
 need_off setting command.Noop = nothing_new
-need_off setting (command.Create text) = Refusal (bad_reply State)
-need_off setting (command.Append text flags date body) = Refusal (bad_reply State)
-need_off setting (command.Status text items) = Refusal (bad_reply State)
-need_off setting (command.Select text) = Refusal (bad_reply State)
-need_off setting (command.Examine text) = Refusal (bad_reply State)
-need_off setting command.Close = Refusal (bad_reply State)
-need_off setting command.Unselect = Refusal (bad_reply State)
-need_off setting (command.Expunge only) = Refusal (bad_reply State)
-need_off setting (command.Store by_uid set mode is_silent flags) = Refusal (bad_reply State)
-need_off setting (command.Fetch by_uid set items) = Refusal (bad_reply State)
-need_off setting (command.LeftOut line) = Refusal (bad_reply State)
-need_off setting it = not_yet
+need_off setting command.Logout = logout
+need_off setting (command.Login user password) = login setting.users (codes "LOGIN") user password
+need_off setting (command.Authenticate (Some response)) = authenticate setting.users response
+need_off setting (command.Authenticate None) = not_yet
+need_off setting (command.SetAcl text id mode rights) = not_yet
+need_off setting (command.DeleteAcl text id) = not_yet
+need_off setting (command.GetAcl text) = not_yet
+need_off setting (command.MyRights text) = not_yet
+need_off setting it = Refusal (bad_reply State)
 
 -- a command of this user that a session has whether a mailbox is selected or not
 unfoldable pub need_begun : Setting → List ℕ → Bool → Command → Need
+need_begun setting user is_selected command.Capability = capability
+need_begun setting user is_selected command.Logout = logout
 need_begun setting user is_selected (command.Login name password) = Refusal (bad_reply State)
+need_begun setting user is_selected (command.Authenticate response) = Refusal (bad_reply State)
+need_begun setting user is_selected (command.Enable names) = enable
 need_begun setting user is_selected (command.Create text) = create setting user text
 need_begun setting user is_selected (command.Append text flags date body) = append setting user text (new_message setting flags date body)
 need_begun setting user is_selected (command.Status text items) = status setting user text items
 need_begun setting user is_selected (command.Select text) = select setting user text true is_selected
 need_begun setting user is_selected (command.Examine text) = select setting user text false is_selected
+need_begun setting user is_selected (command.Delete text) = cannot_yet
+need_begun setting user is_selected (command.List reference pattern) = cannot_yet
+need_begun setting user is_selected (command.Copy by_uid set text) = cannot_yet
+need_begun setting user is_selected (command.Xfer text server partition) = cannot_yet
 need_begun setting user is_selected (command.LeftOut line) = Refusal (no_reply Cannot)
 need_begun setting user is_selected it = not_yet
 
@@ -123,7 +136,6 @@ session_after session (Some later) = later
 
 unfoldable pub act_by : Store → Sess → ℕ → Need → Acted
 act_by store session serial (Refusal verdict) = record { store = store; session = session; reply = reply_of verdict }
-act_by store session serial (begins user) = record { store = store; session = In user; reply = completed (codes "LOGIN") }
 act_by store session serial (Turned turn) = record { store = store; session = session_after session turn.session; reply = turn.reply }
 act_by store session serial (Mailbox name work) =
     let worked = worked_at store name work serial in
@@ -142,7 +154,6 @@ MayWork store name serial (viewed_work view it) = ⊤
 
 unfoldable pub MayAct : Store → ℕ → Need → Type 0
 MayAct store serial (Refusal verdict) = ⊤
-MayAct store serial (begins user) = ⊤
 MayAct store serial (Turned turn) = ⊤
 MayAct store serial (Mailbox name work) = MayWork store name serial work
 

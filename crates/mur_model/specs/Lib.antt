@@ -3,6 +3,8 @@ pub mod Rights
 pub mod Reply
 pub mod Left
 pub mod Login
+pub mod Plain
+pub mod AtOnce
 pub mod Create
 pub mod Append
 pub mod Status

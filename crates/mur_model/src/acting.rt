@@ -7,7 +7,7 @@ use crate::append::append_at;
 use crate::command::Command;
 use crate::create::make;
 use crate::need::{Need, Work, begin};
-use crate::reply::{Reply, ReplyLines, completed};
+use crate::reply::{Reply, ReplyLines};
 use crate::select::select_at;
 use crate::session::{Sess, Turn};
 use crate::setting::Setting;
@@ -49,10 +49,6 @@ fn act_by(
             lines: ReplyLines::new(alloc),
             verdict,
         }),
-        Need::Login(user) => {
-            *sess = Sess::In(user);
-            completed(alloc, b"LOGIN")
-        }
         Need::Turned(turn) => Ok(turned(sess, turn)),
         Need::Mailbox(name, work) => {
             let turn = work_at(alloc, store, name, work, serial)?;

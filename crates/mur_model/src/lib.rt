@@ -4,6 +4,7 @@
 
 mod acting;
 mod append;
+mod at_once;
 mod command;
 mod create;
 mod expunge;
@@ -13,6 +14,7 @@ mod login;
 mod named_rows;
 mod need;
 mod news;
+mod plain;
 mod reply;
 mod request;
 mod rights;

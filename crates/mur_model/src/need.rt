@@ -1,14 +1,16 @@
 // What a command needs of the store (RFC 9051, 6).
 ghost use Rattle.std.specs.Prelude.{◌≡◌, IfOk};
-ghost use Rattle.mur_model.specs.Act.{need_off, need_in, need_begun, need_selected, need_of, need_unselected, not_yet};
+ghost use Rattle.mur_model.specs.Act.{need_off, need_in, need_begun, need_selected, need_of, need_unselected, not_yet, cannot_yet};
 ghost use Rattle.mur_model.specs.Act.{nothing_new, wants_selected};
 ghost use Rattle.mur_model.specs.Viewing.{at_mailbox};
 
 use crate::append::{append, new_message};
+use crate::at_once::{capability, enable, logout};
 use crate::command::{Command, StatusItems};
 use crate::create::create;
 use crate::fetch::Fetching;
 use crate::login::login;
+use crate::plain::authenticate;
 use crate::reply::{BadText, NoText, Verdict, completed};
 use crate::search::Searching;
 use crate::select::{Opening, select};
@@ -51,17 +53,16 @@ pub enum ViewWork {
     Search(Searching),
 }
 
-/// What a command needs: nothing more, as it is refused or as this comes of it at once; a session for this user; or work at a mailbox.
+/// What a command needs: nothing more, as it is refused or as this comes of it at once; or work at a mailbox.
 #[derive(Drop)]
 pub enum Need {
     Refusal(Verdict),
     Turned(Turn),
-    Login(UserName),
     Mailbox(MailName, Work),
 }
 
-/// What a command of a session needs of the store: it is refused whatever mailboxes there are, it begins a session, or
-/// there is work at a mailbox (RFC 9051, 6). The message of an APPEND isn't copied.
+/// What a command of a session needs of the store: it is refused or answered whatever mailboxes there are, or there is work
+/// at a mailbox (RFC 9051, 6). The message of an APPEND isn't copied.
 #[tactic(auto, unfolding(crate::specs::Act::need_of))]
 pub fn begin(alloc: Global, with: &Setting, sess: &Sess, command: Command) -> Result<Need, Memory>
     ensures { IfOk result (λ need. need ≡ need_of with.now sess.now command) }
@@ -79,20 +80,19 @@ fn begin_off(alloc: Global, with: &Setting, command: Command) -> Result<Need, Me
     ensures { IfOk result (λ need. need ≡ need_off with.now command) }
 {
     match command {
-        Command::Login(name, password) => login(alloc, &with.users, &name, &password),
+        Command::Capability => capability(alloc),
         Command::Noop => nothing_new(alloc),
-        Command::Create(_)
-        | Command::Append(..)
-        | Command::Status(..)
-        | Command::Select(_)
-        | Command::Examine(_)
-        | Command::Close
-        | Command::Unselect
-        | Command::Expunge(_)
-        | Command::Store(..)
-        | Command::Fetch(..)
-        | Command::LeftOut(_) => Ok(Need::Refusal(Verdict::Bad(BadText::State))),
-        _ => Ok(not_yet()),
+        Command::Logout => logout(alloc),
+        Command::Login(name, password) => {
+            login(alloc, &with.users, b"LOGIN", name.as_slice(), password.as_slice())
+        }
+        Command::Authenticate(Some(response)) => authenticate(alloc, &with.users, &response),
+        Command::Authenticate(None)
+        | Command::SetAcl(..)
+        | Command::DeleteAcl(..)
+        | Command::GetAcl(_)
+        | Command::MyRights(_) => Ok(not_yet()),
+        _ => Ok(Need::Refusal(Verdict::Bad(BadText::State))),
     }
 }
 
@@ -108,6 +108,8 @@ fn wants_selected(command: &Command) -> bool
             | Command::Expunge(_)
             | Command::Store(..)
             | Command::Fetch(..)
+            | Command::Search(..)
+            | Command::Copy(..)
     )
 }
 
@@ -161,7 +163,12 @@ fn begin_begun(
     ensures { IfOk result (λ need. need ≡ need_begun with.now user.now is_selected command) }
 {
     match command {
-        Command::Login(..) => Ok(Need::Refusal(Verdict::Bad(BadText::State))),
+        Command::Capability => capability(alloc),
+        Command::Logout => logout(alloc),
+        Command::Login(..) | Command::Authenticate(_) => {
+            Ok(Need::Refusal(Verdict::Bad(BadText::State)))
+        }
+        Command::Enable(_) => enable(alloc),
         Command::Create(text) => create(alloc, with, user, text.as_slice()),
         Command::Append(text, flags, date, body) => {
             let message = new_message(with, flags, date, body);
@@ -170,7 +177,11 @@ fn begin_begun(
         Command::Status(text, items) => status(alloc, with, user, text.as_slice(), items),
         Command::Select(text) => select(alloc, with, user, text.as_slice(), true, is_selected),
         Command::Examine(text) => select(alloc, with, user, text.as_slice(), false, is_selected),
-        Command::LeftOut(_) => Ok(Need::Refusal(Verdict::No(NoText::Cannot))),
+        Command::Delete(_)
+        | Command::List(..)
+        | Command::Copy(..)
+        | Command::Xfer(..)
+        | Command::LeftOut(_) => Ok(Need::Refusal(Verdict::No(NoText::Cannot))),
         _ => Ok(not_yet()),
     }
 }

@@ -1,0 +1,48 @@
+// Commands that the server answers at once, whatever mailboxes there are.
+ghost use Rattle.std.specs.Prelude.{◌≡◌, IfOk};
+ghost use Rattle.mur_model.specs.AtOnce.{capability, enable, logout, told_at_once};
+
+use crate::need::Need;
+use crate::reply::{Bye, Code, Reply, ReplyLine, ReplyLines, Verdict};
+use crate::session::{Sess, Turn};
+use mur_base::{Bytes, Memory};
+use std::alloc::Global;
+
+/// What CAPABILITY needs (RFC 9051, 6.1.1).
+pub fn capability(alloc: Global) -> Result<Need, Memory>
+    ensures { IfOk result (λ need. need ≡ capability) }
+{
+    let turn = told_at_once(alloc, ReplyLine::Capability, b"CAPABILITY")?;
+    Ok(Need::Turned(turn))
+}
+
+/// What LOGOUT needs (RFC 9051, 6.1.3).
+pub fn logout(alloc: Global) -> Result<Need, Memory>
+    ensures { IfOk result (λ need. need ≡ logout) }
+{
+    let Turn { reply, .. } = told_at_once(alloc, ReplyLine::Bye(Bye::Logout), b"LOGOUT")?;
+    Ok(Need::Turned(Turn {
+        session: Some(Sess::Ended),
+        reply,
+    }))
+}
+
+/// What ENABLE needs (RFC 9051, 6.3.1).
+pub fn enable(alloc: Global) -> Result<Need, Memory>
+    ensures { IfOk result (λ need. need ≡ enable) }
+{
+    let turn = told_at_once(alloc, ReplyLine::Enabled, b"ENABLE")?;
+    Ok(Need::Turned(turn))
+}
+
+fn told_at_once(alloc: Global, line: ReplyLine, name: &[u8]) -> Result<Turn, Memory>
+    ensures { IfOk result (λ turn. turn ≡ told_at_once line name.now) }
+{
+    let mut lines = ReplyLines::new(alloc);
+    lines.push(line)?;
+    let verdict = Verdict::Ok(Code::None, Bytes::from_slice(alloc, name)?);
+    Ok(Turn {
+        session: None,
+        reply: Reply { lines, verdict },
+    })
+}
