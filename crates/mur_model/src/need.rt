@@ -84,7 +84,13 @@ fn begin_off(alloc: Global, with: &Setting, command: Command) -> Result<Need, Me
         Command::Noop => nothing_new(alloc),
         Command::Logout => logout(alloc),
         Command::Login(name, password) => {
-            login(alloc, &with.users, b"LOGIN", name.as_slice(), password.as_slice())
+            login(
+                alloc,
+                &with.users,
+                b"LOGIN",
+                name.as_slice(),
+                password.as_slice(),
+            )
         }
         Command::Authenticate(Some(response)) => authenticate(alloc, &with.users, &response),
         Command::Authenticate(None)
