@@ -17,7 +17,7 @@ ghost use Rattle.cluster_core.specs.World.{start};
 use crate::happens::happens;
 use crate::history::history;
 use crate::homes::home_rows;
-use crate::start::start;
+use crate::start::{dated, start};
 use crate::world::World;
 use mur_base::{Items, MailName, Memory, NodeName, Phase, Point};
 use mur_config::Config;
@@ -67,6 +67,7 @@ impl Cluster {
         ensures nodes { AreNodes config.now.nodes }
         ensures date { IsDate config.now.date }
     {
+        dated(config);
         Ok(Cluster {
             alloc,
             world: start(alloc, config)?,

@@ -1,5 +1,6 @@
 // The cluster before its first event.
 ghost use Rattle.std.specs.Prelude.{◌≡◌, ◌<◌, length, IfOk, OnOk};
+ghost use Rattle.imap_command.specs.Ruled.{IsDate};
 ghost use Rattle.mur_config.specs.Nodes.{AreNodes};
 ghost use Rattle.cluster_core.specs.World.{start, backends_of, first_name, setting_of, with_node, with_nodes};
 
@@ -10,6 +11,14 @@ use mur_base::{Copied, Items, Location, Map, Memory, NodeName};
 use mur_config::{Config, Kind, Node};
 use mur_model::Setting;
 use std::alloc::Global;
+
+/// The date of a configuration is one, which its type keeps. The call does nothing.
+#[tactic(auto, using(mail_fetch::proofs::PartLaws::dated))]
+pub fn dated(config: &Config)
+    ensures { IsDate config.now.date }
+{
+    let _text = config.date.as_bytes();
+}
 
 /// Every node as it begins: no connection, nothing on its way.
 #[tactic(auto, unfolding(crate::specs::World::start))]
