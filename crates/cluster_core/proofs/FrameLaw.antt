@@ -56,7 +56,7 @@ use Rattle.cluster_core.proofs.ConnectionLaw.{IsMade, ReadsOn, StandsOn, session
 use Rattle.cluster_core.proofs.ConnectionLaw.OnItsWay.{there}
 use Rattle.cluster_core.proofs.ConnectionLaw.Stands.{reads, waits, faulted, finished}
 use Rattle.cluster_core.proofs.FrontAnswers.{IsTaken, request_taken}
-use Rattle.cluster_core.proofs.FrontAnswers.IsTaken.{here, last, asked}
+use Rattle.cluster_core.proofs.FrontAnswers.IsTaken.{here, finishes, asked}
 use Rattle.cluster_core.proofs.RequestsOf.{requests_of, requests-append, answered_lengths, next_request, replies_stop}
 use Rattle.cluster_core.proofs.ServedAlike.{IsStoreOf}
 use Rattle.cluster_core.proofs.Told.{IsTold, having_said, next_course, told_push}
@@ -520,15 +520,15 @@ request_kept : (setting : Setting) (front home : List ℕ) (backend : Backend) (
     (frames_come setting home conn connection (Whole bytes ∷ new)).connection before told
     (carry_all front world (frames_come setting home conn connection (Whole bytes ∷ new)).outs)
 unfolding frame_in requests_of carry_all
-request_kept setting front home backend conn frames new bytes held connection before told world was ends_so all follow
+request_kept setting front home backend conn frames new bytes held connection before told world was last all follow
     (here tag reply session is free stays lasts form) =
     read_on setting front home backend conn frames new (Whole bytes) held connection before told world (answers conn connection session tag reply)
     (reads_frame setting home conn connection (Whole bytes) was.reading.stage_is ∙ form connection was.reading.session_is) all follow
     (answered_here setting front home backend conn frames (frames ++ Whole bytes ∷ []) connection before told world (request_of bytes) tag reply session was
     (next_of setting front home backend conn frames new (Whole bytes) connection before told world (request_of bytes) was all refl) is free stays lasts
     (λ answer on. whole_answered frames (was.story.told conn) bytes answer was.reading.answered on))
-request_kept setting front home backend conn frames new bytes held connection before told world was ends_so all follow
-    (last tag it reply command is free is_end form) =
+request_kept setting front home backend conn frames new bytes held connection before told world was last all follow
+    (finishes tag it reply command is free is_end form) =
     let turned : Turned = answers_last conn connection tag reply in
     came_on setting front home backend conn (frames ++ Whole bytes ∷ new) held connection before told world (Whole bytes) new turned
     (reads_frame setting home conn connection (Whole bytes) was.reading.stage_is ∙ form connection was.reading.session_is)
@@ -536,7 +536,7 @@ request_kept setting front home backend conn frames new bytes held connection be
     (carry_all front (carry_all front world turned.outs) t.outs)) (sym (last_turned setting home conn connection tag reply new))
     (last_here setting front home backend conn frames new held connection before told world bytes (request_of bytes) tag reply was
     (next_of setting front home backend conn frames new (Whole bytes) connection before told world (request_of bytes) was all refl) is free is_end))
-request_kept setting front home backend conn frames new bytes held connection before told world was ends_so all follow
+request_kept setting front home backend conn frames new bytes held connection before told world was last all follow
     (asked tag it name work is need form) =
     let turned : Turned = asks home conn connection tag name work in
     let waits_all : frames_come setting home conn turned.connection new ≡
@@ -548,7 +548,7 @@ request_kept setting front home backend conn frames new bytes held connection be
     (reads_frame setting home conn connection (Whole bytes) was.reading.stage_is ∙ form connection was.reading.session_is)
     (subst (λ (t : Turned). StandsOn setting front home backend conn (frames ++ Whole bytes ∷ new) held t.connection before told
     (carry_all front (carry_all front world turned.outs) t.outs)) (sym waits_all)
-    (asked_kept setting front home backend conn frames new held connection before told world bytes tag it name work was is need ends_so))
+    (asked_kept setting front home backend conn frames new held connection before told world bytes tag it name work was is need last))
 
 big_kept : (setting : Setting) (front home : List ℕ) (backend : Backend) (conn : ℕ) (frames new : List Frame) (bytes : List ℕ) (held : Option (List ℕ))
     (connection : Connection) (before : World) (told : Story) (world : World)
@@ -566,7 +566,7 @@ big_kept setting front home backend conn frames new bytes held connection before
     (next_of setting front home backend conn frames new (TooBig bytes) connection before told world (too_big_request bytes) was all refl) is free stays lasts
     (λ answer on. too_big_answered frames (was.story.told conn) bytes answer was.reading.answered on))
 big_kept setting front home backend conn frames new bytes held connection before told world was all follow
-    (last tag it reply is answered free is_end form) = cc
+    (finishes tag it reply is answered free is_end form) = cc
 big_kept setting front home backend conn frames new bytes held connection before told world was all follow (asked tag it name work is need form) = cc
 
 -- all frames of a piece, or all that waited

@@ -33,7 +33,7 @@ pub data IsTaken (setting : Setting) (home : List ℕ) (conn : ℕ) (session : S
       → ends reply ≡ false → has_ended next ≡ false
       → ((connection : Connection) → connection.session ≡ session → request_in setting home conn connection request ≡ answers conn connection next tag reply)
       → IsTaken setting home conn session request
-  last : (tag : Tag) (it : Command) (reply : Reply) → request ≡ a_command tag it
+  finishes : (tag : Tag) (it : Command) (reply : Reply) → request ≡ a_command tag it
       → ((store : Store) → answer_of setting store session request 0
       ≡ record { store = store; session = session_ended; answer = record { tag = tag; reply = reply } })
       → ((store : Store) → MayTake setting store session request 0)
@@ -72,7 +72,7 @@ turn_taken setting home conn session tag it (Some (In user)) reply e stays lasts
 turn_taken setting home conn session tag it (Some (Selected view)) reply e stays lasts =
     turn_goes_on setting home conn session tag it (Some (Selected view)) reply e stays refl (λ connection. refl)
 turn_taken setting home conn session tag it (Some session_ended) reply e is_end lasts =
-    last tag it reply refl
+    finishes tag it reply refl
     (λ store. rw e refl)
     (λ store. rw e tt)
     is_end
