@@ -2,15 +2,17 @@
 """What README.md says that a schedule prints, worked out beside the program:  tests/model.py CONFIG SCHEDULE
 
 It is written from README.md and RFC 9051 alone, and knows no proof and no code of the program. It keeps every byte of a
-connection and cuts it anew, so it is slow and plain. `.ci/large` compares the program with it, and the outputs of
-tests/replays were worked out by it and read.
+connection and cuts it anew, so it is slow and plain. What a frame spells is in commands.py. `.ci/large` and `tests/random_schedules`
+compare the program with it, and the outputs of tests/replays were worked out by it and read.
 """
-import json, re, sys
-from collections import deque
+import base64, binascii, json, re, sys
+from collections import deque, namedtuple
+
+sys.dont_write_bytecode = True
+from commands import LEFT_OUT, MONTHS, SYSTEM, command_of, first_tag, is_utf8, keywords
 
 GREETING = b'* OK [CAPABILITY IMAP4rev2 AUTH=PLAIN] murder ready\r\n'
 LINE_LIMIT, MESSAGE_LIMIT, LITERALS_LIMIT, PLUS_LIMIT = 8_192, 1_048_576, 1_056_768, 4_096
-SYSTEM = (b'\\Answered', b'\\Flagged', b'\\Deleted', b'\\Seen', b'\\Draft')
 SYNTAX, STATE, MESSAGE = b'BAD syntax error', b'BAD not in this state', b'BAD no such message'
 CANNOT, NO_RIGHT, LIMIT = b'NO [CANNOT] cannot be done', b'NO [NOPERM] not permitted', b'NO [LIMIT] too large or too many'
 CLOSED = b'* OK [CLOSED] closed\r\n'
@@ -79,143 +81,23 @@ class Frames:
                 frames.append(('wait',))
 
 
-ATOM = rb'[!#$&\'+,\-./0-9:;<=>?@A-Z\[\]^_`a-z|}~]+'
+NOT_DONE = LEFT_OUT + (b'DELETE', b'LIST', b'COPY', b'UID COPY', b'XFER')
+NAMED_MAILBOX = (b'CREATE', b'APPEND', b'STATUS', b'SELECT', b'EXAMINE')
+ANY_STATE, LOGGED_OUT = (b'CAPABILITY', b'NOOP', b'LOGOUT'), (b'LOGIN', b'AUTHENTICATE')
+LOGGED_IN = NOT_DONE + NAMED_MAILBOX + (b'ENABLE', b'IDLE')  # the others need a mailbox that is selected
+BY_NUMBER = (b'FETCH', b'STORE', b'SEARCH')
 
 
-def string_at(text, at):
-    """An astring that begins here, and the place behind it."""
-    quoted = re.compile(rb'"((?:[\x01-\x09\x0b\x0c\x0e-\x21\x23-\x5b\x5d-\x7f\x80-\xff]|\\["\\])*)"').match(text, at)
-    if quoted:
-        try:
-            quoted[1].decode('utf-8')
-        except UnicodeDecodeError:
-            return None
-        return re.sub(rb'\\(["\\])', rb'\1', quoted[1]), quoted.end()
-    literal = re.compile(rb'\{(\d+)\+?\}\r\n').match(text, at)
-    if literal:
-        end = literal.end() + int(literal[1])
-        value = text[literal.end():end]
-        return None if b'\0' in value else (value, end)
-    atom = re.compile(ATOM).match(text, at)
-    return (atom[0], atom.end()) if atom else None
-
-
-FLAG = rb'(?:\\(?:answered|flagged|deleted|seen|draft)|[!#$&\'+,\-./0-9:;<=>?@A-Z\[^_`a-z|}~]{1,64})'
-FLAGS = rb'(?:%s(?: %s)*)' % (FLAG, FLAG)
-FLAG_LIST = re.compile(rb'\((%s?)\) ' % FLAGS, re.I)
-DATE = re.compile(rb'"(?: [1-9]|0[1-9]|[12]\d|3[01])-(?:jan|feb|mar|apr|may|jun|jul|aug|sep|oct|nov|dec)-\d{4}'
-                  rb' (?:[01]\d|2[0-3]):[0-5]\d:[0-5]\d [+-]\d{4}" ', re.I)
-RANGE = rb'(?:[1-9]\d{0,9}|\*)(?::(?:[1-9]\d{0,9}|\*))?'
-SET = rb'(%s(?:,%s)*)' % (RANGE, RANGE)
-ITEM = rb'(?:FLAGS|UID|BODY\[\]|BODY\.PEEK\[\])'
-FORMS = [re.compile(form, re.I) for form in [
-    rb'(NOOP|CLOSE|UNSELECT|EXPUNGE)\r\n',
-    rb'(UID EXPUNGE) %s\r\n' % SET,
-    rb'((?:UID )?FETCH) %s (%s|\(%s(?: %s)*\))\r\n' % (SET, ITEM, ITEM, ITEM),
-    rb'((?:UID )?STORE) %s ([+-]?)FLAGS(\.SILENT)? (\(%s?\)|%s)\r\n' % (SET, FLAGS, FLAGS)]]
-
-
-def keywords(flags):
-    return sorted(flag for flag in flags if flag[:1] != b'\\')
-
-
-def flags_of(text):
-    """The flags that are written here, each once, or None where more than 16 of them are keywords."""
-    spelled_so = {flag.lower(): flag for flag in SYSTEM}
-    flags = frozenset(spelled_so.get(flag.lower(), flag) for flag in text.split())
-    return flags if len(keywords(flags)) <= 16 else None
-
-
-def printed(flags):
-    return b'(' + b' '.join([flag for flag in SYSTEM if flag in flags] + keywords(flags)) + b')'
-
-
-def set_of(text):
-    """The two ends of each range, `*` being None; or None where a number is too large."""
-    ranges = [part.split(b':') for part in text.split(b',')]
-    ends = [[None if end == b'*' else int(end) for end in (part[0], part[-1])] for part in ranges]
-    return None if any(end and end >= 2**32 for part in ends for end in part) else ends
-
-
-def named(uids, is_uid, ranges):
-    """The UIDs of a view that a set names, or None where it has a message number that isn't there."""
-    numbers = uids if is_uid else range(1, len(uids) + 1)
-    last = numbers[-1] if numbers else 0
-    ranges = [sorted(last if end is None else end for end in part) for part in ranges]
-    if not is_uid and any(low < 1 or high > last for low, high in ranges):
-        return None
-    return [uid for uid, number in zip(uids, numbers) if any(low <= number <= high for low, high in ranges)]
-
-
-def message_at(frame, at):
-    """The place of an APPEND's literal, behind flags and a date, and the flags."""
-    flags = frozenset()
-    listed = FLAG_LIST.match(frame, at)
-    if listed:
-        flags, at = flags_of(listed[1]), listed.end()
-    date = DATE.match(frame, at)
-    if date:
-        at = date.end()
-    return (at, flags) if flags is not None and frame[at:at + 1] == b'{' else None
-
-
-def first_tag(frame):
-    tag = re.match(rb'([!#$&\',\-./0-9:;<=>?@A-Z\[\]^_`a-z|}~]{1,32}) ', frame)
-    return tag[1] if tag else None
-
-
-def command_of(frame):
-    """The tag, the word and the arguments of a frame, or its tag and None."""
-    tag = first_tag(frame)
-    if tag is None:
-        return b'*', None
-    at = len(tag) + 1
-    return tag, of_a_view(frame[at:]) or of_names(frame, at)
-
-
-def of_a_view(text):
-    """A command that names no mailbox, and what it asks for."""
-    found = next(filter(None, (form.fullmatch(text) for form in FORMS)), None)
-    if not found:
-        return None
-    word, *parts = found.groups()
-    word = word.upper()
-    asks = dict(zip(('set', 'mode', 'silent', 'flags') if word.endswith(b'STORE') else ('set', 'items'), parts))
-    if 'set' in asks:
-        asks['set'] = set_of(asks['set'])
-    if 'flags' in asks:
-        asks['flags'] = flags_of(asks['flags'].removeprefix(b'(').removesuffix(b')'))
-    if 'items' in asks:
-        asks['items'] = list(dict.fromkeys(asks['items'].upper().strip(b'()').split(b' ')))
-    return (word, asks) if None not in (asks.get('set', []), asks.get('flags', [])) else None
-
-
-def of_names(frame, at):
-    """A command on a mailbox that it names, or a LOGIN."""
-    found = re.compile(rb'(LOGIN|CREATE|APPEND|STATUS|SELECT|EXAMINE) ', re.I).match(frame, at)
-    first = string_at(frame, found.end()) if found else None
-    if not first:
-        return None
-    word, (text, at) = found[1].upper(), first
-    if word in (b'CREATE', b'SELECT', b'EXAMINE'):
-        return (word, [text]) if frame[at:] == b'\r\n' else None
-    if frame[at:at + 1] != b' ':
-        return None
-    at += 1
-    if word == b'STATUS':
-        items = re.compile(rb'\(MESSAGES(?: MESSAGES)*\)\r\n$', re.I).match(frame, at)
-        return (word, [text, items[0].upper().count(b'MESSAGES')]) if items else None
-    message = message_at(frame, at) if word == b'APPEND' else (at, None)
-    second = string_at(frame, message[0]) if message else None
-    return (word, [text, second[0], message[1]]) if second and frame[second[1]:] == b'\r\n' else None
+def is_in_state(c, word):
+    if word in ANY_STATE:
+        return True
+    if word in LOGGED_OUT:
+        return c['user'] is None
+    return c['user'] is not None and (word in LOGGED_IN or c['view'] is not None)
 
 
 def is_name(name):
-    try:
-        name.decode('utf-8')
-    except UnicodeDecodeError:
-        return False
-    return 0 < len(name) <= 255 and not re.search(rb'[\x00-\x1f\x7f"\\%*]', name) and b'' not in name.split(b'.')
+    return is_utf8(name) and 0 < len(name) <= 255 and not re.search(rb'[\x00-\x1f\x7f"\\%*]', name) and b'' not in name.split(b'.')
 
 
 def missing(word):
@@ -227,48 +109,130 @@ def printed_name(shown):
     return shown if re.fullmatch(rb'[!#$&\'+,\-./0-9:;<=>?@A-Z\[^_`a-z|}~]+', shown) else b'"' + shown + b'"'
 
 
-def is_in_state(c, word):
-    if word == b'NOOP':
+def printed(flags):
+    return b'(' + b' '.join([flag for flag in SYSTEM if flag in flags] + keywords(flags)) + b')'
+
+
+def printed_set(numbers):
+    """Rising numbers, those that follow one another as a range."""
+    runs = []
+    for number in numbers:
+        if runs and runs[-1][1] + 1 == number:
+            runs[-1][1] = number
+        else:
+            runs.append([number, number])
+    return b','.join(b'%d' % low if low == high else b'%d:%d' % (low, high) for low, high in runs)
+
+
+def is_in_set(number, ranges, last):
+    """Whether a set has a number, `*` being the last one."""
+    ranges = [sorted(last if end is None else end for end in part) for part in ranges]
+    return any(low <= number <= high for low, high in ranges)
+
+
+def has_numbers(ranges, count):
+    """Whether each number of a set is one of a view of so many messages."""
+    return all(0 < (count if end is None else end) <= count for part in ranges for end in part)
+
+
+def named(uids, is_uid, ranges):
+    """The UIDs of a view that a set names."""
+    last = (uids[-1] if is_uid else len(uids)) if uids else 0
+    return [uid for number, uid in enumerate(uids, 1) if is_in_set(uid if is_uid else number, ranges, last)]
+
+
+def number_sets(keys):
+    """The sets of message numbers in search keys, however deep they stand."""
+    for name, rest in keys:
+        if name in (b'AND', b'OR', b'NOT'):
+            yield from number_sets(rest)
+        elif name == b'NUMBERS':
+            yield rest
+
+
+def day_of(date):
+    """The day of a date text, as its client wrote it."""
+    return int(date[7:11]), MONTHS.index(date[3:6].lower()), int(date[:2])
+
+
+FLAG_KEYS = {flag[1:].upper(): flag for flag in SYSTEM}
+
+
+def matches(key, uids, uid, message):
+    """Whether a search key has a message of the view with these UIDs (RFC 9051, 6.4.4)."""
+    name, rest = key
+    if name in (b'AND', b'OR', b'NOT'):
+        inner = [matches(part, uids, uid, message) for part in rest]
+        return not inner[0] if name == b'NOT' else any(inner) if name == b'OR' else all(inner)
+    if name.removeprefix(b'UN') in FLAG_KEYS:
+        return (FLAG_KEYS[name.removeprefix(b'UN')] in message.flags) != name.startswith(b'UN')
+    if name in (b'KEYWORD', b'UNKEYWORD'):
+        return (rest in message.flags) == (name == b'KEYWORD')
+    if name in (b'LARGER', b'SMALLER'):
+        return len(message.body) > rest if name == b'LARGER' else len(message.body) < rest
+    if name == b'ALL':
         return True
-    if word == b'LOGIN':
-        return c['user'] is None
-    named_alone = word in (b'CREATE', b'APPEND', b'STATUS', b'SELECT', b'EXAMINE')
-    return c['user'] is not None and (named_alone or c['view'] is not None)
+    if name == b'UID':
+        return is_in_set(uid, rest, uids[-1])
+    if name == b'NUMBERS':
+        return is_in_set(uids.index(uid) + 1, rest, len(uids))
+    day = day_of(message.date)
+    return {b'BEFORE': day < rest, b'ON': day == rest, b'SINCE': day >= rest}[name]
+
+
+def status_counts(messages, serial, uidnext):
+    flags = [message.flags for message in messages.values()]
+    return {b'MESSAGES': len(messages), b'UIDNEXT': uidnext, b'UIDVALIDITY': serial,
+            b'UNSEEN': sum(b'\\Seen' not in each for each in flags), b'DELETED': sum(b'\\Deleted' in each for each in flags),
+            b'SIZE': sum(len(message.body) for message in messages.values())}
+
+
+def body_text(body, partial):
+    """A body, or a part of it from a place on."""
+    if partial is None:
+        return b'BODY[] {%d}\r\n%s' % (len(body), body)
+    origin, count = partial
+    octets = body[origin:origin + count]
+    return b'BODY[]<%d> {%d}\r\n%s' % (origin, len(octets), octets)
+
+
+Message = namedtuple('Message', 'flags date body')
 
 
 class Box:
-    """A mailbox: its messages are flags and bytes, by UID."""
+    """A mailbox: its messages by UID."""
 
     def __init__(self, serial):
         self.serial, self.next, self.messages = serial, 1, {}
 
-    def append(self, flags, body):
-        self.messages[self.next] = (flags, body)
+    def append(self, message):
+        self.messages[self.next] = message
         self.next += 1
         return self.next - 1
 
     def flags(self):
-        return {uid: flags for uid, (flags, _) in self.messages.items()}
+        return {uid: message.flags for uid, message in self.messages.items()}
 
     def read(self, uids, is_seen):
         """The messages as they are; behind that each of them is seen, if that is asked for."""
         found = {uid: self.messages[uid] for uid in uids if uid in self.messages}
         if is_seen:
-            self.messages.update({uid: (flags | {b'\\Seen'}, body) for uid, (flags, body) in found.items()})
+            self.messages.update({uid: message._replace(flags=message.flags | {b'\\Seen'}) for uid, message in found.items()})
         return found
 
     def store(self, uids, mode, flags):
         """Whether no message gets more than 16 keywords; else none of them is changed."""
         change = {b'': lambda old: flags, b'+': lambda old: old | flags, b'-': lambda old: old - flags}[mode]
-        changed = {uid: (change(self.messages[uid][0]), self.messages[uid][1]) for uid in uids if uid in self.messages}
-        if any(len(keywords(flags)) > 16 for flags, _ in changed.values()):
+        found = {uid: self.messages[uid] for uid in uids if uid in self.messages}
+        changed = {uid: message._replace(flags=change(message.flags)) for uid, message in found.items()}
+        if any(len(keywords(message.flags)) > 16 for message in changed.values()):
             return False
         self.messages.update(changed)
         return True
 
     def expunge(self, uids):
         for uid in self.messages.copy() if uids is None else uids:
-            if uid in self.messages and b'\\Deleted' in self.messages[uid][0]:
+            if uid in self.messages and b'\\Deleted' in self.messages[uid].flags:
                 del self.messages[uid]
 
 
@@ -281,31 +245,50 @@ class View:
     def number(self, uid):
         return list(self.rows).index(uid) + 1
 
-    def reply(self, word, asks, found, now):
+    def uids_asked(self, word, asks):
+        """The UIDs that a command names, or None where it has a message number that isn't there."""
+        uids, is_uid = list(self.rows), word.startswith(b'UID ')
+        numbers = list(number_sets(asks.get('keys', []))) + ([asks['set']] if 'set' in asks and not is_uid else [])
+        if not all(has_numbers(ranges, len(uids)) for ranges in numbers):
+            return None
+        return named(uids, is_uid, asks['set']) if 'set' in asks else uids
+
+    def reply(self, tag, word, asks, found, now):
         """The lines of a command, its own and then the news, and its tagged text (RFC 9051, 6.4)."""
         uids, lines, told, text = asks['uids'], b'', [], b'OK ' + word + b' completed'
         if word.endswith(b'FETCH'):
-            lines = b''.join(self.fetched(uid, word, asks['items'], *found[uid], now[uid]) for uid in found)
-            told = [uid for uid in found if b'FLAGS' in asks['items'] or found[uid][0] != now[uid]]
+            lines = b''.join(self.fetched(uid, word, asks['items'], found[uid], now[uid]) for uid in found)
+            told = [uid for uid in found if (b'FLAGS', None) in asks['items'] or found[uid].flags != now[uid]]
+        elif word.endswith(b'SEARCH'):
+            lines = self.searched(tag, word, asks['keys'], found)
         elif word.endswith(b'STORE') and not found:
             return self.news(now, word == b'UID STORE', []), LIMIT
         elif word.endswith(b'STORE'):
             if not asks['silent']:
                 lines = b''.join(self.stored(uid, word, now[uid]) for uid in uids if uid in now)
             told = uids
-        if word in (b'FETCH', b'STORE') and any(uid not in now for uid in uids):
+        if word in BY_NUMBER and any(uid not in now for uid in uids):
             text = b'OK [EXPUNGEISSUED] ' + word + b' completed'
-        return lines + self.news(now, word not in (b'FETCH', b'STORE'), told), text
+        return lines + self.news(now, word not in BY_NUMBER, told), text
 
-    def fetched(self, uid, word, items, before, body, flags):
+    def fetched(self, uid, word, items, message, flags):
         """One message's line: the items in their order, UID first and FLAGS last where they come unasked."""
-        if word == b'UID FETCH' and b'UID' not in items:
-            items = [b'UID'] + items
-        if before != flags and b'FLAGS' not in items:
-            items = items + [b'FLAGS']
-        literal = b'BODY[] {%d}\r\n%s' % (len(body), body)
-        parts = {b'UID': b'UID %d' % uid, b'FLAGS': b'FLAGS ' + printed(flags), b'BODY[]': literal, b'BODY.PEEK[]': literal}
-        return b'* %d FETCH (%s)\r\n' % (self.number(uid), b' '.join(parts[item] for item in items))
+        if word == b'UID FETCH' and (b'UID', None) not in items:
+            items = [(b'UID', None)] + items
+        if message.flags != flags and (b'FLAGS', None) not in items:
+            items = items + [(b'FLAGS', None)]
+        parts = {b'UID': b'UID %d' % uid, b'FLAGS': b'FLAGS ' + printed(flags), b'INTERNALDATE': b'INTERNALDATE "' + message.date + b'"',
+                 b'RFC822.SIZE': b'RFC822.SIZE %d' % len(message.body)}
+        texts = [parts[name] if name in parts else body_text(message.body, partial) for name, partial in items]
+        return b'* %d FETCH (%s)\r\n' % (self.number(uid), b' '.join(texts))
+
+    def searched(self, tag, word, keys, found):
+        """The line of a SEARCH (RFC 9051, 7.3.4)."""
+        uids = list(self.rows)
+        hits = [uid for uid in found if all(matches(key, uids, uid, found[uid]) for key in keys)]
+        numbers = hits if word == b'UID SEARCH' else [self.number(uid) for uid in hits]
+        line = b'* ESEARCH (TAG "' + tag + b'")' + (b' UID' if word == b'UID SEARCH' else b'')
+        return line + (b' ALL ' + printed_set(numbers) if numbers else b'') + b'\r\n'
 
     def stored(self, uid, word, flags):
         named_so = b'UID %d ' % uid if word == b'UID STORE' else b''
@@ -340,6 +323,7 @@ class Cluster:
     def __init__(self, config):
         self.nodes = config['nodes']
         self.users = {u['name'].encode(): (u['password'].encode(), u.get('admin', False)) for u in config['users']}
+        self.date = config['date'].encode()
         self.kinds = {n['name']: n['kind'] for n in self.nodes}
         self.home = next(n['name'] for n in self.nodes if n['kind'] == 'backend')
         self.links, self.boxes, self.serial, self.conns, self.marks, self.steps = {}, {}, 0, {}, [], 0
@@ -353,8 +337,8 @@ class Cluster:
     def open(self, node, conn):
         self.steps += 1
         front = self.kinds[node] == 'frontend'
-        self.conns[conn] = dict(node=node, front=front, frames=Frames(), waiting=deque(), user=None, view=None, asked=None, answered=0,
-                                over=not front, given=[GREETING] if front else [])
+        self.conns[conn] = dict(node=node, front=front, frames=Frames(), waiting=deque(), user=None, view=None, held=None, asked=None,
+                                answered=0, over=not front, given=[GREETING] if front else [])
 
     def data(self, conn, text):
         self.steps += 1
@@ -368,6 +352,7 @@ class Cluster:
         self.conns[conn]['over'] = True
 
     def work(self, conn, c):
+        """Takes up what came, up to a command that is asked of the home."""
         while c['waiting'] and not c['asked'] and not c['over']:
             kind, *frame = c['waiting'].popleft()
             if kind == 'wait':
@@ -375,6 +360,8 @@ class Cluster:
             elif kind == 'bye':
                 c['given'].append(b'* BYE ' + frame[0] + b'\r\n')
                 c['over'] = True
+            elif c['held']:
+                self.next_line(conn, c, *c['held'], frame[0][:-2])
             elif kind == 'big':
                 self.answer(conn, c, first_tag(frame[0]) or b'*', LIMIT)
             else:
@@ -385,23 +372,61 @@ class Cluster:
         c['answered'] += 1
         self.marks.append((self.steps, conn, c['answered'], True))
 
-    def command(self, conn, c, tag, command):
-        word, arguments = command or (None, None)
-        if command is None or not is_in_state(c, word):
-            self.answer(conn, c, tag, STATE if command else SYNTAX)
+    def command(self, conn, c, tag, word, asks):
+        if word is None or not is_in_state(c, word):
+            self.answer(conn, c, tag, STATE if word else SYNTAX)
+        elif word in NOT_DONE:
+            self.answer(conn, c, tag, CANNOT)
+        elif word in (b'CAPABILITY', b'ENABLE', b'LOGOUT'):
+            self.alone(conn, c, tag, word)
         elif word == b'LOGIN':
-            if arguments[0] not in self.users or self.users[arguments[0]][0] != arguments[1]:
-                return self.answer(conn, c, tag, b'NO [AUTHENTICATIONFAILED] login failed')
-            c['user'] = arguments[0]
-            self.answer(conn, c, tag, b'OK LOGIN completed')
-        elif word in (b'CREATE', b'APPEND', b'STATUS', b'SELECT', b'EXAMINE'):
-            self.of_name(conn, c, tag, word, arguments)
+            self.logged_in(conn, c, tag, word, self.user_of(asks['name'], asks['more']))
+        elif word == b'AUTHENTICATE' and asks['response']:
+            self.logged_in(conn, c, tag, word, self.user_told(asks['response']))
+        elif word in (b'AUTHENTICATE', b'IDLE'):
+            c['held'] = tag, word
+            c['given'].append(b'+ idling\r\n' if word == b'IDLE' else b'+ \r\n')
+        elif word in NAMED_MAILBOX:
+            self.of_name(conn, c, tag, word, asks)
         else:
-            self.of_view(conn, c, tag, word, arguments)
+            self.of_view(conn, c, tag, word, asks)
 
-    def of_name(self, conn, c, tag, word, arguments):
+    def alone(self, conn, c, tag, word):
+        """A command that needs neither a user nor a mailbox."""
+        lines = {b'CAPABILITY': b'* CAPABILITY IMAP4rev2 AUTH=PLAIN\r\n', b'ENABLE': b'* ENABLED\r\n', b'LOGOUT': b'* BYE bye\r\n'}
+        self.answer(conn, c, tag, b'OK ' + word + b' completed', lines[word])
+        c['over'] = word == b'LOGOUT'
+
+    def next_line(self, conn, c, tag, word, line):
+        """The line that AUTHENTICATE or IDLE waits for, without its last CRLF: the two are one command."""
+        c['held'] = None
+        if line == b'*' if word == b'AUTHENTICATE' else line.upper() != b'DONE':
+            self.answer(conn, c, tag, SYNTAX)
+        elif word == b'AUTHENTICATE':
+            self.logged_in(conn, c, tag, word, self.user_told(line))
+        else:
+            self.of_view(conn, c, tag, word, {})
+
+    def user_of(self, user, password):
+        return user if self.users.get(user, (None,))[0] == password else None
+
+    def user_told(self, response):
+        """The user of a PLAIN response (RFC 4616, 2), or None; the empty one, which `=` is too, has none."""
+        try:
+            message = base64.b64decode(response, validate=True)
+        except binascii.Error:
+            return None
+        parts = message.split(b'\0')
+        is_strict = base64.b64encode(message) == response
+        return self.user_of(*parts[1:]) if is_strict and len(parts) == 3 and parts[0] in (b'', parts[1]) else None
+
+    def logged_in(self, conn, c, tag, word, user):
+        c['user'] = user
+        self.answer(conn, c, tag, b'OK ' + word + b' completed' if user else b'NO [AUTHENTICATIONFAILED] login failed')
+
+    def of_name(self, conn, c, tag, word, asks):
         """A command on a mailbox that it names: refused here, or asked of the home."""
-        text = arguments[0]
+        text = asks['name']
         if word == b'CREATE' and text.endswith(b'.'):
             text = text[:-1]
         own = b'user.' + c['user']
@@ -415,16 +440,16 @@ class Cluster:
             refusal = NO_RIGHT
         else:
             shown = b'INBOX' + name[len(own):] if mine else name
-            return self.ask(conn, c, tag, word, shown, arguments, name)
+            return self.ask(conn, c, tag, word, shown, asks, name)
         self.answer(conn, c, tag, refusal, self.closed(c) if word in (b'SELECT', b'EXAMINE') else b'')
 
     def of_view(self, conn, c, tag, word, asks):
         """A command of a selected session: refused or answered here, or asked of the home, by UIDs."""
         view = c['view']
-        if word == b'NOOP' and not view:
-            return self.answer(conn, c, tag, b'OK NOOP completed')
-        asks['uids'] = named(list(view.rows), word.startswith(b'UID '), asks['set']) if 'set' in asks else None
-        if 'set' in asks and asks['uids'] is None:
+        if not view:
+            return self.answer(conn, c, tag, b'OK ' + word + b' completed')
+        uids = view.uids_asked(word, asks)
+        if uids is None:
             self.answer(conn, c, tag, MESSAGE)
         elif word.endswith((b'STORE', b'EXPUNGE')) and not view.is_writable:
             self.answer(conn, c, tag, CANNOT)
@@ -432,17 +457,17 @@ class Cluster:
             c['view'] = None
             self.answer(conn, c, tag, b'OK ' + word + b' completed')
         else:
-            asks['is_seen'] = view.is_writable and b'BODY[]' in asks.get('items', [])
-            self.ask(conn, c, tag, word, None, asks, view.name)
+            is_seen = view.is_writable and any(name == b'BODY[]' for name, _ in asks.get('items', []))
+            self.ask(conn, c, tag, word, None, asks | {'uids': uids, 'is_seen': is_seen}, view.name)
 
     def closed(self, c):
         """What is told of the mailbox that was selected where another one is asked for."""
         view, c['view'] = c['view'], None
         return CLOSED if view else b''
 
-    def ask(self, conn, c, tag, word, shown, arguments, name):
-        c['asked'] = (tag, word, shown, arguments, name)
-        self.send(c['node'], self.home, ('ask', conn, c['answered'] + 1, name, word, arguments))
+    def ask(self, conn, c, tag, word, shown, asks, name):
+        c['asked'] = (tag, word, shown, asks, name)
+        self.send(c['node'], self.home, ('ask', conn, c['answered'] + 1, name, word, asks))
 
     def send(self, a, b, message):
         self.links.setdefault((a, b), deque()).append(message)
@@ -475,13 +500,16 @@ class Cluster:
         if word == b'APPEND':
             if len(box.messages) >= 20_000:
                 return True, LIMIT
-            return True, b'OK [APPENDUID %d %d] APPEND completed' % (box.serial, box.append(asks[2], asks[1]))
-        if word.endswith(b'FETCH'):
+            uid = box.append(Message(asks['flags'], asks['date'] or self.date, asks['message']))
+            return True, b'OK [APPENDUID %d %d] APPEND completed' % (box.serial, uid)
+        if word.endswith((b'FETCH', b'SEARCH')):
             found = box.read(asks['uids'], asks['is_seen'])
         elif word.endswith(b'STORE'):
             found = box.store(asks['uids'], asks['mode'], asks['flags'])
         elif word in (b'CLOSE', b'EXPUNGE', b'UID EXPUNGE'):
-            box.expunge(asks['uids'])
+            box.expunge(asks['uids'] if word == b'UID EXPUNGE' else None)
+        elif word == b'STATUS':
+            found = status_counts(box.messages, box.serial, box.next)
         return True, (found, box.flags(), box.serial, box.next)
 
     def replied(self, conn, c, outcome):
@@ -491,7 +519,8 @@ class Cluster:
         if isinstance(outcome, bytes):
             text = outcome
         elif word == b'STATUS':
-            lines = b'* STATUS %s (%s)\r\n' % (printed_name(shown), b' '.join([b'MESSAGES %d' % len(outcome[1])] * asks[1]))
+            counts = b' '.join(b'%s %d' % (item, outcome[0][item]) for item in asks['items'])
+            lines = b'* STATUS %s (%s)\r\n' % (printed_name(shown), counts)
         elif word in (b'SELECT', b'EXAMINE'):
             is_writable = word == b'SELECT'
             c['view'] = View(name, is_writable, outcome[1])
@@ -500,7 +529,7 @@ class Cluster:
         elif word == b'CLOSE':
             c['view'] = None
         else:
-            lines, text = c['view'].reply(word, asks, *outcome[:2])
+            lines, text = c['view'].reply(tag, word, asks, *outcome[:2])
         c['asked'] = None
         c['given'].append(lines + tag + b' ' + text + b'\r\n')
         c['answered'] += 1

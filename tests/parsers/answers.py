@@ -32,8 +32,8 @@ def unescaped(text):
 class Reader:
     """Reads the responses in a text, one behind the other, as go-imap tells them."""
 
-    # an atom, a flag, a set, or the name of a body: a bracket ends it, except that of a section
-    ATOM = rb'([^\x00-\x20\x7f-\xff(){"\[\]]+(?:\[\])?)'
+    # an atom, a flag, a set, or the name of a body or of a part of one: a bracket ends it, except that of a section
+    ATOM = rb'([^\x00-\x20\x7f-\xff(){"\[\]]+(?:\[\](?:<\d+>)?)?)'
     QUOTED = rb'"((?:[^"\\\r\n]|\\["\\])*)"'
 
     def __init__(self, text):
@@ -55,7 +55,7 @@ class Reader:
         if end > len(self.text):
             raise Unread(f"a literal of {octets} octets ends with the text")
         literal, self.at = self.text[self.at:end], end
-        return {"literal": literal.decode()}
+        return {"literal": literal.decode(errors="replace")}
 
     def field(self):
         if self.next_is(b"("):
@@ -83,7 +83,7 @@ class Reader:
 
     def response(self):
         if self.next_is(b"+"):
-            return ["go on", self.take(rb"\+ ([^\r\n]+)\r\n")[1].decode()]
+            return ["go on", self.take(rb"\+ ([^\r\n]*)\r\n")[1].decode()]
         tag = self.take(rb"(\*|[^\x00-\x20\x7f-\xff(){%*\"\\+]+) ")[1].decode()
         kind = self.take(rb"(?:(OK|NO|BAD|BYE) )?")[1]
         told = self.status(tag, kind.decode()) if kind else ["data", tag, self.fields(b"", b"\r\n")]

@@ -11,11 +11,13 @@ def listed(form):
 
 
 def pairs(values):
-    """A list of names, each with a value of its own form behind it."""
+    """A list of names, each with a value of its own form behind it; the place that a part of a body begins at is passed over."""
+    def is_pair(name, value):
+        name = re.sub(r"(?<=\[\])<\d+>$", "", name) if isinstance(name, str) else None
+        return name in values and values[name](value)
+
     def fits(field):
-        if not isinstance(field, list) or len(field) % 2:
-            return False
-        return all(isinstance(name, str) and name in values and values[name](value) for name, value in zip(field[::2], field[1::2]))
+        return isinstance(field, list) and len(field) % 2 == 0 and all(map(is_pair, field[::2], field[1::2]))
     return fits
 
 
@@ -25,7 +27,9 @@ def is_literal(field):
 
 ANY, NUMBER, POSITIVE, SET = text(r"(?s).*"), text(r"\d+"), text(r"[1-9]\d*"), text(r"[1-9]\d*(?:[:,][1-9]\d*)*")
 FLAGS, PERMANENT = listed(text(r"\\?[^\\*]+")), listed(text(r"\\?[^\\*]+|\\\*"))
-PARTS = pairs({"UID": POSITIVE, "FLAGS": FLAGS, "BODY[]": is_literal})
+DATE = text(r"[ \d]\d-[A-Za-z]{3}-\d{4} \d\d:\d\d:\d\d [+-]\d{4}")
+PARTS = pairs({"UID": POSITIVE, "FLAGS": FLAGS, "INTERNALDATE": DATE, "RFC822.SIZE": NUMBER, "BODY[]": is_literal})
+COUNTS = pairs({"MESSAGES": NUMBER, "UIDNEXT": POSITIVE, "UIDVALIDITY": POSITIVE, "UNSEEN": NUMBER, "DELETED": NUMBER, "SIZE": NUMBER})
 
 # Of each name: the forms of the fields behind it, and the form of any further ones.
 CODES = {
@@ -37,7 +41,7 @@ for bare in ("", "CLOSED", "EXPUNGEISSUED", "READ-WRITE", "READ-ONLY", "AUTHENTI
     CODES[bare] = ([], None)
 DATA = {
     "CAPABILITY": ([], ANY), "ENABLED": ([], ANY), "FLAGS": ([FLAGS], None), "LIST": ([FLAGS, ANY, ANY], None),
-    "STATUS": ([ANY, pairs({"MESSAGES": NUMBER})], None), "ESEARCH": ([pairs({"TAG": ANY})], text(r"UID|ALL|[\d:,]+")),
+    "STATUS": ([ANY, COUNTS], None), "ESEARCH": ([pairs({"TAG": ANY})], text(r"UID|ALL|[\d:,]+")),
     "ACL": ([ANY], ANY), "MYRIGHTS": ([ANY, ANY], None),
 }
 OF_A_NUMBER = {"EXISTS": ([NUMBER], None), "EXPUNGE": ([POSITIVE], None), "FETCH": ([POSITIVE, PARTS], None)}

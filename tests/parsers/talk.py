@@ -1,4 +1,5 @@
 """What Mail::IMAPTalk makes of an answer that means such lines."""
+import re
 
 
 def text_of(status):
@@ -21,9 +22,9 @@ def code_means(code, arguments):
 
 
 def fetch_means(parts):
-    """The items of one FETCH line by their names; a body's section is not in its name."""
+    """The items of one FETCH line by their names; a body's section and place are not in its name, so of its parts the last stays."""
     pairs = zip(parts[::2], parts[1::2])
-    return {name.lower().replace("[]", ""): value["literal"] if isinstance(value, dict) else value for name, value in pairs}
+    return {re.sub(r"\[\](<\d+>)?", "", name.lower()): value["literal"] if isinstance(value, dict) else value for name, value in pairs}
 
 
 def search_text(fields):
