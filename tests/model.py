@@ -337,7 +337,7 @@ class Cluster:
     def open(self, node, conn):
         self.steps += 1
         front = self.kinds[node] == 'frontend'
-        self.conns[conn] = dict(node=node, front=front, frames=Frames(), waiting=deque(), user=None, view=None, held=None, asked=None,
+        self.conns[conn] = dict(node=node, front=front, frames=Frames(), waiting=deque(), user=None, view=None, asked=None,
                                 answered=0, over=not front, given=[GREETING] if front else [])
 
     def data(self, conn, text):
@@ -360,8 +360,6 @@ class Cluster:
             elif kind == 'bye':
                 c['given'].append(b'* BYE ' + frame[0] + b'\r\n')
                 c['over'] = True
-            elif c['held']:
-                self.next_line(conn, c, *c['held'], frame[0][:-2])
             elif kind == 'big':
                 self.answer(conn, c, first_tag(frame[0]) or b'*', LIMIT)
             else:
@@ -384,8 +382,7 @@ class Cluster:
         elif word == b'AUTHENTICATE' and asks['response']:
             self.logged_in(conn, c, tag, word, self.user_told(asks['response']))
         elif word in (b'AUTHENTICATE', b'IDLE'):
-            c['held'] = tag, word
-            c['given'].append(b'+ idling\r\n' if word == b'IDLE' else b'+ \r\n')
+            self.answer(conn, c, tag, SYNTAX)  # no command waits for a line
         elif word in NAMED_MAILBOX:
             self.of_name(conn, c, tag, word, asks)
         else:
@@ -396,16 +393,6 @@ class Cluster:
         lines = {b'CAPABILITY': b'* CAPABILITY IMAP4rev2 AUTH=PLAIN\r\n', b'ENABLE': b'* ENABLED\r\n', b'LOGOUT': b'* BYE bye\r\n'}
         self.answer(conn, c, tag, b'OK ' + word + b' completed', lines[word])
         c['over'] = word == b'LOGOUT'
-
-    def next_line(self, conn, c, tag, word, line):
-        """The line that AUTHENTICATE or IDLE waits for, without its last CRLF: the two are one command."""
-        c['held'] = None
-        if line == b'*' if word == b'AUTHENTICATE' else line.upper() != b'DONE':
-            self.answer(conn, c, tag, SYNTAX)
-        elif word == b'AUTHENTICATE':
-            self.logged_in(conn, c, tag, word, self.user_told(line))
-        else:
-            self.of_view(conn, c, tag, word, {})
 
     def user_of(self, user, password):
         return user if self.users.get(user, (None,))[0] == password else None
