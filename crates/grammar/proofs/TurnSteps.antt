@@ -2,7 +2,6 @@
 use Rattle.std.proofs.Common.{◌≡◌, ℕ, zero, suc, ◌+◌, ◌-◌, ◌<◌, ◌≤◌, List, length, Ok, Err, Bool, true, false, cond, ap, refl, sym}
 use Rattle.std.proofs.Common.{◌∙◌, arith}
 use Rattle.grammar.specs.Part.{Part, ◌>>=◌, starts, turns, repeat}
-use Rattle.grammar.specs.Turns.{BeginsTurn, TakesTurns}
 
 module _ {S : Type 0} (test : ℕ → Bool) (turn : S → Part S) (s : S) (bytes : List ℕ) where
   -- turns that begin with no byte of the test are none
@@ -16,36 +15,29 @@ module _ {S : Type 0} (test : ℕ → Bool) (turn : S → Part S) (s : S) (bytes
   unfolding turns
   turns_more n e = ap (λ b. cond b ((turn s).at bytes >>= (λ t. (turns test turn n t).at)) (Ok (s, bytes))) e
 
-  -- one turn is taken
-  pub takes_one : (most : ℕ) → 0 < most → BeginsTurn test bytes → (next : S) (behind : List ℕ) → (turn s).at bytes ≡ Ok (next, behind)
-      → TakesTurns test turn most s bytes next behind 1
-  takes_one most some begins next behind r = record {
-    some = omega arith;
-    upto = omega arith;
-    all = λ more. ap (λ n. (turns test turn n s).at bytes) (let one : 1 + more ≡ suc more = omega arith in one)
-        ∙ turns_more more begins ∙ ap (λ r. r >>= (λ t. (turns test turn more t).at)) r;
-  }
-
--- the turns so far of a repetition: as many of them may follow from the first state as from this one with what is left
-module _ {S : Type 0} (test : ℕ → Bool) (turn : S → Part S) (first s : S) (bytes rest : List ℕ) (left : ℕ)
-    (so_far : (turns test turn left s).at rest ≡ (turns test turn (length bytes) first).at bytes) where
-  pub repeat_ends : left ≡ 0 → (repeat test turn first).at bytes ≡ Ok (s, rest)
+-- the turns so far of a repetition: n of them may follow from the first state, and n - i from this one
+module _ {S : Type 0} (test : ℕ → Bool) (turn : S → Part S) (first s : S) (bytes rest : List ℕ) (i : ℕ)
+    (so_far : (turns test turn (length bytes - i) s).at rest ≡ (turns test turn (length bytes) first).at bytes) where
+  pub repeat_ends : length bytes ≤ i → (repeat test turn first).at bytes ≡ Ok (s, rest)
   unfolding repeat turns
-  repeat_ends none = sym so_far ∙ ap (λ n. (turns test turn n s).at rest) none
+  repeat_ends h = sym so_far ∙ ap (λ n. (turns test turn n s).at rest) (let none : length bytes - i ≡ 0 = omega arith in none)
 
   pub repeat_none : starts test rest ≡ false → (repeat test turn first).at bytes ≡ Ok (s, rest)
   unfolding repeat
-  repeat_none e = sym so_far ∙ turns_none test turn s rest left e
+  repeat_none e = sym so_far ∙ turns_none test turn s rest (length bytes - i) e
 
-  pub repeat_stops : 0 < left → starts test rest ≡ true → (stop : ℕ) → (turn s).at rest ≡ Err stop → (repeat test turn first).at bytes ≡ Err stop
+  turn_of : i < length bytes → starts test rest ≡ true → (repeat test turn first).at bytes ≡ (turn s).at rest >>=
+      (λ t. (turns test turn (length bytes - (i + 1)) t).at)
   unfolding repeat
-  repeat_stops some e stop r =
-      let one : left ≡ suc (left - 1) = omega arith in
-      sym so_far ∙ ap (λ n. (turns test turn n s).at rest) one ∙ turns_more test turn s rest (left - 1) e
-      ∙ ap (λ r. r >>= (λ t. (turns test turn (left - 1) t).at)) r
+  turn_of h e =
+      let one : length bytes - i ≡ suc (length bytes - (i + 1)) = omega arith in
+      sym so_far ∙ ap (λ n. (turns test turn n s).at rest) one ∙ turns_more test turn s rest (length bytes - (i + 1)) e
 
-  pub repeat_more : (next : S) (behind : List ℕ) (taken : ℕ) → TakesTurns test turn left s rest next behind taken
-      → (turns test turn (left - taken) next).at behind ≡ (turns test turn (length bytes) first).at bytes
-  repeat_more next behind taken takes =
-      let both : taken + (left - taken) ≡ left = omega (arith, takes.upto) in
-      sym (takes.all (left - taken)) ∙ ap (λ n. (turns test turn n s).at rest) both ∙ so_far
+  pub repeat_stops : i < length bytes → starts test rest ≡ true → (left : ℕ) → (turn s).at rest ≡ Err left
+      → (repeat test turn first).at bytes ≡ Err left
+  repeat_stops h e left r = turn_of h e ∙ ap (λ r. r >>= (λ t. (turns test turn (length bytes - (i + 1)) t).at)) r
+
+  pub repeat_more : i < length bytes → starts test rest ≡ true → (t : S) (behind : List ℕ) → (turn s).at rest ≡ Ok (t, behind) →
+      (turns test turn (length bytes - (i + 1)) t).at behind ≡ (turns test turn (length bytes) first).at bytes
+  unfolding repeat
+  repeat_more h e t behind r = sym (turn_of h e ∙ ap (λ r. r >>= (λ t. (turns test turn (length bytes - (i + 1)) t).at)) r)

@@ -9,4 +9,3 @@ pub mod Part
 pub mod Runs
 pub mod Tables
 pub mod Words
-pub mod Turns

@@ -137,7 +137,7 @@ module _ (limit : ℕ) where
   OfDated x = IfSome x.0 IsDate × (length x.1 < limit)
 
   is_date_time : Under date_time.part IsDate
-  is_date_time bytes date j below = j.goes_on.begins.1
+  is_date_time bytes date j below = subst IsDate (sym j.goes_on.goes_on.goes_on.1) j.goes_on.begins.1
 
   short_dated : Under dated.part OfDated
   short_dated =
