@@ -77,12 +77,17 @@ of_lines : OfLines IsSoundLine IsSoundRow
 unfolding IsSoundLine
 of_lines = record { exists = λ count. tt; expunge = λ number. tt; flags = λ by_uid number row is. row_parts by_uid row is }
 
+All-true : {X : Type 0} (P : X → Type 0) (items : List X) → ((item : X) → P item) → All P items
+All-true P [] each = All-nil P
+All-true P (item ∷ items) each = All-cons P item items (each item) (All-true P items each)
+
 fetched_sound : (it : Fetching) (number : ℕ) (message : Message) (row : Row) (changes : Bool) → IsSoundMessage message → IsSoundRow row
     → IsSoundLine (fetched it number message row changes)
 unfolding IsSoundLine
 fetched_sound it number message row changes one is =
     All-map IsPart (λ asked. part_text asked (relabelled message row.flags)) (items_told it changes)
-    (λ k d within. item_is_part d (relabelled message row.flags) is one.dated one.counted)
+    (All-true (λ asked. IsPart (part_text asked (relabelled message row.flags))) (items_told it changes)
+    (λ asked. item_is_part asked (relabelled message row.flags) is one.dated one.counted))
 
 news_sound : (view : View) (lines : List ReplyLine) (now : List Row) (expunges : Bool) (known : List ℕ) (verdict : Verdict) → All IsSoundLine lines
     → All IsSoundRow now → IsSoundVerdict verdict → SoundReply (with_news view lines (news view.rows now expunges known) verdict).reply
