@@ -4,6 +4,7 @@ ghost use Rattle.std.specs.Prelude.{◌≡◌, ◌+◌, ◌<◌, ◌^◌, IfOk, 
 ghost use Rattle.imap_reply.specs.ByeLine.{bye_of, bye_line};
 ghost use Rattle.imap_reply.specs.Continuation.{ready};
 ghost use Rattle.imap_reply.specs.ReplyText.{reply_text};
+ghost use Rattle.mur_model.specs.Act.{session_after};
 ghost use Rattle.mur_model.specs.Reply.{reply_of};
 ghost use Rattle.front_core.specs.Begun.{MayNeed};
 ghost use Rattle.front_core.specs.Taken.{frame_comes, frame_in, request_in, need_in, answers, answers_last, turns, behind_outs};
@@ -17,7 +18,7 @@ use link_msg::{Counts, Out, Outs};
 use mur_base::{AskId, Bytes, Memory, NodeName};
 use mur_model::{
     BadText, Bye, Need, NoText, Reply, ReplyLines, Request, Sess, Setting, Tag, Turn, Verdict,
-    begin, refused, turned,
+    begin, refused,
 };
 use std::alloc::Global;
 
@@ -158,7 +159,7 @@ fn need_in(
 }
 
 /// A reply that is given at once: where the session has ended nothing follows it (RFC 9051, 7.1.5).
-#[tactic(auto, using(std::proofs::lemmas::Grind::common_steps), unfolding(crate::specs::Taken::turns))]
+#[tactic(auto, unfolding(crate::specs::Taken::turns))]
 fn turns(
     alloc: Global,
     conn: u64,
@@ -171,10 +172,31 @@ fn turns(
     ensures { OnOk result (record { connection = connection.new; outs = outs.new }
         ≡ behind_outs outs.old (turns conn connection.old tag.now turn.reply turn.session)) }
 {
-    if let Some(Sess::Ended) = turn.session {
-        return answers_last(alloc, conn, connection, tag, turn.reply, outs);
+    let Turn { session, reply } = turn;
+    match session {
+        Some(Sess::Ended) => answers_last(alloc, conn, connection, tag, reply, outs),
+        session => goes_on(alloc, conn, connection, tag, reply, session, outs),
     }
-    let reply = turned(&mut connection.session, turn);
+}
+
+/// A reply behind which the session goes on.
+#[tactic(auto, unfolding(crate::specs::Taken::answers))]
+fn goes_on(
+    alloc: Global,
+    conn: u64,
+    connection: &mut Connection,
+    tag: &Tag,
+    reply: Reply,
+    session: Option<Sess>,
+    outs: &mut Outs,
+) -> Result<(), Memory>
+    requires room { connection.old.answered + 1 < 2 ^ 64 }
+    ensures { OnOk result (record { connection = connection.new; outs = outs.new }
+        ≡ behind_outs outs.old (answers conn connection.old (session_after connection.old.session session) tag.now reply)) }
+{
+    if let Some(session) = session {
+        connection.session = session;
+    }
     answers(alloc, conn, connection, tag, reply, outs)
 }
 
