@@ -54,8 +54,12 @@ pub struct Cluster {
 
 impl Model for Cluster {
     ghost use Rattle.cluster_core.specs.declared.world.World.{World};
+    ghost use Rattle.mail_message.specs.contracts.key.Key as key;
+    ghost use Rattle.std.specs.Coded.{codes};
 
     ghost Value = { World };
+
+    ghost coded = { Prim.hlevel (codes, key.the_row.coded) };
 
     ghost view = { λ cluster. cluster.world };
 }
