@@ -1,6 +1,8 @@
 -- Bytes whose run behind a place is not put yet, since it stands for itself.
-use Rattle.std.proofs.Common.{◌≡◌, ℕ, ◌+◌, ◌-◌, ◌<◌, ◌≤◌, List, [], ◌∷◌, ◌++◌, length, take, drop, get_or, slice_range, refl, sym, ◌∙◌, ap, append_assoc, arith}
-use Rattle.std.proofs.lemmas.List.{take_more, flat_map_more, get_or-drop, length-drop, append-nil}
+use Rattle.std.proofs.Common.{Bool, true, false, ◌&&◌, ◌≡◌, ℕ, ◌+◌, ◌-◌, ◌<◌, ◌≤◌, List, [], ◌∷◌, ◌++◌, length, take, drop, get_or, slice_range, refl, sym, ◌∙◌, ap, append_assoc, arith}
+use Rattle.std.specs.List.{flat_map}
+use Rattle.std.proofs.lemmas.Grind.{flat_map-append}
+use Rattle.std.proofs.lemmas.List.{take-append-drop, take_more, flat_map_more, get_or-drop, length-drop, append-nil}
 use Rattle.schedule_text.specs.Text.{spelling_of, text_of}
 
 -- a run with the next byte
@@ -32,3 +34,18 @@ pub is_put : (before out bytes : List ℕ) (from at : ℕ) → at < length bytes
 is_put before out bytes from at within put =
     let none : at + 1 - (at + 1) ≡ 0 = omega arith in
     rw (none, text_more bytes at within) (append-nil _ ∙ ap (λ front. front ++ spelling_of (get_or bytes at 0)) put ∙ append_assoc before _ _)
+
+-- the texts of a front and of the rest make that of the whole
+pub text_split : (bytes : List ℕ) (n : ℕ) → text_of (take n bytes) ++ text_of (drop n bytes) ≡ text_of bytes
+unfolding text_of
+text_split bytes n = sym (flat_map-append spelling_of (take n bytes) (drop n bytes)) ∙ ap (flat_map spelling_of) (take-append-drop n bytes)
+
+-- one byte more stands for itself
+pub plain_more : (bytes : List ℕ) (n : ℕ) → n < length bytes → text_of (take n bytes) ≡ take n bytes
+    → spelling_of (get_or bytes n 0) ≡ get_or bytes n 0 ∷ [] → text_of (take (n + 1) bytes) ≡ take (n + 1) bytes
+plain_more bytes n within so_far plain =
+    text_more bytes n within ∙ rw (so_far, plain) (sym (take_more bytes n 0 within))
+
+pub both_true : (a b : Bool) → a && b ≡ true → (a ≡ true) × (b ≡ true)
+both_true true b h = (refl, h)
+both_true false b h = cc

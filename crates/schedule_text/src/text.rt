@@ -31,14 +31,53 @@ pub enum Character {
     Bad,
 }
 
+/// How many bytes are looked at together.
+const BLOCK: usize = 128;
+
 /// Writes bytes in their one canonical spelling, which `read_text` reads back: a byte from 0x20 to 0x7E other than
 /// `\` as itself, then `\r`, `\n`, `\\`, and any other as `\x` with two lower case digits. Want of memory spends `out`.
 ///
-/// A run of bytes that stand for themselves is put at once.
+/// A block of bytes that all stand for themselves is put at once.
 #[tactic(auto, unfolding(crate::specs::Text::text_of))]
 pub fn put_text(bytes: &[u8], out: &mut Bytes) -> Result<(), Memory>
     ensures written { OnOk result (out.new ≡ out.old ++ text_of bytes.now) }
     ensures read_back { bytes_of (text_of bytes.now) ≡ Some bytes.now }
+{
+    let mut rest = bytes;
+    while !rest.is_empty() {
+        let (block, behind) = rest.split_at(rest.len().min(BLOCK));
+        put_block(block, out)?;
+        rest = behind;
+    }
+    Ok(())
+}
+
+fn put_block(block: &[u8], out: &mut Bytes) -> Result<(), Memory>
+    ensures { OnOk result (out.new ≡ out.old ++ text_of block.now) }
+{
+    if are_plain(block) {
+        out.extend_from_slice(block)
+    } else {
+        put_runs(block, out)
+    }
+}
+
+/// Whether all bytes stand for themselves. It looks at each in any case, so that many are looked at in one step.
+#[tactic(auto, unfolding(crate::specs::Text::text_of))]
+fn are_plain(bytes: &[u8]) -> bool
+    ensures { IsTrue result → text_of bytes.now ≡ bytes.now }
+{
+    let mut all = true;
+    for byte in bytes {
+        all &= is_plain(*byte);
+    }
+    all
+}
+
+/// A run of bytes that stand for themselves is put at once.
+#[tactic(auto, unfolding(crate::specs::Text::text_of))]
+fn put_runs(bytes: &[u8], out: &mut Bytes) -> Result<(), Memory>
+    ensures { OnOk result (out.new ≡ out.old ++ text_of bytes.now) }
 {
     let mut from = 0;
     for (at, byte) in bytes.iter().enumerate() {

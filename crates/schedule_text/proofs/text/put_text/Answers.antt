@@ -1,29 +1,15 @@
-use Rattle.std.proofs.Common.{arith}
+use Rattle.std.proofs.Common.{◌++◌, ◌∙◌, ap, append_assoc}
+use Rattle.schedule_text.proofs.PutLaws.{text_split}
 use Rattle.schedule_text.proofs.TextLaws.{bytes_of_text}
-use Rattle.schedule_text.proofs.PutLaws.{goes_on, is_put}
 use Rattle.schedule_text.proofs.text.put_text.Goals as goal
-use Rattle.schedule_text.proofs.text.put_text.Goals.{then-not-is_plain+in_ok-extend_from_slice+in_ok-put_byte, else-not-is_plain}
 
-pub returns-in_err-extend_from_slice-clause-read_back : goal.returns-in_err-extend_from_slice-clause-read_back
-returns-in_err-extend_from_slice-clause-read_back c = bytes_of_text _ c.type_inv.bytes
+pub returns-in_err-put_block-clause-read_back : goal.returns-in_err-put_block-clause-read_back
+returns-in_err-put_block-clause-read_back c = bytes_of_text _ c.type_inv.bytes
 
-pub returns-in_err-put_byte-clause-read_back : goal.returns-in_err-put_byte-clause-read_back
-returns-in_err-put_byte-clause-read_back c = bytes_of_text _ c.type_inv.bytes
-
-pub loop-at-preserved : goal.loop-at-preserved
-loop-at-preserved c = elim c.if-not-is_plain.branch [
-  | then-not-is_plain+in_ok-extend_from_slice+in_ok-put_byte w ↦ record {
-    behind = omega (arith, w.from-is);
-    put = rw (w.out-is, w.from-is, w.in_ok-put_byte.ensures, w.in_ok-extend_from_slice.ensures.ok)
-        (is_put _ _ c.args.bytes.now c.loop-at.from c.loop-at.at (omega arith) c.loop-at.invariant.put);
-  }
-  | else-not-is_plain w ↦ record {
-    behind = omega (arith, w.from-is, c.loop-at.invariant.behind);
-    put = rw (w.out-is, w.from-is)
-        (goes_on _ _ c.args.bytes.now c.loop-at.from c.loop-at.at c.loop-at.invariant.behind (omega arith)
-        (c.is_plain.ensures w.if-not-is_plain.false) c.loop-at.invariant.put);
-  }
-]
+pub loop-rest-preserved : goal.loop-rest-preserved
+loop-rest-preserved c =
+    rw (c.in_ok-put_block.ensures, c.split_at.ensures.front, c.split_at.ensures.back)
+    (append_assoc c.loop-rest.out _ _ ∙ ap (λ text. c.loop-rest.out ++ text) (text_split c.loop-rest.rest.now c.min.result) ∙ c.loop-rest.invariant)
 
 pub returns-clause-read_back : goal.returns-clause-read_back
 returns-clause-read_back c = bytes_of_text _ c.type_inv.bytes
