@@ -7,9 +7,7 @@ use imap_reply::write;
 use link_msg::{AnswerBody, FrontAsk, LinkMsg, Out};
 use mail_message::date;
 use mur_base::{Bytes, Items, MailName, User, Users, node_name, user_name};
-use mur_model::{
-    Need, Reply, ReplyLines, Request, Sess, Setting, Tag, Turn, Work, begin, turned,
-};
+use mur_model::{Need, Reply, ReplyLines, Request, Sess, Setting, Tag, Turn, Work, begin, turned};
 use session_core::{Asking, asked_for, finish};
 use std::alloc::Global;
 
@@ -115,8 +113,10 @@ fn answer_of(alloc: Global, home: &mut Backend, ask: FrontAsk) -> Result<AnswerB
     let input = BackInput::FromFront(node_name(alloc, b"f1")?, ask);
     let plan = home.plan(alloc, input)?;
     for out in home.settle(plan).into_vec() {
-        if let Out::Link(_, LinkMsg::Answer(answer)) = out {
-            return Ok(answer.body);
+        if let Out::Link(_to, message) = out {
+            if let LinkMsg::Answer(answer) = message {
+                return Ok(answer.body);
+            }
         }
     }
     Err(anyhow!("no answer"))
