@@ -112,14 +112,27 @@ fn work_at(alloc: Global, home: &mut Backend, name: MailName, work: Work) -> Res
 fn answer_of(alloc: Global, home: &mut Backend, ask: FrontAsk) -> Result<AnswerBody> {
     let input = BackInput::FromFront(node_name(alloc, b"f1")?, ask);
     let plan = home.plan(alloc, input)?;
-    for out in home.settle(plan).into_vec() {
-        if let Out::Link(_to, message) = out {
-            if let LinkMsg::Answer(answer) = message {
-                return Ok(answer.body);
-            }
+    let outs = home.settle(plan);
+    for out in outs.into_vec() {
+        if let Some(body) = body_of(out) {
+            return Ok(body);
         }
     }
     Err(anyhow!("no answer"))
+}
+
+fn body_of(out: Out) -> Option<AnswerBody> {
+    match out {
+        Out::Link(_to, message) => body_in(message),
+        _ => None,
+    }
+}
+
+fn body_in(message: LinkMsg) -> Option<AnswerBody> {
+    match message {
+        LinkMsg::Answer(answer) => Some(answer.body),
+        _ => None,
+    }
 }
 
 /// A reply with a `/` for each CRLF.
