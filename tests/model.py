@@ -81,7 +81,8 @@ class Frames:
                 frames.append(('wait',))
 
 
-NOT_DONE = LEFT_OUT + (b'DELETE', b'LIST', b'COPY', b'UID COPY', b'XFER')
+NOT_DONE = LEFT_OUT + (b'DELETE', b'LIST', b'XFER')
+NOT_COPIED = (b'COPY', b'UID COPY')  # as NOT_DONE, where a mailbox is selected
 NAMED_MAILBOX = (b'CREATE', b'APPEND', b'STATUS', b'SELECT', b'EXAMINE')
 ANY_STATE, LOGGED_OUT = (b'CAPABILITY', b'NOOP', b'LOGOUT'), (b'LOGIN', b'AUTHENTICATE')
 LOGGED_IN = NOT_DONE + NAMED_MAILBOX + (b'ENABLE', b'IDLE')  # the others need a mailbox that is selected
@@ -373,7 +374,7 @@ class Cluster:
     def command(self, conn, c, tag, word, asks):
         if word is None or not is_in_state(c, word):
             self.answer(conn, c, tag, STATE if word else SYNTAX)
-        elif word in NOT_DONE:
+        elif word in NOT_DONE + NOT_COPIED:
             self.answer(conn, c, tag, CANNOT)
         elif word in (b'CAPABILITY', b'ENABLE', b'LOGOUT'):
             self.alone(conn, c, tag, word)
