@@ -81,8 +81,7 @@ class Frames:
                 frames.append(('wait',))
 
 
-NOT_DONE = LEFT_OUT + (b'DELETE', b'LIST', b'XFER')
-NOT_COPIED = (b'COPY', b'UID COPY')  # as NOT_DONE, where a mailbox is selected
+NOT_DONE = LEFT_OUT + (b'DELETE', b'LIST', b'COPY', b'UID COPY', b'XFER')
 NAMED_MAILBOX = (b'CREATE', b'APPEND', b'STATUS', b'SELECT', b'EXAMINE')
 ANY_STATE, LOGGED_OUT = (b'CAPABILITY', b'NOOP', b'LOGOUT'), (b'LOGIN', b'AUTHENTICATE')
 LOGGED_IN = NOT_DONE + NAMED_MAILBOX + (b'ENABLE', b'IDLE')  # the others need a mailbox that is selected
@@ -338,7 +337,7 @@ class Cluster:
     def open(self, node, conn):
         self.steps += 1
         front = self.kinds[node] == 'frontend'
-        self.conns[conn] = dict(node=node, front=front, frames=Frames(), waiting=deque(), user=None, view=None, asked=None,
+        self.conns[conn] = dict(node=node, front=front, frames=Frames(), waiting=deque(), user=None, view=None, held=None, asked=None,
                                 answered=0, over=not front, given=[GREETING] if front else [])
 
     def data(self, conn, text):
@@ -361,6 +360,8 @@ class Cluster:
             elif kind == 'bye':
                 c['given'].append(b'* BYE ' + frame[0] + b'\r\n')
                 c['over'] = True
+            elif c['held']:
+                self.next_line(conn, c, *c['held'], frame[0][:-2])
             elif kind == 'big':
                 self.answer(conn, c, first_tag(frame[0]) or b'*', LIMIT)
             else:
@@ -374,7 +375,7 @@ class Cluster:
     def command(self, conn, c, tag, word, asks):
         if word is None or not is_in_state(c, word):
             self.answer(conn, c, tag, STATE if word else SYNTAX)
-        elif word in NOT_DONE + NOT_COPIED:
+        elif word in NOT_DONE:
             self.answer(conn, c, tag, CANNOT)
         elif word in (b'CAPABILITY', b'ENABLE', b'LOGOUT'):
             self.alone(conn, c, tag, word)
@@ -383,7 +384,8 @@ class Cluster:
         elif word == b'AUTHENTICATE' and asks['response']:
             self.logged_in(conn, c, tag, word, self.user_told(asks['response']))
         elif word in (b'AUTHENTICATE', b'IDLE'):
-            self.answer(conn, c, tag, SYNTAX)  # no command waits for a line
+            c['held'] = tag, word
+            c['given'].append(b'+ idling\r\n' if word == b'IDLE' else b'+ \r\n')
         elif word in NAMED_MAILBOX:
             self.of_name(conn, c, tag, word, asks)
         else:
@@ -394,6 +396,16 @@ class Cluster:
         lines = {b'CAPABILITY': b'* CAPABILITY IMAP4rev2 AUTH=PLAIN\r\n', b'ENABLE': b'* ENABLED\r\n', b'LOGOUT': b'* BYE bye\r\n'}
         self.answer(conn, c, tag, b'OK ' + word + b' completed', lines[word])
         c['over'] = word == b'LOGOUT'
+
+    def next_line(self, conn, c, tag, word, line):
+        """The line that AUTHENTICATE or IDLE waits for, without its last CRLF: the two are one command."""
+        c['held'] = None
+        if line == b'*' if word == b'AUTHENTICATE' else line.upper() != b'DONE':
+            self.answer(conn, c, tag, SYNTAX)
+        elif word == b'AUTHENTICATE':
+            self.logged_in(conn, c, tag, word, self.user_told(line))
+        else:
+            self.of_view(conn, c, tag, word, {})
 
     def user_of(self, user, password):
         return user if self.users.get(user, (None,))[0] == password else None

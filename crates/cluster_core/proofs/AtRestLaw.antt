@@ -22,9 +22,9 @@ at_rest config steps world law = λ empty conn stays.
     let heard = heard_from config conn nobody steps in
     let says = says_of (setting_of config) (home_of config) conn world law.story heard (law.connections conn) in
     record {
-      requests = requests_of (frames_heard heard);
+      requests = requests_of (setting_of config) (frames_heard heard);
       answers = law.story.told conn;
-      asked = asks_all (frames_heard heard);
+      asked = asks_all (setting_of config) (frames_heard heard);
       given = says.given;
       each = says.waits_not empty stays;
     }

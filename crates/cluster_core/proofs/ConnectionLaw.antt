@@ -7,14 +7,15 @@ use Rattle.backend_core.specs.declared.backend.Backend.{Backend}
 use Rattle.front_core.specs.declared.connection.Connection.{Connection}
 use Rattle.front_core.specs.declared.connection.Stage.TheVariants.{Reading, Asked, Ended}
 use Rattle.front_core.specs.Taken.{ask_for}
-use Rattle.imap_command.specs.Request.{request_of}
 use Rattle.imap_reply.specs.Greeting.{greeting}
 use Rattle.imap_reply.specs.SessionEnds.{has_ended, TurnEnds}
 use Rattle.imap_reply.specs.Transcript.{ends, replies_to}
 use Rattle.imap_reply.proofs.TranscriptGrows.{AreAnswered}
-use Rattle.imap_wire.specs.declared.frame.Frame.{Frame}
-use Rattle.imap_wire.specs.declared.frame.Frame.TheVariants.{Whole}
-use Rattle.imap_wire.proofs.FaultLaws.{FaultsLast}
+use Rattle.imap_reply.specs.declared.inputs.Input.{Input}
+use Rattle.imap_reply.specs.declared.inputs.Input.TheVariants.{Asks}
+use Rattle.front_core.specs.Reading.{Reading as Read}
+use Rattle.imap_reply.specs.Inputs.{requests_in}
+use Rattle.cluster_core.proofs.Readings.{FaultsLast}
 use Rattle.link_msg.specs.declared.answer.AnswerBody.{AnswerBody}
 use Rattle.link_msg.specs.declared.answer.BackAnswer.{BackAnswer}
 use Rattle.link_msg.specs.declared.ask.FrontAsk.{FrontAsk}
@@ -39,11 +40,10 @@ use Rattle.cluster_core.specs.Links.{Links}
 use Rattle.cluster_core.specs.World.{client_at}
 use Rattle.cluster_core.proofs.Told.{IsTold}
 use Rattle.cluster_core.proofs.Ways.{AreOnWay}
-use Rattle.cluster_core.proofs.RequestsOf.{requests_of}
 
 -- the reader has begun so; one of a connection that has ended reads no more
-abbrev pub HasBegunSo : Connection → Option (List ℕ) → Type 0
-HasBegunSo connection held = (connection.stage ≡ Ended) ⊎ (connection.reader ≡ held)
+abbrev pub HasBegunSo : Connection → Read → Type 0
+HasBegunSo connection reading = (connection.stage ≡ Ended) ⊎ (connection.reader ≡ reading)
 
 -- what was asked, what the one store replied, how much of it the clients were told, and the store with its sessions
 pub record Story : Type 0 where
@@ -113,8 +113,8 @@ stories_follow conn one two three first second = record {
   more = talks_follow (told_of one) (told_of two) (told_of three) first.more second.more;
 }
 
-abbrev pub client_with : List ℕ → List Frame → List Answer → Client
-client_with front frames told = record { at = front; given = greeting ++ replies_to frames told }
+abbrev pub client_with : List ℕ → List Input → List Answer → Client
+client_with front inputs told = record { at = front; given = greeting ++ replies_to inputs told }
 
 -- the ask of a command is on the way, or the home's answer, of which the reply and the session behind it are made
 pub data OnItsWay (links : Links) (conn : ℕ) (front home : List ℕ) (connection : Connection) (tag : Tag) (name : List ℕ) (work : Work)
@@ -128,21 +128,21 @@ pub data OnItsWay (links : Links) (conn : ℕ) (front home : List ℕ) (connecti
       → OnItsWay links conn front home connection tag name work told said session
 
 -- a connection of a client that hasn't closed it: it reads, a command waits, a fault ended it, or its session ended with an answer
-pub data Stands (setting : Setting) (front home : List ℕ) (conn : ℕ) (frames : List Frame) (held : Option (List ℕ)) (connection : Connection) (links : Links)
+pub data Stands (setting : Setting) (front home : List ℕ) (conn : ℕ) (inputs : List Input) (held : Option (List ℕ)) (connection : Connection) (links : Links)
     (told said : List Answer) (session : Sess) : Type 0 where
-  reads : connection.stage ≡ Reading → connection.waiting ≡ [] → connection.session ≡ session → has_ended session ≡ false → AreAnswered frames told
-      → said ≡ told → AreOnWay links conn front home [] [] → Stands setting front home conn frames held connection links told said session
-  waits : (passed : List Frame) (bytes : List ℕ) (tag : Tag) (it : Command) (name : List ℕ) (work : Work)
-      → connection.stage ≡ Asked tag (asked_for name work).awaited → frames ≡ passed ++ Whole bytes ∷ connection.waiting
+  reads : connection.stage ≡ Reading → connection.waiting ≡ [] → connection.session ≡ session → has_ended session ≡ false → AreAnswered inputs told
+      → said ≡ told → AreOnWay links conn front home [] [] → Stands setting front home conn inputs held connection links told said session
+  waits : (passed : List Input) (request : Request) (tag : Tag) (it : Command) (name : List ℕ) (work : Work)
+      → connection.stage ≡ Asked tag (asked_for name work).awaited → inputs ≡ passed ++ Asks request ∷ connection.waiting
       → has_ended connection.session ≡ false → AreAnswered passed told
-      → request_of bytes ≡ a_command tag it → need_of setting connection.session it ≡ Mailbox name work → FaultsLast connection.waiting held
+      → request ≡ a_command tag it → need_of setting connection.session it ≡ Mailbox name work → FaultsLast connection.waiting held
       → OnItsWay links conn front home connection tag name work told said session
-      → Stands setting front home conn frames held connection links told said session
-  faulted : connection.stage ≡ Ended → held ≡ None → length (requests_of frames) ≡ length told → said ≡ told
-      → AreOnWay links conn front home [] [] → Stands setting front home conn frames held connection links told said session
-  finished : (passed more : List Frame) (bytes : List ℕ) (before : List Answer) (last : Answer) → connection.stage ≡ Ended
-      → frames ≡ passed ++ Whole bytes ∷ more → AreAnswered passed before → told ≡ before ++ last ∷ [] → ends last.reply ≡ true → said ≡ told
-      → AreOnWay links conn front home [] [] → Stands setting front home conn frames held connection links told said session
+      → Stands setting front home conn inputs held connection links told said session
+  faulted : connection.stage ≡ Ended → held ≡ None → length (requests_in inputs) ≡ length told → said ≡ told
+      → AreOnWay links conn front home [] [] → Stands setting front home conn inputs held connection links told said session
+  finished : (passed more : List Input) (request : Request) (before : List Answer) (last : Answer) → connection.stage ≡ Ended
+      → inputs ≡ passed ++ Asks request ∷ more → AreAnswered passed before → told ≡ before ++ last ∷ [] → ends last.reply ≡ true → said ≡ told
+      → AreOnWay links conn front home [] [] → Stands setting front home conn inputs held connection links told said session
 
 -- one whose client closed it: nothing is on its way, or what was on its way is
 pub data IsLeft (setting : Setting) (front home : List ℕ) (conn : ℕ) (requests : List Request) (connection : Connection) (links : Links)
@@ -157,23 +157,23 @@ pub data IsLeft (setting : Setting) (front home : List ℕ) (conn : ℕ) (reques
       → IsLeft setting front home conn requests connection links told said session
 
 -- a connection in the middle of a step, in which it reads
-pub record IsReading (front home : List ℕ) (conn : ℕ) (frames : List Frame) (connection : Connection) (world : World) (story : Story) : Type 0 where
+pub record IsReading (front home : List ℕ) (conn : ℕ) (inputs : List Input) (connection : Connection) (world : World) (story : Story) : Type 0 where
   pub stage_is : connection.stage ≡ Reading
   pub waiting_is : connection.waiting ≡ []
   pub session_is : connection.session ≡ story.course.sessions conn
   pub goes_on : has_ended (story.course.sessions conn) ≡ false
   pub count : connection.answered ≡ length (story.told conn)
-  pub answered : AreAnswered frames (story.told conn)
+  pub answered : AreAnswered inputs (story.told conn)
   pub said : story.talk.answers conn ≡ story.told conn
-  pub client : client_at world conn ≡ Some (client_with front frames (story.told conn))
+  pub client : client_at world conn ≡ Some (client_with front inputs (story.told conn))
   pub way : AreOnWay world.links conn front home [] []
 
 -- and whatever it is at
-pub record IsStanding (setting : Setting) (front home : List ℕ) (conn : ℕ) (frames : List Frame) (held : Option (List ℕ)) (connection : Connection)
+pub record IsStanding (setting : Setting) (front home : List ℕ) (conn : ℕ) (inputs : List Input) (held : Option (List ℕ)) (connection : Connection)
     (world : World) (story : Story) : Type 0 where
   pub count : connection.answered ≡ length (story.told conn)
-  pub client : client_at world conn ≡ Some (client_with front frames (story.told conn))
-  pub stands : Stands setting front home conn frames held connection world.links (story.told conn) (story.talk.answers conn) (story.course.sessions conn)
+  pub client : client_at world conn ≡ Some (client_with front inputs (story.told conn))
+  pub stands : Stands setting front home conn inputs held connection world.links (story.told conn) (story.talk.answers conn) (story.course.sessions conn)
 
 -- a world and a story that a step of one connection made of another
 pub record IsMade (setting : Setting) (backend : Backend) (conn : ℕ) (before : World) (told : Story) (world : World) (story : Story) : Type 0 where
@@ -181,17 +181,17 @@ pub record IsMade (setting : Setting) (backend : Backend) (conn : ℕ) (before :
   pub goes_on : GoesOnAt conn told story
   pub is_told : IsTold setting world.steps world.marks backend story.talk story.course
 
-pub record ReadsOn (setting : Setting) (front home : List ℕ) (backend : Backend) (conn : ℕ) (frames : List Frame) (connection : Connection) (before : World)
+pub record ReadsOn (setting : Setting) (front home : List ℕ) (backend : Backend) (conn : ℕ) (inputs : List Input) (connection : Connection) (before : World)
     (told : Story) (world : World) : Type 0 where
   pub story : Story
   pub made : IsMade setting backend conn before told world story
-  pub reading : IsReading front home conn frames connection world story
+  pub reading : IsReading front home conn inputs connection world story
 
-pub record StandsOn (setting : Setting) (front home : List ℕ) (backend : Backend) (conn : ℕ) (frames : List Frame) (held : Option (List ℕ))
+pub record StandsOn (setting : Setting) (front home : List ℕ) (backend : Backend) (conn : ℕ) (inputs : List Input) (held : Option (List ℕ))
     (connection : Connection) (before : World) (told : Story) (world : World) : Type 0 where
   pub story : Story
   pub made : IsMade setting backend conn before told world story
-  pub standing : IsStanding setting front home conn frames held connection world story
+  pub standing : IsStanding setting front home conn inputs held connection world story
 
 pub session_at : (sessions : ℕ → Sess) (conn : ℕ) (session : Sess) → with_session sessions conn session conn ≡ session
 unfolding with_session

@@ -7,17 +7,19 @@ use Rattle.backend_core.specs.declared.backend.Backend.{Backend}
 use Rattle.front_core.specs.declared.connection.Connection.{Connection}
 use Rattle.front_core.specs.declared.connection.Stage.TheVariants.{Asked, Ended}
 use Rattle.front_core.specs.Answered.{reading_again, ends_with, unchanged, turned, replied, answer_by, answer_comes}
-use Rattle.front_core.specs.Taken.{Turned, frames_come, behind_outs}
+use Rattle.front_core.specs.Taken.{Turned, inputs_come, behind_outs}
 use Rattle.imap_reply.specs.Greeting.{greeting}
 use Rattle.imap_reply.specs.ReplyText.{reply_text}
 use Rattle.imap_reply.specs.SessionEnds.{has_ended, ends_session, TurnEnds}
 use Rattle.imap_reply.specs.Transcript.{ends, replies_to}
 use Rattle.imap_reply.specs.Transcript.Stop.{silent}
 use Rattle.imap_reply.proofs.AnswersEnd.{ended_by}
-use Rattle.imap_reply.proofs.TranscriptGrows.{AreAnswered, whole_answered, end_told}
-use Rattle.imap_wire.specs.declared.frame.Frame.{Frame}
-use Rattle.imap_wire.specs.declared.frame.Frame.TheVariants.{Whole}
-use Rattle.imap_wire.proofs.FaultLaws.{FaultsLast}
+use Rattle.imap_reply.proofs.TranscriptGrows.{AreAnswered, request_answered, end_told}
+use Rattle.imap_reply.specs.declared.inputs.Input.{Input}
+use Rattle.imap_reply.specs.declared.inputs.Input.TheVariants.{Asks}
+use Rattle.mur_model.specs.declared.request.Request.{Request}
+use Rattle.imap_reply.specs.Inputs.{requests_in}
+use Rattle.cluster_core.proofs.Readings.{FaultsLast}
 use Rattle.link_msg.specs.declared.answer.AnswerBody.{AnswerBody}
 use Rattle.link_msg.specs.declared.answer.BackAnswer.{BackAnswer}
 use Rattle.link_msg.specs.declared.out.Out.TheVariants.{Client as to_client}
@@ -40,8 +42,8 @@ use Rattle.cluster_core.specs.declared.world.World.{World}
 use Rattle.cluster_core.specs.World.{client_at, carry_all}
 use Rattle.cluster_core.proofs.ConnectionLaw.{Story, client_with, GoesOnAt, ReadsOn, StandsOn}
 use Rattle.cluster_core.proofs.ConnectionLaw.Stands.{finished}
-use Rattle.cluster_core.proofs.FrameLaw.{carry_all-append, line_carried, end_carried, given_keeps, frames_kept}
-use Rattle.cluster_core.proofs.RequestsOf.{requests_of, replies_stop}
+use Rattle.cluster_core.proofs.FrameLaw.{carry_all-append, line_carried, end_carried, given_keeps, inputs_kept}
+use Rattle.cluster_core.proofs.RequestsOf.{replies_stop}
 use Rattle.cluster_core.proofs.Told.{IsTold}
 use Rattle.cluster_core.proofs.Ways.{AreOnWay}
 
@@ -62,26 +64,26 @@ told_goes_on story conn answer = record {
 }
 
 -- the connection reads again behind the reply
-replied_reads : (setting : Setting) (front home : List ℕ) (backend : Backend) (conn : ℕ) (all passed : List Frame) (bytes : List ℕ) (connection : Connection)
+replied_reads : (setting : Setting) (front home : List ℕ) (backend : Backend) (conn : ℕ) (all passed : List Input) (request : Request) (connection : Connection)
     (tag : Tag) (reply : Reply) (later : Option Sess) (world : World) (story : Story)
-    → all ≡ passed ++ Whole bytes ∷ connection.waiting → connection.answered ≡ length (story.told conn)
+    → all ≡ passed ++ Asks request ∷ connection.waiting → connection.answered ≡ length (story.told conn)
     → client_at world conn ≡ Some (client_with front all (story.told conn))
     → story.course.sessions conn ≡ session_after connection.session later → has_ended (story.course.sessions conn) ≡ false
     → AreAnswered passed (story.told conn)
     → story.talk.answers conn ≡ story.told conn ++ (record { tag = tag; reply = reply }) ∷ []
     → ends reply ≡ false → AreOnWay world.links conn front home [] [] → IsTold setting world.steps world.marks backend story.talk story.course
-    → ReadsOn setting front home backend conn (passed ++ Whole bytes ∷ []) (reading_again connection later) world story
+    → ReadsOn setting front home backend conn (passed ++ Asks request ∷ []) (reading_again connection later) world story
     (carry_all front world (to_client conn (reply_text tag reply) ∷ []))
-replied_reads setting front home backend conn all passed bytes connection tag reply later world story parts count at session lasts answered said stays
+replied_reads setting front home backend conn all passed request connection tag reply later world story parts count at session lasts answered said stays
     way told =
     let answer : AnswerOf = record { tag = tag; reply = reply } in
     let client : Client = client_with front all (story.told conn) in
     let text : List ℕ = reply_text tag reply in
-    let grown = whole_answered passed (story.told conn) bytes answer answered stays in
+    let grown = request_answered passed (story.told conn) request answer answered stays in
     let now : Story = told_more story conn answer in
     let stops : replies_to all (story.told conn) ≡ replies_to passed (story.told conn) =
-    ap (λ f. replies_to f (story.told conn)) parts ∙ sym (replies_stop passed (story.told conn) bytes connection.waiting answered) in
-    subst (λ w. ReadsOn setting front home backend conn (passed ++ Whole bytes ∷ []) (reading_again connection later) world story w)
+    ap (λ f. replies_to f (story.told conn)) parts ∙ sym (replies_stop passed (story.told conn) request connection.waiting answered) in
+    subst (λ w. ReadsOn setting front home backend conn (passed ++ Asks request ∷ []) (reading_again connection later) world story w)
     (sym (line_carried front world conn client text at))
     (record {
       story = now;
@@ -96,65 +98,65 @@ replied_reads setting front home backend conn all passed bytes connection tag re
         session_is = sym session;
         goes_on = lasts;
         count = ap (λ n. n + 1) count ∙ sym (length_with_item story.told conn answer);
-        answered = subst (λ a. AreAnswered (passed ++ Whole bytes ∷ []) a) (sym (with_item-same story.told conn answer)) grown.answered;
+        answered = subst (λ a. AreAnswered (passed ++ Asks request ∷ []) a) (sym (with_item-same story.told conn answer)) grown.answered;
         said = said ∙ sym (with_item-same story.told conn answer);
         client = value_at-with_value nat_cmp numbers_apart world.clients conn (record client { given = client.given ++ text }) client at
             ∙ ap (λ g. Some (record { at = front; given = g }))
             (append_assoc greeting (replies_to all (story.told conn)) text ∙ ap (λ t. greeting ++ (t ++ text)) stops
             ∙ ap (λ t. greeting ++ t) (sym grown.text_is)
-            ∙ ap (λ a. greeting ++ replies_to (passed ++ Whole bytes ∷ []) a) (sym (with_item-same story.told conn answer)));
+            ∙ ap (λ a. greeting ++ replies_to (passed ++ Asks request ∷ []) a) (sym (with_item-same story.told conn answer)));
         way = way;
       };
     })
 
 abbrev read_turn : Setting → List ℕ → ℕ → Connection → List ℕ → Option Sess → Turned
 read_turn setting home conn connection text later =
-    behind_outs (to_client conn text ∷ []) (frames_come setting home conn (reading_again connection later) connection.waiting)
+    behind_outs (to_client conn text ∷ []) (inputs_come setting home conn (reading_again connection later) connection.waiting)
 
 -- and what waited comes
-read_stands : (setting : Setting) (front home : List ℕ) (backend : Backend) (conn : ℕ) (all passed : List Frame) (held : Option (List ℕ))
-    (bytes : List ℕ) (connection : Connection) (tag : Tag) (reply : Reply) (later : Option Sess) (world : World) (story : Story)
-    → all ≡ passed ++ Whole bytes ∷ connection.waiting → connection.answered ≡ length (story.told conn)
+read_stands : (setting : Setting) (front home : List ℕ) (backend : Backend) (conn : ℕ) (all passed : List Input) (held : Option (List ℕ))
+    (request : Request) (connection : Connection) (tag : Tag) (reply : Reply) (later : Option Sess) (world : World) (story : Story)
+    → all ≡ passed ++ Asks request ∷ connection.waiting → connection.answered ≡ length (story.told conn)
     → client_at world conn ≡ Some (client_with front all (story.told conn))
     → story.course.sessions conn ≡ session_after connection.session later → has_ended (story.course.sessions conn) ≡ false
     → AreAnswered passed (story.told conn)
     → story.talk.answers conn ≡ story.told conn ++ (record { tag = tag; reply = reply }) ∷ []
     → ends reply ≡ false → AreOnWay world.links conn front home [] [] → IsTold setting world.steps world.marks backend story.talk story.course
-    → FaultsLast connection.waiting held → story.talk.requests conn ≡ requests_of all
+    → FaultsLast connection.waiting held → story.talk.requests conn ≡ requests_in all
     → StandsOn setting front home backend conn all held (read_turn setting home conn connection (reply_text tag reply) later).connection world story
     (carry_all front world (read_turn setting home conn connection (reply_text tag reply) later).outs)
-read_stands setting front home backend conn all passed held bytes connection tag reply later world story parts count at session lasts answered said stays way
+read_stands setting front home backend conn all passed held request connection tag reply later world story parts count at session lasts answered said stays way
     told last asked =
-    let behind : Turned = frames_come setting home conn (reading_again connection later) connection.waiting in
-    let whole : all ≡ (passed ++ Whole bytes ∷ []) ++ connection.waiting = parts ∙ sym (append_assoc passed (Whole bytes ∷ []) connection.waiting) in
+    let behind : Turned = inputs_come setting home conn (reading_again connection later) connection.waiting in
+    let whole : all ≡ (passed ++ Asks request ∷ []) ++ connection.waiting = parts ∙ sym (append_assoc passed (Asks request ∷ []) connection.waiting) in
     subst (λ w. StandsOn setting front home backend conn all held behind.connection world story w)
     (sym (carry_all-append front world (to_client conn (reply_text tag reply) ∷ []) behind.outs))
     (subst (λ f. StandsOn setting front home backend conn f held behind.connection world story
     (carry_all front (carry_all front world (to_client conn (reply_text tag reply) ∷ [])) behind.outs)) (sym whole)
-    (frames_kept setting front home backend conn connection.waiting held world story last (passed ++ Whole bytes ∷ []) (reading_again connection later)
+    (inputs_kept setting front home backend conn connection.waiting held world story last (passed ++ Asks request ∷ []) (reading_again connection later)
     (carry_all front world (to_client conn (reply_text tag reply) ∷ []))
-    (asked ∙ ap requests_of whole)
-    (replied_reads setting front home backend conn all passed bytes connection tag reply later world story parts count at session lasts answered said stays
+    (asked ∙ ap requests_in whole)
+    (replied_reads setting front home backend conn all passed request connection tag reply later world story parts count at session lasts answered said stays
     way told)))
 
 -- nothing follows the reply of a session that has ended
-ended_stands : (setting : Setting) (front home : List ℕ) (backend : Backend) (conn : ℕ) (all passed : List Frame) (held : Option (List ℕ))
-    (bytes : List ℕ) (connection : Connection) (tag : Tag) (reply : Reply) (world : World) (story : Story)
-    → all ≡ passed ++ Whole bytes ∷ connection.waiting → connection.answered ≡ length (story.told conn)
+ended_stands : (setting : Setting) (front home : List ℕ) (backend : Backend) (conn : ℕ) (all passed : List Input) (held : Option (List ℕ))
+    (request : Request) (connection : Connection) (tag : Tag) (reply : Reply) (world : World) (story : Story)
+    → all ≡ passed ++ Asks request ∷ connection.waiting → connection.answered ≡ length (story.told conn)
     → client_at world conn ≡ Some (client_with front all (story.told conn)) → AreAnswered passed (story.told conn)
     → story.talk.answers conn ≡ story.told conn ++ (record { tag = tag; reply = reply }) ∷ []
     → ends reply ≡ true → AreOnWay world.links conn front home [] [] → IsTold setting world.steps world.marks backend story.talk story.course
     → StandsOn setting front home backend conn all held (ends_with conn connection (reply_text tag reply)).connection world story
     (carry_all front world (ends_with conn connection (reply_text tag reply)).outs)
-ended_stands setting front home backend conn all passed held bytes connection tag reply world story parts count at answered said is_end way told =
+ended_stands setting front home backend conn all passed held request connection tag reply world story parts count at answered said is_end way told =
     let answer : AnswerOf = record { tag = tag; reply = reply } in
     let client : Client = client_with front all (story.told conn) in
     let text : List ℕ = reply_text tag reply in
     let stops : replies_to all (story.told conn) ≡ replies_to passed (story.told conn) =
-    ap (λ f. replies_to f (story.told conn)) parts ∙ sym (replies_stop passed (story.told conn) bytes connection.waiting answered) in
+    ap (λ f. replies_to f (story.told conn)) parts ∙ sym (replies_stop passed (story.told conn) request connection.waiting answered) in
     let ended : replies_to all (story.told conn ++ answer ∷ []) ≡ replies_to passed (story.told conn) ++ text =
     ap (λ f. replies_to f (story.told conn ++ answer ∷ [])) parts
-    ∙ end_told silent passed (story.told conn) bytes connection.waiting answer [] answered is_end in
+    ∙ end_told silent passed (story.told conn) request connection.waiting answer [] answered is_end in
     subst (λ w. StandsOn setting front home backend conn all held (ends_with conn connection text).connection world story w)
     (sym (end_carried front world conn client text at))
     (record {
@@ -170,7 +172,7 @@ ended_stands setting front home backend conn all passed held bytes connection ta
             ∙ ap (λ g. Some (record { at = front; given = g }))
             (append_assoc greeting (replies_to all (story.told conn)) text ∙ ap (λ t. greeting ++ (t ++ text)) stops
             ∙ ap (λ t. greeting ++ t) (sym ended) ∙ ap (λ a. greeting ++ replies_to all a) (sym (with_item-same story.told conn answer)));
-        stands = finished passed connection.waiting bytes (story.told conn) answer refl parts answered (with_item-same story.told conn answer) is_end
+        stands = finished passed connection.waiting request (story.told conn) answer refl parts answered (with_item-same story.told conn answer) is_end
             (said ∙ sym (with_item-same story.told conn answer)) way;
       };
     })
@@ -200,46 +202,46 @@ read_turned setting home conn connection text (Some (In user)) e = refl
 read_turned setting home conn connection text (Some (Selected view)) e = refl
 read_turned setting home conn connection text (Some session_ended) e = cc
 
-replied_by : (setting : Setting) (front home : List ℕ) (backend : Backend) (conn : ℕ) (all passed : List Frame) (held : Option (List ℕ))
-    (bytes : List ℕ) (connection : Connection) (tag : Tag) (turn : Turn) (world : World) (story : Story)
-    → all ≡ passed ++ Whole bytes ∷ connection.waiting → connection.answered ≡ length (story.told conn)
+replied_by : (setting : Setting) (front home : List ℕ) (backend : Backend) (conn : ℕ) (all passed : List Input) (held : Option (List ℕ))
+    (request : Request) (connection : Connection) (tag : Tag) (turn : Turn) (world : World) (story : Story)
+    → all ≡ passed ++ Asks request ∷ connection.waiting → connection.answered ≡ length (story.told conn)
     → client_at world conn ≡ Some (client_with front all (story.told conn))
     → has_ended connection.session ≡ false → story.course.sessions conn ≡ session_after connection.session turn.session → TurnEnds turn
     → AreAnswered passed (story.told conn)
     → story.talk.answers conn ≡ story.told conn ++ (record { tag = tag; reply = turn.reply }) ∷ []
     → AreOnWay world.links conn front home [] [] → IsTold setting world.steps world.marks backend story.talk story.course
-    → FaultsLast connection.waiting held → story.talk.requests conn ≡ requests_of all
+    → FaultsLast connection.waiting held → story.talk.requests conn ≡ requests_in all
     → (ended : Bool) → ends_session turn.session ≡ ended
     → StandsOn setting front home backend conn all held (replied_turn setting home conn connection tag turn).connection world story
     (carry_all front world (replied_turn setting home conn connection tag turn).outs)
-replied_by setting front home backend conn all passed held bytes connection tag turn world story parts count at lasts session both answered said way told last
+replied_by setting front home backend conn all passed held request connection tag turn world story parts count at lasts session both answered said way told last
     asked true ended =
     subst (λ (t : Turned). StandsOn setting front home backend conn all held t.connection world story (carry_all front world t.outs))
     (sym (ended_turned setting home conn connection (reply_text tag turn.reply) turn.session ended))
-    (ended_stands setting front home backend conn all passed held bytes connection tag turn.reply world story parts count at answered said (both ∙ ended) way
+    (ended_stands setting front home backend conn all passed held request connection tag turn.reply world story parts count at answered said (both ∙ ended) way
     told)
-replied_by setting front home backend conn all passed held bytes connection tag turn world story parts count at lasts session both answered said way told last
+replied_by setting front home backend conn all passed held request connection tag turn world story parts count at lasts session both answered said way told last
     asked false ended =
     subst (λ (t : Turned). StandsOn setting front home backend conn all held t.connection world story (carry_all front world t.outs))
     (sym (read_turned setting home conn connection (reply_text tag turn.reply) turn.session ended))
-    (read_stands setting front home backend conn all passed held bytes connection tag turn.reply turn.session world story parts count at session
+    (read_stands setting front home backend conn all passed held request connection tag turn.reply turn.session world story parts count at session
     (ap has_ended session ∙ ended_by connection.session turn.session lasts ∙ ended) answered said (both ∙ ended) way told last asked)
 
 -- the connection behind the reply
-pub replied_stands : (setting : Setting) (front home : List ℕ) (backend : Backend) (conn : ℕ) (all passed : List Frame) (held : Option (List ℕ))
-    (bytes : List ℕ) (connection : Connection) (tag : Tag) (turn : Turn) (world : World) (story : Story)
-    → all ≡ passed ++ Whole bytes ∷ connection.waiting → connection.answered ≡ length (story.told conn)
+pub replied_stands : (setting : Setting) (front home : List ℕ) (backend : Backend) (conn : ℕ) (all passed : List Input) (held : Option (List ℕ))
+    (request : Request) (connection : Connection) (tag : Tag) (turn : Turn) (world : World) (story : Story)
+    → all ≡ passed ++ Asks request ∷ connection.waiting → connection.answered ≡ length (story.told conn)
     → client_at world conn ≡ Some (client_with front all (story.told conn))
     → has_ended connection.session ≡ false → story.course.sessions conn ≡ session_after connection.session turn.session → TurnEnds turn
     → AreAnswered passed (story.told conn)
     → story.talk.answers conn ≡ story.told conn ++ (record { tag = tag; reply = turn.reply }) ∷ []
     → AreOnWay world.links conn front home [] [] → IsTold setting world.steps world.marks backend story.talk story.course
-    → FaultsLast connection.waiting held → story.talk.requests conn ≡ requests_of all
+    → FaultsLast connection.waiting held → story.talk.requests conn ≡ requests_in all
     → StandsOn setting front home backend conn all held (replied_turn setting home conn connection tag turn).connection world story
     (carry_all front world (replied_turn setting home conn connection tag turn).outs)
-replied_stands setting front home backend conn all passed held bytes connection tag turn world story parts count at lasts session both answered said way told
+replied_stands setting front home backend conn all passed held request connection tag turn world story parts count at lasts session both answered said way told
     last asked =
-    replied_by setting front home backend conn all passed held bytes connection tag turn world story parts count at lasts session both answered said way told
+    replied_by setting front home backend conn all passed held request connection tag turn world story parts count at lasts session both answered said way told
     last asked (ends_session turn.session) refl
 
 -- the answer that fits is replied to

@@ -193,7 +193,7 @@ ask_kept config heard after world law conn front connection tag name work ask re
         nodes = nodes_with_home config world next law.backend answered.backend refl refl refl law.nodes;
         story = story;
         is_told = answered.is_told;
-        requests = λ other. law.requests other ∙ ap (λ h. requests_of (frames_heard h)) (sym (same other));
+        requests = λ other. law.requests other ∙ ap (λ h. requests_of (setting_of config) (frames_heard h)) (sym (same other));
         connections = λ other. ⊎_elim
             (λ (e : other ≡ conn). subst (λ c. ConnectionIs (setting_of config) (home_of config) c next story (after c)) (sym e) mine)
             (λ (ne : other ≢ conn). subst (λ h. ConnectionIs (setting_of config) (home_of config) other next story h) (sym (same other))

@@ -2,6 +2,7 @@
 use Rattle.std.proofs.Common.{◌≡◌, ◌≢◌, ℕ, true, false, nat_eq, List, [], ◌∷◌, ◌++◌, length, Option, None, Some}
 use Rattle.std.proofs.Common.{inl, inr, refl, sym, ◌∙◌, ap, subst}
 use Rattle.std.proofs.Common.{arith, append_assoc}
+use Rattle.std.specs.Option.{is_none}
 use Rattle.std.specs.Ordering.{nat_cmp}
 use Rattle.std.specs.Cmp.Lexicographic.{slice_cmp}
 use Rattle.std.proofs.Math.Logic.{⊎_elim}
@@ -12,21 +13,17 @@ use Rattle.front_core.specs.declared.connection.Connection.{Connection}
 use Rattle.front_core.specs.declared.connection.Stage.TheVariants.{Reading, Asked, Ended}
 use Rattle.front_core.specs.declared.front.Front.{Front}
 use Rattle.front_core.specs.Front.{connection_at, having_read, bytes_in, bytes_at as front_bytes_at, bytes_by, still, with_turned}
-use Rattle.front_core.specs.Taken.{Turned, frame_comes, frames_come}
+use Rattle.front_core.specs.Taken.{Turned, input_comes, inputs_come}
 use Rattle.front_core.proofs.FrameLaws.{reader_kept}
-use Rattle.imap_command.specs.Request.{request_of}
 use Rattle.imap_reply.specs.SessionEnds.{has_ended}
 use Rattle.imap_reply.specs.Transcript.{ends, replies_to}
 use Rattle.imap_reply.specs.Transcript.Stop.{silent}
 use Rattle.imap_reply.proofs.TranscriptGrows.{AreAnswered, end_told}
 use Rattle.imap_reply.specs.Greeting.{greeting}
-use Rattle.imap_wire.specs.declared.frame.Frame.{Frame}
-use Rattle.imap_wire.specs.declared.frame.Frame.TheVariants.{Whole, NeedLiteral, TooBig, Fault}
-use Rattle.imap_wire.specs.Frames.{frames, begun}
-use Rattle.imap_wire.specs.More.{frames_of_more, begun_by_more}
-use Rattle.imap_wire.proofs.FaultLaws.{FaultsLast, faults_last}
+use Rattle.imap_reply.specs.declared.inputs.Input.{Input}
+use Rattle.imap_reply.specs.declared.inputs.Input.TheVariants.{GoesOn, Asks, Faults}
+use Rattle.imap_wire.specs.Frames.{begun}
 use Rattle.imap_wire.proofs.FeedLaws.{frames-ended, begun-ended}
-use Rattle.imap_wire.proofs.MoreLaws.{frames_with_more, begun_with_more, none_ended, ended_stays}
 use Rattle.mur_base.proofs.MapLaws.{names_apart}
 use Rattle.mur_config.specs.declared.config.Config.{Config}
 use Rattle.mur_model.specs.declared.command.Command.{Command}
@@ -43,6 +40,11 @@ use Rattle.mur_model.proofs.HistoryGrows.{same_lists, talks_follow}
 use Rattle.session_core.specs.Asking.{asked_for}
 use Rattle.session_core.specs.declared.asking.Awaited.{Awaited}
 use Rattle.schedule_text.specs.declared.event.Event.TheVariants.{Data}
+use Rattle.front_core.specs.Reading.{Reading as Read, inputs_of_more, read_more}
+use Rattle.front_core.proofs.ReadingLaws.{ended_inputs, ended_reader}
+use Rattle.imap_reply.specs.Inputs.{inputs_from, requests_in}
+use Rattle.imap_reply.proofs.InputLaws.{requests-append}
+use Rattle.cluster_core.proofs.Readings.{FaultsLast, faults_after, inputs_in, inputs_with_more, reading_of, reading_with_more}
 use Rattle.cluster_core.specs.declared.world.World.{World}
 use Rattle.cluster_core.specs.Heard.{Heard, nobody, elsewhere, client, hears, frames_heard}
 use Rattle.cluster_core.specs.World.{client_at, front_at, home_of, setting_of, with_front, bytes_at, bytes_from, carry_all}
@@ -50,12 +52,12 @@ use Rattle.cluster_core.proofs.ConnectionLaw.{Story, told_of, client_with, keeps
 use Rattle.cluster_core.proofs.ConnectionLaw.{StandsOn}
 use Rattle.cluster_core.proofs.ConnectionLaw.OnItsWay.{there, back}
 use Rattle.cluster_core.proofs.ConnectionLaw.Stands.{reads, waits, faulted, finished}
-use Rattle.cluster_core.proofs.FrameLaw.{frames_kept, asked_waits}
+use Rattle.cluster_core.proofs.FrameLaw.{inputs_kept, asked_waits}
 use Rattle.cluster_core.proofs.KeepsLaw.{ConnectionIs, IsAt, KeepsLaw, KeepsOn, LooksAlike, looks_same, same_put, same_front, connection_stays}
 use Rattle.cluster_core.proofs.KeepsLaw.ConnectionIs.{is_nobody, is_elsewhere, is_open, is_closed}
 use Rattle.cluster_core.proofs.KeepsFront.{world_after, with_connection, front_keeps, is_at_after, standing_after}
 use Rattle.cluster_core.proofs.KeepsStill.{still_kept}
-use Rattle.cluster_core.proofs.RequestsOf.{requests_of, requests-append, replies_stop}
+use Rattle.cluster_core.proofs.RequestsOf.{requests_of, replies_stop}
 use Rattle.cluster_core.proofs.Told.{IsTold, told_asked}
 use Rattle.cluster_core.proofs.Ways.{AreOnWay}
 
@@ -72,12 +74,12 @@ looks_put world node front at = record {
   steps = omega arith;
 }
 
-pub frames_keep_reader : (setting : Setting) (home : List ℕ) (conn : ℕ) (connection : Connection) (new : List Frame)
-    → (frames_come setting home conn connection new).connection.reader ≡ connection.reader
-unfolding frames_come
-frames_keep_reader setting home conn connection [] = refl
-frames_keep_reader setting home conn connection (frame ∷ new) =
-    frames_keep_reader setting home conn (frame_comes setting home conn connection frame).connection new ∙ reader_kept setting home conn connection frame
+pub inputs_keep_reader : (setting : Setting) (home : List ℕ) (conn : ℕ) (connection : Connection) (new : List Input)
+    → (inputs_come setting home conn connection new).connection.reader ≡ connection.reader
+unfolding inputs_come
+inputs_keep_reader setting home conn connection [] = refl
+inputs_keep_reader setting home conn connection (input ∷ new) =
+    inputs_keep_reader setting home conn (input_comes setting home conn connection input).connection new ∙ reader_kept setting home conn connection input
 
 abbrev after_data : Config → (ℕ → Heard) → ℕ → List ℕ → ℕ → Heard
 after_data config heard conn bytes other = hears config other (heard other) (Data conn bytes)
@@ -109,30 +111,31 @@ record IsLonger (requests longer : List Request) : Type 0 where
   rest : List Request
   parts : longer ≡ requests ++ rest
 
-longer_here : (config : Config) (heard : ℕ → Heard) (conn : ℕ) (bytes more : List ℕ) (held : Option (List ℕ)) → heard conn ≡ client bytes false
-    → begun bytes ≡ held
-    → (requests : List Request) → requests ≡ requests_of (frames_heard (heard conn))
-    → IsLonger requests (requests_of (frames_heard (hears config conn (heard conn) (Data conn more))))
+longer_here : (config : Config) (heard : ℕ → Heard) (conn : ℕ) (bytes more : List ℕ) (held : Read) → heard conn ≡ client bytes false
+    → reading_of (setting_of config) bytes ≡ held
+    → (requests : List Request) → requests ≡ requests_of (setting_of config) (frames_heard (heard conn))
+    → IsLonger requests (requests_of (setting_of config) (frames_heard (hears config conn (heard conn) (Data conn more))))
 unfolding frames_heard
 longer_here config heard conn bytes more held e is requests r = record {
-  rest = requests_of (frames_of_more held more);
-  parts = ap (λ h. requests_of (frames_heard h)) (heard_more config conn bytes more (heard conn) e) ∙ ap requests_of (frames_with_more bytes more held is)
-      ∙ requests-append (frames bytes) (frames_of_more held more)
-      ∙ ap (λ q. q ++ requests_of (frames_of_more held more)) (ap (λ h. requests_of (frames_heard h)) (sym e) ∙ sym r);
+  rest = requests_in (inputs_of_more (setting_of config) held more);
+  parts = ap (λ h. requests_of (setting_of config) (frames_heard h)) (heard_more config conn bytes more (heard conn) e)
+      ∙ ap requests_in (inputs_with_more (setting_of config) bytes more held is)
+      ∙ requests-append (inputs_in (setting_of config) bytes) (inputs_of_more (setting_of config) held more)
+      ∙ ap (λ q. q ++ requests_in (inputs_of_more (setting_of config) held more)) (ap (λ h. requests_of (setting_of config) (frames_heard h)) (sym e) ∙ sym r);
 }
 
 longer_other : (config : Config) (heard : ℕ → Heard) (conn other : ℕ) (more : List ℕ) → other ≢ conn → (requests : List Request)
-    → requests ≡ requests_of (frames_heard (heard other))
-    → IsLonger requests (requests_of (frames_heard (hears config other (heard other) (Data conn more))))
+    → requests ≡ requests_of (setting_of config) (frames_heard (heard other))
+    → IsLonger requests (requests_of (setting_of config) (frames_heard (hears config other (heard other) (Data conn more))))
 longer_other config heard conn other more ne requests r = record {
   rest = [];
-  parts = ap (λ h. requests_of (frames_heard h)) (other_heard config conn other more (heard other) ne) ∙ sym r ∙ sym (append-nil requests);
+  parts = ap (λ h. requests_of (setting_of config) (frames_heard h)) (other_heard config conn other more (heard other) ne) ∙ sym r ∙ sym (append-nil requests);
 }
 
 abbrev asked_talk : Config → (ℕ → Heard) → ℕ → List ℕ → Story → Story
 asked_talk config heard conn more story = record {
   talk = record {
-    requests = λ other. requests_of (frames_heard (hears config other (heard other) (Data conn more)));
+    requests = λ other. requests_of (setting_of config) (frames_heard (hears config other (heard other) (Data conn more)));
     answers = story.talk.answers;
     serials =
         story.talk.serials;
@@ -141,70 +144,76 @@ asked_talk config heard conn more story = record {
   course = story.course;
 }
 
-asked_more : (config : Config) (heard : ℕ → Heard) (conn : ℕ) (bytes more : List ℕ) (held : Option (List ℕ)) → heard conn ≡ client bytes false
-    → begun bytes ≡ held
-    → (requests : ℕ → List Request) → ((c : ℕ) → requests c ≡ requests_of (frames_heard (heard c)))
-    → GoesOn requests (λ other. requests_of (frames_heard (hears config other (heard other) (Data conn more))))
+asked_more : (config : Config) (heard : ℕ → Heard) (conn : ℕ) (bytes more : List ℕ) (held : Read) → heard conn ≡ client bytes false
+    → reading_of (setting_of config) bytes ≡ held
+    → (requests : ℕ → List Request) → ((c : ℕ) → requests c ≡ requests_of (setting_of config) (frames_heard (heard c)))
+    → GoesOn requests (λ other. requests_of (setting_of config) (frames_heard (hears config other (heard other) (Data conn more))))
 asked_more config heard conn bytes more held e is requests r = record {
   more = λ other. (longer other).rest;
   parts = λ other. (longer other).parts;
 }
   where
-    longer : (other : ℕ) → IsLonger (requests other) (requests_of (frames_heard (hears config other (heard other) (Data conn more))))
+    longer : (other : ℕ) → IsLonger (requests other) (requests_of (setting_of config) (frames_heard (hears config other (heard other) (Data conn more))))
     longer other = ⊎_elim
-        (λ (same : other ≡ conn). subst (λ c. IsLonger (requests c) (requests_of (frames_heard (hears config c (heard c) (Data conn more))))) (sym same)
+        (λ (same : other ≡ conn). subst (λ c. IsLonger (requests c) (requests_of (setting_of config) (frames_heard (hears config c (heard c)
+        (Data conn more))))) (sym same)
         (longer_here config heard conn bytes more held e is (requests conn) (r conn)))
         (λ (ne : other ≢ conn). longer_other config heard conn other more ne (requests other) (r other))
         (cases_eq other conn)
 
-faults_behind : (front new : List Frame) (held later : Option (List ℕ)) → FaultsLast front held → FaultsLast new later
+faults_behind : (front new : List Input) (held later : Option (List ℕ)) → FaultsLast front held → FaultsLast new later
     → (held ≡ None → (new ≡ []) × (later ≡ None)) → FaultsLast (front ++ new) later
 unfolding FaultsLast
 faults_behind [] new held later one two none = two
-faults_behind (Whole bytes ∷ front) new held later one two none = faults_behind front new held later one two none
-faults_behind (TooBig bytes ∷ front) new held later one two none = faults_behind front new held later one two none
-faults_behind (NeedLiteral size ∷ front) new held later one two none = faults_behind front new held later one two none
-faults_behind (Fault fault ∷ front) new held later one two none =
+faults_behind (Asks request ∷ front) new held later one two none = faults_behind front new held later one two none
+faults_behind (GoesOn why ∷ front) new held later one two none = faults_behind front new held later one two none
+faults_behind (Faults fault ∷ front) new held later one two none =
     let is = none one.1 in (ap (λ f. f ++ new) one.0 ∙ is.0, is.1)
 
 abbrev Behind : (config : Config) (heard : ℕ → Heard) (world : World) (law : KeepsLaw config heard world) (conn : ℕ) (bytes more node : List ℕ)
     (connection : Connection) → Type 0
 Behind config heard world law conn bytes more node connection =
-    StandsOn (setting_of config) node (home_of config) law.backend conn (frames (bytes ++ more)) (begun (bytes ++ more))
-    (frames_come (setting_of config) (home_of config) conn (having_read connection more) (frames_of_more connection.reader more)).connection world
+    StandsOn (setting_of config) node (home_of config) law.backend conn (inputs_in (setting_of config) (bytes ++ more)) (begun (bytes ++ more))
+    (inputs_come (setting_of config) (home_of config) conn (having_read (setting_of config) connection more) (inputs_of_more
+    (setting_of config) connection.reader more)).connection world
     (asked_talk config heard conn more law.story)
-    (carry_all node world (frames_come (setting_of config) (home_of config) conn (having_read connection more) (frames_of_more connection.reader more)).outs)
+    (carry_all node world (inputs_come (setting_of config) (home_of config) conn (having_read (setting_of config) connection more) (inputs_of_more
+    (setting_of config) connection.reader more)).outs)
 
-now_told : (config : Config) (heard : ℕ → Heard) (world : World) (law : KeepsLaw config heard world) (conn : ℕ) (bytes more : List ℕ) (held : Option (List ℕ))
-    → heard conn ≡ client bytes false → begun bytes ≡ held
+now_told : (config : Config) (heard : ℕ → Heard) (world : World) (law : KeepsLaw config heard world) (conn : ℕ) (bytes more : List ℕ) (held : Read)
+    → heard conn ≡ client bytes false → reading_of (setting_of config) bytes ≡ held
     → IsTold (setting_of config) world.steps world.marks law.backend (asked_talk config heard conn more law.story).talk law.story.course
 now_told config heard world law conn bytes more held e is =
     told_asked (setting_of config) world.steps world.marks law.backend law.story.talk law.story.course _
     (asked_more config heard conn bytes more held e is law.story.talk.requests law.requests) law.is_told
 
-all_frames : (config : Config) (heard : ℕ → Heard) (conn : ℕ) (bytes more : List ℕ) (held : Option (List ℕ)) → heard conn ≡ client bytes false
-    → begun bytes ≡ held
-    → requests_of (frames_heard (hears config conn (heard conn) (Data conn more))) ≡ requests_of (frames bytes ++ frames_of_more held more)
+all_inputs : (config : Config) (heard : ℕ → Heard) (conn : ℕ) (bytes more : List ℕ) (held : Read) → heard conn ≡ client bytes false
+    → reading_of (setting_of config) bytes ≡ held
+    → requests_of (setting_of config) (frames_heard (hears config conn (heard conn) (Data conn more)))
+    ≡ requests_in (inputs_in (setting_of config) bytes ++ inputs_of_more (setting_of config) held more)
 unfolding frames_heard
-all_frames config heard conn bytes more held e is =
-    ap (λ h. requests_of (frames_heard h)) (heard_more config conn bytes more (heard conn) e) ∙ ap requests_of (frames_with_more bytes more held is)
+all_inputs config heard conn bytes more held e is =
+    ap (λ h. requests_of (setting_of config) (frames_heard h)) (heard_more config conn bytes more (heard conn) e)
+    ∙ ap requests_in (inputs_with_more (setting_of config) bytes more held is)
 
 reading_behind : (config : Config) (heard : ℕ → Heard) (world : World) (law : KeepsLaw config heard world) (conn : ℕ) (bytes more node : List ℕ)
     (connection : Connection) → heard conn ≡ client bytes false
-    → connection.reader ≡ begun bytes → IsReading node (home_of config) conn (frames bytes) connection world law.story
+    → connection.reader ≡ reading_of (setting_of config) bytes → IsReading node (home_of config) conn (inputs_in
+    (setting_of config) bytes) connection world law.story
     → Behind config heard world law conn bytes more node connection
 reading_behind config heard world law conn bytes more node connection e reader reading =
-    let held : begun bytes ≡ connection.reader = sym reader in
+    let held : reading_of (setting_of config) bytes ≡ connection.reader = sym reader in
     let told : Story = asked_talk config heard conn more law.story in
-    let new : List Frame = frames_of_more connection.reader more in
-    let turned : Turned = frames_come (setting_of config) (home_of config) conn (having_read connection more) new in
+    let new : List Input = inputs_of_more (setting_of config) connection.reader more in
+    let turned : Turned = inputs_come (setting_of config) (home_of config) conn (having_read (setting_of config) connection more) new in
     subst (λ f. StandsOn (setting_of config) node (home_of config) law.backend conn f (begun (bytes ++ more)) turned.connection world told
-    (carry_all node world turned.outs)) (sym (frames_with_more bytes more connection.reader held))
-    (subst (λ h. StandsOn (setting_of config) node (home_of config) law.backend conn (frames bytes ++ new) h turned.connection world told
-    (carry_all node world turned.outs)) (sym (begun_with_more bytes more connection.reader held))
-    (frames_kept (setting_of config) node (home_of config) law.backend conn new (begun_by_more connection.reader more) world told
-    (faults_last bytes more connection.reader held)
-    (frames bytes) (having_read connection more) world (all_frames config heard conn bytes more connection.reader e held)
+    (carry_all node world turned.outs)) (sym (inputs_with_more (setting_of config) bytes more connection.reader held))
+    (subst (λ h. StandsOn (setting_of config) node (home_of config) law.backend conn (inputs_in (setting_of config) bytes ++ new) h turned.connection world told
+    (carry_all node world turned.outs)) (sym (ap (λ (r : Read). r.held) (reading_with_more (setting_of config) bytes more connection.reader held)))
+    (inputs_kept (setting_of config) node (home_of config) law.backend conn new (read_more (setting_of config) connection.reader more).held world told
+    (faults_after (setting_of config) bytes more connection.reader held)
+    (inputs_in (setting_of config) bytes) (having_read (setting_of config) connection more) world
+    (all_inputs config heard conn bytes more connection.reader e held)
     (record {
       story = told;
       made = record {
@@ -225,15 +234,15 @@ reading_behind config heard world law conn bytes more node connection e reader r
       };
     })))
 
--- the frames of more bytes wait behind a command that waits
+-- the inputs of more bytes wait behind a command that waits
 waiting_behind : (config : Config) (heard : ℕ → Heard) (world : World) (law : KeepsLaw config heard world) (conn : ℕ) (bytes more node : List ℕ)
-    (connection : Connection) (passed : List Frame) (asking : List ℕ)
-    (tag : Tag) (it : Command) (name : List ℕ) (work : Work) → heard conn ≡ client bytes false → connection.reader ≡ begun bytes
+    (connection : Connection) (passed : List Input) (asking : Request)
+    (tag : Tag) (it : Command) (name : List ℕ) (work : Work) → heard conn ≡ client bytes false → connection.reader ≡ reading_of (setting_of config) bytes
     → connection.answered ≡ length (law.story.told conn)
-    → client_at world conn ≡ Some (client_with node (frames bytes) (law.story.told conn))
-    → connection.stage ≡ Asked tag (asked_for name work).awaited → frames bytes ≡ passed ++ Whole asking ∷ connection.waiting
+    → client_at world conn ≡ Some (client_with node (inputs_in (setting_of config) bytes) (law.story.told conn))
+    → connection.stage ≡ Asked tag (asked_for name work).awaited → inputs_in (setting_of config) bytes ≡ passed ++ Asks asking ∷ connection.waiting
     → has_ended connection.session ≡ false → AreAnswered passed (law.story.told conn)
-    → request_of asking ≡ a_command tag it → need_of (setting_of config) connection.session it ≡ Mailbox name work
+    → asking ≡ a_command tag it → need_of (setting_of config) connection.session it ≡ Mailbox name work
     → FaultsLast connection.waiting (begun bytes)
     → OnItsWay world.links conn node (home_of config) connection tag name work (law.story.told conn) (law.story.talk.answers conn)
     (law.story.course.sessions conn)
@@ -241,15 +250,20 @@ waiting_behind : (config : Config) (heard : ℕ → Heard) (world : World) (law 
 unfolding carry_all
 waiting_behind config heard world law conn bytes more node connection passed asking tag it name work e reader count at stage parts lasts all is need last way
     =
-    let held : begun bytes ≡ connection.reader = sym reader in
+    let held : reading_of (setting_of config) bytes ≡ connection.reader = sym reader in
     let told : Story = asked_talk config heard conn more law.story in
-    let new : List Frame = frames_of_more connection.reader more in
-    let waits_all : frames_come (setting_of config) (home_of config) conn
-    (having_read connection more) new ≡ record { connection = record (having_read connection more) { waiting = connection.waiting ++ new }; outs = [] } =
-    asked_waits (setting_of config) (home_of config) conn (having_read connection more) new tag (asked_for name work).awaited stage in
-    let now : frames (bytes ++ more) ≡ passed ++ Whole asking ∷ (connection.waiting ++ new) =
-    frames_with_more bytes more connection.reader held ∙ ap (λ f. f ++ new) parts ∙ append_assoc passed (Whole asking ∷ connection.waiting) new in
-    subst (λ (t : Turned). StandsOn (setting_of config) node (home_of config) law.backend conn (frames (bytes ++ more))
+    let new : List Input = inputs_of_more (setting_of config) connection.reader more in
+    let waits_all : inputs_come (setting_of config) (home_of config) conn
+    (having_read (setting_of config) connection more) new ≡ record {
+      connection = record (having_read
+          (setting_of config) connection more) { waiting = connection.waiting ++ new };
+      outs = [];
+    } =
+    asked_waits (setting_of config) (home_of config) conn (having_read (setting_of config) connection more) new tag (asked_for name work).awaited stage in
+    let now : inputs_in (setting_of config) (bytes ++ more) ≡ passed ++ Asks asking ∷ (connection.waiting ++ new) =
+    inputs_with_more (setting_of config) bytes more connection.reader held ∙ ap (λ f. f ++ new) parts
+    ∙ append_assoc passed (Asks asking ∷ connection.waiting) new in
+    subst (λ (t : Turned). StandsOn (setting_of config) node (home_of config) law.backend conn (inputs_in (setting_of config) (bytes ++ more))
     (begun (bytes ++ more)) t.connection world told (carry_all node world t.outs)) (sym waits_all)
     (record {
       story = told;
@@ -264,9 +278,14 @@ waiting_behind config heard world law conn bytes more node connection passed ask
             (ap (λ f. replies_to f (law.story.told conn)) parts ∙ sym (replies_stop passed (law.story.told conn) asking connection.waiting all)
             ∙ replies_stop passed (law.story.told conn) asking (connection.waiting ++ new) all ∙ ap (λ f. replies_to f (law.story.told conn)) (sym now));
         stands = waits passed asking tag it name work stage now lasts all is need
-            (subst (λ h. FaultsLast (connection.waiting ++ new) h) (sym (begun_with_more bytes more connection.reader held))
-            (faults_behind connection.waiting new (begun bytes) (begun_by_more connection.reader more) last (faults_last bytes more connection.reader held)
-            (λ none. (ap (λ h. frames_of_more h more) (reader ∙ none) ∙ none_ended more, ap (λ h. begun_by_more h more) (reader ∙ none) ∙ ended_stays more))))
+            (subst (λ h. FaultsLast (connection.waiting ++ new) h)
+            (sym (ap (λ (r : Read). r.held) (reading_with_more (setting_of config) bytes more connection.reader held)))
+            (faults_behind connection.waiting new (begun bytes) (read_more (setting_of config) connection.reader more).held last
+            (faults_after (setting_of config) bytes more connection.reader held)
+            (λ none. let over = ap (λ (r : Read). is_none r.held) reader ∙ ap is_none none in (
+              ended_inputs (setting_of config) connection.reader more over,
+              ap (λ (r : Read). r.held) (ended_reader (setting_of config) connection.reader more over ∙ reader) ∙ none,
+            ))))
             (way_behind way);
       };
     })
@@ -274,7 +293,10 @@ waiting_behind config heard world law conn bytes more node connection passed ask
     way_behind : OnItsWay world.links conn node (home_of config) connection tag name work (law.story.told conn) (law.story.talk.answers conn)
         (law.story.course.sessions conn)
         → OnItsWay world.links conn node (home_of config)
-        (record (having_read connection more) { waiting = connection.waiting ++ frames_of_more connection.reader more }) tag name work
+        (record (having_read (setting_of config) connection more) {
+          waiting = connection.waiting ++ inputs_of_more
+              (setting_of config) connection.reader more;
+        }) tag name work
         (law.story.told conn) (law.story.talk.answers conn) (law.story.course.sessions conn)
     way_behind (there a b w) = there a b w
     way_behind (back body turn a b c d w) = back body turn a b c d w
@@ -282,16 +304,20 @@ waiting_behind config heard world law conn bytes more node connection passed ask
 -- a connection that hasn't ended takes more bytes
 taken_more : (config : Config) (heard : ℕ → Heard) (world : World) (law : KeepsLaw config heard world) (conn : ℕ) (bytes more node : List ℕ) (front : Front)
     (connection : Connection) → heard conn ≡ client bytes false
-    → IsAt world conn node front connection → connection.reader ≡ begun bytes → Behind config heard world law conn bytes more node connection
+    → IsAt world conn node front connection → connection.reader ≡ reading_of (setting_of config) bytes
+    → Behind config heard world law conn bytes more node connection
     → KeepsOn config (told_of law.story) (after_data config heard conn more)
     (with_front world node (with_turned front conn
-    (frames_come front.setting front.home conn (having_read connection more) (frames_of_more connection.reader more))))
+    (inputs_come front.setting front.home conn (having_read front.setting connection more) (inputs_of_more front.setting connection.reader more))))
 taken_more config heard world law conn bytes more node front connection e at reader behind =
     let was = law.nodes.fronts node front at.at in
-    let turned : Turned = frames_come (setting_of config) (home_of config) conn (having_read connection more) (frames_of_more connection.reader more) in
-    let same : frames_come front.setting front.home conn (having_read connection more) (frames_of_more connection.reader more) ≡ turned =
-    ap (λ s. frames_come s front.home conn (having_read connection more) (frames_of_more connection.reader more)) was.1
-    ∙ ap (λ h. frames_come (setting_of config) h conn (having_read connection more) (frames_of_more connection.reader more)) was.0 in
+    let turned : Turned = inputs_come (setting_of config) (home_of config) conn (having_read (setting_of config) connection more)
+    (inputs_of_more (setting_of config) connection.reader more) in
+    let same : inputs_come front.setting front.home conn (having_read front.setting connection more)
+    (inputs_of_more front.setting connection.reader more) ≡ turned =
+    ap (λ s. inputs_come s front.home conn (having_read s connection more) (inputs_of_more s connection.reader more)) was.1
+    ∙ ap (λ h. inputs_come (setting_of config) h conn (having_read (setting_of config) connection more)
+    (inputs_of_more (setting_of config) connection.reader more)) was.0 in
     subst (λ (t : Turned). KeepsOn config (told_of law.story) (after_data config heard conn more) (with_front world node (with_turned front conn t))) (sym same)
     (front_keeps config heard (after_data config heard conn more) world law world.links conn node front connection turned.connection turned.outs
     (asked_talk config heard conn more law.story) behind.story
@@ -305,16 +331,17 @@ taken_more config heard world law conn bytes more node front connection e at rea
     (sym (heard_more config conn bytes more (heard conn) e))
     (is_open (bytes ++ more) node (with_connection front conn turned.connection) turned.connection
     (is_at_after world node front conn connection turned.connection turned.outs at.at at.has)
-    (inr (frames_keep_reader (setting_of config) (home_of config) conn (having_read connection more) (frames_of_more connection.reader more)
-    ∙ sym (begun_with_more bytes more connection.reader (sym reader))))
-    (standing_after world node front conn turned.connection turned.outs (setting_of config) (home_of config) (frames (bytes ++ more))
+    (inr (inputs_keep_reader (setting_of config) (home_of config) conn (having_read (setting_of config) connection more) (inputs_of_more
+    (setting_of config) connection.reader more)
+    ∙ sym (reading_with_more (setting_of config) bytes more connection.reader (sym reader))))
+    (standing_after world node front conn turned.connection turned.outs (setting_of config) (home_of config) (inputs_in (setting_of config) (bytes ++ more))
     (begun (bytes ++ more)) behind.story behind.standing))))
 
 -- one that has ended takes none of what it is sent: it stands so behind more bytes as well
 heard_on : (config : Config) (heard : ℕ → Heard) (world : World) (law : KeepsLaw config heard world) (conn : ℕ) (bytes more node : List ℕ) (front : Front)
     (connection : Connection) → heard conn ≡ client bytes false
     → IsAt world conn node front connection → connection.stage ≡ Ended
-    → IsStanding (setting_of config) node (home_of config) conn (frames (bytes ++ more)) (begun (bytes ++ more)) connection world
+    → IsStanding (setting_of config) node (home_of config) conn (inputs_in (setting_of config) (bytes ++ more)) (begun (bytes ++ more)) connection world
     (asked_talk config heard conn more law.story)
     → KeepsOn config (told_of law.story) (after_data config heard conn more) world
 heard_on config heard world law conn bytes more node front connection e at stage standing =
@@ -324,7 +351,7 @@ heard_on config heard world law conn bytes more node front connection e at stage
         backend = law.backend;
         nodes = law.nodes;
         story = told;
-        is_told = now_told config heard world law conn bytes more (begun bytes) e refl;
+        is_told = now_told config heard world law conn bytes more (reading_of (setting_of config) bytes) e refl;
         requests = λ other. refl;
         connections = λ other. ⊎_elim
             (λ (same : other ≡ conn). subst (λ c. ConnectionIs (setting_of config) (home_of config) c world told (after_data config heard conn more c))
@@ -345,7 +372,7 @@ heard_on config heard world law conn bytes more node front connection e at stage
             (cases_eq other conn);
       };
       more = record {
-        requests = asked_more config heard conn bytes more (begun bytes) e refl law.story.talk.requests law.requests;
+        requests = asked_more config heard conn bytes more (reading_of (setting_of config) bytes) e refl law.story.talk.requests law.requests;
         answers = same_lists law.story.told;
         serials = same_lists law.story.talk.serials;
       };
@@ -354,34 +381,38 @@ heard_on config heard world law conn bytes more node front connection e at stage
 -- no frame ends in what is sent behind a fault
 faulted_on : (config : Config) (heard : ℕ → Heard) (world : World) (law : KeepsLaw config heard world) (conn : ℕ) (bytes more node : List ℕ)
     (connection : Connection)
-    → IsStanding (setting_of config) node (home_of config) conn (frames bytes) (begun bytes) connection world law.story → begun bytes ≡ None
-    → IsStanding (setting_of config) node (home_of config) conn (frames (bytes ++ more)) (begun (bytes ++ more)) connection world
+    → IsStanding (setting_of config) node (home_of config) conn (inputs_in (setting_of config) bytes) (begun bytes) connection world law.story → begun bytes
+    ≡ None
+    → IsStanding (setting_of config) node (home_of config) conn (inputs_in (setting_of config) (bytes ++ more)) (begun (bytes ++ more)) connection world
     (asked_talk config heard conn more law.story)
 faulted_on config heard world law conn bytes more node connection standing none =
     subst (λ f. IsStanding (setting_of config) node (home_of config) conn f (begun (bytes ++ more)) connection world
-    (asked_talk config heard conn more law.story)) (sym (frames-ended bytes more none))
-    (subst (λ h. IsStanding (setting_of config) node (home_of config) conn (frames bytes) h connection world (asked_talk config heard conn more law.story))
+    (asked_talk config heard conn more law.story)) (sym (ap (inputs_from (setting_of config)) (frames-ended bytes more none)))
+    (subst (λ h. IsStanding (setting_of config) node (home_of config) conn (inputs_in (setting_of config) bytes) h connection world
+    (asked_talk config heard conn more law.story))
     (none ∙ sym (begun-ended bytes more none)) (record { count = standing.count; client = standing.client; stands = standing.stands }))
 
 -- the frames that are sent behind the answer that ended a session are answered by nothing
 finished_on : (config : Config) (heard : ℕ → Heard) (world : World) (law : KeepsLaw config heard world) (conn : ℕ) (bytes more node : List ℕ)
-    (connection : Connection) (passed rest : List Frame) (asking : List ℕ) (before : List Answer) (final : Answer)
-    → IsStanding (setting_of config) node (home_of config) conn (frames bytes) (begun bytes) connection world law.story
-    → connection.stage ≡ Ended → frames bytes ≡ passed ++ Whole asking ∷ rest → AreAnswered passed before → law.story.told conn ≡ before ++ final ∷ []
+    (connection : Connection) (passed rest : List Input) (asking : Request) (before : List Answer) (final : Answer)
+    → IsStanding (setting_of config) node (home_of config) conn (inputs_in (setting_of config) bytes) (begun bytes) connection world law.story
+    → connection.stage ≡ Ended → inputs_in (setting_of config) bytes ≡ passed ++ Asks asking ∷ rest → AreAnswered passed before → law.story.told conn
+    ≡ before ++ final ∷ []
     → ends final.reply ≡ true → law.story.talk.answers conn ≡ law.story.told conn → AreOnWay world.links conn node (home_of config) [] []
-    → IsStanding (setting_of config) node (home_of config) conn (frames (bytes ++ more)) (begun (bytes ++ more)) connection world
+    → IsStanding (setting_of config) node (home_of config) conn (inputs_in (setting_of config) (bytes ++ more)) (begun (bytes ++ more)) connection world
     (asked_talk config heard conn more law.story)
 finished_on config heard world law conn bytes more node connection passed rest asking before final standing stage parts answered told is_end said way =
-    let new : List Frame = frames_of_more (begun bytes) more in
-    let now : frames (bytes ++ more) ≡ passed ++ Whole asking ∷ (rest ++ new) =
-    frames_with_more bytes more (begun bytes) refl ∙ ap (λ f. f ++ new) parts ∙ append_assoc passed (Whole asking ∷ rest) new in
+    let reader : Read = reading_of (setting_of config) bytes in
+    let new : List Input = inputs_of_more (setting_of config) reader more in
+    let now : inputs_in (setting_of config) (bytes ++ more) ≡ passed ++ Asks asking ∷ (rest ++ new) =
+    inputs_with_more (setting_of config) bytes more reader refl ∙ ap (λ f. f ++ new) parts ∙ append_assoc passed (Asks asking ∷ rest) new in
     record {
       count = standing.count;
       client = standing.client ∙ ap (λ t. Some (record { at = node; given = greeting ++ t }))
-          (ap (λ f. replies_to f (law.story.told conn)) parts ∙ ap (λ t. replies_to (passed ++ Whole asking ∷ rest) t) told
+          (ap (λ f. replies_to f (law.story.told conn)) parts ∙ ap (λ t. replies_to (passed ++ Asks asking ∷ rest) t) told
           ∙ end_told silent passed before asking rest final [] answered is_end
           ∙ sym (end_told silent passed before asking (rest ++ new) final [] answered is_end)
-          ∙ ap (λ t. replies_to (passed ++ Whole asking ∷ (rest ++ new)) t) (sym told) ∙ ap (λ f. replies_to f (law.story.told conn)) (sym now));
+          ∙ ap (λ t. replies_to (passed ++ Asks asking ∷ (rest ++ new)) t) (sym told) ∙ ap (λ f. replies_to f (law.story.told conn)) (sym now));
       stands = finished passed (rest ++ new) asking before final stage now answered told is_end said way;
     }
 
@@ -392,25 +423,25 @@ at_ended front conn bytes connection has stage = ap (front_bytes_at front conn b
 
 at_reading : (front : Front) (conn : ℕ) (bytes : List ℕ) (connection : Connection) → connection_at front conn ≡ Some connection → connection.stage ≡ Reading
     → bytes_in front conn bytes ≡ with_turned front conn
-    (frames_come front.setting front.home conn (having_read connection bytes) (frames_of_more connection.reader bytes))
+    (inputs_come front.setting front.home conn (having_read front.setting connection bytes) (inputs_of_more front.setting connection.reader bytes))
 unfolding bytes_in front_bytes_at bytes_by
 at_reading front conn bytes connection has stage = ap (front_bytes_at front conn bytes) has ∙ ap (bytes_by front conn bytes connection) stage
 
 at_asked : (front : Front) (conn : ℕ) (bytes : List ℕ) (connection : Connection) (tag : Tag) (awaited : _) → connection_at front conn ≡ Some connection
     → connection.stage ≡ Asked tag awaited
     → bytes_in front conn bytes ≡ with_turned front conn
-    (frames_come front.setting front.home conn (having_read connection bytes) (frames_of_more connection.reader bytes))
+    (inputs_come front.setting front.home conn (having_read front.setting connection bytes) (inputs_of_more front.setting connection.reader bytes))
 unfolding bytes_in front_bytes_at bytes_by
 at_asked front conn bytes connection tag awaited has stage = ap (front_bytes_at front conn bytes) has ∙ ap (bytes_by front conn bytes connection) stage
 
 -- the reader of a connection that hasn't ended
-reader_of : (connection : Connection) (held : Option (List ℕ)) → (connection.stage ≡ Ended → ⊥) → HasBegunSo connection held → connection.reader ≡ held
+reader_of : (connection : Connection) (held : Read) → (connection.stage ≡ Ended → ⊥) → HasBegunSo connection held → connection.reader ≡ held
 reader_of connection held lasts is = ⊎_elim (λ ended. absurd (lasts ended)) (λ same. same) is
 
-pub reading_reader : (connection : Connection) (held : Option (List ℕ)) → connection.stage ≡ Reading → HasBegunSo connection held → connection.reader ≡ held
+pub reading_reader : (connection : Connection) (held : Read) → connection.stage ≡ Reading → HasBegunSo connection held → connection.reader ≡ held
 reading_reader connection held stage is = reader_of connection held (λ ended. (let both : Reading ≡ Ended = sym stage ∙ ended in cc)) is
 
-pub asked_reader : (connection : Connection) (held : Option (List ℕ)) (tag : Tag) (awaited : Awaited) → connection.stage ≡ Asked tag awaited
+pub asked_reader : (connection : Connection) (held : Read) (tag : Tag) (awaited : Awaited) → connection.stage ≡ Asked tag awaited
     → HasBegunSo connection held → connection.reader ≡ held
 asked_reader connection held tag awaited stage is = reader_of connection held (λ ended. (let both : Asked tag awaited ≡ Ended = sym stage ∙ ended in cc)) is
 
@@ -418,7 +449,7 @@ asked_reader connection held tag awaited stage is = reader_of connection held (�
 ended_more : (config : Config) (heard : ℕ → Heard) (world : World) (law : KeepsLaw config heard world) (conn : ℕ) (bytes more node : List ℕ) (front : Front)
     (connection : Connection) → heard conn ≡ client bytes false
     → IsAt world conn node front connection → connection.stage ≡ Ended
-    → IsStanding (setting_of config) node (home_of config) conn (frames (bytes ++ more)) (begun (bytes ++ more)) connection world
+    → IsStanding (setting_of config) node (home_of config) conn (inputs_in (setting_of config) (bytes ++ more)) (begun (bytes ++ more)) connection world
     (asked_talk config heard conn more law.story)
     → KeepsOn config (told_of law.story) (after_data config heard conn more) (with_front world node (bytes_in front conn more))
 ended_more config heard world law conn bytes more node front connection e at stage standing =
@@ -431,13 +462,13 @@ ended_more config heard world law conn bytes more node front connection e at sta
 
 stands_more : (config : Config) (heard : ℕ → Heard) (world : World) (law : KeepsLaw config heard world) (conn : ℕ) (bytes more node : List ℕ) (front : Front)
     (connection : Connection) → heard conn ≡ client bytes false
-    → IsAt world conn node front connection → HasBegunSo connection (begun bytes)
-    → IsStanding (setting_of config) node (home_of config) conn (frames bytes) (begun bytes) connection world law.story
-    → Stands (setting_of config) node (home_of config) conn (frames bytes) (begun bytes) connection world.links (law.story.told conn)
+    → IsAt world conn node front connection → HasBegunSo connection (reading_of (setting_of config) bytes)
+    → IsStanding (setting_of config) node (home_of config) conn (inputs_in (setting_of config) bytes) (begun bytes) connection world law.story
+    → Stands (setting_of config) node (home_of config) conn (inputs_in (setting_of config) bytes) (begun bytes) connection world.links (law.story.told conn)
     (law.story.talk.answers conn) (law.story.course.sessions conn)
     → KeepsOn config (told_of law.story) (after_data config heard conn more) (with_front world node (bytes_in front conn more))
 stands_more config heard world law conn bytes more node front connection e at reader standing (reads stage waiting session lasts all said way) =
-    let has_reader = reading_reader connection (begun bytes) stage reader in
+    let has_reader = reading_reader connection (reading_of (setting_of config) bytes) stage reader in
     subst (λ s. KeepsOn config (told_of law.story) (after_data config heard conn more) (with_front world node s))
     (sym (at_reading front conn more connection at.has stage))
     (taken_more config heard world law conn bytes more node front connection e at has_reader
@@ -454,7 +485,7 @@ stands_more config heard world law conn bytes more node front connection e at re
     })))
 stands_more config heard world law conn bytes more node front connection e at reader standing
     (waits passed asking tag it name work stage parts lasts all is need last way) =
-    let has_reader = asked_reader connection (begun bytes) tag (asked_for name work).awaited stage reader in
+    let has_reader = asked_reader connection (reading_of (setting_of config) bytes) tag (asked_for name work).awaited stage reader in
     subst (λ s. KeepsOn config (told_of law.story) (after_data config heard conn more) (with_front world node s))
     (sym (at_asked front conn more connection tag (asked_for name work).awaited at.has stage))
     (taken_more config heard world law conn bytes more node front connection e at has_reader

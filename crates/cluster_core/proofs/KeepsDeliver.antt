@@ -10,8 +10,8 @@ use Rattle.front_core.specs.declared.front.Front.{Front}
 use Rattle.front_core.specs.Answered.{answer_comes}
 use Rattle.front_core.specs.Front.{connection_at, deliver as take_message, answer_at, with_turned}
 use Rattle.front_core.specs.Taken.{Turned, ask_for}
-use Rattle.imap_wire.specs.declared.frame.Frame.TheVariants.{Whole}
-use Rattle.imap_wire.specs.Frames.{frames, begun}
+use Rattle.imap_reply.specs.declared.inputs.Input.TheVariants.{Asks}
+use Rattle.imap_wire.specs.Frames.{begun}
 use Rattle.link_msg.specs.declared.answer.AnswerBody.{AnswerBody}
 use Rattle.link_msg.specs.declared.answer.BackAnswer.{BackAnswer}
 use Rattle.link_msg.specs.declared.ask.FrontAsk.{FrontAsk}
@@ -26,6 +26,9 @@ use Rattle.mur_model.specs.declared.request.Request.TheVariants.{Command as a_co
 use Rattle.mur_model.specs.Act.{need_of, session_after}
 use Rattle.mur_model.specs.History.{numbered}
 use Rattle.mur_model.proofs.Numbered.{with_item, with_item-same}
+use Rattle.imap_reply.specs.Inputs.{requests_in}
+use Rattle.imap_reply.proofs.InputLaws.{requests-append}
+use Rattle.cluster_core.proofs.Readings.{inputs_in, reading_of}
 use Rattle.cluster_core.specs.declared.world.World.{World}
 use Rattle.cluster_core.specs.Heard.{Heard, client, frames_heard}
 use Rattle.cluster_core.specs.Links.{Links, on_link, sent, without_first}
@@ -41,7 +44,7 @@ use Rattle.cluster_core.proofs.KeepsFront.{world_after}
 use Rattle.cluster_core.proofs.KeepsLaw.{ConnectionIs, IsAt, IsGone, KeepsLaw, KeepsOn, LooksAlike, looks_same, same_put}
 use Rattle.cluster_core.proofs.KeepsLaw.ConnectionIs.{is_nobody, is_elsewhere, is_open, is_closed}
 use Rattle.cluster_core.proofs.KeepsStill.{still_kept}
-use Rattle.cluster_core.proofs.RequestsOf.{requests_of, requests-append, answered_lengths, next_request}
+use Rattle.cluster_core.proofs.RequestsOf.{requests_of, answered_lengths, next_request}
 use Rattle.cluster_core.proofs.Told.{having_said}
 use Rattle.cluster_core.proofs.Ways.{AreOnWay, IsOfAnother, taken_for_another, ask_taken, no_ask_first}
 use Rattle.cluster_core.proofs.Ways.{answer_sent, ask_in, answer_in}
@@ -176,12 +179,12 @@ asked_home config heard after world law from to ask rest conn node connection ta
 ask_open : (config : Config) (heard after : ℕ → Heard) (world : World) (law : KeepsLaw config heard world) (from to : List ℕ) (ask : FrontAsk)
     (rest : List LinkMsg) (conn : ℕ) (bytes node : List ℕ) (front : Front) (connection : Connection)
     → on_link world.links from to ≡ Ask ask ∷ rest → ((c : ℕ) → after c ≡ heard c) → (ask.id).conn ≡ conn → heard conn ≡ client bytes false
-    → IsAt world conn node front connection → HasBegunSo connection (begun bytes)
-    → IsStanding (setting_of config) node (home_of config) conn (frames bytes) (begun bytes) connection world law.story
-    → Stands (setting_of config) node (home_of config) conn (frames bytes) (begun bytes) connection world.links (law.story.told conn)
+    → IsAt world conn node front connection → HasBegunSo connection (reading_of (setting_of config) bytes)
+    → IsStanding (setting_of config) node (home_of config) conn (inputs_in (setting_of config) bytes) (begun bytes) connection world law.story
+    → Stands (setting_of config) node (home_of config) conn (inputs_in (setting_of config) bytes) (begun bytes) connection world.links (law.story.told conn)
     (law.story.talk.answers conn) (law.story.course.sessions conn)
     → KeepsOn config (told_of law.story) after (comes_to (taken world from to) from to (Ask ask) (front_at world to))
-unfolding frames_heard requests_of
+unfolding frames_heard requests_in
 ask_open config heard after world law from to ask rest conn bytes node front connection first same own e at reader standing
     (reads stage waiting s lasts answered said way) =
     absurd (no_ask_first world.links conn node (home_of config) from to ask rest [] first own way)
@@ -200,9 +203,10 @@ ask_open config heard after world law from to ask rest conn bytes node front con
     let lengths : connection.answered ≡ length (law.story.talk.answers conn) = standing.count ∙ sym (ap length said) in
     let asked : numbered (law.story.talk.requests conn) (length (law.story.talk.answers conn) + 1) ≡ Some (a_command tag it) =
     subst (λ r. numbered r (length (law.story.talk.answers conn) + 1) ≡ Some (a_command tag it))
-    (sym (law.requests conn ∙ ap (λ h. requests_of (frames_heard h)) e ∙ ap requests_of parts ∙ requests-append passed (Whole asking ∷ connection.waiting)
-    ∙ ap (λ r. requests_of passed ++ r ∷ requests_of connection.waiting) is))
-    (next_request (requests_of passed) (requests_of connection.waiting) (a_command tag it) (length (law.story.talk.answers conn))
+    (sym (law.requests conn ∙ ap (λ h. requests_of (setting_of config) (frames_heard h)) e ∙ ap requests_in parts
+    ∙ requests-append passed (Asks asking ∷ connection.waiting)
+    ∙ ap (λ r. requests_in passed ++ r ∷ requests_in connection.waiting) is))
+    (next_request (requests_in passed) (requests_in connection.waiting) (a_command tag it) (length (law.story.talk.answers conn))
     (answered_lengths passed (law.story.told conn) answered ∙ sym (ap length said))) in
     let done : IsAnswered config heard world law conn node connection tag name work ask =
     answers_ask config heard world law conn node connection tag it name work ask (sym took.2) lengths asked
@@ -224,8 +228,8 @@ ask_closed : (config : Config) (heard after : ℕ → Heard) (world : World) (la
     (rest : List LinkMsg) (conn : ℕ) (bytes node : List ℕ) (front : Front) (connection : Connection)
     → on_link world.links from to ≡ Ask ask ∷ rest → ((c : ℕ) → after c ≡ heard c) → (ask.id).conn ≡ conn → heard conn ≡ client bytes true
     → IsAt world conn node front connection
-    → IsGone (setting_of config) node (home_of config) conn (frames bytes) connection world law.story
-    → IsLeft (setting_of config) node (home_of config) conn (requests_of (frames bytes)) connection world.links (law.story.told conn)
+    → IsGone (setting_of config) node (home_of config) conn (inputs_in (setting_of config) bytes) connection world law.story
+    → IsLeft (setting_of config) node (home_of config) conn (requests_in (inputs_in (setting_of config) bytes)) connection world.links (law.story.told conn)
     (law.story.talk.answers conn) (law.story.course.sessions conn)
     → KeepsOn config (told_of law.story) after (comes_to (taken world from to) from to (Ask ask) (front_at world to))
 unfolding frames_heard
@@ -238,8 +242,8 @@ ask_closed config heard after world law from to ask rest conn bytes node front c
     let took = ask_taken world.links conn node (home_of config) from to ask rest (ask_for conn connection name work) [] first own way in
     let lengths : connection.answered ≡ length (law.story.talk.answers conn) = gone.count ∙ sym (ap length said) in
     let asked : numbered (law.story.talk.requests conn) (length (law.story.talk.answers conn) + 1) ≡ Some (a_command tag it) =
-    ap (λ r. numbered r (length (law.story.talk.answers conn) + 1)) (law.requests conn ∙ ap (λ h. requests_of (frames_heard h)) e)
-    ∙ ap (λ n. numbered (requests_of (frames bytes)) (n + 1)) (ap length said) ∙ next in
+    ap (λ r. numbered r (length (law.story.talk.answers conn) + 1)) (law.requests conn ∙ ap (λ h. requests_of (setting_of config) (frames_heard h)) e)
+    ∙ ap (λ n. numbered (requests_in (inputs_in (setting_of config) bytes)) (n + 1)) (ap length said) ∙ next in
     let done : IsAnswered config heard world law conn node connection tag name work ask =
     answers_ask config heard world law conn node connection tag it name work ask (sym took.2) lengths asked need in
     asked_home config heard after world law from to ask rest conn node connection tag name work done took.0 took.1 first same own

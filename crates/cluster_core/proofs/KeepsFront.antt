@@ -11,7 +11,7 @@ use Rattle.link_msg.specs.declared.out.Out.{Out}
 use Rattle.mur_base.specs.Map.{with_value}
 use Rattle.mur_base.proofs.MapLaws.{names_apart, numbers_apart, value_at-with_value, value_at-with_value-other}
 use Rattle.mur_config.specs.declared.config.Config.{Config}
-use Rattle.imap_wire.specs.declared.frame.Frame.{Frame}
+use Rattle.imap_reply.specs.declared.inputs.Input.{Input}
 use Rattle.mur_model.specs.declared.request.Answer.{Answer}
 use Rattle.mur_model.specs.declared.request.Request.{Request}
 use Rattle.mur_model.specs.declared.setting.Setting.{Setting}
@@ -40,7 +40,7 @@ pub front_keeps : (config : Config) (heard after : ℕ → Heard) (origin : Worl
     → ((other : ℕ) → other ≢ conn → WaysOn origin.links links other)
     → front_at origin node ≡ Some front → connection_at front conn ≡ Some was
     → TalkGoesOn (told_of law.story) (told_of told) → told.told ≡ law.story.told → told.talk.answers ≡ law.story.talk.answers → told.course ≡ law.story.course
-    → ((other : ℕ) → told.talk.requests other ≡ requests_of (frames_heard (after other)))
+    → ((other : ℕ) → told.talk.requests other ≡ requests_of (setting_of config) (frames_heard (after other)))
     → ((other : ℕ) → other ≢ conn → after other ≡ heard other)
     → IsMade (setting_of config) law.backend conn (record origin { links = links }) told (carry_all node (record origin { links = links }) outs) story
     → ConnectionIs (setting_of config) (home_of config) conn (world_after (record origin { links = links }) node front conn connection outs) story (after conn)
@@ -92,7 +92,7 @@ is_at_after world node front conn was connection outs at has = record {
 
 -- what holds of the world that the outputs made holds with the frontend's new state
 pub standing_after : (world : World) (node : List ℕ) (front : Front) (conn : ℕ) (connection : Connection) (outs : List Out) (setting : Setting) (home : List ℕ)
-    (all : List Frame) (held : Option (List ℕ)) (story : Story)
+    (all : List Input) (held : Option (List ℕ)) (story : Story)
     → IsStanding setting node home conn all held connection (carry_all node world outs) story
     → IsStanding setting node home conn all held connection (world_after world node front conn connection outs) story
 standing_after world node front conn connection outs setting home all held story is =
@@ -100,7 +100,7 @@ standing_after world node front conn connection outs setting home all held story
     (sym (carry_all_fronts node world (with_value (slice_cmp nat_cmp) world.fronts node (with_connection front conn connection)) outs))
     (record { count = is.count; client = is.client; stands = is.stands })
 
-pub gone_after : (world : World) (node : List ℕ) (front : Front) (conn : ℕ) (connection : Connection) (setting : Setting) (home : List ℕ) (all : List Frame)
+pub gone_after : (world : World) (node : List ℕ) (front : Front) (conn : ℕ) (connection : Connection) (setting : Setting) (home : List ℕ) (all : List Input)
     (story : Story)
     → IsGone setting node home conn all connection world story
     → IsGone setting node home conn all connection (world_after world node front conn connection []) story

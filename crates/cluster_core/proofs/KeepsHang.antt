@@ -10,9 +10,9 @@ use Rattle.std.proofs.lemmas.List.{append-nil}
 use Rattle.front_core.specs.declared.connection.Connection.{Connection}
 use Rattle.front_core.specs.declared.front.Front.{Front}
 use Rattle.front_core.specs.Front.{hang, hang_at as front_hang_at, hung_up}
-use Rattle.imap_wire.specs.declared.frame.Frame.{Frame}
-use Rattle.imap_wire.specs.declared.frame.Frame.TheVariants.{Whole}
-use Rattle.imap_wire.specs.Frames.{frames, begun}
+use Rattle.imap_reply.specs.declared.inputs.Input.{Input}
+use Rattle.imap_reply.specs.declared.inputs.Input.TheVariants.{Asks}
+use Rattle.imap_wire.specs.Frames.{begun}
 use Rattle.mur_base.specs.Map.{with_value}
 use Rattle.mur_config.specs.declared.config.Config.{Config}
 use Rattle.mur_model.specs.declared.request.Answer.{Answer}
@@ -23,6 +23,9 @@ use Rattle.mur_model.specs.Act.{need_of}
 use Rattle.mur_model.specs.History.{numbered}
 use Rattle.mur_model.proofs.HistoryGrows.{same_talk}
 use Rattle.schedule_text.specs.declared.event.Event.TheVariants.{Hang}
+use Rattle.imap_reply.specs.Inputs.{requests_in}
+use Rattle.imap_reply.proofs.InputLaws.{requests-append}
+use Rattle.cluster_core.proofs.Readings.{inputs_in}
 use Rattle.cluster_core.specs.declared.world.World.{World}
 use Rattle.cluster_core.specs.Heard.{Heard, nobody, elsewhere, client, hears, frames_heard}
 use Rattle.cluster_core.specs.Links.{Links}
@@ -35,7 +38,7 @@ use Rattle.cluster_core.proofs.KeepsFront.{world_after, with_connection, front_k
 use Rattle.cluster_core.proofs.KeepsLaw.{ConnectionIs, IsAt, IsGone, KeepsLaw, KeepsOn, looks_same}
 use Rattle.cluster_core.proofs.KeepsLaw.ConnectionIs.{is_nobody, is_elsewhere, is_open, is_closed}
 use Rattle.cluster_core.proofs.KeepsStill.{still_kept}
-use Rattle.cluster_core.proofs.RequestsOf.{requests_of, requests-append, answered_lengths, next_request}
+use Rattle.cluster_core.proofs.RequestsOf.{requests_of, answered_lengths, next_request}
 
 abbrev pub after_hang : Config → (ℕ → Heard) → ℕ → ℕ → Heard
 after_hang config heard conn other = hears config other (heard other) (Hang conn)
@@ -53,28 +56,28 @@ unfolding hears
 heard_closed config conn bytes heard e = let same : nat_eq conn conn ≡ true = grind (arith, nat_tests) in rw (e, same) refl
 
 -- what is left of a connection, whatever it was at
-left_by : (setting : Setting) (node home : List ℕ) (conn : ℕ) (all : List Frame) (held : Option (List ℕ)) (connection : Connection) (links : Links)
+left_by : (setting : Setting) (node home : List ℕ) (conn : ℕ) (all : List Input) (held : Option (List ℕ)) (connection : Connection) (links : Links)
     (told said : List Answer) (session : Sess)
     → Stands setting node home conn all held connection links told said session
-    → IsLeft setting node home conn (requests_of all) (hung_up connection) links told said session
-unfolding requests_of
+    → IsLeft setting node home conn (requests_in all) (hung_up connection) links told said session
+unfolding requests_in
 left_by setting node home conn all held connection links told said session (reads stage waiting s lasts answered same way) =
     nothing [] (same ∙ sym (append-nil told)) (omega arith) way
 left_by setting node home conn all held connection links told said session
-    (waits passed bytes tag it name work stage parts lasts answered is need last (there same s way)) =
+    (waits passed request tag it name work stage parts lasts answered is need last (there same s way)) =
     its_ask tag it name work same
     (subst (λ r. numbered r (length told + 1) ≡ Some (a_command tag it))
-    (sym (ap requests_of parts ∙ requests-append passed (Whole bytes ∷ connection.waiting)
-    ∙ ap (λ r. requests_of passed ++ r ∷ requests_of connection.waiting) is))
-    (next_request (requests_of passed) (requests_of connection.waiting) (a_command tag it) (length told) (answered_lengths passed told answered)))
+    (sym (ap requests_in parts ∙ requests-append passed (Asks request ∷ connection.waiting)
+    ∙ ap (λ r. requests_in passed ++ r ∷ requests_in connection.waiting) is))
+    (next_request (requests_in passed) (requests_in connection.waiting) (a_command tag it) (length told) (answered_lengths passed told answered)))
     (ap (λ x. need_of setting x it) (sym s) ∙ need) s way
 left_by setting node home conn all held connection links told said session
-    (waits passed bytes tag it name work stage parts lasts answered is need last (back body turn same shown later turned way)) =
+    (waits passed request tag it name work stage parts lasts answered is need last (back body turn same shown later turned way)) =
     its_answer _ _ same (omega arith) way
 left_by setting node home conn all held connection links told said session (faulted stage none lengths same way) =
     nothing [] (same ∙ sym (append-nil told)) (omega arith) way
 left_by setting node home conn all held connection links told said session
-    (finished passed more bytes before final stage parts answered is_told is_end same way) =
+    (finished passed more request before final stage parts answered is_told is_end same way) =
     nothing [] (same ∙ sym (append-nil told)) (omega arith) way
 
 -- closing again changes nothing of what is left
@@ -96,24 +99,26 @@ hangs_at world conn node front connection given at is = ap (hangs world conn) at
 -- a connection at its frontend is closed
 closes : (config : Config) (heard : ℕ → Heard) (world : World) (conn : ℕ) (law : KeepsLaw config heard world) (bytes node : List ℕ) (front : Front)
     (connection : Connection) → IsAt world conn node front connection
-    → law.story.talk.requests conn ≡ requests_of (frames bytes) → after_hang config heard conn conn ≡ client bytes true
-    → IsGone (setting_of config) node (home_of config) conn (frames bytes) (hung_up connection) world law.story
+    → law.story.talk.requests conn ≡ requests_in (inputs_in (setting_of config) bytes) → after_hang config heard conn conn ≡ client bytes true
+    → IsGone (setting_of config) node (home_of config) conn (inputs_in (setting_of config) bytes) (hung_up connection) world law.story
     → KeepsOn config (told_of law.story) (after_hang config heard conn) (world_after world node front conn (hung_up connection) [])
 unfolding carry_all frames_heard
 closes config heard world conn law bytes node front connection at asked now gone =
     front_keeps config heard (after_hang config heard conn) world law world.links conn node front connection (hung_up connection) [] law.story law.story
     (λ other ne f h asks answers way. way) at.at at.has (same_talk (told_of law.story)) refl refl refl
     (λ other. ⊎_elim
-    (λ (same : other ≡ conn). subst (λ c. law.story.talk.requests c ≡ requests_of (frames_heard (after_hang config heard conn c))) (sym same)
-    (asked ∙ sym (ap (λ h. requests_of (frames_heard h)) now)))
-    (λ (ne : other ≢ conn). law.requests other ∙ ap (λ h. requests_of (frames_heard h)) (sym (other_heard config conn other (heard other) ne)))
+    (λ (same : other ≡ conn). subst (λ c. law.story.talk.requests c ≡ requests_of (setting_of config) (frames_heard (after_hang config heard conn c)))
+    (sym same)
+    (asked ∙ sym (ap (λ h. requests_of (setting_of config) (frames_heard h)) now)))
+    (λ (ne : other ≢ conn). law.requests other ∙ ap (λ h. requests_of (setting_of config) (frames_heard h)) (sym (other_heard config conn other
+    (heard other) ne)))
     (cases_eq other conn))
     (λ other ne. other_heard config conn other (heard other) ne)
     (record { others = keeps_all conn world; goes_on = same_story conn law.story; is_told = law.is_told })
     (subst (λ h. ConnectionIs (setting_of config) (home_of config) conn (world_after world node front conn (hung_up connection) []) law.story h) (sym now)
     (is_closed bytes node (with_connection front conn (hung_up connection)) (hung_up connection)
     (is_at_after world node front conn connection (hung_up connection) [] at.at at.has)
-    (gone_after world node front conn (hung_up connection) (setting_of config) (home_of config) (frames bytes) law.story gone)))
+    (gone_after world node front conn (hung_up connection) (setting_of config) (home_of config) (inputs_in (setting_of config) bytes) law.story gone)))
 
 still_heard : (config : Config) (heard : ℕ → Heard) (world : World) (conn : ℕ) (law : KeepsLaw config heard world)
     → after_hang config heard conn conn ≡ heard conn
@@ -150,24 +155,26 @@ hang_by config heard world conn law was e (is_elsewhere node at none untold) =
     (still_heard config heard world conn law (ap (λ h. hears config conn h (Hang conn)) e ∙ elsewhere_heard config conn ∙ sym e)))
 hang_by config heard world conn law was e (is_open bytes node front connection at reader standing) =
     subst (λ w. KeepsOn config (told_of law.story) (after_hang config heard conn) w) (sym (hangs_at world conn node front connection _ standing.client at))
-    (closes config heard world conn law bytes node front connection at (law.requests conn ∙ ap (λ h. requests_of (frames_heard h)) e)
+    (closes config heard world conn law bytes node front connection at (law.requests conn ∙ ap (λ h. requests_of (setting_of config) (frames_heard h)) e)
     (heard_closed config conn bytes (heard conn) e)
     (record {
       stage_is = refl;
       count = standing.count;
       client = standing.client;
-      left = left_by (setting_of config) node (home_of config) conn (frames bytes) (begun bytes) connection world.links (law.story.told conn)
+      left = left_by (setting_of config) node (home_of config) conn (inputs_in (setting_of config) bytes) (begun bytes) connection world.links
+          (law.story.told conn)
           (law.story.talk.answers conn) (law.story.course.sessions conn) standing.stands;
     }))
 hang_by config heard world conn law was e (is_closed bytes node front connection at gone) =
     subst (λ w. KeepsOn config (told_of law.story) (after_hang config heard conn) w) (sym (hangs_at world conn node front connection _ gone.client at))
-    (closes config heard world conn law bytes node front connection at (law.requests conn ∙ ap (λ h. requests_of (frames_heard h)) e)
+    (closes config heard world conn law bytes node front connection at (law.requests conn ∙ ap (λ h. requests_of (setting_of config) (frames_heard h)) e)
     (ap (λ h. hears config conn h (Hang conn)) e ∙ closed_heard config conn bytes)
     (record {
       stage_is = refl;
       count = gone.count;
       client = gone.client;
-      left = left_again (setting_of config) node (home_of config) conn (requests_of (frames bytes)) connection world.links (law.story.told conn)
+      left = left_again (setting_of config) node (home_of config) conn (requests_in (inputs_in (setting_of config) bytes)) connection world.links
+          (law.story.told conn)
           (law.story.talk.answers conn) (law.story.course.sessions conn) gone.left;
     }))
 

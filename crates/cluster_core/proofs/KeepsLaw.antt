@@ -9,8 +9,8 @@ use Rattle.front_core.specs.declared.connection.Connection.{Connection}
 use Rattle.front_core.specs.declared.connection.Stage.TheVariants.{Ended}
 use Rattle.front_core.specs.declared.front.Front.{Front}
 use Rattle.front_core.specs.Front.{connection_at}
-use Rattle.imap_wire.specs.declared.frame.Frame.{Frame}
-use Rattle.imap_wire.specs.Frames.{frames, begun}
+use Rattle.imap_reply.specs.declared.inputs.Input.{Input}
+use Rattle.imap_wire.specs.Frames.{begun}
 use Rattle.link_msg.specs.declared.answer.BackAnswer.{BackAnswer}
 use Rattle.link_msg.specs.declared.ask.FrontAsk.{FrontAsk}
 use Rattle.mur_base.specs.Map.{value_at, with_value}
@@ -22,6 +22,8 @@ use Rattle.mur_model.specs.declared.session.Sess.{Sess}
 use Rattle.mur_model.specs.declared.session.Sess.TheVariants.{Off}
 use Rattle.mur_model.specs.declared.setting.Setting.{Setting}
 use Rattle.mur_model.specs.History.{Talk, TalkGoesOn}
+use Rattle.imap_reply.specs.Inputs.{requests_in}
+use Rattle.cluster_core.proofs.Readings.{inputs_in, reading_of}
 use Rattle.cluster_core.specs.declared.world.World.{World}
 use Rattle.cluster_core.specs.Heard.{Heard, nobody, elsewhere, client, frames_heard}
 use Rattle.cluster_core.specs.Links.{Links}
@@ -46,22 +48,24 @@ pub record IsAt (world : World) (conn : ℕ) (node : List ℕ) (front : Front) (
   pub at : front_at world node ≡ Some front
   pub has : connection_at front conn ≡ Some connection
 
-pub record IsGone (setting : Setting) (node home : List ℕ) (conn : ℕ) (frames : List Frame) (connection : Connection) (world : World)
+pub record IsGone (setting : Setting) (node home : List ℕ) (conn : ℕ) (inputs : List Input) (connection : Connection) (world : World)
     (story : Story) : Type 0 where
   pub stage_is : connection.stage ≡ Ended
   pub count : connection.answered ≡ length (story.told conn)
-  pub client : client_at world conn ≡ Some (client_with node frames (story.told conn))
-  pub left : IsLeft setting node home conn (requests_of frames) connection world.links (story.told conn) (story.talk.answers conn) (story.course.sessions conn)
+  pub client : client_at world conn ≡ Some (client_with node inputs (story.told conn))
+  pub left : IsLeft setting node home conn (requests_in inputs) connection world.links (story.told conn) (story.talk.answers conn) (story.course.sessions conn)
 
 pub data ConnectionIs (setting : Setting) (home : List ℕ) (conn : ℕ) (world : World) (story : Story) : Heard → Type 0 where
   is_nobody : client_at world conn ≡ None → ((node : List ℕ) (front : Front) → front_at world node ≡ Some front → connection_at front conn ≡ None)
       → IsUntold conn world.links story → ConnectionIs setting home conn world story nobody
   is_elsewhere : (node : List ℕ) → client_at world conn ≡ Some (record { at = node; given = [] }) → front_at world node ≡ None
       → IsUntold conn world.links story → ConnectionIs setting home conn world story elsewhere
-  is_open : (bytes node : List ℕ) (front : Front) (connection : Connection) → IsAt world conn node front connection → HasBegunSo connection (begun bytes)
-      → IsStanding setting node home conn (frames bytes) (begun bytes) connection world story → ConnectionIs setting home conn world story (client bytes false)
+  is_open : (bytes node : List ℕ) (front : Front) (connection : Connection) → IsAt world conn node front connection
+      → HasBegunSo connection (reading_of setting bytes)
+      → IsStanding setting node home conn (inputs_in setting bytes) (begun bytes) connection world story
+      → ConnectionIs setting home conn world story (client bytes false)
   is_closed : (bytes node : List ℕ) (front : Front) (connection : Connection) → IsAt world conn node front connection
-      → IsGone setting node home conn (frames bytes) connection world story → ConnectionIs setting home conn world story (client bytes true)
+      → IsGone setting node home conn (inputs_in setting bytes) connection world story → ConnectionIs setting home conn world story (client bytes true)
 
 -- the nodes of a run stay what they are: one home holds every mailbox
 pub record AreNodesOf (config : Config) (world : World) (backend : Backend) : Type 0 where
@@ -77,7 +81,7 @@ pub record KeepsLaw (config : Config) (heard : ℕ → Heard) (world : World) : 
   pub nodes : AreNodesOf config world backend
   pub story : Story
   pub is_told : IsTold (setting_of config) world.steps world.marks backend story.talk story.course
-  pub requests : (conn : ℕ) → story.talk.requests conn ≡ requests_of (frames_heard (heard conn))
+  pub requests : (conn : ℕ) → story.talk.requests conn ≡ requests_of (setting_of config) (frames_heard (heard conn))
   pub connections : (conn : ℕ) → ConnectionIs (setting_of config) (home_of config) conn world story (heard conn)
 
 -- so it does behind a world in which so much was said
@@ -106,7 +110,7 @@ way_on : (links next : Links) (conn : ℕ) (front home : List ℕ) (connection :
 way_on links next conn front home connection tag name work told said session on (there a b way) = there a b (on front home _ _ way)
 way_on links next conn front home connection tag name work told said session on (back body turn a b c d way) = back body turn a b c d (on front home _ _ way)
 
-pub stands_on : (setting : Setting) (front home : List ℕ) (conn : ℕ) (all : List Frame) (held : Option (List ℕ)) (connection : Connection) (links next : Links)
+pub stands_on : (setting : Setting) (front home : List ℕ) (conn : ℕ) (all : List Input) (held : Option (List ℕ)) (connection : Connection) (links next : Links)
     (told said : List Answer) (session : Sess)
     → WaysOn links next conn → Stands setting front home conn all held connection links told said session
     → Stands setting front home conn all held connection next told said session
@@ -185,14 +189,17 @@ connection_stays setting home conn world next story later heard stays (is_open b
     is_open bytes node now.front connection (record { at = now.is; has = now.same ∙ at.has }) reader
     (record {
       count = standing.count ∙ ap length (sym stays.told);
-      client = stays.client ∙ standing.client ∙ ap (λ t. Some (client_with node (frames bytes) t)) (sym stays.told);
-      stands = subst (λ t. Stands setting node home conn (frames bytes) (begun bytes) connection next.links t (later.talk.answers conn)
+      client = stays.client ∙ standing.client ∙ ap (λ t. Some (client_with node (inputs_in setting bytes) t)) (sym stays.told);
+      stands = subst (λ t. Stands setting node home conn (inputs_in setting bytes) (begun bytes) connection next.links t (later.talk.answers conn)
           (later.course.sessions conn)) (sym stays.told)
-          (subst (λ s. Stands setting node home conn (frames bytes) (begun bytes) connection next.links (story.told conn) s (later.course.sessions conn))
+          (subst (λ s. Stands setting node home conn (inputs_in setting bytes) (begun bytes) connection next.links (story.told conn) s
+          (later.course.sessions conn))
           (sym stays.said)
-          (subst (λ s. Stands setting node home conn (frames bytes) (begun bytes) connection next.links (story.told conn) (story.talk.answers conn) s)
+          (subst (λ s. Stands setting node home conn (inputs_in setting bytes) (begun bytes) connection next.links (story.told conn)
+          (story.talk.answers conn) s)
           (sym stays.session)
-          (stands_on setting node home conn (frames bytes) (begun bytes) connection world.links next.links (story.told conn) (story.talk.answers conn)
+          (stands_on setting node home conn (inputs_in setting bytes) (begun bytes) connection world.links next.links (story.told conn)
+          (story.talk.answers conn)
           (story.course.sessions conn) stays.ways standing.stands)));
     })
 connection_stays setting home conn world next story later heard stays (is_closed bytes node front connection at gone) =
@@ -201,14 +208,16 @@ connection_stays setting home conn world next story later heard stays (is_closed
     (record {
       stage_is = gone.stage_is;
       count = gone.count ∙ ap length (sym stays.told);
-      client = stays.client ∙ gone.client ∙ ap (λ t. Some (client_with node (frames bytes) t)) (sym stays.told);
-      left = subst (λ t. IsLeft setting node home conn (requests_of (frames bytes)) connection next.links t (later.talk.answers conn)
+      client = stays.client ∙ gone.client ∙ ap (λ t. Some (client_with node (inputs_in setting bytes) t)) (sym stays.told);
+      left = subst (λ t. IsLeft setting node home conn (requests_in (inputs_in setting bytes)) connection next.links t (later.talk.answers conn)
           (later.course.sessions conn)) (sym stays.told)
-          (subst (λ s. IsLeft setting node home conn (requests_of (frames bytes)) connection next.links (story.told conn) s (later.course.sessions conn))
+          (subst (λ s. IsLeft setting node home conn (requests_in (inputs_in setting bytes)) connection next.links (story.told conn) s
+          (later.course.sessions conn))
           (sym stays.said)
-          (subst (λ s. IsLeft setting node home conn (requests_of (frames bytes)) connection next.links (story.told conn) (story.talk.answers conn) s)
+          (subst (λ s. IsLeft setting node home conn (requests_in (inputs_in setting bytes)) connection next.links (story.told conn)
+          (story.talk.answers conn) s)
           (sym stays.session)
-          (left_on setting node home conn (requests_of (frames bytes)) connection world.links next.links (story.told conn) (story.talk.answers conn)
+          (left_on setting node home conn (requests_in (inputs_in setting bytes)) connection world.links next.links (story.told conn) (story.talk.answers conn)
           (story.course.sessions conn) stays.ways gone.left)));
     })
 

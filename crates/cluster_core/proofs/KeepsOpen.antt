@@ -15,7 +15,7 @@ use Rattle.imap_reply.specs.Greeting.{greeting}
 use Rattle.imap_reply.specs.SessionEnds.{has_ended}
 use Rattle.imap_reply.specs.Transcript.{replies_to, told_till}
 use Rattle.imap_reply.proofs.TranscriptGrows.{AreAnswered, none_answered}
-use Rattle.imap_wire.specs.Frames.{frames}
+use Rattle.imap_wire.specs.Frames.{begun}
 use Rattle.imap_wire.proofs.FeedLaws.{frames-nil}
 use Rattle.mur_base.specs.Map.{with_value, with_entry}
 use Rattle.mur_base.proofs.MapLaws.{names_apart, numbers_apart, value_at-with_value, value_at-with_value-other, value_at-with_entry, value_at-with_entry-other}
@@ -24,6 +24,9 @@ use Rattle.mur_model.specs.declared.request.Answer.{Answer}
 use Rattle.mur_model.specs.declared.setting.Setting.{Setting}
 use Rattle.mur_model.proofs.HistoryGrows.{same_talk}
 use Rattle.schedule_text.specs.declared.event.Event.TheVariants.{Open}
+use Rattle.front_core.specs.Reading.{first_reading}
+use Rattle.imap_reply.specs.Inputs.{at_first, before_next, inputs_of}
+use Rattle.mur_model.specs.declared.setting.Setting.{Setting}
 use Rattle.cluster_core.specs.declared.world.Client.{Client}
 use Rattle.cluster_core.specs.declared.world.World.{World}
 use Rattle.cluster_core.specs.Heard.{Heard, nobody, elsewhere, client, hears, opened_at, is_frontend, frames_heard}
@@ -34,6 +37,7 @@ use Rattle.cluster_core.proofs.KeepsLaw.{ConnectionIs, IsUntold, KeepsLaw, Keeps
 use Rattle.cluster_core.proofs.KeepsLaw.{looks_same, same_front}
 use Rattle.cluster_core.proofs.KeepsLaw.ConnectionIs.{is_nobody, is_elsewhere, is_open, is_closed}
 use Rattle.cluster_core.proofs.KeepsStill.{still_kept, fronts_at_other, nodes_alike, nodes_with_front}
+use Rattle.cluster_core.proofs.Readings.{inputs_in, reading_of}
 use Rattle.cluster_core.proofs.RequestsOf.{requests_of}
 
 -- nothing is heard anew of a connection that was opened before, nor of another one
@@ -92,13 +96,14 @@ unfolding frames_heard
 nothing_yet heard e = ap frames_heard e
 
 requests_first : (config : Config) (story : Story) (heard : ℕ → Heard) (conn : ℕ) (node : List ℕ) → heard conn ≡ nobody
-    → ((c : ℕ) → story.talk.requests c ≡ requests_of (frames_heard (heard c)))
-    → (other : ℕ) → story.talk.requests other ≡ requests_of (frames_heard (after_open config heard node conn other))
+    → ((c : ℕ) → story.talk.requests c ≡ requests_of (setting_of config) (frames_heard (heard c)))
+    → (other : ℕ) → story.talk.requests other ≡ requests_of (setting_of config) (frames_heard (after_open config heard node conn other))
 requests_first config story heard conn node e all other = ⊎_elim
-    (λ (same : other ≡ conn). subst (λ c. story.talk.requests c ≡ requests_of (frames_heard (after_open config heard node conn c))) (sym same)
-    (all conn ∙ ap requests_of (nothing_yet (heard conn) e
+    (λ (same : other ≡ conn). subst (λ c. story.talk.requests c ≡ requests_of (setting_of config) (frames_heard (after_open config heard node conn c)))
+    (sym same)
+    (all conn ∙ ap (requests_of (setting_of config)) (nothing_yet (heard conn) e
     ∙ sym (ap frames_heard (hears_first config conn (heard conn) node (is_frontend config node) e refl) ∙ first_frames (is_frontend config node)))))
-    (λ (ne : other ≢ conn). all other ∙ ap (λ h. requests_of (frames_heard h)) (sym (other_after config heard node conn other ne)))
+    (λ (ne : other ≢ conn). all other ∙ ap (λ h. requests_of (setting_of config) (frames_heard h)) (sym (other_after config heard node conn other ne)))
     (cases_eq other conn)
 
 -- a connection at a node that is no frontend is given nothing
@@ -155,12 +160,17 @@ greets world node conn front none =
     greeting)
     (value_at-with_entry nat_cmp numbers_apart world.clients conn (record { at = node; given = [] }))
 
-greeting_alone : (told : List Answer) → told ≡ [] → greeting ≡ greeting ++ replies_to (frames []) told
-unfolding told_till
-greeting_alone told e = rw (e, ← frames-nil) (sym (append-nil greeting))
+greeting_alone : (setting : Setting) (told : List Answer) → told ≡ [] → greeting ≡ greeting ++ replies_to (inputs_in setting []) told
+unfolding told_till inputs_of
+greeting_alone setting told e = rw (e, ← frames-nil) (sym (append-nil greeting))
 
-all_answered : (told : List Answer) → told ≡ [] → AreAnswered (frames []) told
-all_answered told e = rw (e, ← frames-nil) none_answered
+all_answered : (setting : Setting) (told : List Answer) → told ≡ [] → AreAnswered (inputs_in setting []) told
+unfolding inputs_of
+all_answered setting told e = rw (e, ← frames-nil) none_answered
+
+first_reader : (setting : Setting) → first_reading ≡ reading_of setting []
+unfolding before_next
+first_reader setting = ap (λ f. record { held = begun []; before = before_next setting at_first f }) (sym frames-nil)
 
 -- a connection at a frontend is greeted
 front_keeps_open : (config : Config) (heard : ℕ → Heard) (world : World) (node : List ℕ) (conn : ℕ) (front : Front) (law : KeepsLaw config heard world)
@@ -190,14 +200,15 @@ front_keeps_open config heard world node conn front law at new =
             (record {
               at = value_at-with_value (slice_cmp nat_cmp) names_apart world.fronts node later front at;
               has = value_at-with_entry nat_cmp numbers_apart front.connections conn new_connection;
-            }) (inr refl)
+            }) (inr (first_reader (setting_of config)))
             (record {
               count = ap length (sym new.untold.told);
               client = value_at-with_value nat_cmp numbers_apart (with_entry nat_cmp world.clients conn first) conn
                   (record { at = node; given = [] ++ greeting }) first
                   (value_at-with_entry nat_cmp numbers_apart world.clients conn first)
-                  ∙ ap (λ g. Some (record { at = node; given = g })) (greeting_alone (law.story.told conn) new.untold.told);
-              stands = reads refl refl (sym new.untold.session) (ap has_ended new.untold.session) (all_answered (law.story.told conn) new.untold.told)
+                  ∙ ap (λ g. Some (record { at = node; given = g })) (greeting_alone (setting_of config) (law.story.told conn) new.untold.told);
+              stands = reads refl refl (sym new.untold.session) (ap has_ended new.untold.session) (all_answered (setting_of config)
+                  (law.story.told conn) new.untold.told)
                   (new.untold.said ∙ sym new.untold.told)
                   (new.untold.way node (home_of config));
             }))))

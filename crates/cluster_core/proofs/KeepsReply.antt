@@ -1,5 +1,5 @@
 -- An answer that is taken keeps the law; so does every message.
-use Rattle.std.proofs.Common.{◌≡◌, ◌≢◌, ℕ, ◌+◌, ◌≤◌, Bool, true, false, List, [], ◌∷◌, ◌++◌, length, Option, inl}
+use Rattle.std.proofs.Common.{◌≡◌, ◌≢◌, ℕ, ◌+◌, ◌≤◌, Bool, true, false, List, [], ◌∷◌, ◌++◌, length, inl}
 use Rattle.std.proofs.Common.{inr, refl, sym, ◌∙◌, ap, subst}
 use Rattle.front_core.specs.declared.connection.Connection.{Connection}
 use Rattle.front_core.specs.declared.connection.Stage.TheVariants.{Asked}
@@ -9,7 +9,7 @@ use Rattle.front_core.specs.Front.{connection_at}
 use Rattle.front_core.specs.Taken.{Turned}
 use Rattle.imap_reply.specs.ReplyText.{reply_text}
 use Rattle.imap_reply.specs.SessionEnds.{ends_session}
-use Rattle.imap_wire.specs.Frames.{frames, begun}
+use Rattle.imap_wire.specs.Frames.{begun}
 use Rattle.link_msg.specs.declared.answer.BackAnswer.{BackAnswer}
 use Rattle.link_msg.specs.declared.message.LinkMsg.{LinkMsg}
 use Rattle.link_msg.specs.declared.message.LinkMsg.TheVariants.{Up, End, Line, Ask, Answer}
@@ -21,6 +21,9 @@ use Rattle.mur_model.specs.declared.setting.Setting.{Setting}
 use Rattle.mur_model.proofs.HistoryGrows.{same_talk}
 use Rattle.session_core.specs.Asking.{asked_for}
 use Rattle.session_core.specs.declared.asking.Awaited.{Awaited}
+use Rattle.imap_reply.specs.Inputs.{requests_in}
+use Rattle.front_core.specs.Reading.{Reading as Read}
+use Rattle.cluster_core.proofs.Readings.{inputs_in, reading_of}
 use Rattle.cluster_core.specs.declared.world.World.{World}
 use Rattle.cluster_core.specs.Heard.{Heard, client, frames_heard}
 use Rattle.cluster_core.specs.Links.{on_link, without_first}
@@ -31,7 +34,7 @@ use Rattle.cluster_core.proofs.ConnectionLaw.OnItsWay.{there, back}
 use Rattle.cluster_core.proofs.ConnectionLaw.Stands.{reads, waits, faulted, finished}
 use Rattle.cluster_core.proofs.ConnectionLaw.IsLeft.{nothing, its_ask, its_answer}
 use Rattle.cluster_core.proofs.KeepsAnswer.{replied_turn, replied_stands, ended_turned, read_turned, fits, ended_drops_answer}
-use Rattle.cluster_core.proofs.KeepsData.{asked_reader, frames_keep_reader}
+use Rattle.cluster_core.proofs.KeepsData.{asked_reader, inputs_keep_reader}
 use Rattle.cluster_core.proofs.KeepsDeliver.{ask_by, to_front, quiet_keeps}
 use Rattle.cluster_core.proofs.KeepsDeliver.IsQuiet.{an_up, an_end, a_line}
 use Rattle.cluster_core.proofs.KeepsFront.{world_after, with_connection, front_keeps, is_at_after, standing_after, gone_after}
@@ -49,7 +52,7 @@ others_on world from to answer rest conn first own other ne = λ front home asks
     taken_for_another world.links other front home from to (Answer answer) rest asks answers first (answer_of_another other answer (λ e. ne (sym e ∙ own))) way
 
 -- the reader behind the reply
-reader_by : (setting : Setting) (home : List ℕ) (conn : ℕ) (connection : Connection) (tag : Tag) (turn : Turn) (held : Option (List ℕ))
+reader_by : (setting : Setting) (home : List ℕ) (conn : ℕ) (connection : Connection) (tag : Tag) (turn : Turn) (held : Read)
     → connection.reader ≡ held → (ended : Bool) → ends_session turn.session ≡ ended
     → HasBegunSo (replied_turn setting home conn connection tag turn).connection held
 reader_by setting home conn connection tag turn held reader true ended =
@@ -57,9 +60,9 @@ reader_by setting home conn connection tag turn held reader true ended =
     (inl refl)
 reader_by setting home conn connection tag turn held reader false ended =
     subst (λ (t : Turned). HasBegunSo t.connection held) (sym (read_turned setting home conn connection (reply_text tag turn.reply) turn.session ended))
-    (inr (frames_keep_reader setting home conn (reading_again connection turn.session) connection.waiting ∙ reader))
+    (inr (inputs_keep_reader setting home conn (reading_again connection turn.session) connection.waiting ∙ reader))
 
-replied_reader : (setting : Setting) (home : List ℕ) (conn : ℕ) (connection : Connection) (tag : Tag) (awaited : Awaited) (turn : Turn) (held : Option (List ℕ))
+replied_reader : (setting : Setting) (home : List ℕ) (conn : ℕ) (connection : Connection) (tag : Tag) (awaited : Awaited) (turn : Turn) (held : Read)
     → connection.stage ≡ Asked tag awaited → HasBegunSo connection held
     → HasBegunSo (replied_turn setting home conn connection tag turn).connection held
 replied_reader setting home conn connection tag awaited turn held stage reader =
@@ -70,10 +73,10 @@ replied_kept : (config : Config) (heard after : ℕ → Heard) (world : World) (
     (rest : List LinkMsg) (conn : ℕ) (bytes node : List ℕ) (front : Front) (connection : Connection)
     (tag : Tag) (awaited : Awaited) (turn : Turn) → on_link world.links from node ≡ Answer answer ∷ rest
     → ((c : ℕ) → after c ≡ heard c) → (answer.id).conn ≡ conn
-    → heard conn ≡ client bytes false → IsAt world conn node front connection → HasBegunSo connection (begun bytes)
+    → heard conn ≡ client bytes false → IsAt world conn node front connection → HasBegunSo connection (reading_of (setting_of config) bytes)
     → connection.stage ≡ Asked tag awaited
     → answer_comes front.setting front.home (answer.id).conn connection answer ≡ replied_turn (setting_of config) (home_of config) conn connection tag turn
-    → StandsOn (setting_of config) node (home_of config) law.backend conn (frames bytes) (begun bytes)
+    → StandsOn (setting_of config) node (home_of config) law.backend conn (inputs_in (setting_of config) bytes) (begun bytes)
     (replied_turn (setting_of config) (home_of config) conn connection tag turn).connection
     (taken world from node) law.story (carry_all node (taken world from node)
     (replied_turn (setting_of config) (home_of config) conn connection tag turn).outs)
@@ -86,21 +89,22 @@ replied_kept config heard after world law from answer rest conn bytes node front
     (front_keeps config heard after world law
     (without_first world.links from node) conn node front connection turned.connection turned.outs law.story stands.story
     (others_on world from node answer rest conn first own) at.at at.has (same_talk (told_of law.story)) refl refl refl
-    (λ other. law.requests other ∙ ap (λ h. requests_of (frames_heard h)) (sym (same other))) (λ other ne. same other) stands.made
+    (λ other. law.requests other ∙ ap (λ h. requests_of (setting_of config) (frames_heard h)) (sym (same other))) (λ other ne. same other) stands.made
     (subst (λ h. ConnectionIs (setting_of config) (home_of config) conn
     (world_after (taken world from node) node front conn turned.connection turned.outs) stands.story h) (sym (same conn ∙ e))
     (is_open bytes node (with_connection front conn turned.connection) turned.connection
     (is_at_after (taken world from node) node front conn connection turned.connection turned.outs at.at at.has)
-    (replied_reader (setting_of config) (home_of config) conn connection tag awaited turn (begun bytes) stage reader)
-    (standing_after (taken world from node) node front conn turned.connection turned.outs (setting_of config) (home_of config) (frames bytes)
+    (replied_reader (setting_of config) (home_of config) conn connection tag awaited turn (reading_of (setting_of config) bytes) stage reader)
+    (standing_after (taken world from node) node front conn turned.connection turned.outs (setting_of config) (home_of config) (inputs_in
+    (setting_of config) bytes)
     (begun bytes) stands.story stands.standing))))
 
 answer_open : (config : Config) (heard after : ℕ → Heard) (world : World) (law : KeepsLaw config heard world) (from to : List ℕ) (answer : BackAnswer)
     (rest : List LinkMsg) (conn : ℕ) (bytes node : List ℕ) (front : Front) (connection : Connection)
     → on_link world.links from to ≡ Answer answer ∷ rest → ((c : ℕ) → after c ≡ heard c) → (answer.id).conn ≡ conn → heard conn ≡ client bytes false
-    → IsAt world conn node front connection → HasBegunSo connection (begun bytes)
-    → IsStanding (setting_of config) node (home_of config) conn (frames bytes) (begun bytes) connection world law.story
-    → Stands (setting_of config) node (home_of config) conn (frames bytes) (begun bytes) connection world.links (law.story.told conn)
+    → IsAt world conn node front connection → HasBegunSo connection (reading_of (setting_of config) bytes)
+    → IsStanding (setting_of config) node (home_of config) conn (inputs_in (setting_of config) bytes) (begun bytes) connection world law.story
+    → Stands (setting_of config) node (home_of config) conn (inputs_in (setting_of config) bytes) (begun bytes) connection world.links (law.story.told conn)
     (law.story.talk.answers conn) (law.story.course.sessions conn)
     → KeepsOn config (told_of law.story) after (comes_to (taken world from to) from to (Answer answer) (front_at world to))
 unfolding frames_heard
@@ -132,17 +136,18 @@ answer_open config heard after world law from to answer rest conn bytes node fro
     subst (λ x. KeepsOn config (told_of law.story) after (comes_to (taken world from x) from x (Answer answer) (front_at world x))) (sym took.1)
     (replied_kept config heard after world law from answer rest conn bytes node front connection tag (asked_for name work).awaited turn first_here same own e at
     reader stage comes
-    (replied_stands (setting_of config) node (home_of config) law.backend conn (frames bytes) passed (begun bytes) asking connection tag turn
+    (replied_stands (setting_of config) node (home_of config) law.backend conn (inputs_in (setting_of config) bytes) passed
+    (begun bytes) asking connection tag turn
     (taken world from node) law.story parts standing.count standing.client lasts later both answered said
     (subst (λ x. AreOnWay (without_first world.links from x) conn node (home_of config) [] []) took.1 took.3) law.is_told last
-    (law.requests conn ∙ ap (λ h. requests_of (frames_heard h)) e)))
+    (law.requests conn ∙ ap (λ h. requests_of (setting_of config) (frames_heard h)) e)))
 
 -- an answer to a connection that was closed is dropped
 dropped : (config : Config) (heard after : ℕ → Heard) (world : World) (law : KeepsLaw config heard world) (from to : List ℕ) (answer : BackAnswer)
     (rest : List LinkMsg) (conn : ℕ) (bytes node : List ℕ) (front : Front) (connection : Connection)
     (more : List AnswerOf) → on_link world.links from node ≡ Answer answer ∷ rest → ((c : ℕ) → after c ≡ heard c) → (answer.id).conn ≡ conn
     → heard conn ≡ client bytes true → IsAt world conn node front connection
-    → IsGone (setting_of config) node (home_of config) conn (frames bytes) connection world law.story
+    → IsGone (setting_of config) node (home_of config) conn (inputs_in (setting_of config) bytes) connection world law.story
     → law.story.talk.answers conn ≡ law.story.told conn ++ more → length more ≤ 1
     → AreOnWay (without_first world.links from node) conn node (home_of config) [] []
     → KeepsOn config (told_of law.story) after (comes_to (taken world from node) from node (Answer answer) (front_at world node))
@@ -154,21 +159,21 @@ dropped config heard after world law from to answer rest conn bytes node front c
     ∙ ap (λ c. world_after (taken world from node) node front c connection []) own))
     (front_keeps config heard after world law (without_first world.links from node) conn node front connection connection [] law.story law.story
     (others_on world from node answer rest conn first own) at.at at.has (same_talk (told_of law.story)) refl refl refl
-    (λ other. law.requests other ∙ ap (λ h. requests_of (frames_heard h)) (sym (same other))) (λ other ne. same other)
+    (λ other. law.requests other ∙ ap (λ h. requests_of (setting_of config) (frames_heard h)) (sym (same other))) (λ other ne. same other)
     (record { others = keeps_all conn (taken world from node); goes_on = same_story conn law.story; is_told = law.is_told })
     (subst (λ h. ConnectionIs (setting_of config) (home_of config) conn (world_after (taken world from node) node front conn connection []) law.story h)
     (sym (same conn ∙ e))
     (is_closed bytes node (with_connection front conn connection) connection
     (is_at_after (taken world from node) node front conn connection connection [] at.at at.has)
-    (gone_after (taken world from node) node front conn connection (setting_of config) (home_of config) (frames bytes) law.story
+    (gone_after (taken world from node) node front conn connection (setting_of config) (home_of config) (inputs_in (setting_of config) bytes) law.story
     (record { stage_is = gone.stage_is; count = gone.count; client = gone.client; left = nothing more said few way })))))
 
 answer_closed : (config : Config) (heard after : ℕ → Heard) (world : World) (law : KeepsLaw config heard world) (from to : List ℕ) (answer : BackAnswer)
     (rest : List LinkMsg) (conn : ℕ) (bytes node : List ℕ) (front : Front) (connection : Connection)
     → on_link world.links from to ≡ Answer answer ∷ rest → ((c : ℕ) → after c ≡ heard c) → (answer.id).conn ≡ conn → heard conn ≡ client bytes true
     → IsAt world conn node front connection
-    → IsGone (setting_of config) node (home_of config) conn (frames bytes) connection world law.story
-    → IsLeft (setting_of config) node (home_of config) conn (requests_of (frames bytes)) connection world.links (law.story.told conn)
+    → IsGone (setting_of config) node (home_of config) conn (inputs_in (setting_of config) bytes) connection world law.story
+    → IsLeft (setting_of config) node (home_of config) conn (requests_in (inputs_in (setting_of config) bytes)) connection world.links (law.story.told conn)
     (law.story.talk.answers conn) (law.story.course.sessions conn)
     → KeepsOn config (told_of law.story) after (comes_to (taken world from to) from to (Answer answer) (front_at world to))
 answer_closed config heard after world law from to answer rest conn bytes node front connection first same own e at gone (nothing more said few way) =

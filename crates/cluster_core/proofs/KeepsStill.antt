@@ -44,7 +44,7 @@ still_kept config heard after world next alike same law = record {
     story = law.story;
     is_told = subst (λ m. IsTold (setting_of config) next.steps m law.backend law.story.talk law.story.course) (sym alike.marks)
         (told_later (setting_of config) world.steps next.steps world.marks law.backend law.story.talk law.story.course alike.steps law.is_told);
-    requests = λ conn. law.requests conn ∙ ap (λ h. requests_of (frames_heard h)) (sym (same conn));
+    requests = λ conn. law.requests conn ∙ ap (λ h. requests_of (setting_of config) (frames_heard h)) (sym (same conn));
     connections = λ conn. subst (λ h. ConnectionIs (setting_of config) (home_of config) conn next law.story h) (sym (same conn))
         (connection_stays (setting_of config) (home_of config) conn world next law.story law.story (heard conn)
         (record {

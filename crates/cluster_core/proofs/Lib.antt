@@ -10,6 +10,7 @@ pub mod ViewLaw
 pub mod ServeLaw
 pub mod Marks
 pub mod Told
+pub mod Readings
 pub mod RequestsOf
 pub mod FrontAnswers
 pub mod ConnectionLaw

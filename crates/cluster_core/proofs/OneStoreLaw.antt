@@ -11,7 +11,7 @@ use Rattle.std.proofs.lemmas.List.{append-nil}
 use Rattle.front_core.specs.declared.connection.Connection.{Connection}
 use Rattle.front_core.specs.declared.front.Front.{Front}
 use Rattle.imap_reply.specs.Transcript.{transcript_of, all_told_till, ends}
-use Rattle.imap_wire.specs.Frames.{frames, begun}
+use Rattle.imap_wire.specs.Frames.{begun}
 use Rattle.mur_base.specs.declared.point.AskId.{AskId}
 use Rattle.mur_base.specs.declared.point.Point.{Point}
 use Rattle.mur_model.specs.declared.request.Answer.{Answer}
@@ -19,6 +19,8 @@ use Rattle.mur_model.specs.declared.setting.Setting.{Setting}
 use Rattle.mur_model.specs.declared.store.Store.{Store}
 use Rattle.mur_model.specs.History.{Course, Talk, IsLegal, IsInOrder, EndsAtLoss, IsUnanswered, loses, reads}
 use Rattle.mur_model.proofs.HistoryGrows.{one_up_to}
+use Rattle.imap_reply.specs.Inputs.{inputs_of, requests_in}
+use Rattle.cluster_core.proofs.Readings.{inputs_in}
 use Rattle.cluster_core.specs.declared.world.Client.{Client}
 use Rattle.cluster_core.specs.declared.world.Mark.{Mark}
 use Rattle.cluster_core.specs.declared.world.World.{World}
@@ -67,11 +69,11 @@ told_left setting front home conn requests connection links told said session (i
 told_left setting front home conn requests connection links told said session (its_answer rest answer a b way) = record { rest = rest; parts = a; few = b }
 
 -- what can be said of a connection, whatever was heard of it
-pub record SaysOf (world : World) (conn : ℕ) (heard : Heard) (told said : List Answer) : Type 0 where
+pub record SaysOf (setting : Setting) (world : World) (conn : ℕ) (heard : Heard) (told said : List Answer) : Type 0 where
   pub count : answered_of world conn ≡ length told
-  pub given : given_to world conn ≡ transcript_of (bytes_heard heard) told
+  pub given : given_to world conn ≡ transcript_of setting (bytes_heard heard) told
   pub so : IsToldSo told said
-  pub waits_not : AreEmpty world → has_closed heard ≡ false → IsAnsweredThrough (requests_of (frames_heard heard)) told
+  pub waits_not : AreEmpty world → has_closed heard ≡ false → IsAnsweredThrough (requests_of setting (frames_heard heard)) told
 
 count_at : (world : World) (conn : ℕ) (node : List ℕ) (given : List ℕ) (front : Front) (connection : Connection)
     → client_at world conn ≡ Some (record { at = node; given = given }) → IsAt world conn node front connection
@@ -105,10 +107,10 @@ last_ends (answer ∷ before) last e = or_true (ends answer.reply) _ (last_ends 
 -- where nothing is on the way, a client that hasn't closed its connection was answered in all, or its session has ended
 none_waits : (setting : Setting) (front home : List ℕ) (conn : ℕ) (bytes : List ℕ) (connection : Connection) (world : World) (told said : List Answer)
     (session : _) → AreEmpty world
-    → Stands setting front home conn (frames bytes) (begun bytes) connection world.links told said session
-    → IsAnsweredThrough (requests_of (frames bytes)) told
+    → Stands setting front home conn (inputs_in setting bytes) (begun bytes) connection world.links told said session
+    → IsAnsweredThrough (requests_in (inputs_in setting bytes)) told
 none_waits setting front home conn bytes connection world told said session empty (it_reads a b c d e f way) =
-    inl (sym (answered_lengths (frames bytes) told e))
+    inl (sym (answered_lengths (inputs_in setting bytes) told e))
 none_waits setting front home conn bytes connection world told said session empty (waits passed asking tag it name work a b c d e f g (there s t way)) =
     (let none = (none_on_empty world.links conn front home _ _ empty way).0 in cc)
 none_waits setting front home conn bytes connection world told said session empty
@@ -119,8 +121,8 @@ none_waits setting front home conn bytes connection world told said session empt
     inr (subst (λ t. list_any (λ (answer : Answer). ends answer.reply) t ≡ true) (sym d) (last_ends before last e))
 
 pub says_of : (setting : Setting) (home : List ℕ) (conn : ℕ) (world : World) (story : Story) (heard : Heard) → ConnectionIs setting home conn world story heard
-    → SaysOf world conn heard (story.told conn) (story.talk.answers conn)
-unfolding all_told_till bytes_heard frames_heard has_closed requests_of
+    → SaysOf setting world conn heard (story.told conn) (story.talk.answers conn)
+unfolding all_told_till bytes_heard frames_heard has_closed requests_in inputs_of
 says_of setting home conn world story heard (is_nobody none fronts untold) = record {
   count = count_none world conn none ∙ ap length (sym untold.told);
   given = given_at world conn None none;
@@ -135,16 +137,16 @@ says_of setting home conn world story heard (is_elsewhere node at none untold) =
 }
 says_of setting home conn world story heard (is_open bytes node front connection at reader standing) = record {
   count = count_at world conn node _ front connection standing.client at ∙ standing.count;
-  given = given_at world conn (Some (client_with node (frames bytes) (story.told conn))) standing.client;
-  so = told_standing setting node home conn (frames bytes) (begun bytes) connection world.links (story.told conn) (story.talk.answers conn)
+  given = given_at world conn (Some (client_with node (inputs_in setting bytes) (story.told conn))) standing.client;
+  so = told_standing setting node home conn (inputs_in setting bytes) (begun bytes) connection world.links (story.told conn) (story.talk.answers conn)
       (story.course.sessions conn) standing.stands;
   waits_not = λ empty stays. none_waits setting node home conn bytes connection world (story.told conn) (story.talk.answers conn)
       (story.course.sessions conn) empty standing.stands;
 }
 says_of setting home conn world story heard (is_closed bytes node front connection at gone) = record {
   count = count_at world conn node _ front connection gone.client at ∙ gone.count;
-  given = given_at world conn (Some (client_with node (frames bytes) (story.told conn))) gone.client;
-  so = told_left setting node home conn (requests_of (frames bytes)) connection world.links (story.told conn) (story.talk.answers conn)
+  given = given_at world conn (Some (client_with node (inputs_in setting bytes) (story.told conn))) gone.client;
+  so = told_left setting node home conn (requests_in (inputs_in setting bytes)) connection world.links (story.told conn) (story.talk.answers conn)
       (story.course.sessions conn) gone.left;
   waits_not = λ empty stays. cc;
 }

@@ -6,7 +6,7 @@ use Rattle.backend_core.specs.Step.{home_step, op_step}
 use Rattle.link_msg.specs.declared.ask.FrontAsk.{FrontAsk}
 use Rattle.mur_base.specs.declared.point.AskId.{AskId}
 use Rattle.mur_model.specs.declared.need.ViewWork.{ViewWork}
-use Rattle.mur_model.specs.declared.need.ViewWork.TheVariants.{Noop, Close, Expunge, Store as store_work, Fetch, Search}
+use Rattle.mur_model.specs.declared.need.ViewWork.TheVariants.{News, Close, Expunge, Store as store_work, Fetch, Search}
 use Rattle.mur_model.specs.declared.need.Work.{Work}
 use Rattle.mur_model.specs.declared.need.Work.TheVariants.{Make, Append as append_work, Status as status_work, Select as select_work, Viewed as viewed_work}
 use Rattle.mur_model.specs.declared.store.Store.{Store}
@@ -20,7 +20,7 @@ use Rattle.cluster_core.proofs.CreateLaw.{creates_alike}
 use Rattle.cluster_core.proofs.SelectLaw.{selects_alike}
 use Rattle.cluster_core.proofs.ServedAlike.{IsStoreOf, ServesAlike}
 use Rattle.cluster_core.proofs.StatusLaw.{looks_alike}
-use Rattle.cluster_core.proofs.ViewLaw.{noop_views, close_views, expunge_views, store_views, fetch_views, search_views}
+use Rattle.cluster_core.proofs.ViewLaw.{news_views, close_views, expunge_views, store_views, fetch_views, search_views}
 
 -- what a session asks for work at a mailbox
 abbrev pub plain_ask : AskId → List ℕ → List ℕ → Work → FrontAsk
@@ -36,7 +36,7 @@ OpensAlike store home id user name work =
 views : (store : Store) (home : Backend) (id : AskId) (user name : List ℕ) (view : View) (it : ViewWork) → IsStoreOf store home
     → OpensAlike store home id user name (viewed_work view it)
 unfolding home_step op_step asked_for view_op work_on
-views store home id user name view Noop same = noop_views store home name view (held_at home name) refl same
+views store home id user name view (News why) same = news_views store home name view why (held_at home name) refl same
 views store home id user name view Close same = close_views store home name view (held_at home name) refl same
 views store home id user name view (Expunge only) same = expunge_views store home name view only (held_at home name) refl same
 views store home id user name view (store_work it) same = store_views store home name view it (held_at home name) refl same

@@ -35,6 +35,7 @@ use Rattle.cluster_core.proofs.Marks.Carries.{no_marks}
 use Rattle.cluster_core.proofs.Told.{Later}
 use Rattle.cluster_core.proofs.Wires.{same_link}
 use Rattle.cluster_core.specs.declared.world.Mark.{Mark}
+use Rattle.imap_reply.specs.Inputs.{inputs_of, requests_in}
 use Rattle.cluster_core.proofs.RequestsOf.{requests_of}
 use Rattle.cluster_core.proofs.ServedAlike.{IsStoreOf}
 use Rattle.cluster_core.proofs.OnWay.{picked, alike}
@@ -290,9 +291,9 @@ nothing_picked : {T : Type 0} (pick : LinkMsg → List T) (links : _) (a b : Lis
 unfolding on_link picked
 nothing_picked pick links a b e = rw e refl
 
-no_requests : [] ≡ requests_of (frames_heard nobody)
-unfolding requests_of frames_heard
-no_requests = refl
+no_requests : (setting : Setting) → [] ≡ requests_of setting (frames_heard nobody)
+unfolding requests_in inputs_of frames_heard
+no_requests setting = refl
 
 pub start_keeps : (config : Config) → AreNodes config.nodes → KeepsLaw config (λ conn. nobody) (start config)
 unfolding start
@@ -328,7 +329,7 @@ start_keeps config are =
         timely = subst (λ m. All (λ (mark : Mark). mark.step ≤ (start config).steps) m) (sym fresh.marks) (λ k d h. absurd (omega arith));
         serials = λ conn. refl;
       };
-      requests = λ conn. no_requests;
+      requests = λ conn. no_requests (setting_of config);
       connections = λ conn. is_nobody (ap (λ c. value_at nat_cmp c conn) fresh.clients)
           (λ node front at. no_connection (home_of config) (setting_of config) node front conn (fresh.fronts node front at))
           (record {

@@ -23,7 +23,7 @@ use Rattle.cluster_core.specs.Flow.{run_steps, unrolled}
 use Rattle.cluster_core.specs.Heard.{Heard, nobody, heard_from, bytes_heard, frames_heard}
 use Rattle.cluster_core.specs.History.{history_of}
 use Rattle.cluster_core.specs.OneStore.{first_course, HasBoxesOf, IsAnsweredThrough, StandsInTime, IsToldSoFar, IsToldByOneStore}
-use Rattle.cluster_core.specs.Requests.{AskFor}
+use Rattle.cluster_core.specs.Requests.{AreRequests}
 use Rattle.cluster_core.specs.Shown.{given_to}
 use Rattle.cluster_core.specs.World.{start, home_of, setting_of}
 use Rattle.cluster_core.proofs.ConnectionLaw.{Story, told_of}
@@ -140,12 +140,13 @@ told_so_far config talk before later are date_is now last =
     let law = now.law in
     let world : World = run_steps (start config) before in
     let heard : ℕ → Heard = λ conn. heard_from config conn nobody before in
-    let says : (conn : ℕ) → SaysOf world conn (heard conn) (law.story.told conn) (law.story.talk.answers conn) =
+    let says : (conn : ℕ) → SaysOf (setting_of config) world conn (heard conn) (law.story.told conn) (law.story.talk.answers conn) =
     λ conn. says_of (setting_of config) (home_of config) conn world law.story (heard conn) (law.connections conn) in
     let behind : StandsBehind world (run_steps (start config) (before ++ later)) =
     subst (λ w. StandsBehind world w) (sym (run_steps-append (start config) before later)) (run_behind world later) in
-    let asked : (conn : ℕ) → AskFor (frames_heard (heard conn)) (law.story.talk.requests conn) =
-    λ conn. subst (λ r. AskFor (frames_heard (heard conn)) r) (sym (law.requests conn)) (asks_all (frames_heard (heard conn))) in
+    let asked : (conn : ℕ) → AreRequests (setting_of config) (frames_heard (heard conn)) (law.story.talk.requests conn) =
+    λ conn. subst (λ r. AreRequests (setting_of config) (frames_heard (heard conn)) r) (sym (law.requests conn))
+    (asks_all (setting_of config) (frames_heard (heard conn))) in
     let legal : IsLegalTo (setting_of config) (told_of law.story) (history_of world) law.story.course.store =
     legal_history (setting_of config) world law.story law.backend law.is_told (λ conn. (says conn).count) (λ conn. (says conn).so) in
     record {
@@ -154,7 +155,8 @@ told_so_far config talk before later are date_is now last =
       asked = asked;
       given = λ conn. (says conn).given;
       read = λ conn. read_of_legal (setting_of config) first_course (told_of law.story) (history_of world) legal.last legal.legal date_is empty_is
-          (λ other. heard_sound (heard other) (law.story.talk.requests other) (asked other)) conn (given_to world conn) (bytes_heard (heard conn))
+          (λ other. heard_sound (setting_of config) (heard other) (law.story.talk.requests other) (asked other)) conn (given_to world conn) (bytes_heard
+          (heard conn))
           (says conn).given;
       last = legal.last;
       legal = legal.legal;

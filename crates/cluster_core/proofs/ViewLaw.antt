@@ -19,8 +19,9 @@ use Rattle.mail_store.specs.Expunge.{expunged}
 use Rattle.mail_store.specs.Store.{rows_stored, stored, has_too_many_flags}
 use Rattle.mur_base.specs.declared.home.Phase.TheVariants.{Open as open_here}
 use Rattle.mur_model.specs.declared.fetch.Fetching.{Fetching}
+use Rattle.mur_model.specs.declared.need.NewsFor.{NewsFor}
 use Rattle.mur_model.specs.declared.need.ViewWork.{ViewWork}
-use Rattle.mur_model.specs.declared.need.ViewWork.TheVariants.{Noop, Close, Expunge, Store as store_work, Fetch, Search}
+use Rattle.mur_model.specs.declared.need.ViewWork.TheVariants.{News, Close, Expunge, Store as store_work, Fetch, Search}
 use Rattle.mur_model.specs.declared.need.Work.TheVariants.{Viewed as viewed_work}
 use Rattle.mur_model.specs.declared.search.Searching.{Searching}
 use Rattle.mur_model.specs.declared.store.Store.{Store}
@@ -34,7 +35,7 @@ use Rattle.mur_model.specs.Left.{Worked, store_after, kept}
 use Rattle.mur_model.specs.Search.{search_on, search_at}
 use Rattle.mur_model.specs.Selected.{at_view, gone}
 use Rattle.mur_model.specs.StoreFlags.{store_on, store_at, stored_at}
-use Rattle.mur_model.specs.Viewing.{viewed_on, noop_at, close_at}
+use Rattle.mur_model.specs.Viewing.{viewed_on, news_at, close_at}
 use Rattle.session_core.specs.Asking.{asked_for}
 use Rattle.session_core.specs.Finish.{finish}
 use Rattle.session_core.specs.Viewed.{viewed_done, viewed_turn}
@@ -80,7 +81,7 @@ missing store home name view it same =
 
 tells_gone : (view : View) (it : ViewWork) → viewed_turn view it (done gone_there no_snapshot).body ≡ Some gone
 unfolding viewed_turn viewed_done
-tells_gone view Noop = refl
+tells_gone view (News why) = refl
 tells_gone view Close = refl
 tells_gone view (Expunge only) = refl
 tells_gone view (store_work it) = refl
@@ -219,30 +220,32 @@ searches store home name view it same held at e = record {
 
 -- ---- a look
 
-looks : (store : Store) (home : Backend) (name : List ℕ) (view : View) (held : Held) → IsStoreOf store home
-    → ServesAlike store home name (viewed_work view Noop) (noop_at view held.content) (answers home (done nothing (snapshot_of held.content)))
+looks : (store : Store) (home : Backend) (name : List ℕ) (view : View) (why : NewsFor) (held : Held) → IsStoreOf store home
+    → ServesAlike store home name (viewed_work view (News why)) (news_at view why held.content) (answers home (done nothing (snapshot_of held.content)))
 unfolding viewed_turn viewed_done store_after
-looks store home name view held same =
-    serves_as store home name view Noop (noop_at view held.content) home (done nothing (snapshot_of held.content))
+looks store home name view why held same =
+    serves_as store home name view (News why) (news_at view why held.content) home (done nothing (snapshot_of held.content))
     (record { shown = refl; still = same; unless = λ _. refl })
 
-noops_alike : (store : Store) (home : Backend) (name : List ℕ) (view : View) (found : Option Held) → held_at home name ≡ found → IsStoreOf store home
-    → ServesAlike store home name (viewed_work view Noop) (at_view view (noop_at view) (open_content found)) (look_step home (Some view.serial) found)
+news_alike : (store : Store) (home : Backend) (name : List ℕ) (view : View) (why : NewsFor) (found : Option Held) → held_at home name ≡ found
+    → IsStoreOf store home
+    → ServesAlike store home name (viewed_work view (News why)) (at_view view (news_at view why) (open_content found)) (look_step home (Some view.serial) found)
 unfolding look_step look_at look_unless at_view
-noops_alike store home name view None at same = missing store home name view Noop same
-noops_alike store home name view (Some held) at same =
-    at_open store home name view Noop (noop_at view) held (λ r. answers home (look_unless held.content r)) (same.all_open name held at) (λ _. refl)
-    (looks store home name view held same) same
+news_alike store home name view why None at same = missing store home name view (News why) same
+news_alike store home name view why (Some held) at same =
+    at_open store home name view (News why) (news_at view why) held (λ r. answers home (look_unless held.content r)) (same.all_open name held at) (λ _. refl)
+    (looks store home name view why held same) same
 
 -- ---- each command
 
 abbrev pub ViewsAlike : Store → Backend → List ℕ → View → ViewWork → Option Held → HomeStep → Type 0
 ViewsAlike store home name view it found step = ServesAlike store home name (viewed_work view it) (viewed_on view it (open_content found)) step
 
-pub noop_views : (store : Store) (home : Backend) (name : List ℕ) (view : View) (found : Option Held) → held_at home name ≡ found → IsStoreOf store home
-    → ViewsAlike store home name view Noop found (look_step home (Some view.serial) found)
+pub news_views : (store : Store) (home : Backend) (name : List ℕ) (view : View) (why : NewsFor) (found : Option Held) → held_at home name ≡ found
+    → IsStoreOf store home
+    → ViewsAlike store home name view (News why) found (look_step home (Some view.serial) found)
 unfolding viewed_on
-noop_views store home name view found at same = noops_alike store home name view found at same
+news_views store home name view why found at same = news_alike store home name view why found at same
 
 pub close_views : (store : Store) (home : Backend) (name : List ℕ) (view : View) (found : Option Held) → held_at home name ≡ found → IsStoreOf store home
     → ViewsAlike store home name view Close found (expunge_step home name (Some view.serial) None found)

@@ -11,16 +11,16 @@ use Rattle.cluster_core.specs.declared.world.World.{World}
 use Rattle.cluster_core.specs.Flow.{run_steps, steps_of_event}
 use Rattle.cluster_core.specs.Heard.{heard, bytes_heard, frames_heard, has_closed}
 use Rattle.cluster_core.specs.OneStore.{AreEmpty, IsAnsweredThrough}
-use Rattle.cluster_core.specs.Requests.{AskFor}
+use Rattle.cluster_core.specs.Requests.{AreRequests}
 use Rattle.cluster_core.specs.Shown.{given_to}
-use Rattle.cluster_core.specs.World.{start}
+use Rattle.cluster_core.specs.World.{start, setting_of}
 
 -- behind these steps the client was given an answer to each whole command that it sent, or one that ended its connection
 pub record IsAnswered (config : Config) (conn : ℕ) (steps : List Event) (world : World) : Type 0 where
   pub requests : List Request
   pub answers : List Answer
-  pub asked : AskFor (frames_heard (heard config conn steps)) requests
-  pub given : given_to world conn ≡ transcript_of (bytes_heard (heard config conn steps)) answers
+  pub asked : AreRequests (setting_of config) (frames_heard (heard config conn steps)) requests
+  pub given : given_to world conn ≡ transcript_of (setting_of config) (bytes_heard (heard config conn steps)) answers
   pub each : IsAnsweredThrough requests answers
 
 -- of each client that hasn't closed its connection

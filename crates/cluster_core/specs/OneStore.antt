@@ -24,7 +24,7 @@ use Rattle.cluster_core.specs.Flow.{run_steps, unrolled}
 use Rattle.cluster_core.specs.Heard.{heard, bytes_heard, frames_heard, has_closed}
 use Rattle.cluster_core.specs.History.{history_of}
 use Rattle.cluster_core.specs.Links.{on_link}
-use Rattle.cluster_core.specs.Requests.{AskFor}
+use Rattle.cluster_core.specs.Requests.{AreRequests}
 use Rattle.cluster_core.specs.Shown.{given_to, held_at}
 use Rattle.cluster_core.specs.World.{start, setting_of}
 
@@ -82,10 +82,10 @@ pub record StandsInTime (talk : Talk) (now : ℕ) (points : List Point) : Type 0
 pub record IsToldSoFar (config : Config) (talk : Talk) (points : List Point) (steps : List Event) (world : World) : Type 0 where
   pub so_far : Talk
   pub goes_on : TalkGoesOn so_far talk
-  pub asked : (conn : ℕ) → AskFor (frames_heard (heard config conn steps)) (so_far.requests conn)
-  pub given : (conn : ℕ) → given_to world conn ≡ transcript_of (bytes_heard (heard config conn steps)) (so_far.answers conn)
+  pub asked : (conn : ℕ) → AreRequests (setting_of config) (frames_heard (heard config conn steps)) (so_far.requests conn)
+  pub given : (conn : ℕ) → given_to world conn ≡ transcript_of (setting_of config) (bytes_heard (heard config conn steps)) (so_far.answers conn)
   -- no text of a user forges a reply: each client reads just the greeting, the continuations and the lines of these answers
-  pub read : (conn : ℕ) → IsAllReadAsMeant (given_to world conn) (bytes_heard (heard config conn steps)) (so_far.answers conn)
+  pub read : (conn : ℕ) → IsAllReadAsMeant (setting_of config) (given_to world conn) (bytes_heard (heard config conn steps)) (so_far.answers conn)
   pub last : Course
   pub legal : IsLegal (setting_of config) first_course so_far (history_of world) last
   pub one_content : HasBoxesOf last.store world

@@ -1,9 +1,8 @@
--- How many commands a connection may have, behind frames and answers.
+-- How many commands a connection may have, behind inputs and answers.
 use Rattle.std.proofs.Common.{◌≡◌, ℕ, ◌+◌, ◌≤◌, Bool, true, false, List, [], ◌∷◌, length, Option, None, Some, refl, ap, arith, length-append}
 use Rattle.std.specs.Prelude.{◌==◌}
-use Rattle.imap_command.specs.Request.{request_of, too_big_request}
-use Rattle.imap_wire.specs.declared.frame.Frame.{Frame}
-use Rattle.imap_wire.specs.declared.frame.Frame.TheVariants.{Whole, NeedLiteral, TooBig, Fault}
+use Rattle.imap_reply.specs.declared.inputs.Input.{Input}
+use Rattle.imap_reply.specs.declared.inputs.Input.TheVariants.{GoesOn, Asks, Faults}
 use Rattle.link_msg.specs.declared.answer.BackAnswer.{BackAnswer}
 use Rattle.mur_model.specs.declared.command.Tag.{Tag}
 use Rattle.mur_model.specs.declared.need.Need.{Need}
@@ -22,12 +21,13 @@ use Rattle.front_core.specs.declared.connection.Stage.TheVariants.{Reading, Aske
 use Rattle.front_core.specs.Answered.{answer_comes, answer_by, turned, replied, reading_again}
 use Rattle.front_core.specs.Front.{is_asked}
 use Rattle.front_core.specs.Room.{commands_of}
-use Rattle.front_core.specs.Taken.{answers, answers_last, asks, turns, need_in, request_in, frame_in, comes_at, frame_comes, frames_come}
+use Rattle.front_core.specs.Taken.{answers, answers_last, asks, turns, need_in, request_in, input_in, comes_at, input_comes, inputs_come}
 use Rattle.session_core.specs.declared.asking.Awaited.{Awaited}
 use Rattle.session_core.specs.Finish.{finish}
 
 module _ (setting : Setting) (home : List ℕ) (conn : ℕ) where
-  turns_count : (c : Connection) (tag : Tag) (reply : Reply) (session : Option Sess) → commands_of (turns conn c tag reply session).connection ≤ commands_of c + 1
+  turns_count : (c : Connection) (tag : Tag) (reply : Reply) (session : Option Sess)
+      → commands_of (turns conn c tag reply session).connection ≤ commands_of c + 1
   unfolding turns answers answers_last is_asked
   turns_count c tag reply None = omega arith
   turns_count c tag reply (Some Off) = omega arith
@@ -47,34 +47,33 @@ module _ (setting : Setting) (home : List ℕ) (conn : ℕ) where
   request_counts c (unknown tag) = omega arith
   request_counts c (too_big tag) = omega arith
 
-  pub frame_in_counts : (c : Connection) (frame : Frame) → commands_of (frame_in setting home conn c frame).connection ≤ commands_of c + 1
-  unfolding frame_in is_asked
-  frame_in_counts c (Whole bytes) = request_counts c (request_of bytes)
-  frame_in_counts c (TooBig bytes) = request_counts c (too_big_request bytes)
-  frame_in_counts c (NeedLiteral size) = omega arith
-  frame_in_counts c (Fault fault) = omega arith
+  pub input_in_counts : (c : Connection) (input : Input) → commands_of (input_in setting home conn c input).connection ≤ commands_of c + 1
+  unfolding input_in is_asked
+  input_in_counts c (Asks request) = request_counts c request
+  input_in_counts c (GoesOn why) = omega arith
+  input_in_counts c (Faults fault) = omega arith
 
-  comes_counts : (c : Connection) (frame : Frame) (stage : Stage) → commands_of (comes_at setting home conn c frame stage).connection ≤ commands_of c + 1
+  comes_counts : (c : Connection) (input : Input) (stage : Stage) → commands_of (comes_at setting home conn c input stage).connection ≤ commands_of c + 1
   unfolding comes_at
-  comes_counts c frame Reading = frame_in_counts c frame
-  comes_counts c frame (Asked tag awaited) = omega (arith, length-append c.waiting (frame ∷ []))
-  comes_counts c frame Ended = omega arith
+  comes_counts c input Reading = input_in_counts c input
+  comes_counts c input (Asked tag awaited) = omega (arith, length-append c.waiting (input ∷ []))
+  comes_counts c input Ended = omega arith
 
-  -- a frame is at most one command more
-  pub frame_counts : (c : Connection) (frame : Frame) → commands_of (frame_comes setting home conn c frame).connection ≤ commands_of c + 1
-  unfolding frame_comes
-  frame_counts c frame = comes_counts c frame c.stage
+  -- an input is at most one command more
+  pub input_counts : (c : Connection) (input : Input) → commands_of (input_comes setting home conn c input).connection ≤ commands_of c + 1
+  unfolding input_comes
+  input_counts c input = comes_counts c input c.stage
 
-  pub frames_count : (c : Connection) (frames : List Frame) → commands_of (frames_come setting home conn c frames).connection ≤ commands_of c + length frames
-  unfolding frames_come
-  frames_count c [] = omega arith
-  frames_count c (frame ∷ frames) =
-      omega (arith, frame_counts c frame, frames_count (frame_comes setting home conn c frame).connection frames)
+  pub inputs_count : (c : Connection) (inputs : List Input) → commands_of (inputs_come setting home conn c inputs).connection ≤ commands_of c + length inputs
+  unfolding inputs_come
+  inputs_count c [] = omega arith
+  inputs_count c (input ∷ inputs) =
+      omega (arith, input_counts c input, inputs_count (input_comes setting home conn c input).connection inputs)
 
   read_counts : (c : Connection) (tag : Tag) (awaited : Awaited) (session : Option Sess) → c.stage ≡ Asked tag awaited
-      → commands_of (frames_come setting home conn (reading_again c session) c.waiting).connection ≤ commands_of c
+      → commands_of (inputs_come setting home conn (reading_again c session) c.waiting).connection ≤ commands_of c
   unfolding is_asked
-  read_counts c tag awaited session is = omega (arith, frames_count (reading_again c session) c.waiting, ap is_asked is)
+  read_counts c tag awaited session is = omega (arith, inputs_count (reading_again c session) c.waiting, ap is_asked is)
 
   replied_counts : (c : Connection) (tag : Tag) (awaited : Awaited) (text : List ℕ) (session : Option Sess) → c.stage ≡ Asked tag awaited
       → commands_of (replied setting home conn c text session).connection ≤ commands_of c
@@ -98,7 +97,7 @@ module _ (setting : Setting) (home : List ℕ) (conn : ℕ) where
   answer_counts_by c answer true Ended is = omega arith
   answer_counts_by c answer false stage is = omega arith
 
-  -- the command that is answered was counted before, and so were the frames that waited
+  -- the command that is answered was counted before, and so were the inputs that waited
   pub answer_counts : (c : Connection) (answer : BackAnswer) → commands_of (answer_comes setting home conn c answer).connection ≤ commands_of c
   unfolding answer_comes
   answer_counts c answer = answer_counts_by c answer ((answer.id).command == c.answered + 1) c.stage refl

@@ -3,7 +3,7 @@ use Rattle.std.proofs.Math.Logic.{⊎_elim}
 use Rattle.std.proofs.Common.{◌≡◌, ◌≢◌, ℕ, ◌+◌, ◌<◌, ◌≤◌, ◌^◌, List, length, Option, None, Some, refl, sym, ◌∙◌, subst, arith}
 use Rattle.std.specs.Option.{IfSome}
 use Rattle.std.specs.Ordering.{nat_cmp}
-use Rattle.imap_wire.specs.More.{frames_of_more}
+use Rattle.front_core.specs.Reading.{inputs_of_more}
 use Rattle.imap_wire.proofs.MoreLaws.{frames_of_more-length}
 use Rattle.link_msg.specs.declared.answer.BackAnswer.{BackAnswer}
 use Rattle.link_msg.specs.declared.message.LinkMsg.{LinkMsg}
@@ -18,8 +18,9 @@ use Rattle.front_core.specs.declared.front.Front.{Front}
 use Rattle.front_core.specs.Front.{connection_at, new_connection, connect, connect_at, bytes_in, bytes_at, bytes_by, having_read}
 use Rattle.front_core.specs.Front.{hang, hang_at, hung_up, deliver, answer_at, is_asked}
 use Rattle.front_core.specs.Room.{commands_of, HasCommands, HasRoomAt, HasRoomFor}
-use Rattle.front_core.specs.Taken.{frames_come}
-use Rattle.front_core.proofs.CommandLaws.{frames_count, answer_counts}
+use Rattle.front_core.specs.Taken.{inputs_come}
+use Rattle.front_core.proofs.ReadingLaws.{inputs_of_more-length}
+use Rattle.front_core.proofs.CommandLaws.{inputs_count, answer_counts}
 
 same_some : {X : Type 0} (o : Option X) (x y : X) → o ≡ Some x → o ≡ Some y → x ≡ y
 same_some (Some z) x y a b = (let p : Some x ≡ Some y = sym a ∙ b in cc)
@@ -47,14 +48,16 @@ more_counts front most more has q c is = omega (arith, has q c is)
 read_counts : (front : Front) (conn : ℕ) (bytes : List ℕ) (most : ℕ) (connection : Connection) → connection_at front conn ≡ Some connection
     → HasCommands front most
     → HasCommands (changed front conn
-    (frames_come front.setting front.home conn (having_read connection bytes) (frames_of_more connection.reader bytes)).connection) (most + length bytes)
+    (inputs_come front.setting front.home conn (having_read front.setting connection bytes)
+    (inputs_of_more front.setting connection.reader bytes)).connection) (most + length bytes)
 read_counts front conn bytes most connection there has =
     changed_counts front conn connection _ most (length bytes) there has
     (omega (
       arith,
       has conn connection there,
-      frames_count front.setting front.home conn (having_read connection bytes) (frames_of_more connection.reader bytes),
-      frames_of_more-length connection.reader bytes,
+      inputs_count front.setting front.home conn (having_read front.setting connection bytes) (inputs_of_more front.setting connection.reader bytes),
+      frames_of_more-length connection.reader.held bytes,
+      inputs_of_more-length front.setting connection.reader bytes,
     ))
 
 bytes_by_counts : (front : Front) (conn : ℕ) (bytes : List ℕ) (most : ℕ) (connection : Connection) (stage : Stage) → connection_at front conn ≡ Some connection

@@ -1,8 +1,7 @@
--- What a frame makes of a connection depends neither on its reader nor on the frames that wait, and changes neither.
+-- What an input makes of a connection depends neither on its reader nor on the inputs that wait, and changes neither.
 use Rattle.std.proofs.Common.{◌≡◌, ℕ, List, Option, None, Some, refl, sym, ◌∙◌, ap}
-use Rattle.imap_command.specs.Request.{request_of, too_big_request}
-use Rattle.imap_wire.specs.declared.frame.Frame.{Frame}
-use Rattle.imap_wire.specs.declared.frame.Frame.TheVariants.{Whole, NeedLiteral, TooBig, Fault}
+use Rattle.imap_reply.specs.declared.inputs.Input.{Input}
+use Rattle.imap_reply.specs.declared.inputs.Input.TheVariants.{GoesOn, Asks, Faults}
 use Rattle.mur_model.specs.declared.command.Tag.{Tag}
 use Rattle.mur_model.specs.declared.need.Need.{Need}
 use Rattle.mur_model.specs.declared.need.Need.TheVariants.{Refusal, Turned as turned_at_once, Mailbox}
@@ -16,17 +15,18 @@ use Rattle.mur_model.specs.Act.{need_of}
 use Rattle.front_core.specs.declared.connection.Connection.{Connection}
 use Rattle.front_core.specs.declared.connection.Stage.{Stage}
 use Rattle.front_core.specs.declared.connection.Stage.TheVariants.{Reading, Asked, Ended}
-use Rattle.front_core.specs.Taken.{Turned, answers, answers_last, asks, turns, need_in, request_in, frame_in, comes_at, frame_comes}
+use Rattle.front_core.specs.Reading.{Reading as Read}
+use Rattle.front_core.specs.Taken.{Turned, answers, answers_last, asks, turns, need_in, request_in, input_in, comes_at, input_comes}
 
--- with another reader, and other frames that wait
-abbrev pub holding : Option (List ℕ) → List Frame → Turned → Turned
+-- with another reader, and other inputs that wait
+abbrev pub holding : Read → List Input → Turned → Turned
 holding reader waiting turned = record turned { connection = record turned.connection { reader = reader; waiting = waiting } }
 
-abbrev pub reading : Option (List ℕ) → Turned → Turned
+abbrev pub reading : Read → Turned → Turned
 reading reader turned = record turned { connection = record turned.connection { reader = reader } }
 
-module _ (setting : Setting) (home : List ℕ) (conn : ℕ) (reader : Option (List ℕ)) where
-  module _ (waiting : List Frame) where
+module _ (setting : Setting) (home : List ℕ) (conn : ℕ) (reader : Read) where
+  module _ (waiting : List Input) where
     turns_apart : (c : Connection) (tag : Tag) (reply : Reply) (session : Option Sess)
         → turns conn (record c { reader = reader; waiting = waiting }) tag reply session ≡ holding reader waiting (turns conn c tag reply session)
     unfolding turns answers answers_last
@@ -51,45 +51,44 @@ module _ (setting : Setting) (home : List ℕ) (conn : ℕ) (reader : Option (Li
     request_apart c (unknown tag) = refl
     request_apart c (too_big tag) = refl
 
-    pub frame_apart : (c : Connection) (frame : Frame)
-        → frame_in setting home conn (record c { reader = reader; waiting = waiting }) frame ≡ holding reader waiting (frame_in setting home conn c frame)
-    unfolding frame_in
-    frame_apart c (Whole bytes) = request_apart c (request_of bytes)
-    frame_apart c (TooBig bytes) = request_apart c (too_big_request bytes)
-    frame_apart c (NeedLiteral size) = refl
-    frame_apart c (Fault fault) = refl
+    pub input_apart : (c : Connection) (input : Input)
+        → input_in setting home conn (record c { reader = reader; waiting = waiting }) input ≡ holding reader waiting (input_in setting home conn c input)
+    unfolding input_in
+    input_apart c (Asks request) = request_apart c request
+    input_apart c (GoesOn why) = refl
+    input_apart c (Faults fault) = refl
 
-pub frame_keeps : (setting : Setting) (home : List ℕ) (conn : ℕ) (c : Connection) (frame : Frame)
-    → frame_in setting home conn c frame ≡ holding c.reader c.waiting (frame_in setting home conn c frame)
-frame_keeps setting home conn c frame = frame_apart setting home conn c.reader c.waiting c frame
+pub input_keeps : (setting : Setting) (home : List ℕ) (conn : ℕ) (c : Connection) (input : Input)
+    → input_in setting home conn c input ≡ holding c.reader c.waiting (input_in setting home conn c input)
+input_keeps setting home conn c input = input_apart setting home conn c.reader c.waiting c input
 
-pub waiting_kept : (setting : Setting) (home : List ℕ) (conn : ℕ) (c : Connection) (frame : Frame)
-    → (frame_in setting home conn c frame).connection.waiting ≡ c.waiting
-waiting_kept setting home conn c frame = ap (λ (t : Turned). t.connection.waiting) (frame_keeps setting home conn c frame)
+pub waiting_kept : (setting : Setting) (home : List ℕ) (conn : ℕ) (c : Connection) (input : Input)
+    → (input_in setting home conn c input).connection.waiting ≡ c.waiting
+waiting_kept setting home conn c input = ap (λ (t : Turned). t.connection.waiting) (input_keeps setting home conn c input)
 
-reader_by : (setting : Setting) (home : List ℕ) (conn : ℕ) (c : Connection) (frame : Frame) (stage : Stage)
-    → (comes_at setting home conn c frame stage).connection.reader ≡ c.reader
+reader_by : (setting : Setting) (home : List ℕ) (conn : ℕ) (c : Connection) (input : Input) (stage : Stage)
+    → (comes_at setting home conn c input stage).connection.reader ≡ c.reader
 unfolding comes_at
-reader_by setting home conn c frame Reading = ap (λ (t : Turned). t.connection.reader) (frame_keeps setting home conn c frame)
-reader_by setting home conn c frame (Asked tag awaited) = refl
-reader_by setting home conn c frame Ended = refl
+reader_by setting home conn c input Reading = ap (λ (t : Turned). t.connection.reader) (input_keeps setting home conn c input)
+reader_by setting home conn c input (Asked tag awaited) = refl
+reader_by setting home conn c input Ended = refl
 
--- a frame that comes keeps the reader
-pub reader_kept : (setting : Setting) (home : List ℕ) (conn : ℕ) (c : Connection) (frame : Frame)
-    → (frame_comes setting home conn c frame).connection.reader ≡ c.reader
-unfolding frame_comes
-reader_kept setting home conn c frame = reader_by setting home conn c frame c.stage
+-- an input that comes keeps the reader
+pub reader_kept : (setting : Setting) (home : List ℕ) (conn : ℕ) (c : Connection) (input : Input)
+    → (input_comes setting home conn c input).connection.reader ≡ c.reader
+unfolding input_comes
+reader_kept setting home conn c input = reader_by setting home conn c input c.stage
 
-comes_by : (setting : Setting) (home : List ℕ) (conn : ℕ) (reader : Option (List ℕ)) (c : Connection) (frame : Frame) (stage : Stage)
-    → comes_at setting home conn (record c { reader = reader }) frame stage ≡ reading reader (comes_at setting home conn c frame stage)
+comes_by : (setting : Setting) (home : List ℕ) (conn : ℕ) (reader : Read) (c : Connection) (input : Input) (stage : Stage)
+    → comes_at setting home conn (record c { reader = reader }) input stage ≡ reading reader (comes_at setting home conn c input stage)
 unfolding comes_at
-comes_by setting home conn reader c frame Reading =
-    frame_apart setting home conn reader c.waiting c frame
-    ∙ ap (λ w. holding reader w (frame_in setting home conn c frame)) (sym (waiting_kept setting home conn c frame))
-comes_by setting home conn reader c frame (Asked tag awaited) = refl
-comes_by setting home conn reader c frame Ended = refl
+comes_by setting home conn reader c input Reading =
+    input_apart setting home conn reader c.waiting c input
+    ∙ ap (λ w. holding reader w (input_in setting home conn c input)) (sym (waiting_kept setting home conn c input))
+comes_by setting home conn reader c input (Asked tag awaited) = refl
+comes_by setting home conn reader c input Ended = refl
 
-pub comes_apart : (setting : Setting) (home : List ℕ) (conn : ℕ) (reader : Option (List ℕ)) (c : Connection) (frame : Frame)
-    → frame_comes setting home conn (record c { reader = reader }) frame ≡ reading reader (frame_comes setting home conn c frame)
-unfolding frame_comes
-comes_apart setting home conn reader c frame = comes_by setting home conn reader c frame c.stage
+pub comes_apart : (setting : Setting) (home : List ℕ) (conn : ℕ) (reader : Read) (c : Connection) (input : Input)
+    → input_comes setting home conn (record c { reader = reader }) input ≡ reading reader (input_comes setting home conn c input)
+unfolding input_comes
+comes_apart setting home conn reader c input = comes_by setting home conn reader c input c.stage

@@ -5,6 +5,8 @@ use Rattle.mur_model.specs.declared.command.Command.{Command}
 use Rattle.mur_model.specs.declared.command.Command.TheVariants as command
 use Rattle.mur_model.specs.declared.need.Need.{Need}
 use Rattle.mur_model.specs.declared.need.Need.TheVariants.{Refusal, Turned, Mailbox}
+use Rattle.mur_model.specs.declared.reply.BadText.TheVariants.{Syntax}
+use Rattle.mur_model.specs.declared.reply.Verdict.TheVariants.{Bad as bad_reply}
 use Rattle.mur_model.specs.declared.session.Sess.{Sess}
 use Rattle.mur_model.specs.declared.session.Sess.TheVariants.{Off, In, Selected, Ended}
 use Rattle.mur_model.specs.declared.setting.Setting.{Setting}
@@ -58,7 +60,9 @@ plain_with-needs users (Some message) = plain_as-needs users (cut_at_nul message
 
 plain-needs : (users : List User) (response : List ℕ) → MayNeed Off (authenticate users response)
 unfolding authenticate
-plain-needs users response = plain_with-needs users (decoded response)
+plain-needs users response =
+    either-needs (bytes_eq response (codes "*")) (Refusal (bad_reply Syntax)) (authenticate_with users (decoded response))
+    tt (plain_with-needs users (decoded response))
 
 off-needs : (setting : Setting) (it : Command) → MayNeed Off (need_off setting it)
 unfolding MayNeed need_off

@@ -1,7 +1,7 @@
--- The frames that waited, one by one: those that the next command makes wait stay where they are.
+-- The inputs that waited, one by one: those that the next command makes wait stay where they are.
 use Rattle.std.proofs.Common.{◌≡◌, ℕ, ◌+◌, ◌≤◌, List, [], ◌∷◌, ◌++◌, length, true, false, refl, sym, ◌∙◌, ap, arith}
 use Rattle.std.proofs.lemmas.List.{append-nil}
-use Rattle.imap_wire.specs.declared.frame.Frame.{Frame}
+use Rattle.imap_reply.specs.declared.inputs.Input.{Input}
 use Rattle.link_msg.specs.declared.out.Out.{Out}
 use Rattle.mur_model.specs.declared.setting.Setting.{Setting}
 use Rattle.front_core.specs.declared.connection.Connection.{Connection}
@@ -9,9 +9,9 @@ use Rattle.front_core.specs.declared.connection.Stage.{Stage}
 use Rattle.front_core.specs.declared.connection.Stage.TheVariants.{Reading, Asked, Ended}
 use Rattle.front_core.specs.Room.{commands_of}
 use Rattle.front_core.specs.Stages.{is_reading, has_ended}
-use Rattle.front_core.specs.Taken.{Turned, frame_in, frames_come, behind_outs}
-use Rattle.front_core.proofs.CommandLaws.{frame_in_counts}
-use Rattle.front_core.proofs.FrameLaws.{frame_apart, frame_keeps, waiting_kept}
+use Rattle.front_core.specs.Taken.{Turned, input_in, inputs_come, behind_outs}
+use Rattle.front_core.proofs.CommandLaws.{input_in_counts}
+use Rattle.front_core.proofs.FrameLaws.{input_apart, input_keeps, waiting_kept}
 use Rattle.front_core.proofs.FramesLaws.{behind_behind, asked_waits, ended_drops, read_on}
 
 stage_read : (stage : Stage) → is_reading stage ≡ true → stage ≡ Reading
@@ -27,31 +27,31 @@ stage_ended (Asked tag awaited) h = cc
 stage_ended Ended h = refl
 
 module _ (setting : Setting) (home : List ℕ) (conn : ℕ) where
-  -- what was let out, and what the frames that wait bring
+  -- what was let out, and what the inputs that wait bring
   abbrev pub waiting_comes : List Out → Connection → Turned
-  waiting_comes outs c = behind_outs outs (frames_come setting home conn (record c { waiting = [] }) c.waiting)
+  waiting_comes outs c = behind_outs outs (inputs_come setting home conn (record c { waiting = [] }) c.waiting)
 
-  pub waiting_on : (outs new_outs : List Out) (c new : Connection) (frame : Frame) (rest : List Frame) → is_reading c.stage ≡ true → c.waiting ≡ frame ∷ rest
-      → record { connection = new; outs = new_outs } ≡ behind_outs outs (frame_in setting home conn (record c { waiting = rest }) frame)
+  pub waiting_on : (outs new_outs : List Out) (c new : Connection) (input : Input) (rest : List Input) → is_reading c.stage ≡ true → c.waiting ≡ input ∷ rest
+      → record { connection = new; outs = new_outs } ≡ behind_outs outs (input_in setting home conn (record c { waiting = rest }) input)
       → waiting_comes new_outs new ≡ waiting_comes outs c
-  waiting_on outs new_outs c new frame rest reads waits is =
+  waiting_on outs new_outs c new input rest reads waits is =
       let own : Connection = record c { waiting = [] } in
-      let turned = frame_in setting home conn own frame in
-      ap (λ (t : Turned). waiting_comes t.outs t.connection) (is ∙ ap (behind_outs outs) (frame_apart setting home conn c.reader rest own frame))
-      ∙ ap (λ (t : Turned). behind_outs (outs ++ turned.outs) (frames_come setting home conn t.connection rest)) (sym (frame_keeps setting home conn own frame))
-      ∙ sym (behind_behind outs turned.outs (frames_come setting home conn turned.connection rest))
-      ∙ ap (behind_outs outs) (sym (read_on setting home conn own frame rest (stage_read c.stage reads)))
-      ∙ ap (λ all. behind_outs outs (frames_come setting home conn own all)) (sym waits)
+      let turned = input_in setting home conn own input in
+      ap (λ (t : Turned). waiting_comes t.outs t.connection) (is ∙ ap (behind_outs outs) (input_apart setting home conn c.reader rest own input))
+      ∙ ap (λ (t : Turned). behind_outs (outs ++ turned.outs) (inputs_come setting home conn t.connection rest)) (sym (input_keeps setting home conn own input))
+      ∙ sym (behind_behind outs turned.outs (inputs_come setting home conn turned.connection rest))
+      ∙ ap (behind_outs outs) (sym (read_on setting home conn own input rest (stage_read c.stage reads)))
+      ∙ ap (λ all. behind_outs outs (inputs_come setting home conn own all)) (sym waits)
 
-  pub waiting_over : (outs : List Out) (c : Connection) (left : List Frame) → c.waiting ≡ [] → left ≡ []
+  pub waiting_over : (outs : List Out) (c : Connection) (left : List Input) → c.waiting ≡ [] → left ≡ []
       → record { connection = record c { waiting = left }; outs = outs } ≡ waiting_comes outs c
-  unfolding frames_come
+  unfolding inputs_come
   waiting_over outs c left none over = sym (
-      ap (λ all. behind_outs outs (frames_come setting home conn (record c { waiting = [] }) all)) none
+      ap (λ all. behind_outs outs (inputs_come setting home conn (record c { waiting = [] }) all)) none
       ∙ ap (λ all. record { connection = record c { waiting = [] }; outs = all }) (append-nil outs)
       ∙ ap (λ w. record { connection = record c { waiting = w }; outs = outs }) (sym over))
 
-  pub waiting_dropped : (outs : List Out) (c : Connection) (left : List Frame) → has_ended c.stage ≡ true → left ≡ []
+  pub waiting_dropped : (outs : List Out) (c : Connection) (left : List Input) → has_ended c.stage ≡ true → left ≡ []
       → record { connection = record c { waiting = left }; outs = outs } ≡ waiting_comes outs c
   waiting_dropped outs c left ended over = sym (
       ap (behind_outs outs) (ended_drops setting home conn (record c { waiting = [] }) c.waiting (stage_ended c.stage ended))
@@ -67,23 +67,23 @@ module _ (setting : Setting) (home : List ℕ) (conn : ℕ) where
       ap (behind_outs outs) (asked_waits setting home conn (record c { waiting = [] }) c.waiting tag awaited is)
       ∙ ap (λ all. record { connection = c; outs = all }) (append-nil outs))
 
-  -- the frames stay where they are behind a command that waits
+  -- the inputs stay where they are behind a command that waits
   pub waiting_stays : (outs : List Out) (c : Connection) → is_reading c.stage ≡ false → has_ended c.stage ≡ false
       → record { connection = c; outs = outs } ≡ waiting_comes outs c
   waiting_stays outs c reads ends = stays_by outs c c.stage refl reads ends
 
-  pub taken_counts : (outs new_outs : List Out) (c new : Connection) (frame : Frame) (rest : List Frame) → c.waiting ≡ frame ∷ rest
-      → record { connection = new; outs = new_outs } ≡ behind_outs outs (frame_in setting home conn (record c { waiting = rest }) frame)
+  pub taken_counts : (outs new_outs : List Out) (c new : Connection) (input : Input) (rest : List Input) → c.waiting ≡ input ∷ rest
+      → record { connection = new; outs = new_outs } ≡ behind_outs outs (input_in setting home conn (record c { waiting = rest }) input)
       → commands_of new ≤ commands_of c
-  taken_counts outs new_outs c new frame rest waits is =
-      omega (arith, ap (λ (t : Turned). commands_of t.connection) is, frame_in_counts setting home conn (record c { waiting = rest }) frame, ap length waits)
+  taken_counts outs new_outs c new input rest waits is =
+      omega (arith, ap (λ (t : Turned). commands_of t.connection) is, input_in_counts setting home conn (record c { waiting = rest }) input, ap length waits)
 
-  pub taken_shortens : (outs new_outs : List Out) (c new : Connection) (frame : Frame) (rest : List Frame) → c.waiting ≡ frame ∷ rest
-      → record { connection = new; outs = new_outs } ≡ behind_outs outs (frame_in setting home conn (record c { waiting = rest }) frame)
+  pub taken_shortens : (outs new_outs : List Out) (c new : Connection) (input : Input) (rest : List Input) → c.waiting ≡ input ∷ rest
+      → record { connection = new; outs = new_outs } ≡ behind_outs outs (input_in setting home conn (record c { waiting = rest }) input)
       → length new.waiting + 1 ≤ length c.waiting
-  taken_shortens outs new_outs c new frame rest waits is =
+  taken_shortens outs new_outs c new input rest waits is =
       omega (
         arith,
-        ap length (ap (λ (t : Turned). t.connection.waiting) is ∙ waiting_kept setting home conn (record c { waiting = rest }) frame),
+        ap length (ap (λ (t : Turned). t.connection.waiting) is ∙ waiting_kept setting home conn (record c { waiting = rest }) input),
         ap length waits,
       )

@@ -1,4 +1,4 @@
--- The answer of a home to the command that waits for it: the client is given its reply, and the frames that waited come.
+-- The answer of a home to the command that waits for it: the client is given its reply, and the inputs that waited come.
 use Rattle.std.specs.Prelude.{ℕ, ◌+◌, Bool, true, ◌==◌, List, [], ◌∷◌, Option, None, Some}
 use Rattle.imap_reply.specs.ReplyText.{reply_text}
 use Rattle.link_msg.specs.declared.answer.BackAnswer.{BackAnswer}
@@ -13,9 +13,9 @@ use Rattle.front_core.specs.declared.connection.Stage.{Stage}
 use Rattle.front_core.specs.declared.connection.Stage.TheVariants.{Reading, Asked, Ended}
 use Rattle.mur_model.specs.Act.{session_after}
 use Rattle.session_core.specs.Finish.{finish}
-use Rattle.front_core.specs.Taken.{Turned, frames_come, behind_outs}
+use Rattle.front_core.specs.Taken.{Turned, inputs_come, behind_outs}
 
--- the connection behind the answer of its command, before the frames that waited
+-- the connection behind the answer of its command, before the inputs that waited
 abbrev pub reading_again : Connection → Option Sess → Connection
 reading_again connection session = record connection {
   waiting = [];
@@ -35,11 +35,11 @@ ends_with conn connection text = record { connection = ended_so connection; outs
 abbrev pub unchanged : Connection → Turned
 unchanged connection = record { connection = connection; outs = [] }
 
--- the client is given its reply; where the session has ended nothing follows it (RFC 9051, 7.1.5), else the frames that waited come
+-- the client is given its reply; where the session has ended nothing follows it (RFC 9051, 7.1.5), else the inputs that waited come
 unfoldable pub replied : Setting → List ℕ → ℕ → Connection → List ℕ → Option Sess → Turned
 replied setting home conn connection text (Some session_ended) = ends_with conn connection text
 replied setting home conn connection text session =
-    behind_outs (Client conn text ∷ []) (frames_come setting home conn (reading_again connection session) connection.waiting)
+    behind_outs (Client conn text ∷ []) (inputs_come setting home conn (reading_again connection session) connection.waiting)
 
 abbrev pub turned : Setting → List ℕ → ℕ → Connection → Tag → Option Turn → Turned
 turned setting home conn connection tag None = unchanged connection

@@ -2,8 +2,6 @@
 use Rattle.std.specs.Prelude.{ℕ, List, [], ◌∷◌, Option, None, Some}
 use Rattle.std.specs.Ordering.{nat_cmp}
 use Rattle.imap_reply.specs.Greeting.{greeting}
-use Rattle.imap_wire.specs.Frames.{begun}
-use Rattle.imap_wire.specs.More.{frames_of_more, begun_by_more}
 use Rattle.link_msg.specs.declared.answer.BackAnswer.{BackAnswer}
 use Rattle.link_msg.specs.declared.message.LinkMsg.{LinkMsg}
 use Rattle.link_msg.specs.declared.message.LinkMsg.TheVariants.{Answer}
@@ -17,7 +15,8 @@ use Rattle.front_core.specs.declared.connection.Stage.{Stage}
 use Rattle.front_core.specs.declared.connection.Stage.TheVariants.{Reading, Asked, Ended}
 use Rattle.front_core.specs.declared.front.Front.{Front}
 use Rattle.front_core.specs.Answered.{answer_comes}
-use Rattle.front_core.specs.Taken.{Turned, frames_come}
+use Rattle.front_core.specs.Reading.{first_reading, inputs_of_more, read_more}
+use Rattle.front_core.specs.Taken.{Turned, inputs_come}
 
 -- a frontend without a connection
 unfoldable pub new_front : List ℕ → List ℕ → Setting → Front
@@ -35,7 +34,7 @@ abbrev pub connection_at : Front → ℕ → Option Connection
 connection_at front conn = value_at nat_cmp front.connections conn
 
 unfoldable pub new_connection : Connection
-new_connection = record { reader = begun []; waiting = []; session = Off; stage = Reading; answered = 0 }
+new_connection = record { reader = first_reading; waiting = []; session = Off; stage = Reading; answered = 0 }
 
 -- a client that connects is given the greeting (RFC 9051, 7.1.5)
 unfoldable pub connect_at : Front → ℕ → Option Connection → Stepped
@@ -56,16 +55,16 @@ with_turned front conn turned = record {
 }
 
 -- the connection with bytes more in its reader
-abbrev pub having_read : Connection → List ℕ → Connection
-having_read connection bytes = record connection { reader = begun_by_more connection.reader bytes }
+abbrev pub having_read : Setting → Connection → List ℕ → Connection
+having_read setting connection bytes = record connection { reader = read_more setting connection.reader bytes }
 
 -- bytes of a connection that has ended are dropped
 unfoldable pub bytes_by : Front → ℕ → List ℕ → Connection → Stage → Stepped
 bytes_by front conn bytes connection Ended = still front
 bytes_by front conn bytes connection Reading = with_turned front conn
-    (frames_come front.setting front.home conn (having_read connection bytes) (frames_of_more connection.reader bytes))
+    (inputs_come front.setting front.home conn (having_read front.setting connection bytes) (inputs_of_more front.setting connection.reader bytes))
 bytes_by front conn bytes connection (Asked tag awaited) = with_turned front conn
-    (frames_come front.setting front.home conn (having_read connection bytes) (frames_of_more connection.reader bytes))
+    (inputs_come front.setting front.home conn (having_read front.setting connection bytes) (inputs_of_more front.setting connection.reader bytes))
 
 unfoldable pub bytes_at : Front → ℕ → List ℕ → Option Connection → Stepped
 bytes_at front conn bytes None = still front
@@ -95,7 +94,7 @@ unfoldable pub deliver : Front → LinkMsg → Stepped
 deliver front (Answer answer) = answer_at front answer (connection_at front (answer.id).conn)
 deliver front message = still front
 
--- the counts of a frontend's commands are at most so many behind all frames that wait, and that waits itself
+-- the counts of a frontend's commands are at most so many behind all inputs that wait, and that waits itself
 unfoldable pub is_asked : Stage → ℕ
 is_asked Reading = 0
 is_asked (Asked tag awaited) = 1

@@ -1,3 +1,5 @@
+pub mod Reading
+pub mod Given
 pub mod Taken
 pub mod Answered
 pub mod Front

@@ -1,12 +1,11 @@
--- A connection: what a frame of its client makes of it, and what it lets out. One command at a time: frames that come behind
+-- A connection: what an input of its client makes of it, and what it lets out. One command at a time: inputs that come behind
 -- a command which waits for a home wait with it (RFC 9051, 5.5).
 use Rattle.std.specs.Prelude.{ℕ, ◌+◌, List, [], ◌∷◌, ◌++◌, Option, Some}
-use Rattle.imap_command.specs.Request.{request_of, too_big_request}
 use Rattle.imap_reply.specs.ByeLine.{bye_line, bye_of}
-use Rattle.imap_reply.specs.Continuation.{ready}
+use Rattle.imap_reply.specs.Continuation.{continuation_line}
 use Rattle.imap_reply.specs.ReplyText.{reply_text}
-use Rattle.imap_wire.specs.declared.frame.Frame.{Frame}
-use Rattle.imap_wire.specs.declared.frame.Frame.TheVariants.{Whole, NeedLiteral, TooBig, Fault}
+use Rattle.imap_reply.specs.declared.inputs.Input.{Input}
+use Rattle.imap_reply.specs.declared.inputs.Input.TheVariants.{GoesOn, Asks, Faults}
 use Rattle.link_msg.specs.declared.ask.FrontAsk.{FrontAsk}
 use Rattle.link_msg.specs.declared.message.LinkMsg.TheVariants.{Ask}
 use Rattle.link_msg.specs.declared.counts.Counts.TheVariants.{Always}
@@ -89,30 +88,29 @@ request_in setting home conn connection (a_command tag it) = need_in home conn c
 request_in setting home conn connection (unknown tag) = answers conn connection connection.session tag (reply_of (bad_reply Syntax))
 request_in setting home conn connection (too_big tag) = answers conn connection connection.session tag (refused Limit)
 
--- a frame of a connection that is reading: a fault ends it
-unfoldable pub frame_in : Setting → List ℕ → ℕ → Connection → Frame → Turned
-frame_in setting home conn connection (Whole bytes) = request_in setting home conn connection (request_of bytes)
-frame_in setting home conn connection (TooBig bytes) = request_in setting home conn connection (too_big_request bytes)
-frame_in setting home conn connection (NeedLiteral size) = record { connection = connection; outs = Client conn ready ∷ [] }
-frame_in setting home conn connection (Fault fault) =
+-- an input of a connection that is reading: a fault ends it
+unfoldable pub input_in : Setting → List ℕ → ℕ → Connection → Input → Turned
+input_in setting home conn connection (Asks request) = request_in setting home conn connection request
+input_in setting home conn connection (GoesOn why) = record { connection = connection; outs = Client conn (continuation_line why) ∷ [] }
+input_in setting home conn connection (Faults fault) =
     record { connection = record connection { stage = Ended }; outs = Client conn (bye_line (bye_of fault)) ∷ Close conn ∷ [] }
 
--- a frame that comes, by what the connection is at
-unfoldable pub comes_at : Setting → List ℕ → ℕ → Connection → Frame → Stage → Turned
-comes_at setting home conn connection frame Reading = frame_in setting home conn connection frame
-comes_at setting home conn connection frame (Asked tag awaited) =
-    record { connection = record connection { waiting = connection.waiting ++ frame ∷ [] }; outs = [] }
-comes_at setting home conn connection frame Ended = record { connection = connection; outs = [] }
+-- an input that comes, by what the connection is at
+unfoldable pub comes_at : Setting → List ℕ → ℕ → Connection → Input → Stage → Turned
+comes_at setting home conn connection input Reading = input_in setting home conn connection input
+comes_at setting home conn connection input (Asked tag awaited) =
+    record { connection = record connection { waiting = connection.waiting ++ input ∷ [] }; outs = [] }
+comes_at setting home conn connection input Ended = record { connection = connection; outs = [] }
 
-unfoldable pub frame_comes : Setting → List ℕ → ℕ → Connection → Frame → Turned
-frame_comes setting home conn connection frame = comes_at setting home conn connection frame connection.stage
+unfoldable pub input_comes : Setting → List ℕ → ℕ → Connection → Input → Turned
+input_comes setting home conn connection input = comes_at setting home conn connection input connection.stage
 
 -- what was let out before stands in front
 abbrev pub behind_outs : List Out → Turned → Turned
 behind_outs outs turned = record turned { outs = outs ++ turned.outs }
 
-unfoldable pub frames_come : Setting → List ℕ → ℕ → Connection → List Frame → Turned
-frames_come setting home conn connection [] = record { connection = connection; outs = [] }
-frames_come setting home conn connection (frame ∷ frames) =
-    let turned = frame_comes setting home conn connection frame in
-    behind_outs turned.outs (frames_come setting home conn turned.connection frames)
+unfoldable pub inputs_come : Setting → List ℕ → ℕ → Connection → List Input → Turned
+inputs_come setting home conn connection [] = record { connection = connection; outs = [] }
+inputs_come setting home conn connection (input ∷ inputs) =
+    let turned = input_comes setting home conn connection input in
+    behind_outs turned.outs (inputs_come setting home conn turned.connection inputs)

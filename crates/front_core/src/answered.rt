@@ -4,7 +4,7 @@ ghost use Rattle.link_msg.specs.declared.out.Out.TheVariants.{Client};
 ghost use Rattle.front_core.specs.Answered.{answer_comes, ends_with, reading_again, replied};
 ghost use Rattle.front_core.specs.Front.{is_asked};
 ghost use Rattle.front_core.specs.Room.{commands_of};
-ghost use Rattle.front_core.specs.Taken.{frames_come, behind_outs};
+ghost use Rattle.front_core.specs.Taken.{inputs_come, behind_outs};
 
 use crate::connection::{Connection, Stage};
 use crate::taken::reply_bytes;
@@ -15,7 +15,7 @@ use mur_model::{Sess, Setting};
 use session_core::finish;
 use std::alloc::Global;
 
-/// Takes an answer, where it is one to the command that waits: the client is given its reply, and the frames that waited
+/// Takes an answer, where it is one to the command that waits: the client is given its reply, and the inputs that waited
 /// come. For want of memory the connection is spent.
 #[tactic(auto, unfolding(crate::specs::Answered::answer_comes, crate::specs::Answered::answer_by, crate::specs::Front::is_asked))]
 pub fn answer_comes(
@@ -42,7 +42,7 @@ pub fn answer_comes(
     }
 }
 
-/// Gives the client its reply; where the session has ended nothing follows it, else the frames that waited come.
+/// Gives the client its reply; where the session has ended nothing follows it, else the inputs that waited come.
 #[tactic(auto, using(std::proofs::lemmas::Grind::common_steps), unfolding(crate::specs::Answered::replied, crate::specs::Front::is_asked))]
 fn replied(
     alloc: Global,
@@ -100,7 +100,7 @@ fn read_again(
 ) -> Result<Outs, Memory>
     requires room { commands_of (reading_again connection.old session) + length connection.old.waiting < 2 ^ 64 }
     ensures { IfOk result (λ outs. record { connection = connection.new; outs = outs }
-        ≡ behind_outs (Client conn reply ∷ []) (frames_come setting.now home.now conn (reading_again connection.old session) connection.old.waiting)) }
+        ≡ behind_outs (Client conn reply ∷ []) (inputs_come setting.now home.now conn (reading_again connection.old session) connection.old.waiting)) }
 {
     if let Some(session) = session {
         connection.session = session;

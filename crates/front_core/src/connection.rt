@@ -4,7 +4,7 @@ ghost use Rattle.front_core.specs.Front.{hung_up};
 ghost use Rattle.front_core.specs.Stages.{is_reading, has_ended};
 
 use crate::reader::Reader;
-use imap_wire::Frame;
+use imap_reply::Input;
 use mur_base::Queue;
 use mur_model::{Sess, Tag};
 use session_core::Awaited;
@@ -12,7 +12,7 @@ use session_core::Awaited;
 /// What a connection is at.
 #[derive(Drop)]
 pub enum Stage {
-    /// Its next frame is taken as it comes.
+    /// Its next input is taken as it comes.
     Reading,
     /// A command under this tag waits for the answer of a home.
     Asked(Tag, Awaited),
@@ -24,8 +24,8 @@ pub enum Stage {
 #[derive(Drop)]
 pub struct Connection {
     pub reader: Reader,
-    /// The frames that came behind a command that waits.
-    pub waiting: Queue<Frame>,
+    /// The inputs that came behind a command that waits.
+    pub waiting: Queue<Input>,
     pub session: Sess,
     pub stage: Stage,
     /// How many commands were answered.
@@ -33,7 +33,7 @@ pub struct Connection {
 }
 
 impl Connection {
-    /// Whether the next frame is taken as it comes.
+    /// Whether the next input is taken as it comes.
     #[tactic(auto, unfolding(crate::specs::Stages::is_reading))]
     pub fn is_reading(&self) -> bool
         ensures { result ≡ is_reading self.now.stage }

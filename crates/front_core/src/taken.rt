@@ -1,19 +1,18 @@
-// What a frame makes of a connection, and what is let out. One command at a time: frames that come behind a command which
+// What an input makes of a connection, and what is let out. One command at a time: inputs that come behind a command which
 // waits for a home wait with it (RFC 9051, 5.5).
 ghost use Rattle.std.specs.Prelude.{◌≡◌, ◌+◌, ◌<◌, ◌^◌, IfOk, OnOk};
 ghost use Rattle.imap_reply.specs.ByeLine.{bye_of, bye_line};
-ghost use Rattle.imap_reply.specs.Continuation.{ready};
+ghost use Rattle.imap_reply.specs.Continuation.{continuation_line};
 ghost use Rattle.imap_reply.specs.ReplyText.{reply_text};
 ghost use Rattle.mur_model.specs.Act.{session_after};
 ghost use Rattle.mur_model.specs.Reply.{reply_of};
 ghost use Rattle.front_core.specs.Begun.{MayNeed};
-ghost use Rattle.front_core.specs.Taken.{frame_comes, frame_in, request_in, need_in, answers, answers_last, turns, behind_outs};
+ghost use Rattle.front_core.specs.Taken.{input_comes, input_in, request_in, need_in, answers, answers_last, turns, behind_outs};
 
 use crate::asks::asks;
 use crate::connection::{Connection, Stage};
-use imap_command::{read_request, too_big};
-use imap_reply::{put_bye, put_ready, write};
-use imap_wire::{Frame, FrameFault};
+use imap_reply::{Continuation, Input, put_bye, put_continuation, write};
+use imap_wire::FrameFault;
 use link_msg::{Counts, Out, Outs};
 use mur_base::{AskId, Bytes, Memory, NodeName};
 use mur_model::{
@@ -22,54 +21,47 @@ use mur_model::{
 };
 use std::alloc::Global;
 
-/// Takes a frame of a client, and puts what is let out behind the outputs. For want of memory the connection is spent.
-#[tactic(auto, unfolding(crate::specs::Taken::frame_comes, crate::specs::Taken::comes_at))]
-pub fn frame_comes(
+/// Takes an input of a client, and puts what is let out behind the outputs. For want of memory the connection is spent.
+#[tactic(auto, unfolding(crate::specs::Taken::input_comes, crate::specs::Taken::comes_at))]
+pub fn input_comes(
     alloc: Global,
     setting: &Setting,
     home: &NodeName,
     conn: u64,
     connection: &mut Connection,
-    frame: Frame,
+    input: Input,
     outs: &mut Outs,
 ) -> Result<(), Memory>
     requires room { connection.old.answered + 1 < 2 ^ 64 }
     ensures { OnOk result (record { connection = connection.new; outs = outs.new }
-        ≡ behind_outs outs.old (frame_comes setting.now home.now conn connection.old frame)) }
+        ≡ behind_outs outs.old (input_comes setting.now home.now conn connection.old input)) }
 {
     match connection.stage {
-        Stage::Reading => frame_in(alloc, setting, home, conn, connection, frame, outs),
-        Stage::Asked(_, _) => connection.waiting.push(frame),
+        Stage::Reading => input_in(alloc, setting, home, conn, connection, input, outs),
+        Stage::Asked(_, _) => connection.waiting.push(input),
         Stage::Ended => Ok(()),
     }
 }
 
-/// Takes a frame of a connection that is reading.
-#[tactic(auto, unfolding(crate::specs::Taken::frame_in))]
-pub fn frame_in(
+/// Takes an input of a connection that is reading.
+#[tactic(auto, unfolding(crate::specs::Taken::input_in))]
+pub fn input_in(
     alloc: Global,
     setting: &Setting,
     home: &NodeName,
     conn: u64,
     connection: &mut Connection,
-    frame: Frame,
+    input: Input,
     outs: &mut Outs,
 ) -> Result<(), Memory>
     requires room { connection.old.answered + 1 < 2 ^ 64 }
     ensures { OnOk result (record { connection = connection.new; outs = outs.new }
-        ≡ behind_outs outs.old (frame_in setting.now home.now conn connection.old frame)) }
+        ≡ behind_outs outs.old (input_in setting.now home.now conn connection.old input)) }
 {
-    match frame {
-        Frame::Whole(bytes) => {
-            let request = read_request(alloc, bytes.as_slice())?;
-            request_in(alloc, setting, home, conn, connection, request, outs)
-        }
-        Frame::TooBig(bytes) => {
-            let request = too_big(alloc, bytes.as_slice())?;
-            request_in(alloc, setting, home, conn, connection, request, outs)
-        }
-        Frame::NeedLiteral(_) => outs.push(Out::Client(conn, ready(alloc)?)),
-        Frame::Fault(fault) => {
+    match input {
+        Input::Asks(request) => request_in(alloc, setting, home, conn, connection, request, outs),
+        Input::GoesOn(why) => outs.push(Out::Client(conn, continuation_line(alloc, why)?)),
+        Input::Faults(fault) => {
             connection.stage = Stage::Ended;
             outs.push(Out::Client(conn, bye_line(alloc, fault)?))?;
             outs.push(Out::Close(conn))
@@ -77,11 +69,11 @@ pub fn frame_in(
     }
 }
 
-fn ready(alloc: Global) -> Result<Bytes, Memory>
-    ensures { IfOk result (λ line. line ≡ ready) }
+fn continuation_line(alloc: Global, why: Continuation) -> Result<Bytes, Memory>
+    ensures { IfOk result (λ line. line ≡ continuation_line why) }
 {
     let mut line = Bytes::new(alloc);
-    put_ready(&mut line)?;
+    put_continuation(why, &mut line)?;
     Ok(line)
 }
 

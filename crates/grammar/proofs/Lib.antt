@@ -13,6 +13,7 @@ pub mod Conditions
 pub mod TableLaw
 pub mod RepetitionLaw
 pub mod TurnSteps
+pub mod TakenSteps
 pub mod StartLaw
 pub mod ToolLaws
 pub mod NameSteps

@@ -9,3 +9,4 @@ pub mod Part
 pub mod Runs
 pub mod Tables
 pub mod Words
+pub mod Turns

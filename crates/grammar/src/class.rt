@@ -112,7 +112,7 @@ pub fn optional_of(wanted: u8, bytes: &[u8]) -> (bool, &[u8])
 }
 
 /// How many of the first `most` bytes are of the set, before the first that isn't.
-fn passing_upto<C: Class>(class: &C, most: usize, bytes: &[u8]) -> usize
+pub fn passing_upto<C: Class>(class: &C, most: usize, bytes: &[u8]) -> usize
     ensures there { result ≤ length bytes.now }
     ensures upto { result ≤ most }
     ensures passing { list_all (C.test class.now) (take result bytes.now) ≡ true }

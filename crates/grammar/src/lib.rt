@@ -62,7 +62,9 @@ mod turn;
 mod whole;
 mod word;
 
-pub use class::{Between, Class, Digit, Only, begins, byte_in, byte_of, exactly_of, optional_of};
+pub use class::{
+    Between, Class, Digit, Only, begins, byte_in, byte_of, exactly_of, optional_of, passing_upto,
+};
 pub use ends::all_before;
 pub use error::{ReadError, Stop};
 pub use form::{Production, put_several, several_of};

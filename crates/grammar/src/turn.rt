@@ -1,7 +1,8 @@
 // Turns of a part that changes a state: repetitions.
-ghost use Rattle.std.specs.Prelude.{◌≡◌, ℕ, Bool};
+ghost use Rattle.std.specs.Prelude.{◌≡◌, ◌<◌, ℕ, Bool, IfOk, IfErr};
 ghost use Rattle.grammar.specs.Part.{Part, repeat, starts};
-ghost use Rattle.grammar.specs.Gives.{Gives};
+ghost use Rattle.grammar.specs.Turns.{BeginsTurn, TakesTurns};
+ghost use Rattle.grammar.specs.Gives.{Gives, StopsAs};
 
 use crate::error::ReadError;
 
@@ -25,6 +26,23 @@ pub trait Turn {
         bytes: &'a [u8],
     ) -> Result<(Self::State, &'a [u8]), ReadError>
         ensures { Gives (λ x. (x.0, x.1.now)) result ((part self.now state).at bytes.now) };
+
+    /// Takes some turns at once, at most so many, and gives the state that they leave, the bytes behind them and how many they
+    /// were: one, where turns have no faster way.
+    fn turns<'a>(
+        &self,
+        most: usize,
+        state: Self::State,
+        bytes: &'a [u8],
+    ) -> Result<(Self::State, &'a [u8], usize), ReadError>
+        requires some { 0 < most }
+        requires begins { BeginsTurn (starts self.now) bytes.now }
+        ensures taken { IfOk result (λ x. TakesTurns (starts self.now) (part self.now) most state bytes.now x.0 x.1.now x.2) }
+        ensures stops { IfErr result (λ error. StopsAs error ((part self.now state).at bytes.now)) }
+    {
+        let (next, rest) = self.turn(state, bytes)?;
+        Ok((next, rest, 1))
+    }
 }
 
 /// Whether the bytes begin a turn.
@@ -47,11 +65,12 @@ pub fn repeated_of<'a, T: Turn>(
 {
     let mut state = state;
     let mut rest = bytes;
-    for _ in 0..bytes.len() {
-        if !begins_turn(turn, rest) {
-            return Ok((state, rest));
-        }
-        (state, rest) = turn.turn(state, rest)?;
+    let mut left = bytes.len();
+    while left > 0 && begins_turn(turn, rest) {
+        let (next, behind, taken) = turn.turns(left, state, rest)?;
+        state = next;
+        rest = behind;
+        left -= taken;
     }
     Ok((state, rest))
 }

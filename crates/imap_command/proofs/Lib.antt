@@ -4,6 +4,7 @@ pub mod CommandsLaw
 pub mod KnownLaw
 pub mod LeftOutLaw
 pub mod NoNul
+pub mod QuotedRuns
 pub mod PrintLaw
 pub mod RequestLaws
 pub mod SetsLaw

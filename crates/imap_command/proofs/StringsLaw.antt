@@ -33,11 +33,11 @@ not_plain c h =
 not_byte : (d : ℕ) → d ≤ 127 → (c : ℕ) → between 194 244 c ≡ true → not (c == d) ≡ true
 not_byte d small c h = ap not (ne_eqb c d (λ e. absurd (omega (arith, above_seven c h))))
 
-plain_no_quote : (c : ℕ) → is_quoted_plain c ≡ true → not (c == 34) ≡ true
+pub plain_no_quote : (c : ℕ) → is_quoted_plain c ≡ true → not (c == 34) ≡ true
 unfolding is_quoted_plain
 plain_no_quote c h = and_right (nat_le 1 c && nat_le c 127 && not (c == 13) && not (c == 10)) _ (and_left _ _ h)
 
-plain_no_backslash : (c : ℕ) → is_quoted_plain c ≡ true → not (c == 92) ≡ true
+pub plain_no_backslash : (c : ℕ) → is_quoted_plain c ≡ true → not (c == 92) ≡ true
 unfolding is_quoted_plain
 plain_no_backslash c h = and_right (nat_le 1 c && nat_le c 127 && not (c == 13) && not (c == 10) && not (c == 34)) _ h
 

@@ -10,7 +10,7 @@ ghost use Rattle.imap_command.specs.Strings.{quoted_text, literal_text, is_astri
 use crate::utf8::utf8_of;
 use grammar::{
     Class, Digit, Only, Production, ReadError, Run, Stop, Turn, begins, byte_of, counted_of,
-    exactly_of, optional_of, put_decimal, repeated_of, word_of,
+    exactly_of, optional_of, passing_upto, put_decimal, repeated_of, word_of,
 };
 use memchr::memchr;
 use mur_base::{Bytes, Memory};
@@ -138,6 +138,24 @@ impl Turn for QuotedChars {
         } else {
             utf8_of(text, bytes)
         }
+    }
+
+    /// A run of characters that stand for themselves is taken at once.
+    fn turns<'a>(
+        &self,
+        most: usize,
+        state: Bytes,
+        bytes: &'a [u8],
+    ) -> Result<(Bytes, &'a [u8], usize), ReadError> {
+        let len = passing_upto(&QuotedPlain, most, bytes);
+        if len == 0 {
+            let (text, rest) = self.turn(state, bytes)?;
+            return Ok((text, rest, 1));
+        }
+        let mut text = state;
+        let (plain, rest) = bytes.split_at(len);
+        text.extend_from_slice(plain)?;
+        Ok((text, rest, len))
     }
 }
 

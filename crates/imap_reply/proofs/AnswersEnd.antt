@@ -25,12 +25,14 @@ use Rattle.mur_model.specs.declared.command.StatusItem.{StatusItem}
 use Rattle.mur_model.specs.declared.fetch.Fetching.{Fetching}
 use Rattle.mur_model.specs.declared.need.Need.{Need}
 use Rattle.mur_model.specs.declared.need.Need.TheVariants.{Refusal, Turned, Mailbox}
+use Rattle.mur_model.specs.declared.need.NewsFor.{NewsFor}
+use Rattle.mur_model.specs.declared.need.NewsFor.TheVariants as news_for
 use Rattle.mur_model.specs.declared.need.ViewWork.{ViewWork}
 use Rattle.mur_model.specs.declared.need.ViewWork.TheVariants as view_work
 use Rattle.mur_model.specs.declared.need.Work.{Work}
 use Rattle.mur_model.specs.declared.need.Work.TheVariants.{Make, Append as append_work, Status as status_work, Select as select_work, Viewed as viewed_work}
 use Rattle.mur_model.specs.declared.news.Told.{Told}
-use Rattle.mur_model.specs.declared.reply.BadText.TheVariants.{State}
+use Rattle.mur_model.specs.declared.reply.BadText.TheVariants.{State, Syntax}
 use Rattle.mur_model.specs.declared.reply.NoText.{NoText}
 use Rattle.mur_model.specs.declared.reply.NoText.TheVariants.{NonExistent, NoPerm}
 use Rattle.mur_model.specs.declared.reply.ReplyLine.{ReplyLine}
@@ -62,7 +64,8 @@ use Rattle.mur_model.specs.Login.{login, login_as, login_by, login_failed}
 use Rattle.mur_model.specs.NamedRows.{last_uid}
 use Rattle.mur_model.specs.Plain.{acts_as, authenticate, authenticate_as, authenticate_by, authenticate_with, cut_at_nul, decoded}
 use Rattle.mur_model.specs.News.{news}
-use Rattle.mur_model.specs.Reply.{reply_of}
+use Rattle.mur_model.specs.AtOnce.{is_done}
+use Rattle.mur_model.specs.Reply.{completed, reply_of}
 use Rattle.mur_model.specs.Rights.{user_named, has_rights, may_create}
 use Rattle.mur_model.specs.Select.{select, select_as, select_by, select_on, select_told, opening, unselected}
 use Rattle.mur_model.specs.Search.{search_at, search_on, search_told}
@@ -70,8 +73,8 @@ use Rattle.mur_model.specs.Selected.{at_view, gone, rows_of, with_news}
 use Rattle.mur_model.specs.Status.{status, status_as, status_by, status_on, status_reply}
 use Rattle.mur_model.specs.Store.{box_at, is_spent}
 use Rattle.mur_model.specs.StoreFlags.{store_on, store_at, stored_at, store_told, store_refused, own_lines}
-use Rattle.mur_model.specs.Viewing.{at_mailbox, close_at, expunge_named, fetch_named, left_by, names_messages, no_such_number, noop_at}
-use Rattle.mur_model.specs.Viewing.{noop_told, read_only, store_named, viewed_on}
+use Rattle.mur_model.specs.Viewing.{at_mailbox, close_at, expunge_named, fetch_named, left_by, names_messages, news_at, news_told, no_such_number}
+use Rattle.mur_model.specs.Viewing.{read_only, store_named, viewed_on}
 use Rattle.imap_reply.specs.SessionEnds.{has_ended, ends_session, TurnEnds}
 use Rattle.imap_reply.specs.Transcript.{is_bye, ends}
 use Rattle.imap_reply.proofs.TurnLines.{OfLines, each_news, each_own, each_fetch}
@@ -101,8 +104,8 @@ pub news_ends : (view : View) (lines : List ReplyLine) (now : List Row) (expunge
 news_ends view lines now expunges known verdict own =
     told_ends view lines (news view.rows now expunges known) verdict own (each_news IsNoBye IsAny of_lines view.rows now expunges known (any_all now))
 
-pub noop_ends : (view : View) (now : List Row) → TurnEnds (noop_told view now)
-noop_ends view now = news_ends view [] now true [] _ (All-nil IsNoBye)
+pub news_told_ends : (view : View) (why : NewsFor) (now : List Row) → TurnEnds (news_told view why now)
+news_told_ends view why now = news_ends view [] now true [] _ (All-nil IsNoBye)
 
 pub expunge_ends : (view : View) (only : Option (List ℕ)) (now : List Row) → TurnEnds (expunge_told view only now)
 expunge_ends view only now = news_ends view [] now true [] _ (All-nil IsNoBye)
@@ -215,7 +218,7 @@ fetched_ends view it box =
 
 view_ends : (view : View) (work : ViewWork) (box : Option Content) → TurnEnds (viewed_on view work box).turn
 unfolding viewed_on expunge_on store_on fetch_on search_on
-view_ends view view_work.Noop box = viewed_ends view (noop_at view) box (λ there. noop_ends view (rows_of there))
+view_ends view (view_work.News why) box = viewed_ends view (news_at view why) box (λ there. news_told_ends view why (rows_of there))
 view_ends view view_work.Close box = viewed_ends view (close_at view) box (λ there. left_ends view (codes "CLOSE"))
 view_ends view (view_work.Expunge only) box =
     viewed_ends view (expunge_at view only) box (λ there. expunge_ends view only (rows_of (expunged there only)))
@@ -281,7 +284,9 @@ plain_with_ends users (Some message) = plain_as_ends users (cut_at_nul message)
 
 plain_ends_so : (users : List User) (response : List ℕ) → NeedEnds (authenticate users response)
 unfolding authenticate
-plain_ends_so users response = plain_with_ends users (decoded response)
+plain_ends_so users response =
+    either_needs (bytes_eq response (codes "*")) (Refusal (bad_reply Syntax)) (authenticate_with users (decoded response)) tt
+    (plain_with_ends users (decoded response))
 
 make_ends : (name : List ℕ) (may : Bool) → NeedEnds (create_by name may)
 unfolding create_by
@@ -361,6 +366,9 @@ unselected_needs setting user it =
 in_ends : (setting : Setting) (user : List ℕ) (it : Command) → NeedEnds (need_in setting user it)
 unfolding need_in ends
 in_ends setting user command.Noop = refl
+in_ends setting user (command.Idle (Some line)) =
+    either_needs (is_done line) (Turned (replied (completed (codes "IDLE")))) (Refusal (bad_reply Syntax)) refl tt
+in_ends setting user (command.Idle None) = unselected_needs setting user (command.Idle None)
 in_ends setting user it = unselected_needs setting user it
 
 expunge_needs : (view : View) (only : Option (List SetPart)) → NeedEnds (expunge_named view only)
@@ -370,6 +378,9 @@ expunge_needs view (Some set) = tt
 view_needs : (setting : Setting) (view : View) (it : Command) → NeedEnds (need_selected setting view it)
 unfolding need_selected
 view_needs setting view command.Noop = tt
+view_needs setting view (command.Idle (Some line)) =
+    either_needs (is_done line) (at_mailbox view (view_work.News news_for.Idle)) (Refusal (bad_reply Syntax)) tt tt
+view_needs setting view (command.Idle None) = begun_ends setting view.user true (command.Idle None)
 view_needs setting view command.Close =
     either_needs view.is_writable (at_mailbox view view_work.Close) (Turned (left_by view (codes "CLOSE"))) tt (left_ends view (codes "CLOSE"))
 view_needs setting view command.Unselect = left_ends view (codes "UNSELECT")

@@ -20,3 +20,4 @@ pub mod SoundWorks
 pub mod SoundAnswers
 pub mod RequestsSound
 pub mod FrameSizes
+pub mod InputLaws

@@ -36,10 +36,13 @@ use Rattle.mur_model.specs.declared.view.View.{View}
 use Rattle.mur_model.specs.Act.{act_by, act_of, worked_at, need_of, need_off, need_in, need_begun, need_selected, need_unselected, not_yet, wants_selected}
 use Rattle.mur_model.specs.Answer.{answer_of}
 use Rattle.mur_model.specs.Append.{new_message, append, append_as, append_by}
-use Rattle.mur_model.specs.AtOnce.{told_at_once}
+use Rattle.mur_model.specs.AtOnce.{is_done, told_at_once}
 use Rattle.mur_model.specs.Create.{create, create_meant, create_as, create_by, without_separator, is_inbox}
 use Rattle.mur_model.specs.History.{Course}
 use Rattle.mur_model.specs.Keys.{have_all_numbers, keys_at}
+use Rattle.mur_model.specs.Left.{replied}
+use Rattle.mur_model.specs.Reply.{completed}
+use Rattle.mur_model.specs.declared.need.NewsFor.TheVariants as news_for
 use Rattle.mur_model.specs.Login.{login, login_as, login_by, login_failed}
 use Rattle.mur_model.specs.NamedRows.{last_uid}
 use Rattle.mur_model.specs.Plain.{acts_as, authenticate, authenticate_as, authenticate_by, authenticate_with, cut_at_nul, decoded}
@@ -110,8 +113,10 @@ plain_with_sound users None = tt
 plain_with_sound users (Some message) = plain_as_sound users (cut_at_nul message)
 
 authenticate_sound : (users : List User) (response : List ℕ) → SoundNeed (authenticate users response)
-unfolding authenticate
-authenticate_sound users response = plain_with_sound users (decoded response)
+unfolding authenticate IsSoundVerdict
+authenticate_sound users response =
+    either_need (bytes_eq response (codes "*")) (Refusal (bad_reply Syntax)) (authenticate_with users (decoded response)) tt
+    (plain_with_sound users (decoded response))
 
 create_by_sound : (name : List ℕ) (may : Bool) → SoundNeed (create_by name may)
 unfolding create_by IsSoundVerdict
@@ -205,6 +210,10 @@ unselected_need setting user it date_is sound =
 in_sound : (setting : Setting) (user : List ℕ) (it : Command) → IsDate setting.date → IsSoundCommand it → SoundNeed (need_in setting user it)
 unfolding need_in IsSoundVerdict
 in_sound setting user command.Noop date_is sound = record { lines = All-nil IsSoundLine; verdict = refl }
+in_sound setting user (command.Idle (Some line)) date_is sound =
+    either_need (is_done line) (Turned (replied (completed (codes "IDLE")))) (Refusal (bad_reply Syntax))
+    (record { lines = All-nil IsSoundLine; verdict = refl }) tt
+in_sound setting user (command.Idle None) date_is sound = unselected_need setting user (command.Idle None) date_is sound
 in_sound setting user it date_is sound = unselected_need setting user it date_is sound
 
 expunge_need : (view : View) (only : Option (List SetPart)) → SoundNeed (expunge_named view only)
@@ -214,6 +223,9 @@ expunge_need view (Some set) = tt
 view_need : (setting : Setting) (view : View) (it : Command) → IsDate setting.date → IsSoundCommand it → SoundNeed (need_selected setting view it)
 unfolding need_selected IsSoundVerdict
 view_need setting view command.Noop date_is sound = tt
+view_need setting view (command.Idle (Some line)) date_is sound =
+    either_need (is_done line) (at_mailbox view (view_work.News news_for.Idle)) (Refusal (bad_reply Syntax)) tt tt
+view_need setting view (command.Idle None) date_is sound = begun_sound setting view.user true (command.Idle None) date_is sound
 view_need setting view command.Close date_is sound =
     either_need view.is_writable (at_mailbox view view_work.Close) (Turned (left_by view (codes "CLOSE"))) tt (left_sound view (codes "CLOSE") refl)
 view_need setting view command.Unselect date_is sound = left_sound view (codes "UNSELECT") refl

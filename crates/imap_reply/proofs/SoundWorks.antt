@@ -21,6 +21,8 @@ use Rattle.mail_store.specs.Store.{stored, rows_stored, has_too_many_flags}
 use Rattle.mail_store.specs.declared.fault.StoreFault.{StoreFault}
 use Rattle.mur_model.specs.declared.command.StatusItem.{StatusItem}
 use Rattle.mur_model.specs.declared.fetch.Fetching.{Fetching}
+use Rattle.mur_model.specs.declared.need.NewsFor.{NewsFor}
+use Rattle.mur_model.specs.declared.need.NewsFor.TheVariants as news_for
 use Rattle.mur_model.specs.declared.need.ViewWork.{ViewWork}
 use Rattle.mur_model.specs.declared.need.ViewWork.TheVariants as view_work
 use Rattle.mur_model.specs.declared.need.Work.{Work}
@@ -52,7 +54,7 @@ use Rattle.mur_model.specs.Selected.{at_view, gone, rows_of, with_news}
 use Rattle.mur_model.specs.Status.{status_on, status_reply}
 use Rattle.mur_model.specs.StoreFlags.{store_on, store_at, stored_at, store_name, own_lines}
 use Rattle.mur_model.specs.Viewing.{close_at, left_by}
-use Rattle.mur_model.specs.Viewing.{noop_at, viewed_on}
+use Rattle.mur_model.specs.Viewing.{news_at, news_name, viewed_on}
 use Rattle.imap_reply.specs.SoundRequests.{IsSoundMessage, IsSoundBox}
 use Rattle.imap_reply.specs.SoundTexts.{IsSoundFlag, IsSoundLine, IsSoundVerdict}
 use Rattle.imap_reply.proofs.SoundStores.{IsSoundRow, IsSoundLeft, appended_is, changes_are, expunged_is, keywords_are, messages_found, rows_are}
@@ -152,7 +154,7 @@ fetch_plain false = refl
 -- the work at a mailbox
 
 abbrev pub SoundViewWork : ViewWork → Type 0
-SoundViewWork view_work.Noop = ⊤
+SoundViewWork (view_work.News why) = ⊤
 SoundViewWork view_work.Close = ⊤
 SoundViewWork (view_work.Expunge only) = ⊤
 SoundViewWork (view_work.Store it) = HasRuledKeywords it.flags
@@ -214,9 +216,15 @@ viewed_sound view work None all each = gone_sound
 viewed_sound view work (Some box) all each =
     either_sound (box.serial == view.serial) (work box) (record { left = kept; turn = gone }) (each box all) gone_sound
 
-noop_sound : (view : View) (box : Content) → IsSoundBox box → SoundWorked (noop_at view box)
+news_plain : (why : NewsFor) → IsPlain (news_name why)
+unfolding news_name
+news_plain news_for.Noop = refl
+news_plain news_for.Idle = refl
+
+news_work_sound : (view : View) (why : NewsFor) (box : Content) → IsSoundBox box → SoundWorked (news_at view why box)
 unfolding IsSoundVerdict
-noop_sound view box all = record { left = tt; reply = news_sound view [] (rows_of box) true [] _ (All-nil IsSoundLine) (rows_are box all) refl }
+news_work_sound view why box all =
+    record { left = tt; reply = news_sound view [] (rows_of box) true [] _ (All-nil IsSoundLine) (rows_are box all) (news_plain why) }
 
 pub left_sound : (view : View) (name : List ℕ) → IsPlain name → SoundReply (left_by view name).reply
 unfolding IsSoundVerdict
@@ -288,7 +296,7 @@ search_sound view it box all =
 
 view_sound : (view : View) (work : ViewWork) (box : Option Content) → SoundViewWork work → IfSome box IsSoundBox → SoundWorked (viewed_on view work box)
 unfolding viewed_on expunge_on store_on fetch_on search_on
-view_sound view view_work.Noop box sound all = viewed_sound view (noop_at view) box all (noop_sound view)
+view_sound view (view_work.News why) box sound all = viewed_sound view (news_at view why) box all (news_work_sound view why)
 view_sound view view_work.Close box sound all = viewed_sound view (close_at view) box all (close_sound view)
 view_sound view (view_work.Expunge only) box sound all = viewed_sound view (expunge_at view only) box all (expunge_sound view only)
 view_sound view (view_work.Store it) box sound all =

@@ -19,6 +19,7 @@ pub mod AccessLines
 pub mod Codes
 pub mod TaggedLine
 pub mod ReplyText
+pub mod Inputs
 pub mod Transcript
 pub mod SessionEnds
 pub mod Lines

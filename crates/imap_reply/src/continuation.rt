@@ -1,12 +1,25 @@
 // Continuation requests (RFC 9051, 7.6).
 ghost use Rattle.std.specs.Prelude.{◌≡◌, ◌++◌, OnOk};
-ghost use Rattle.imap_reply.specs.Continuation.{ready, challenge, idling};
+ghost use Rattle.imap_reply.specs.Continuation.{challenge, continuation_line, idling, ready};
 
+use crate::inputs::Continuation;
 use mur_base::{Bytes, Memory};
+
+/// Writes the line by which a client is told to go on.
+#[tactic(auto, unfolding(crate::specs::Continuation::continuation_line))]
+pub fn put_continuation(why: Continuation, out: &mut Bytes) -> Result<(), Memory>
+    ensures { OnOk result (out.new ≡ out.old ++ continuation_line why) }
+{
+    match why {
+        Continuation::Literal => put_ready(out),
+        Continuation::Response => put_challenge(out),
+        Continuation::Done => put_idling(out),
+    }
+}
 
 /// Writes the line that a client waits for before it sends a literal.
 #[tactic(auto, unfolding(crate::specs::Continuation::ready))]
-pub fn put_ready(out: &mut Bytes) -> Result<(), Memory>
+fn put_ready(out: &mut Bytes) -> Result<(), Memory>
     ensures { OnOk result (out.new ≡ out.old ++ ready) }
 {
     out.extend_from_slice(b"+ ready\r\n")
@@ -14,7 +27,7 @@ pub fn put_ready(out: &mut Bytes) -> Result<(), Memory>
 
 /// Writes the line that a client waits for before it sends its response to AUTHENTICATE.
 #[tactic(auto, unfolding(crate::specs::Continuation::challenge))]
-pub fn put_challenge(out: &mut Bytes) -> Result<(), Memory>
+fn put_challenge(out: &mut Bytes) -> Result<(), Memory>
     ensures { OnOk result (out.new ≡ out.old ++ challenge) }
 {
     out.extend_from_slice(b"+ \r\n")
@@ -22,7 +35,7 @@ pub fn put_challenge(out: &mut Bytes) -> Result<(), Memory>
 
 /// Writes the line that a client waits for before it takes its IDLE as begun.
 #[tactic(auto, unfolding(crate::specs::Continuation::idling))]
-pub fn put_idling(out: &mut Bytes) -> Result<(), Memory>
+fn put_idling(out: &mut Bytes) -> Result<(), Memory>
     ensures { OnOk result (out.new ≡ out.old ++ idling) }
 {
     out.extend_from_slice(b"+ idling\r\n")

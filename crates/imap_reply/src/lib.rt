@@ -14,6 +14,7 @@ mod expunge;
 mod fetch;
 mod flags;
 mod greeting;
+mod inputs;
 mod list;
 mod mailbox;
 mod numbered;
@@ -27,6 +28,7 @@ mod tagged;
 mod tags;
 
 pub use bye::put_bye;
-pub use continuation::{put_challenge, put_idling, put_ready};
+pub use continuation::put_continuation;
 pub use greeting::put_greeting;
+pub use inputs::{Before, Continuation, Given, Input, input_at};
 pub use reply::write;

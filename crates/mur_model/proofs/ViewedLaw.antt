@@ -15,7 +15,7 @@ use Rattle.mur_model.specs.Search.{search_on, search_at}
 use Rattle.mur_model.specs.Selected.{at_view, gone}
 use Rattle.mur_model.specs.Store.{box_at, with_box}
 use Rattle.mur_model.specs.StoreFlags.{store_on, store_at, stored_at}
-use Rattle.mur_model.specs.Viewing.{viewed_on, noop_at, close_at}
+use Rattle.mur_model.specs.Viewing.{viewed_on, news_at, close_at}
 use Rattle.mur_model.proofs.AppendLaws.{kept_there}
 
 unfoldable NoneMade : Left → Type 0
@@ -40,7 +40,7 @@ stored_made view it box false = tt
 
 viewed_made : (view : View) (it : ViewWork) (box : Option Content) → NoneMade (viewed_on view it box).left
 unfolding viewed_on expunge_on store_on fetch_on search_on NoneMade
-viewed_made view work.Noop box = at_view_made view (noop_at view) box (λ content. tt)
+viewed_made view (work.News why) box = at_view_made view (news_at view why) box (λ content. tt)
 viewed_made view work.Close box = at_view_made view (close_at view) box (λ content. tt)
 viewed_made view (work.Expunge only) box = at_view_made view (expunge_at view only) box (λ content. tt)
 viewed_made view (work.Store it) box =
@@ -69,7 +69,7 @@ viewed_there store name view it box left turn there is =
 -- no mailbox has the name
 nothing_there : (view : View) (it : ViewWork) → viewed_on view it None ≡ record { left = kept; turn = gone }
 unfolding viewed_on expunge_on store_on fetch_on search_on at_view
-nothing_there view work.Noop = refl
+nothing_there view (work.News why) = refl
 nothing_there view work.Close = refl
 nothing_there view (work.Expunge only) = refl
 nothing_there view (work.Store it) = refl

@@ -17,9 +17,10 @@ use Rattle.mur_model.specs.declared.session.Sess.{Sess}
 use Rattle.mur_model.specs.declared.session.Sess.TheVariants.{Off, In, Selected as selected, Ended}
 use Rattle.mur_model.specs.declared.setting.Setting.{Setting}
 use Rattle.mur_model.specs.declared.store.Store.{Store}
+use Rattle.mur_model.specs.declared.need.NewsFor.TheVariants as news_for
 use Rattle.mur_model.specs.declared.view.View.{View}
 use Rattle.mur_model.specs.Append.{new_message, append, append_on}
-use Rattle.mur_model.specs.AtOnce.{capability, enable, logout}
+use Rattle.mur_model.specs.AtOnce.{capability, enable, is_done, logout}
 use Rattle.mur_model.specs.Create.{create, create_on}
 use Rattle.mur_model.specs.Left.{Worked, replied, store_after}
 use Rattle.mur_model.specs.Login.{login}
@@ -30,7 +31,7 @@ use Rattle.mur_model.specs.Status.{status, status_on}
 use Rattle.mur_model.specs.Store.{box_at, is_spent, IsFree}
 use Rattle.mur_model.specs.Viewing.{at_mailbox, close, expunge, fetch, left_by, search, store, viewed_on}
 
--- the refusal of a command that is read and that no state has yet
+-- the refusal of a command that is read and that no state has yet, or that has not its line (which it waits for: see Waits)
 abbrev pub not_yet : Need
 not_yet = Refusal (bad_reply Syntax)
 
@@ -46,7 +47,6 @@ wants_selected (command.Expunge only) = true
 wants_selected (command.Store by_uid set mode is_silent flags) = true
 wants_selected (command.Fetch by_uid set items) = true
 wants_selected (command.Search by_uid keys) = true
-wants_selected (command.Copy by_uid set text) = true
 wants_selected it = false
 
 abbrev pub nothing_new : Need
@@ -65,6 +65,10 @@ need_off setting (command.DeleteAcl text id) = not_yet
 need_off setting (command.GetAcl text) = not_yet
 need_off setting (command.MyRights text) = not_yet
 need_off setting it = Refusal (bad_reply State)
+
+-- an IDLE ends with DONE, and with no other line (RFC 9051, 6.3.13)
+abbrev pub idled : List ℕ → Need → Need
+idled line done = if is_done line then done else Refusal (bad_reply Syntax)
 
 -- a command of this user that a session has whether a mailbox is selected or not
 unfoldable pub need_begun : Setting → List ℕ → Bool → Command → Need
@@ -91,11 +95,13 @@ need_unselected setting user it = if wants_selected it then Refusal (bad_reply S
 -- a command of a session of this user, with no mailbox selected
 unfoldable pub need_in : Setting → List ℕ → Command → Need
 need_in setting user command.Noop = nothing_new
+need_in setting user (command.Idle (Some line)) = idled line (Turned (replied (completed (codes "IDLE"))))
 need_in setting user it = need_unselected setting user it
 
 -- a command of a session that has this view
 unfoldable pub need_selected : Setting → View → Command → Need
-need_selected setting view command.Noop = at_mailbox view work.Noop
+need_selected setting view command.Noop = at_mailbox view (work.News news_for.Noop)
+need_selected setting view (command.Idle (Some line)) = idled line (at_mailbox view (work.News news_for.Idle))
 need_selected setting view command.Close = close view
 need_selected setting view command.Unselect = Turned (left_by view (codes "UNSELECT"))
 need_selected setting view (command.Expunge only) = expunge view only

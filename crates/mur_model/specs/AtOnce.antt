@@ -1,5 +1,6 @@
 -- Commands that the server answers at once, whatever mailboxes there are.
-use Rattle.std.specs.Prelude.{ℕ, List, [], ◌∷◌, None, Some, codes}
+use Rattle.std.specs.Prelude.{ℕ, Bool, List, [], ◌∷◌, Some, codes}
+use Rattle.std.specs.Str.{str_eq_ignore_ascii_case}
 use Rattle.mur_model.specs.declared.need.Need.{Need}
 use Rattle.mur_model.specs.declared.need.Need.TheVariants.{Turned}
 use Rattle.mur_model.specs.declared.reply.Bye.TheVariants.{Logout as bye}
@@ -26,3 +27,7 @@ logout = Turned (record (told_at_once (Bye bye) (codes "LOGOUT")) { session = So
 -- ENABLE (RFC 9051, 6.3.1): no capability can be enabled, and names that aren't known are passed over
 abbrev pub enable : Need
 enable = Turned (told_at_once Enabled (codes "ENABLE"))
+
+-- the line that ends an IDLE: DONE in any case (RFC 9051, 6.3.13)
+unfoldable pub is_done : List ℕ → Bool
+is_done line = str_eq_ignore_ascii_case line (codes "done")

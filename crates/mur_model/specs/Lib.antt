@@ -5,6 +5,7 @@ pub mod Left
 pub mod Login
 pub mod Plain
 pub mod AtOnce
+pub mod Waits
 pub mod Create
 pub mod Append
 pub mod Status

@@ -7,6 +7,9 @@ use Rattle.base64.specs.GeneralPurpose.{decode_of}
 use Rattle.mur_base.specs.Ascii.{nul}
 use Rattle.mur_base.specs.declared.user.User.{User}
 use Rattle.mur_model.specs.declared.need.Need.{Need}
+use Rattle.mur_model.specs.declared.need.Need.TheVariants.{Refusal}
+use Rattle.mur_model.specs.declared.reply.BadText.TheVariants.{Syntax}
+use Rattle.mur_model.specs.declared.reply.Verdict.TheVariants.{Bad as bad_reply}
 use Rattle.mur_model.specs.Login.{login, login_failed}
 
 -- the bytes that a response stands for: base64 with its padding (RFC 4648, 4), and `=` is the empty response (RFC 9051, 6.2.2)
@@ -42,5 +45,7 @@ unfoldable pub authenticate_with : List User → Option (List ℕ) → Need
 authenticate_with users None = login_failed
 authenticate_with users (Some message) = authenticate_as users (cut_at_nul message)
 
+-- a line `*` ends the exchange (RFC 9051, 6.2.2)
 unfoldable pub authenticate : List User → List ℕ → Need
-authenticate users response = authenticate_with users (decoded response)
+authenticate users response =
+    if bytes_eq response (codes "*") then Refusal (bad_reply Syntax) else authenticate_with users (decoded response)

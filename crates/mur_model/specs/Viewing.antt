@@ -13,6 +13,8 @@ use Rattle.mail_message.specs.declared.set.SetPart.{SetPart}
 use Rattle.mail_store.specs.Expunge.{expunged}
 use Rattle.mur_model.specs.declared.need.Need.{Need}
 use Rattle.mur_model.specs.declared.need.Need.TheVariants.{Refusal, Turned, Mailbox}
+use Rattle.mur_model.specs.declared.need.NewsFor.{NewsFor}
+use Rattle.mur_model.specs.declared.need.NewsFor.TheVariants as news_for
 use Rattle.mur_model.specs.declared.need.ViewWork.{ViewWork}
 use Rattle.mur_model.specs.declared.need.ViewWork.TheVariants as work
 use Rattle.mur_model.specs.declared.need.Work.TheVariants.{Viewed}
@@ -38,13 +40,18 @@ use Rattle.mur_model.specs.StoreFlags.{store_on}
 abbrev pub at_mailbox : View → ViewWork → Need
 at_mailbox view it = Mailbox view.name (Viewed view it)
 
--- ---- NOOP, CLOSE and UNSELECT (RFC 9051, 6.1.2, 6.4.1 and 6.4.2)
+-- ---- NOOP, IDLE, CLOSE and UNSELECT (RFC 9051, 6.1.2, 6.3.13, 6.4.1 and 6.4.2)
 
-abbrev pub noop_told : View → List Row → Turn
-noop_told view now = with_news view [] (news view.rows now true []) (ok_reply no_code (codes "NOOP"))
+unfoldable pub news_name : NewsFor → List ℕ
+news_name news_for.Noop = codes "NOOP"
+news_name news_for.Idle = codes "IDLE"
 
-abbrev pub noop_at : View → Content → Worked
-noop_at view box = record { left = kept; turn = noop_told view (rows_of box) }
+-- NOOP, and IDLE whose line has come, tell the news
+abbrev pub news_told : View → NewsFor → List Row → Turn
+news_told view why now = with_news view [] (news view.rows now true []) (ok_reply no_code (news_name why))
+
+abbrev pub news_at : View → NewsFor → Content → Worked
+news_at view why box = record { left = kept; turn = news_told view why (rows_of box) }
 
 -- no mailbox is selected any more
 abbrev pub left_by : View → List ℕ → Turn
@@ -126,7 +133,7 @@ search view by_uid keys =
 -- ---- the work
 
 unfoldable pub viewed_on : View → ViewWork → Option Content → Worked
-viewed_on view work.Noop box = at_view view (noop_at view) box
+viewed_on view (work.News why) box = at_view view (news_at view why) box
 viewed_on view work.Close box = at_view view (close_at view) box
 viewed_on view (work.Expunge only) box = expunge_on view only box
 viewed_on view (work.Store it) box = store_on view it box

@@ -1,6 +1,6 @@
 // Commands that the server answers at once, whatever mailboxes there are.
 ghost use Rattle.std.specs.Prelude.{◌≡◌, IfOk};
-ghost use Rattle.mur_model.specs.AtOnce.{capability, enable, logout, told_at_once};
+ghost use Rattle.mur_model.specs.AtOnce.{capability, enable, is_done, logout, told_at_once};
 
 use crate::need::Need;
 use crate::reply::{Bye, Code, Reply, ReplyLine, ReplyLines, Verdict};
@@ -33,6 +33,14 @@ pub fn enable(alloc: Global) -> Result<Need, Memory>
 {
     let turn = told_at_once(alloc, ReplyLine::Enabled, b"ENABLE")?;
     Ok(Need::Turned(turn))
+}
+
+/// Whether a line ends an IDLE (RFC 9051, 6.3.13).
+#[tactic(auto, unfolding(crate::specs::AtOnce::is_done))]
+pub fn is_done(line: &[u8]) -> bool
+    ensures { result ≡ is_done line.now }
+{
+    line.eq_ignore_ascii_case(b"done")
 }
 
 fn told_at_once(alloc: Global, line: ReplyLine, name: &[u8]) -> Result<Turn, Memory>

@@ -28,13 +28,14 @@ mod store;
 mod store_flags;
 mod view;
 mod viewing;
+mod wait;
 
 pub use acting::{act, turned};
 pub use append::append_reply;
 pub use command::{Atoms, Command, StatusItem, StatusItems, Tag};
 pub use expunge::{expunge_on, expunge_told};
 pub use fetch::{Fetching, fetch_told, sees};
-pub use need::{Need, ViewWork, Work, begin};
+pub use need::{Need, NewsFor, ViewWork, Work, begin};
 pub use news::{Told, flag_parts, news_of};
 pub use reply::{
     Attribute, BadText, Bye, Code, FlagNames, NoText, Parts, Reply, ReplyLine, ReplyLines,
@@ -50,4 +51,5 @@ pub use status::status_reply;
 pub use store::{Pair, Store};
 pub use store_flags::{FlagStore, store_on, store_refused, store_told};
 pub use view::View;
-pub use viewing::{left_by, noop_told};
+pub use viewing::{left_by, news_told};
+pub use wait::{Wait, begun_behind, wait_of, waits_begun, with_line};

@@ -1,11 +1,16 @@
 // What a command needs of the store (RFC 9051, 6).
-ghost use Rattle.std.specs.Prelude.{◌≡◌, IfOk};
+ghost use Rattle.std.specs.Prelude.{◌≡◌, IfOk, codes};
+ghost use Rattle.mur_model.specs.declared.need.Need.TheVariants.{Turned};
+ghost use Rattle.mur_model.specs.declared.need.NewsFor.TheVariants.{Idle};
+ghost use Rattle.mur_model.specs.declared.need.ViewWork.TheVariants.{News};
+ghost use Rattle.mur_model.specs.Left.{replied};
+ghost use Rattle.mur_model.specs.Reply.{completed};
 ghost use Rattle.mur_model.specs.Act.{need_off, need_in, need_begun, need_selected, need_of, need_unselected, not_yet, cannot_yet};
-ghost use Rattle.mur_model.specs.Act.{nothing_new, wants_selected};
+ghost use Rattle.mur_model.specs.Act.{idled, nothing_new, wants_selected};
 ghost use Rattle.mur_model.specs.Viewing.{at_mailbox};
 
 use crate::append::{append, new_message};
-use crate::at_once::{capability, enable, logout};
+use crate::at_once::{capability, enable, is_done, logout};
 use crate::command::{Command, StatusItems};
 use crate::create::create;
 use crate::fetch::Fetching;
@@ -39,11 +44,19 @@ pub enum Work {
     Viewed(View, ViewWork),
 }
 
+/// What tells only the news of a mailbox.
+#[derive(Clone, Copy, Debug, PartialEq, Eq)]
+pub enum NewsFor {
+    Noop,
+    /// IDLE, whose line has come.
+    Idle,
+}
+
 /// What is to be done at the mailbox of a view.
 #[derive(Drop)]
 pub enum ViewWork {
-    /// NOOP: it is looked at.
-    Noop,
+    /// It is looked at, and its news are told.
+    News(NewsFor),
     /// CLOSE: the messages with `\Deleted` are taken away, and it is selected no more.
     Close,
     /// EXPUNGE, of all messages or of those with some UIDs.
@@ -115,7 +128,6 @@ fn wants_selected(command: &Command) -> bool
             | Command::Store(..)
             | Command::Fetch(..)
             | Command::Search(..)
-            | Command::Copy(..)
     )
 }
 
@@ -139,6 +151,7 @@ fn begin_in(
 {
     match command {
         Command::Noop => nothing_new(alloc),
+        Command::Idle(Some(line)) => idled_in(alloc, &line),
         it => begin_unselected(alloc, with, user, it),
     }
 }
@@ -202,7 +215,8 @@ fn begin_selected(
     ensures { IfOk result (λ need. need ≡ need_selected with.now view.now command) }
 {
     match command {
-        Command::Noop => work_at_view(alloc, view, ViewWork::Noop),
+        Command::Noop => work_at_view(alloc, view, ViewWork::News(NewsFor::Noop)),
+        Command::Idle(Some(line)) => idled_selected(alloc, view, &line),
         Command::Close => close(alloc, view),
         Command::Unselect => Ok(Need::Turned(left_by(alloc, view, b"UNSELECT")?)),
         Command::Expunge(only) => expunge(alloc, view, &only),
@@ -215,6 +229,29 @@ fn begin_selected(
     }
 }
 
+/// What IDLE needs with its line, where no mailbox is selected.
+fn idled_in(alloc: Global, line: &Bytes) -> Result<Need, Memory>
+    ensures { IfOk result (λ need. need ≡ idled line.now (Turned (replied (completed (codes "IDLE"))))) }
+{
+    if !is_done(line.as_slice()) {
+        return Ok(not_yet());
+    }
+    Ok(Need::Turned(Turn {
+        session: None,
+        reply: completed(alloc, b"IDLE")?,
+    }))
+}
+
+/// What IDLE needs with its line, in a session that has this view.
+fn idled_selected(alloc: Global, view: &View, line: &Bytes) -> Result<Need, Memory>
+    ensures { IfOk result (λ need. need ≡ idled line.now (at_mailbox view.now (News Idle))) }
+{
+    if !is_done(line.as_slice()) {
+        return Ok(not_yet());
+    }
+    work_at_view(alloc, view, ViewWork::News(NewsFor::Idle))
+}
+
 /// Work at the mailbox of a view.
 pub fn work_at_view(alloc: Global, view: &View, work: ViewWork) -> Result<Need, Memory>
     ensures { IfOk result (λ need. need ≡ at_mailbox view.now work) }
@@ -225,7 +262,7 @@ pub fn work_at_view(alloc: Global, view: &View, work: ViewWork) -> Result<Need, 
     ))
 }
 
-/// The refusal of a command that is read and that no state has yet.
+/// The refusal of a command that is read and that no state has yet, or that has not its line.
 fn not_yet() -> Need
     ensures { result ≡ not_yet }
 {

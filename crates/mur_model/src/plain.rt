@@ -5,6 +5,7 @@ ghost use Rattle.mur_model.specs.Plain.{acts_as, authenticate, authenticate_as, 
 
 use crate::login::{login, login_failed};
 use crate::need::Need;
+use crate::reply::{BadText, Verdict};
 use base64::DecodeAllocError;
 use base64::engine::general_purpose::STANDARD;
 use mur_base::{Bytes, Memory, Users};
@@ -15,6 +16,9 @@ use std::alloc::Global;
 pub fn authenticate(alloc: Global, users: &Users, response: &Bytes) -> Result<Need, Memory>
     ensures { IfOk result (λ need. need ≡ authenticate users.now response.now) }
 {
+    if response.as_slice() == b"*".as_slice() {
+        return Ok(Need::Refusal(Verdict::Bad(BadText::Syntax)));
+    }
     match decoded(alloc, response.as_slice())? {
         Some(message) => authenticate_as(alloc, users, message.as_slice()),
         None => Ok(login_failed()),

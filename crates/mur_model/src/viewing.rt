@@ -4,15 +4,15 @@ ghost use Rattle.std.specs.List.{list_any};
 ghost use Rattle.mur_model.specs.Left.{IsLeft, store_after};
 ghost use Rattle.mur_model.specs.Selected.{at_view};
 ghost use Rattle.mur_model.specs.Store.{box_at};
-ghost use Rattle.mur_model.specs.Viewing.{close, expunge, store, fetch, search, left_by, noop_told, same_partial, same_item, each_once};
+ghost use Rattle.mur_model.specs.Viewing.{close, expunge, store, fetch, search, left_by, news_name, news_told, same_partial, same_item, each_once};
 ghost use Rattle.mur_model.specs.Viewing.{read_only, no_such_number, names_messages};
-ghost use Rattle.mur_model.specs.Viewing.{viewed_on, noop_at, close_at};
+ghost use Rattle.mur_model.specs.Viewing.{viewed_on, news_at, close_at};
 
 use crate::expunge::expunge_on;
 use crate::fetch::{Fetching, fetch_on};
 use crate::keys::{have_all_numbers, keys_at};
 use crate::named_rows::{has_all_numbers, last_uid, named_uids};
-use crate::need::{Need, ViewWork, work_at_view};
+use crate::need::{Need, NewsFor, ViewWork, work_at_view};
 use crate::news::{news_of, number_of};
 use crate::reply::{BadText, Code, NoText, ReplyLines, Verdict, completed};
 use crate::search::{Searching, search_on};
@@ -29,12 +29,28 @@ use mur_base::{Bytes, Copied, MailName, Memory};
 use std::alloc::Global;
 use std::collections::BTreeSet;
 
-/// What is told of a mailbox that has these rows, to a NOOP.
-pub fn noop_told(alloc: Global, view: &View, now: &OrderedRows) -> Result<Turn, Memory>
-    ensures { IfOk result (λ turn. turn ≡ noop_told view.now now.now) }
+/// The name of the command that news are told for.
+#[tactic(auto, unfolding(crate::specs::Viewing::news_name))]
+fn news_name(why: NewsFor) -> &'static [u8]
+    ensures { result.now ≡ news_name why }
+{
+    match why {
+        NewsFor::Noop => b"NOOP",
+        NewsFor::Idle => b"IDLE",
+    }
+}
+
+/// The news that are told of a mailbox that has these rows.
+pub fn news_told(
+    alloc: Global,
+    view: &View,
+    why: NewsFor,
+    now: &OrderedRows,
+) -> Result<Turn, Memory>
+    ensures { IfOk result (λ turn. turn ≡ news_told view.now why now.now) }
 {
     let news = news_of(alloc, &view.rows, now, true, &BTreeSet::new(alloc))?;
-    let verdict = Verdict::Ok(Code::None, Bytes::from_slice(alloc, b"NOOP")?);
+    let verdict = Verdict::Ok(Code::None, Bytes::from_slice(alloc, news_name(why))?);
     with_news(alloc, view, ReplyLines::new(alloc), news, verdict)
 }
 
@@ -229,7 +245,7 @@ fn viewed_on(
     ensures { IfOk result (λ turn. IsLeft mailbox.old (viewed_on view.now work (Some mailbox.old)) mailbox.new turn) }
 {
     match work {
-        ViewWork::Noop => noop_on(alloc, view, mailbox),
+        ViewWork::News(why) => news_on(alloc, view, why, mailbox),
         ViewWork::Close => close_on(alloc, view, mailbox),
         ViewWork::Expunge(None) => expunge_on(alloc, view, mailbox, None),
         ViewWork::Expunge(Some(uids)) => expunge_on(alloc, view, mailbox, Some(uids.as_slice())),
@@ -240,12 +256,12 @@ fn viewed_on(
 }
 
 #[tactic(auto, unfolding(crate::specs::Selected::at_view, crate::specs::Left::box_after))]
-fn noop_on(alloc: Global, view: &View, mailbox: &mut MailBox) -> Result<Turn, Memory>
-    ensures { IfOk result (λ turn. IsLeft mailbox.old (at_view view.now (noop_at view.now) (Some mailbox.old)) mailbox.new turn) }
+fn news_on(alloc: Global, view: &View, why: NewsFor, mailbox: &mut MailBox) -> Result<Turn, Memory>
+    ensures { IfOk result (λ turn. IsLeft mailbox.old (at_view view.now (news_at view.now why) (Some mailbox.old)) mailbox.new turn) }
 {
     if mailbox.serial() == view.serial {
         let now = mailbox.look(alloc)?.rows;
-        noop_told(alloc, view, &now)
+        news_told(alloc, view, why, &now)
     } else {
         gone(alloc)
     }

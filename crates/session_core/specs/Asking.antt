@@ -3,7 +3,7 @@ use Rattle.std.specs.Prelude.{ℕ, false, List, [], ◌∷◌, None, Some}
 use Rattle.link_msg.specs.declared.op.Op.{Op}
 use Rattle.link_msg.specs.declared.op.Op.TheVariants.{Look, Append as append_op, Create as create_op, Expunge as expunge_op, Flags as flags_op, Read as read_op}
 use Rattle.mur_model.specs.declared.need.ViewWork.{ViewWork}
-use Rattle.mur_model.specs.declared.need.ViewWork.TheVariants.{Noop, Close, Expunge, Store, Fetch, Search}
+use Rattle.mur_model.specs.declared.need.ViewWork.TheVariants.{News, Close, Expunge, Store, Fetch, Search}
 use Rattle.mur_model.specs.declared.need.Work.{Work}
 use Rattle.mur_model.specs.declared.need.Work.TheVariants.{Make, Append as append_work, Status as status_work, Select as select_work, Viewed as viewed_work}
 use Rattle.mur_model.specs.declared.view.View.{View}
@@ -15,7 +15,7 @@ use Rattle.session_core.specs.declared.asking.Awaited.TheVariants as awaited
 
 -- what is asked of the home of the selected mailbox
 unfoldable pub view_op : View → ViewWork → Op
-view_op view Noop = Look
+view_op view (News why) = Look
 view_op view Close = expunge_op None
 view_op view (Expunge only) = expunge_op only
 view_op view (Store it) = flags_op it.uids it.mode it.flags

@@ -7,7 +7,7 @@ use Rattle.link_msg.specs.declared.outcome.Outcome.{Outcome}
 use Rattle.link_msg.specs.declared.outcome.Outcome.TheVariants.{None as nothing, Messages, Rows, Uids, Limit as full, Gone}
 use Rattle.mail_message.specs.declared.message.Snapshot.{Snapshot}
 use Rattle.mur_model.specs.declared.need.ViewWork.{ViewWork}
-use Rattle.mur_model.specs.declared.need.ViewWork.TheVariants.{Noop, Close, Expunge, Store, Fetch, Search}
+use Rattle.mur_model.specs.declared.need.ViewWork.TheVariants.{News, Close, Expunge, Store, Fetch, Search}
 use Rattle.mur_model.specs.declared.session.Turn.{Turn}
 use Rattle.mur_model.specs.declared.view.View.{View}
 use Rattle.mur_model.specs.Expunge.{expunge_told}
@@ -15,11 +15,11 @@ use Rattle.mur_model.specs.Fetch.{fetch_told}
 use Rattle.mur_model.specs.Search.{search_told}
 use Rattle.mur_model.specs.Selected.{gone}
 use Rattle.mur_model.specs.StoreFlags.{store_told, store_refused}
-use Rattle.mur_model.specs.Viewing.{noop_told, left_by}
+use Rattle.mur_model.specs.Viewing.{news_told, left_by}
 
 -- the outcomes that the operation of each command can have
 unfoldable pub viewed_done : View → ViewWork → Outcome → Snapshot → Option Turn
-viewed_done view Noop nothing seen = Some (noop_told view seen.rows)
+viewed_done view (News why) nothing seen = Some (news_told view why seen.rows)
 viewed_done view Close (Uids uids) seen = Some (left_by view (codes "CLOSE"))
 viewed_done view (Expunge only) (Uids uids) seen = Some (expunge_told view only seen.rows)
 viewed_done view (Store it) (Rows changes) seen = Some (store_told view it changes seen.rows)

@@ -68,7 +68,7 @@ fn view_op(alloc: Global, view: &View, work: &ViewWork) -> Result<Op, Memory>
     ensures { IfOk result (λ op. op ≡ view_op view.now work.now) }
 {
     match work {
-        ViewWork::Noop => Ok(Op::Look),
+        ViewWork::News(_) => Ok(Op::Look),
         ViewWork::Close | ViewWork::Expunge(None) => Ok(Op::Expunge(None)),
         ViewWork::Expunge(Some(uids)) => Ok(Op::Expunge(Some(uids_of(alloc, uids)?))),
         ViewWork::Store(it) => Ok(Op::Flags(

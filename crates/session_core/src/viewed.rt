@@ -7,7 +7,7 @@ use link_msg::{AnswerBody, Outcome};
 use mail_message::{Snapshot, Uids};
 use mur_base::Memory;
 use mur_model::{
-    Turn, View, ViewWork, expunge_told, fetch_told, gone, left_by, noop_told, search_told,
+    Turn, View, ViewWork, expunge_told, fetch_told, gone, left_by, news_told, search_told,
     store_refused, store_told,
 };
 use std::alloc::Global;
@@ -42,7 +42,7 @@ fn viewed_done(
     let now = &seen.rows;
     match (work, outcome) {
         (_, Outcome::Gone) => Ok(Some(gone(alloc)?)),
-        (ViewWork::Noop, Outcome::None) => Ok(Some(noop_told(alloc, view, now)?)),
+        (ViewWork::News(why), Outcome::None) => Ok(Some(news_told(alloc, view, *why, now)?)),
         (ViewWork::Close, Outcome::Uids(_)) => Ok(Some(left_by(alloc, view, b"CLOSE")?)),
         (ViewWork::Expunge(only), Outcome::Uids(_)) => {
             Ok(Some(expunge_told(alloc, view, only_of(only), now)?))

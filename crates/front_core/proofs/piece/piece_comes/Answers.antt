@@ -16,20 +16,20 @@ returns-after-loop-taken c =
 pub loop-taken-preserved : goal.loop-taken-preserved
 loop-taken-preserved c =
     let some =
-    c.in_ok-frame.ensures.some (still_read c.loop-taken.connection.reader c.if-not-ended.ensures)
+    c.in_ok-input.ensures.some (still_read c.loop-taken.connection.reader.held c.if-not-ended.ensures)
     (rest_some c.args.piece.now c.loop-taken.taken c.loop-taken-test.true) in
     record {
-      within = omega (arith, c.in_ok-frame.ensures.within);
+      within = omega (arith, c.in_ok-input.ensures.within);
       turned =
           rest_on c.args.setting.now c.args.home.now c.args.conn c.loop-taken.outs c.next_comes.new.outs c.loop-taken.connection c.next_comes.new.connection _
-          c.args.piece.now c.loop-taken.taken c.in_ok-frame.more c.in_ok-frame.frame
-          c.in_ok-frame.ensures.frames c.in_ok-frame.ensures.rest c.in_ok-next_comes.ensures
+          c.args.piece.now c.loop-taken.taken c.in_ok-input.more c.in_ok-input.input
+          c.in_ok-input.ensures.inputs c.in_ok-input.ensures.rest c.in_ok-next_comes.ensures
           ∙ c.loop-taken.invariant.turned;
       commands =
           omega (
             arith,
             some,
-            next_counts c.args.setting.now c.args.home.now c.args.conn c.loop-taken.outs c.next_comes.new.outs _ c.next_comes.new.connection c.in_ok-frame.frame
+            next_counts c.args.setting.now c.args.home.now c.args.conn c.loop-taken.outs c.next_comes.new.outs _ c.next_comes.new.connection c.in_ok-input.input
                 c.in_ok-next_comes.ensures,
             c.loop-taken.invariant.commands,
           );

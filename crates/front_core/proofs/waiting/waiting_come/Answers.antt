@@ -24,21 +24,21 @@ pub loop-alloc-smaller : goal.loop-alloc-smaller
 loop-alloc-smaller c =
     omega (
       arith,
-      taken_shortens c.args.setting.now c.args.home.now c.args.conn c.loop-alloc.outs c.frame_in.new.outs c.loop-alloc.connection c.frame_in.new.connection
-          c.in-Some.frame c.pop.new.self c.in-Some.ensures.first c.in_ok-frame_in.ensures,
+      taken_shortens c.args.setting.now c.args.home.now c.args.conn c.loop-alloc.outs c.input_in.new.outs c.loop-alloc.connection c.input_in.new.connection
+          c.in-Some.input c.pop.new.self c.in-Some.ensures.first c.in_ok-input_in.ensures,
     )
 
 pub loop-alloc-preserved : goal.loop-alloc-preserved
 loop-alloc-preserved c = record {
   turned =
-      waiting_on c.args.setting.now c.args.home.now c.args.conn c.loop-alloc.outs c.frame_in.new.outs c.loop-alloc.connection c.frame_in.new.connection
-      c.in-Some.frame c.pop.new.self (sym c.loop-alloc-test.ensures) c.in-Some.ensures.first c.in_ok-frame_in.ensures
+      waiting_on c.args.setting.now c.args.home.now c.args.conn c.loop-alloc.outs c.input_in.new.outs c.loop-alloc.connection c.input_in.new.connection
+      c.in-Some.input c.pop.new.self (sym c.loop-alloc-test.ensures) c.in-Some.ensures.first c.in_ok-input_in.ensures
       ∙ c.loop-alloc.invariant.turned;
   commands =
       omega (
         arith,
-        taken_counts c.args.setting.now c.args.home.now c.args.conn c.loop-alloc.outs c.frame_in.new.outs c.loop-alloc.connection c.frame_in.new.connection
-            c.in-Some.frame c.pop.new.self c.in-Some.ensures.first c.in_ok-frame_in.ensures,
+        taken_counts c.args.setting.now c.args.home.now c.args.conn c.loop-alloc.outs c.input_in.new.outs c.loop-alloc.connection c.input_in.new.connection
+            c.in-Some.input c.pop.new.self c.in-Some.ensures.first c.in_ok-input_in.ensures,
         c.loop-alloc.invariant.commands,
       );
 }

@@ -1,0 +1,47 @@
+-- Commands that wait for one line more of their client: AUTHENTICATE without a response (RFC 9051, 6.2.2), and IDLE (RFC 9051, 6.3.13).
+use Rattle.std.specs.Prelude.{ℕ, Bool, true, false, ◌||◌, List, Option, None, Some, codes}
+use Rattle.mur_model.specs.declared.command.Command.{Command}
+use Rattle.mur_model.specs.declared.command.Command.TheVariants.{Authenticate, Idle, Login}
+use Rattle.mur_model.specs.declared.need.Need.{Need}
+use Rattle.mur_model.specs.declared.need.Need.TheVariants.{Turned}
+use Rattle.mur_model.specs.declared.session.Sess.{Sess}
+use Rattle.mur_model.specs.declared.session.Sess.TheVariants.{In}
+use Rattle.mur_model.specs.declared.setting.Setting.{Setting}
+use Rattle.mur_model.specs.declared.wait.Wait.{Wait}
+use Rattle.mur_model.specs.declared.wait.Wait.TheVariants.{Authenticate as response, Idle as done}
+use Rattle.mur_model.specs.Login.{login}
+use Rattle.mur_model.specs.Plain.{authenticate}
+
+-- the command with its line, without the CRLF behind it
+unfoldable pub with_line : Wait → List ℕ → Command
+with_line response line = Authenticate (Some line)
+with_line done line = Idle (Some line)
+
+-- whether the session of what waits has begun
+unfoldable pub waits_begun : Wait → Bool
+waits_begun response = false
+waits_begun done = true
+
+-- what a command waits for, in a session that has begun, or that has not
+unfoldable pub wait_of : Bool → Command → Option Wait
+wait_of false (Authenticate None) = Some response
+wait_of true (Idle None) = Some done
+wait_of begun it = None
+
+unfoldable pub begins_with : Option Sess → Bool
+begins_with (Some (In user)) = true
+begins_with session = false
+
+unfoldable pub begins_by : Need → Bool
+begins_by (Turned turn) = begins_with turn.session
+begins_by need = false
+
+-- whether a session begins with a command, where none had begun (RFC 9051, 3.1)
+unfoldable pub begins : Setting → Command → Bool
+begins setting (Login user password) = begins_by (login setting.users (codes "LOGIN") user password)
+begins setting (Authenticate (Some line)) = begins_by (authenticate setting.users line)
+begins setting it = false
+
+-- whether the session behind a command has begun
+unfoldable pub begun_behind : Setting → Bool → Command → Bool
+begun_behind setting begun it = begun || begins setting it
