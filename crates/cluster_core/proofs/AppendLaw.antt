@@ -24,7 +24,7 @@ use Rattle.mur_model.specs.Left.{store_after}
 use Rattle.mur_model.specs.Store.{box_at, with_box}
 use Rattle.session_core.specs.Append.{append_reply, reply_to_done, reply_to_uids}
 use Rattle.session_core.specs.Asking.{asked_for}
-use Rattle.session_core.specs.Finish.{finish}
+use Rattle.session_core.specs.Finish.{turn_of}
 use Rattle.cluster_core.specs.OneStore.{open_box, open_content}
 use Rattle.cluster_core.proofs.ServedAlike.{IsStoreOf, ServesAlike}
 
@@ -93,7 +93,7 @@ fault_by : (store : Store) (home : Backend) (name : List ℕ) (message : Message
           Some (append_to held.content (message ∷ []) fault).response.body;
       counts = (append_to held.content (message ∷ []) fault).response.counts;
     })
-unfolding append_to append_to_box store_after asked_for finish append_reply reply_to_done reply_to_uids MayWork
+unfolding append_to append_to_box store_after asked_for turn_of append_reply reply_to_done reply_to_uids MayWork
 fault_by store home name message held (Some fault) at e same = record {
   free = tt;
   body = _;
@@ -130,7 +130,7 @@ there_by store home name message held at e same =
 pub appends_alike : (store : Store) (home : Backend) (name : List ℕ) (message : Message) (found : Option Held) → held_at home name ≡ found
     → IsStoreOf store home
     → AppendsAlike store home name message found
-unfolding append_step append_on store_after asked_for finish append_reply MayWork
+unfolding append_step append_on store_after asked_for turn_of append_reply MayWork
 appends_alike store home name message None at same = record {
   free = tt;
   body = _;

@@ -6,7 +6,7 @@ use Rattle.std.proofs.lemmas.Bool.Decides.{nat_tests}
 use Rattle.backend_core.specs.declared.backend.Backend.{Backend}
 use Rattle.front_core.specs.declared.connection.Connection.{Connection}
 use Rattle.front_core.specs.declared.connection.Stage.TheVariants.{Reading, Asked, Ended}
-use Rattle.front_core.specs.Taken.{ask_for}
+use Rattle.front_core.specs.Taken.{ask_with}
 use Rattle.imap_reply.specs.Greeting.{greeting}
 use Rattle.imap_reply.specs.SessionEnds.{has_ended, TurnEnds}
 use Rattle.imap_reply.specs.Transcript.{ends, replies_to}
@@ -33,7 +33,7 @@ use Rattle.mur_model.specs.Act.{need_of, session_after}
 use Rattle.mur_model.specs.History.{Course, Talk, TalkGoesOn, numbered, with_session}
 use Rattle.mur_model.proofs.HistoryGrows.{same_talk, talks_follow}
 use Rattle.session_core.specs.Asking.{asked_for}
-use Rattle.session_core.specs.Finish.{finish}
+use Rattle.session_core.specs.Finish.{turn_of}
 use Rattle.cluster_core.specs.declared.world.Client.{Client}
 use Rattle.cluster_core.specs.declared.world.World.{World}
 use Rattle.cluster_core.specs.Links.{Links}
@@ -119,10 +119,10 @@ client_with front inputs told = record { at = front; given = greeting ++ replies
 -- the ask of a command is on the way, or the home's answer, of which the reply and the session behind it are made
 pub data OnItsWay (links : Links) (conn : ℕ) (front home : List ℕ) (connection : Connection) (tag : Tag) (name : List ℕ) (work : Work)
     (told said : List Answer) (session : Sess) : Type 0 where
-  there : said ≡ told → connection.session ≡ session → AreOnWay links conn front home (ask_for conn connection name work ∷ []) []
+  there : said ≡ told → connection.session ≡ session → AreOnWay links conn front home (ask_with conn connection name (asked_for name work) ∷ []) []
       → OnItsWay links conn front home connection tag name work told said session
   back : (body : AnswerBody) (turn : Turn) → said ≡ told ++ (record { tag = tag; reply = turn.reply }) ∷ []
-      → finish (asked_for name work).awaited body ≡ Some turn
+      → turn_of (asked_for name work).awaited body ≡ Some turn
       → session ≡ session_after connection.session turn.session → TurnEnds turn
       → AreOnWay links conn front home [] ((record { id = record { conn = conn; command = connection.answered + 1 }; body = body }) ∷ [])
       → OnItsWay links conn front home connection tag name work told said session
@@ -151,7 +151,7 @@ pub data IsLeft (setting : Setting) (front home : List ℕ) (conn : ℕ) (reques
       → IsLeft setting front home conn requests connection links told said session
   its_ask : (tag : Tag) (it : Command) (name : List ℕ) (work : Work) → said ≡ told → numbered requests (length told + 1) ≡ Some (a_command tag it)
       → need_of setting session it ≡ Mailbox name work → connection.session ≡ session
-      → AreOnWay links conn front home (ask_for conn connection name work ∷ []) []
+      → AreOnWay links conn front home (ask_with conn connection name (asked_for name work) ∷ []) []
       → IsLeft setting front home conn requests connection links told said session
   its_answer : (rest : List Answer) (answer : BackAnswer) → said ≡ told ++ rest → length rest ≤ 1 → AreOnWay links conn front home [] (answer ∷ [])
       → IsLeft setting front home conn requests connection links told said session

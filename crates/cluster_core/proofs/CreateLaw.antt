@@ -26,7 +26,7 @@ use Rattle.mur_model.specs.Left.{store_after}
 use Rattle.mur_model.specs.Store.{with_new_box, is_spent, IsFree}
 use Rattle.session_core.specs.Asking.{asked_for}
 use Rattle.session_core.specs.Create.{create_reply, reply_to_done}
-use Rattle.session_core.specs.Finish.{finish}
+use Rattle.session_core.specs.Finish.{turn_of}
 use Rattle.cluster_core.specs.OneStore.{open_box, open_content}
 use Rattle.cluster_core.proofs.ServedAlike.{IsStoreOf, ServesAlike}
 
@@ -87,7 +87,7 @@ CreatesAlike store home name found =
 
 make_by : (store : Store) (home : Backend) (name : List ℕ) (spent : Bool) → nat_eq home.last_serial (2 ^ 32 - 1) ≡ spent → IsStoreOf store home
     → ServesAlike store home name Make (make_box name (home.last_serial + 1) spent) (make home name spent)
-unfolding make make_box store_after asked_for finish create_reply reply_to_done MayWork
+unfolding make make_box store_after asked_for turn_of create_reply reply_to_done MayWork
 make_by store home name true e same = record {
   free = λ _. λ _. next_is_free store home name same;
   body = _;
@@ -110,7 +110,7 @@ make_by store home name false e same = record {
 
 there_by : (store : Store) (home : Backend) (name : List ℕ) (held : Held) (phase : Phase) → held.phase ≡ phase → phase ≡ open_here → IsStoreOf store home
     → CreatesAlike store home name (Some held)
-unfolding create_step created_in create_on store_after asked_for finish create_reply reply_to_done MayWork open_box
+unfolding create_step created_in create_on store_after asked_for turn_of create_reply reply_to_done MayWork open_box
 there_by store home name held open_here e o same = rw e (record {
   free = λ _. λ _. next_is_free store home name same;
   body = _;

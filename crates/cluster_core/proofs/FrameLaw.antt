@@ -7,7 +7,7 @@ use Rattle.std.proofs.lemmas.List.{append-nil}
 use Rattle.backend_core.specs.declared.backend.Backend.{Backend}
 use Rattle.front_core.specs.declared.connection.Connection.{Connection}
 use Rattle.front_core.specs.declared.connection.Stage.TheVariants.{Reading, Asked, Ended}
-use Rattle.front_core.specs.Taken.{Turned, answers, answers_last, asks, ask_for, input_in, comes_at, input_comes, inputs_come, behind_outs}
+use Rattle.front_core.specs.Taken.{Turned, answers, answers_last, asks, ask_with, input_in, comes_at, input_comes, inputs_come, behind_outs}
 use Rattle.imap_reply.specs.ByeLine.{bye_line, bye_of}
 use Rattle.imap_reply.specs.Continuation.{continuation_line}
 use Rattle.imap_reply.specs.Greeting.{greeting}
@@ -349,11 +349,11 @@ asked_here : (setting : Setting) (front home : List ℕ) (backend : Backend) (co
     → request ≡ a_command tag it → need_of setting (was.story.course.sessions conn) it ≡ Mailbox name work → FaultsLast waiting held
     → StandsOn setting front home backend conn (inputs ++ Asks request ∷ waiting) held
     (record connection { waiting = waiting; stage = Asked tag (asked_for name work).awaited }) before told
-    (carry_all front world (to_node home (Ask (ask_for conn connection name work)) ∷ []))
+    (carry_all front world (to_node home (Ask (ask_with conn connection name (asked_for name work))) ∷ []))
 unfolding carry_all carry
 asked_here setting front home backend conn inputs waiting held connection before told world request tag it name work was is need last =
     let story = was.story in
-    let ask : FrontAsk = ask_for conn connection name work in
+    let ask : FrontAsk = ask_with conn connection name (asked_for name work) in
     let next : World = record world { links = sent world.links front home (Ask ask) } in
     record {
       story = story;
@@ -395,7 +395,7 @@ asked_waits setting home conn connection (input ∷ inputs) tag awaited e =
     ∙ ap (λ w. record { connection = record connection { waiting = w }; outs = [] }) (append_assoc connection.waiting (input ∷ []) inputs)
 
 asked_turned : (setting : Setting) (home : List ℕ) (conn : ℕ) (connection : Connection) (tag : Tag) (name : List ℕ) (work : Work) (inputs : List Input)
-    → inputs_come setting home conn (asks home conn connection tag name work).connection inputs
+    → inputs_come setting home conn (asks home conn connection tag name (asked_for name work)).connection inputs
     ≡ record { connection = record connection { waiting = connection.waiting ++ inputs; stage = Asked tag (asked_for name work).awaited }; outs = [] }
 unfolding asks
 asked_turned setting home conn connection tag name work inputs =
@@ -408,7 +408,7 @@ asked_kept : (setting : Setting) (front home : List ℕ) (backend : Backend) (co
     → request ≡ a_command tag it → need_of setting (was.story.course.sessions conn) it ≡ Mailbox name work → FaultsLast waiting held
     → StandsOn setting front home backend conn (inputs ++ Asks request ∷ waiting) held
     (record connection { waiting = waiting; stage = Asked tag (asked_for name work).awaited }) before told
-    (carry_all front (carry_all front world (asks home conn connection tag name work).outs) [])
+    (carry_all front (carry_all front world (asks home conn connection tag name (asked_for name work)).outs) [])
 unfolding asks carry_all
 asked_kept setting front home backend conn inputs waiting held connection before told world request tag it name work was is need last =
     asked_here setting front home backend conn inputs waiting held connection before told world request tag it name work was is need last
@@ -543,7 +543,7 @@ request_kept setting front home backend conn inputs new request held connection 
     (next_of setting front home backend conn inputs new (Asks request) connection before told world request was all refl) is free is_end))
 request_kept setting front home backend conn inputs new request held connection before told world was last all follow
     (asked tag it name work is need form) =
-    let turned : Turned = asks home conn connection tag name work in
+    let turned : Turned = asks home conn connection tag name (asked_for name work) in
     let waits_all : inputs_come setting home conn turned.connection new ≡
     record { connection = record connection { waiting = new; stage = Asked tag (asked_for name work).awaited }; outs = [] } =
     asked_turned setting home conn connection tag name work new

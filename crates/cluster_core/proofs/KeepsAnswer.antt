@@ -6,7 +6,7 @@ use Rattle.std.proofs.lemmas.Bool.Decides.{nat_tests}
 use Rattle.backend_core.specs.declared.backend.Backend.{Backend}
 use Rattle.front_core.specs.declared.connection.Connection.{Connection}
 use Rattle.front_core.specs.declared.connection.Stage.TheVariants.{Asked, Ended}
-use Rattle.front_core.specs.Answered.{reading_again, ends_with, unchanged, turned, replied, answer_by, answer_comes}
+use Rattle.front_core.specs.Answered.{answer_by, answer_comes, ends_with, finished_in, need_behind, reading_again, reads_on, unchanged}
 use Rattle.front_core.specs.Taken.{Turned, inputs_come, behind_outs}
 use Rattle.imap_reply.specs.Greeting.{greeting}
 use Rattle.imap_reply.specs.ReplyText.{reply_text}
@@ -36,7 +36,8 @@ use Rattle.mur_model.specs.Act.{session_after}
 use Rattle.mur_model.proofs.HistoryGrows.{same_lists, item_more}
 use Rattle.mur_model.proofs.Numbered.{with_item, with_item-same, with_item-other, length_with_item}
 use Rattle.session_core.specs.Asking.{asked_for}
-use Rattle.session_core.specs.Finish.{finish}
+use Rattle.session_core.specs.Finish.{finished_by, turn_of}
+use Rattle.session_core.specs.Need.{told}
 use Rattle.cluster_core.specs.declared.world.Client.{Client}
 use Rattle.cluster_core.specs.declared.world.World.{World}
 use Rattle.cluster_core.specs.World.{client_at, carry_all}
@@ -72,7 +73,7 @@ replied_reads : (setting : Setting) (front home : List ℕ) (backend : Backend) 
     → AreAnswered passed (story.told conn)
     → story.talk.answers conn ≡ story.told conn ++ (record { tag = tag; reply = reply }) ∷ []
     → ends reply ≡ false → AreOnWay world.links conn front home [] [] → IsTold setting world.steps world.marks backend story.talk story.course
-    → ReadsOn setting front home backend conn (passed ++ Asks request ∷ []) (reading_again connection later) world story
+    → ReadsOn setting front home backend conn (passed ++ Asks request ∷ []) (reading_again (record connection { session = session_after connection.session later })) world story
     (carry_all front world (to_client conn (reply_text tag reply) ∷ []))
 replied_reads setting front home backend conn all passed request connection tag reply later world story parts count at session lasts answered said stays
     way told =
@@ -83,7 +84,7 @@ replied_reads setting front home backend conn all passed request connection tag 
     let now : Story = told_more story conn answer in
     let stops : replies_to all (story.told conn) ≡ replies_to passed (story.told conn) =
     ap (λ f. replies_to f (story.told conn)) parts ∙ sym (replies_stop passed (story.told conn) request connection.waiting answered) in
-    subst (λ w. ReadsOn setting front home backend conn (passed ++ Asks request ∷ []) (reading_again connection later) world story w)
+    subst (λ w. ReadsOn setting front home backend conn (passed ++ Asks request ∷ []) (reading_again (record connection { session = session_after connection.session later })) world story w)
     (sym (line_carried front world conn client text at))
     (record {
       story = now;
@@ -110,8 +111,7 @@ replied_reads setting front home backend conn all passed request connection tag 
     })
 
 abbrev read_turn : Setting → List ℕ → ℕ → Connection → List ℕ → Option Sess → Turned
-read_turn setting home conn connection text later =
-    behind_outs (to_client conn text ∷ []) (inputs_come setting home conn (reading_again connection later) connection.waiting)
+read_turn setting home conn connection text later = reads_on setting home conn (record connection { session = session_after connection.session later }) text
 
 -- and what waited comes
 read_stands : (setting : Setting) (front home : List ℕ) (backend : Backend) (conn : ℕ) (all passed : List Input) (held : Option (List ℕ))
@@ -127,13 +127,13 @@ read_stands : (setting : Setting) (front home : List ℕ) (backend : Backend) (c
     (carry_all front world (read_turn setting home conn connection (reply_text tag reply) later).outs)
 read_stands setting front home backend conn all passed held request connection tag reply later world story parts count at session lasts answered said stays way
     told last asked =
-    let behind : Turned = inputs_come setting home conn (reading_again connection later) connection.waiting in
+    let behind : Turned = inputs_come setting home conn (reading_again (record connection { session = session_after connection.session later })) connection.waiting in
     let whole : all ≡ (passed ++ Asks request ∷ []) ++ connection.waiting = parts ∙ sym (append_assoc passed (Asks request ∷ []) connection.waiting) in
     subst (λ w. StandsOn setting front home backend conn all held behind.connection world story w)
     (sym (carry_all-append front world (to_client conn (reply_text tag reply) ∷ []) behind.outs))
     (subst (λ f. StandsOn setting front home backend conn f held behind.connection world story
     (carry_all front (carry_all front world (to_client conn (reply_text tag reply) ∷ [])) behind.outs)) (sym whole)
-    (inputs_kept setting front home backend conn connection.waiting held world story last (passed ++ Asks request ∷ []) (reading_again connection later)
+    (inputs_kept setting front home backend conn connection.waiting held world story last (passed ++ Asks request ∷ []) (reading_again (record connection { session = session_after connection.session later }))
     (carry_all front world (to_client conn (reply_text tag reply) ∷ []))
     (asked ∙ ap requests_in whole)
     (replied_reads setting front home backend conn all passed request connection tag reply later world story parts count at session lasts answered said stays
@@ -177,9 +177,13 @@ ended_stands setting front home backend conn all passed held request connection 
       };
     })
 
--- what the frontend does with the turn of a command
+-- what the frontend does with what came of a command
+abbrev pub turned_so : Setting → List ℕ → ℕ → Connection → Tag → Reply → Option Sess → Turned
+turned_so setting home conn connection tag reply later =
+    finished_in setting home conn connection tag (finished_by connection.session (Some (record { session = later; reply = reply })))
+
 abbrev pub replied_turn : Setting → List ℕ → ℕ → Connection → Tag → Turn → Turned
-replied_turn setting home conn connection tag turn = replied setting home conn connection (reply_text tag turn.reply) turn.session
+replied_turn setting home conn connection tag turn = finished_in setting home conn connection tag (finished_by connection.session (Some turn))
 
 is_end_of : (later : Option Sess) → ends_session later ≡ true → later ≡ Some session_ended
 is_end_of None e = cc
@@ -188,19 +192,19 @@ is_end_of (Some (In user)) e = cc
 is_end_of (Some (Selected view)) e = cc
 is_end_of (Some session_ended) e = refl
 
-pub ended_turned : (setting : Setting) (home : List ℕ) (conn : ℕ) (connection : Connection) (text : List ℕ) (later : Option Sess) → ends_session later ≡ true
-    → replied setting home conn connection text later ≡ ends_with conn connection text
-unfolding replied
-ended_turned setting home conn connection text later e = ap (replied setting home conn connection text) (is_end_of later e)
+pub ended_turned : (setting : Setting) (home : List ℕ) (conn : ℕ) (connection : Connection) (tag : Tag) (reply : Reply) (later : Option Sess)
+    → ends_session later ≡ true → turned_so setting home conn connection tag reply later ≡ ends_with conn connection (reply_text tag reply)
+unfolding finished_by told need_behind
+ended_turned setting home conn connection tag reply later e = ap (turned_so setting home conn connection tag reply) (is_end_of later e)
 
-pub read_turned : (setting : Setting) (home : List ℕ) (conn : ℕ) (connection : Connection) (text : List ℕ) (later : Option Sess) → ends_session later ≡ false
-    → replied setting home conn connection text later ≡ read_turn setting home conn connection text later
-unfolding replied
-read_turned setting home conn connection text None e = refl
-read_turned setting home conn connection text (Some Off) e = refl
-read_turned setting home conn connection text (Some (In user)) e = refl
-read_turned setting home conn connection text (Some (Selected view)) e = refl
-read_turned setting home conn connection text (Some session_ended) e = cc
+pub read_turned : (setting : Setting) (home : List ℕ) (conn : ℕ) (connection : Connection) (tag : Tag) (reply : Reply) (later : Option Sess)
+    → ends_session later ≡ false → turned_so setting home conn connection tag reply later ≡ read_turn setting home conn connection (reply_text tag reply) later
+unfolding finished_by told need_behind
+read_turned setting home conn connection tag reply None e = refl
+read_turned setting home conn connection tag reply (Some Off) e = refl
+read_turned setting home conn connection tag reply (Some (In user)) e = refl
+read_turned setting home conn connection tag reply (Some (Selected view)) e = refl
+read_turned setting home conn connection tag reply (Some session_ended) e = cc
 
 replied_by : (setting : Setting) (front home : List ℕ) (backend : Backend) (conn : ℕ) (all passed : List Input) (held : Option (List ℕ))
     (request : Request) (connection : Connection) (tag : Tag) (turn : Turn) (world : World) (story : Story)
@@ -217,13 +221,13 @@ replied_by : (setting : Setting) (front home : List ℕ) (backend : Backend) (co
 replied_by setting front home backend conn all passed held request connection tag turn world story parts count at lasts session both answered said way told last
     asked true ended =
     subst (λ (t : Turned). StandsOn setting front home backend conn all held t.connection world story (carry_all front world t.outs))
-    (sym (ended_turned setting home conn connection (reply_text tag turn.reply) turn.session ended))
+    (sym (ended_turned setting home conn connection tag turn.reply turn.session ended))
     (ended_stands setting front home backend conn all passed held request connection tag turn.reply world story parts count at answered said (both ∙ ended) way
     told)
 replied_by setting front home backend conn all passed held request connection tag turn world story parts count at lasts session both answered said way told last
     asked false ended =
     subst (λ (t : Turned). StandsOn setting front home backend conn all held t.connection world story (carry_all front world t.outs))
-    (sym (read_turned setting home conn connection (reply_text tag turn.reply) turn.session ended))
+    (sym (read_turned setting home conn connection tag turn.reply turn.session ended))
     (read_stands setting front home backend conn all passed held request connection tag turn.reply turn.session world story parts count at session
     (ap has_ended session ∙ ended_by connection.session turn.session lasts ∙ ended) answered said (both ∙ ended) way told last asked)
 
@@ -247,7 +251,7 @@ replied_stands setting front home backend conn all passed held request connectio
 -- the answer that fits is replied to
 pub fits : (setting : Setting) (home : List ℕ) (conn : ℕ) (connection : Connection) (tag : Tag) (name : List ℕ) (work : Work) (body : AnswerBody) (turn : Turn)
     → connection.stage ≡ Asked tag (asked_for name work).awaited
-    → finish (asked_for name work).awaited body ≡ Some turn
+    → turn_of (asked_for name work).awaited body ≡ Some turn
     → answer_comes setting home conn connection
     (record { id = record { conn = conn; command = connection.answered + 1 }; body = body }) ≡ replied_turn setting home conn connection tag turn
 unfolding answer_comes answer_by
@@ -256,7 +260,7 @@ fits setting home conn connection tag name work body turn stage shown =
     ap (λ b. answer_by setting home conn connection
     (record { id = record { conn = conn; command = connection.answered + 1 }; body = body }) b connection.stage) same
     ∙ ap (answer_by setting home conn connection (record { id = record { conn = conn; command = connection.answered + 1 }; body = body }) true) stage
-    ∙ ap (turned setting home conn connection tag) shown
+    ∙ ap (λ t. finished_in setting home conn connection tag (finished_by connection.session t)) shown
 
 stage_ended_by : (setting : Setting) (home : List ℕ) (conn : ℕ) (connection : Connection) (answer : BackAnswer) (fits : Bool)
     → answer_by setting home conn connection answer fits Ended ≡ unchanged connection

@@ -10,7 +10,7 @@ use Rattle.backend_core.specs.declared.input.BackInput.TheVariants.{FromFront}
 use Rattle.backend_core.specs.Plan.{plan_of, answer_outs}
 use Rattle.backend_core.specs.Step.{home_step}
 use Rattle.front_core.specs.declared.connection.Connection.{Connection}
-use Rattle.front_core.specs.Taken.{ask_for, user_of}
+use Rattle.front_core.specs.Taken.{ask_with, user_of}
 use Rattle.imap_reply.specs.SessionEnds.{TurnEnds}
 use Rattle.imap_reply.proofs.AnswersEnd.{worked_ends}
 use Rattle.link_msg.specs.declared.answer.AnswerBody.{AnswerBody}
@@ -37,7 +37,7 @@ use Rattle.mur_model.specs.Left.{store_after, kept}
 use Rattle.mur_model.proofs.HistoryGrows.{same_lists, item_more}
 use Rattle.mur_model.proofs.Numbered.{with_item-other}
 use Rattle.session_core.specs.Asking.{asked_for}
-use Rattle.session_core.specs.Finish.{finish}
+use Rattle.session_core.specs.Finish.{turn_of}
 use Rattle.cluster_core.specs.declared.world.World.{World}
 use Rattle.cluster_core.specs.Heard.{Heard, frames_heard}
 use Rattle.cluster_core.specs.Links.{on_link, sent, without_first}
@@ -109,14 +109,14 @@ pub record IsAnswered (config : Config) (heard : ℕ → Heard) (world : World) 
       (having_said law.story.talk conn reply serial) course
   pub others : (other : ℕ) → other ≢ conn → course.sessions other ≡ law.story.course.sessions other
   pub mine : course.sessions conn ≡ session_after (law.story.course.sessions conn) turn.session
-  pub shown : finish (asked_for name work).awaited body ≡ Some turn
+  pub shown : turn_of (asked_for name work).awaited body ≡ Some turn
   pub ends : TurnEnds turn
   pub tagged : reply.tag ≡ tag
   pub replied : reply.reply ≡ turn.reply
 
 pub answers_ask : (config : Config) (heard : ℕ → Heard) (world : World) (law : KeepsLaw config heard world) (conn : ℕ) (front : List ℕ)
     (connection : Connection) (tag : Tag) (it : Command) (name : List ℕ) (work : Work) (ask : FrontAsk)
-    → ask ≡ ask_for conn connection name work → connection.answered ≡ length (law.story.talk.answers conn)
+    → ask ≡ ask_with conn connection name (asked_for name work) → connection.answered ≡ length (law.story.talk.answers conn)
     → numbered (law.story.talk.requests conn) (length (law.story.talk.answers conn) + 1) ≡ Some (a_command tag it)
     → need_of (setting_of config) (law.story.course.sessions conn) it ≡ Mailbox name work
     → IsAnswered config heard world law conn front connection tag name work ask

@@ -9,7 +9,7 @@ use Rattle.front_core.specs.declared.connection.Connection.{Connection}
 use Rattle.front_core.specs.declared.front.Front.{Front}
 use Rattle.front_core.specs.Answered.{answer_comes}
 use Rattle.front_core.specs.Front.{connection_at, deliver as take_message, answer_at, with_turned}
-use Rattle.front_core.specs.Taken.{Turned, ask_for}
+use Rattle.front_core.specs.Taken.{Turned, ask_with}
 use Rattle.imap_reply.specs.declared.inputs.Input.TheVariants.{Asks}
 use Rattle.imap_wire.specs.Frames.{begun}
 use Rattle.link_msg.specs.declared.answer.AnswerBody.{AnswerBody}
@@ -199,7 +199,7 @@ ask_open config heard after world law from to ask rest conn bytes node front con
     absurd (no_ask_first world.links conn node (home_of config) from to ask rest _ first own way)
 ask_open config heard after world law from to ask rest conn bytes node front connection first same own e at reader standing
     (waits passed asking tag it name work stage parts lasts answered is need last (there said s way)) =
-    let took = ask_taken world.links conn node (home_of config) from to ask rest (ask_for conn connection name work) [] first own way in
+    let took = ask_taken world.links conn node (home_of config) from to ask rest (ask_with conn connection name (asked_for name work)) [] first own way in
     let lengths : connection.answered ≡ length (law.story.talk.answers conn) = standing.count ∙ sym (ap length said) in
     let asked : numbered (law.story.talk.requests conn) (length (law.story.talk.answers conn) + 1) ≡ Some (a_command tag it) =
     subst (λ r. numbered r (length (law.story.talk.answers conn) + 1) ≡ Some (a_command tag it))
@@ -239,7 +239,7 @@ ask_closed config heard after world law from to ask rest conn bytes node front c
     absurd (no_ask_first world.links conn node (home_of config) from to ask rest _ first own way)
 ask_closed config heard after world law from to ask rest conn bytes node front connection first same own e at gone
     (its_ask tag it name work said next need s way) =
-    let took = ask_taken world.links conn node (home_of config) from to ask rest (ask_for conn connection name work) [] first own way in
+    let took = ask_taken world.links conn node (home_of config) from to ask rest (ask_with conn connection name (asked_for name work)) [] first own way in
     let lengths : connection.answered ≡ length (law.story.talk.answers conn) = gone.count ∙ sym (ap length said) in
     let asked : numbered (law.story.talk.requests conn) (length (law.story.talk.answers conn) + 1) ≡ Some (a_command tag it) =
     ap (λ r. numbered r (length (law.story.talk.answers conn) + 1)) (law.requests conn ∙ ap (λ h. requests_of (setting_of config) (frames_heard h)) e)

@@ -56,11 +56,11 @@ reader_by : (setting : Setting) (home : List ℕ) (conn : ℕ) (connection : Con
     → connection.reader ≡ held → (ended : Bool) → ends_session turn.session ≡ ended
     → HasBegunSo (replied_turn setting home conn connection tag turn).connection held
 reader_by setting home conn connection tag turn held reader true ended =
-    subst (λ (t : Turned). HasBegunSo t.connection held) (sym (ended_turned setting home conn connection (reply_text tag turn.reply) turn.session ended))
+    subst (λ (t : Turned). HasBegunSo t.connection held) (sym (ended_turned setting home conn connection tag turn.reply turn.session ended))
     (inl refl)
 reader_by setting home conn connection tag turn held reader false ended =
-    subst (λ (t : Turned). HasBegunSo t.connection held) (sym (read_turned setting home conn connection (reply_text tag turn.reply) turn.session ended))
-    (inr (inputs_keep_reader setting home conn (reading_again connection turn.session) connection.waiting ∙ reader))
+    subst (λ (t : Turned). HasBegunSo t.connection held) (sym (read_turned setting home conn connection tag turn.reply turn.session ended))
+    (inr (inputs_keep_reader setting home conn (reading_again (record connection { session = session_after connection.session turn.session })) connection.waiting ∙ reader))
 
 replied_reader : (setting : Setting) (home : List ℕ) (conn : ℕ) (connection : Connection) (tag : Tag) (awaited : Awaited) (turn : Turn) (held : Read)
     → connection.stage ≡ Asked tag awaited → HasBegunSo connection held

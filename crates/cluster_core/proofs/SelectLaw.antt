@@ -16,7 +16,7 @@ use Rattle.mur_model.specs.Act.{MayWork}
 use Rattle.mur_model.specs.Left.{store_after}
 use Rattle.mur_model.specs.Select.{select_on}
 use Rattle.session_core.specs.Asking.{asked_for}
-use Rattle.session_core.specs.Finish.{finish}
+use Rattle.session_core.specs.Finish.{turn_of}
 use Rattle.session_core.specs.Select.{select_done, select_turn}
 use Rattle.cluster_core.specs.OneStore.{open_content}
 use Rattle.cluster_core.proofs.ServedAlike.{IsStoreOf, ServesAlike}
@@ -31,7 +31,7 @@ apart h = cc
 
 seen : (store : Store) (home : Backend) (name : List ℕ) (it : Opening) (held : Held) → IsStoreOf store home
     → ServesAlike store home name (select_work it) (select_on it name (Some held.content)) (answers home (done nothing (snapshot_of held.content)))
-unfolding select_on store_after asked_for finish select_turn select_done MayWork
+unfolding select_on store_after asked_for turn_of select_turn select_done MayWork
 seen store home name it held same = record {
   free = tt;
   body = _;
@@ -50,7 +50,7 @@ there_by store home name it held e same =
 
 pub selects_alike : (store : Store) (home : Backend) (name : List ℕ) (it : Opening) (found : Option Held) → held_at home name ≡ found → IsStoreOf store home
     → SelectsAlike store home name it found
-unfolding look_step look_at select_on store_after asked_for finish select_turn MayWork
+unfolding look_step look_at select_on store_after asked_for turn_of select_turn MayWork
 selects_alike store home name it None at same = record {
   free = tt;
   body = _;

@@ -14,7 +14,7 @@ use Rattle.mur_model.specs.Act.{MayWork}
 use Rattle.mur_model.specs.Left.{Worked, store_after, kept}
 use Rattle.mur_model.specs.Store.{box_at, is_spent}
 use Rattle.session_core.specs.Asking.{asked_for}
-use Rattle.session_core.specs.Finish.{finish}
+use Rattle.session_core.specs.Finish.{turn_of}
 use Rattle.cluster_core.specs.OneStore.{open_content}
 
 -- the home has the mailboxes of the store, all of them open, and its last UIDVALIDITY is the greatest that was given
@@ -29,6 +29,6 @@ pub record ServesAlike (store : Store) (home : Backend) (name : List ℕ) (work 
   pub free : MayWork store name (home.last_serial + 1) work
   pub body : AnswerBody
   pub is_body : step.body ≡ Some body
-  pub shown : finish (asked_for name work).awaited body ≡ Some worked.turn
+  pub shown : turn_of (asked_for name work).awaited body ≡ Some worked.turn
   pub still : IsStoreOf (store_after store name worked.left) step.home
   pub unless : step.counts ≡ IfAnswered → worked.left ≡ kept

@@ -17,7 +17,7 @@ use Rattle.mur_model.specs.Act.{MayWork}
 use Rattle.mur_model.specs.Left.{replied, store_after}
 use Rattle.mur_model.specs.Status.{status_on, status_reply as model_reply}
 use Rattle.session_core.specs.Asking.{asked_for}
-use Rattle.session_core.specs.Finish.{finish}
+use Rattle.session_core.specs.Finish.{turn_of}
 use Rattle.session_core.specs.Status.{status_reply, reply_to_done}
 use Rattle.cluster_core.specs.OneStore.{open_box, open_content}
 use Rattle.cluster_core.proofs.AppendLaw.{not_refused}
@@ -43,7 +43,7 @@ apart h = cc
 seen : (store : Store) (home : Backend) (name shown : List ℕ) (items : List StatusItem) (held : Held) → IsStoreOf store home
     → ServesAlike store home name (status_work shown items) (status_on shown items (Some held.content))
     (answers home (done nothing (snapshot_of held.content)))
-unfolding status_on store_after asked_for finish status_reply reply_to_done MayWork
+unfolding status_on store_after asked_for turn_of status_reply reply_to_done MayWork
 seen store home name shown items held same = record {
   free = tt;
   body = _;
@@ -63,7 +63,7 @@ there_by store home name shown items held e same =
 pub looks_alike : (store : Store) (home : Backend) (name shown : List ℕ) (items : List StatusItem) (found : Option Held) → held_at home name ≡ found
     → IsStoreOf store home
     → LooksAlike store home name shown items found
-unfolding look_step look_at status_on store_after asked_for finish status_reply MayWork
+unfolding look_step look_at status_on store_after asked_for turn_of status_reply MayWork
 looks_alike store home name shown items None at same = record {
   free = tt;
   body = _;

@@ -37,7 +37,7 @@ use Rattle.mur_model.specs.Selected.{at_view, gone}
 use Rattle.mur_model.specs.StoreFlags.{store_on, store_at, stored_at}
 use Rattle.mur_model.specs.Viewing.{viewed_on, news_at, close_at}
 use Rattle.session_core.specs.Asking.{asked_for}
-use Rattle.session_core.specs.Finish.{finish}
+use Rattle.session_core.specs.Finish.{turn_of}
 use Rattle.session_core.specs.Viewed.{viewed_done, viewed_turn}
 use Rattle.cluster_core.specs.OneStore.{open_content}
 use Rattle.cluster_core.proofs.AppendLaw.{kept_alike, changed_alike}
@@ -59,7 +59,7 @@ record AnswersAlike (store : Store) (home : Backend) (name : List ℕ) (view : V
 serves_as : (store : Store) (home : Backend) (name : List ℕ) (view : View) (it : ViewWork) (worked : Worked) (behind : Backend) (response : Response)
     → AnswersAlike store home name view it worked behind response
     → ServesAlike store home name (viewed_work view it) worked (answers behind response)
-unfolding asked_for finish MayWork
+unfolding asked_for turn_of MayWork
 serves_as store home name view it worked behind response same = record {
   free = tt;
   body = response.body;

@@ -5,45 +5,34 @@ use Rattle.imap_reply.specs.declared.inputs.Input.{Input}
 use Rattle.imap_reply.specs.declared.inputs.Input.TheVariants.{GoesOn, Asks, Faults}
 use Rattle.link_msg.specs.declared.answer.BackAnswer.{BackAnswer}
 use Rattle.mur_model.specs.declared.command.Tag.{Tag}
-use Rattle.mur_model.specs.declared.need.Need.{Need}
-use Rattle.mur_model.specs.declared.need.Need.TheVariants.{Refusal, Turned, Mailbox}
-use Rattle.mur_model.specs.declared.reply.Reply.{Reply}
 use Rattle.mur_model.specs.declared.request.Request.{Request}
 use Rattle.mur_model.specs.declared.request.Request.TheVariants.{Command as a_command, Unknown as unknown, TooBig as too_big}
-use Rattle.mur_model.specs.declared.session.Sess.{Sess}
-use Rattle.mur_model.specs.declared.session.Sess.TheVariants.{Off, In, Selected, Ended as session_ended}
-use Rattle.mur_model.specs.declared.session.Turn.{Turn}
 use Rattle.mur_model.specs.declared.setting.Setting.{Setting}
-use Rattle.mur_model.specs.Act.{need_of}
 use Rattle.front_core.specs.declared.connection.Connection.{Connection}
 use Rattle.front_core.specs.declared.connection.Stage.{Stage}
 use Rattle.front_core.specs.declared.connection.Stage.TheVariants.{Reading, Asked, Ended}
-use Rattle.front_core.specs.Answered.{answer_comes, answer_by, turned, replied, reading_again}
+use Rattle.front_core.specs.Answered.{answer_comes, answer_by, need_behind, reading_again}
 use Rattle.front_core.specs.Front.{is_asked}
 use Rattle.front_core.specs.Room.{commands_of}
-use Rattle.front_core.specs.Taken.{answers, answers_last, asks, turns, need_in, request_in, input_in, comes_at, input_comes, inputs_come}
+use Rattle.front_core.specs.Taken.{answers, answers_last, asks, need_in, request_in, input_in, comes_at, input_comes, inputs_come}
 use Rattle.session_core.specs.declared.asking.Awaited.{Awaited}
+use Rattle.session_core.specs.declared.need.Need.{Need}
+use Rattle.session_core.specs.declared.need.Need.TheVariants.{Reply, Leave, Home}
+use Rattle.session_core.specs.Begin.{begin}
 use Rattle.session_core.specs.Finish.{finish}
 
 module _ (setting : Setting) (home : List ℕ) (conn : ℕ) where
-  turns_count : (c : Connection) (tag : Tag) (reply : Reply) (session : Option Sess)
-      → commands_of (turns conn c tag reply session).connection ≤ commands_of c + 1
-  unfolding turns answers answers_last is_asked
-  turns_count c tag reply None = omega arith
-  turns_count c tag reply (Some Off) = omega arith
-  turns_count c tag reply (Some (In user)) = omega arith
-  turns_count c tag reply (Some (Selected view)) = omega arith
-  turns_count c tag reply (Some session_ended) = omega arith
-
   need_counts : (c : Connection) (tag : Tag) (need : Need) → commands_of (need_in home conn c tag need).connection ≤ commands_of c + 1
-  unfolding need_in answers asks is_asked
-  need_counts c tag (Refusal verdict) = omega arith
-  need_counts c tag (Turned turn) = turns_count c tag turn.reply turn.session
-  need_counts c tag (Mailbox name work) = omega arith
+  unfolding need_in answers answers_last asks is_asked
+  need_counts c tag (Reply reply) = omega arith
+  need_counts c tag (Leave reply) = omega arith
+  need_counts c tag (Home name asking) = omega arith
 
   request_counts : (c : Connection) (request : Request) → commands_of (request_in setting home conn c request).connection ≤ commands_of c + 1
   unfolding request_in answers
-  request_counts c (a_command tag it) = need_counts c tag (need_of setting c.session it)
+  request_counts c (a_command tag it) =
+      let behind = begin setting c.session it in
+      need_counts (record c { session = behind.session }) tag behind.need
   request_counts c (unknown tag) = omega arith
   request_counts c (too_big tag) = omega arith
 
@@ -70,29 +59,20 @@ module _ (setting : Setting) (home : List ℕ) (conn : ℕ) where
   inputs_count c (input ∷ inputs) =
       omega (arith, input_counts c input, inputs_count (input_comes setting home conn c input).connection inputs)
 
-  read_counts : (c : Connection) (tag : Tag) (awaited : Awaited) (session : Option Sess) → c.stage ≡ Asked tag awaited
-      → commands_of (inputs_come setting home conn (reading_again c session) c.waiting).connection ≤ commands_of c
-  unfolding is_asked
-  read_counts c tag awaited session is = omega (arith, inputs_count (reading_again c session) c.waiting, ap is_asked is)
-
-  replied_counts : (c : Connection) (tag : Tag) (awaited : Awaited) (text : List ℕ) (session : Option Sess) → c.stage ≡ Asked tag awaited
-      → commands_of (replied setting home conn c text session).connection ≤ commands_of c
-  unfolding replied is_asked
-  replied_counts c tag awaited text (Some session_ended) is = omega (arith, ap is_asked is)
-  replied_counts c tag awaited text (Some Off) is = read_counts c tag awaited (Some Off) is
-  replied_counts c tag awaited text (Some (In user)) is = read_counts c tag awaited (Some (In user)) is
-  replied_counts c tag awaited text (Some (Selected view)) is = read_counts c tag awaited (Some (Selected view)) is
-  replied_counts c tag awaited text None is = read_counts c tag awaited None is
-
-  turned_counts : (c : Connection) (tag : Tag) (awaited : Awaited) (turn : Option Turn) → c.stage ≡ Asked tag awaited
-      → commands_of (turned setting home conn c tag turn).connection ≤ commands_of c
-  turned_counts c tag awaited None is = omega arith
-  turned_counts c tag awaited (Some turn) is = replied_counts c tag awaited _ turn.session is
+  behind_counts : (c : Connection) (tag : Tag) (awaited : Awaited) (need : Option Need) → c.stage ≡ Asked tag awaited
+      → commands_of (need_behind setting home conn c tag need).connection ≤ commands_of c
+  unfolding need_behind asks is_asked
+  behind_counts c tag awaited None is = omega arith
+  behind_counts c tag awaited (Some (Reply reply)) is = omega (arith, inputs_count (reading_again c) c.waiting, ap is_asked is)
+  behind_counts c tag awaited (Some (Leave reply)) is = omega (arith, ap is_asked is)
+  behind_counts c tag awaited (Some (Home name asking)) is = omega (arith, ap is_asked is)
 
   answer_counts_by : (c : Connection) (answer : BackAnswer) (fits : Bool) (stage : Stage) → c.stage ≡ stage
       → commands_of (answer_by setting home conn c answer fits stage).connection ≤ commands_of c
   unfolding answer_by
-  answer_counts_by c answer true (Asked tag awaited) is = turned_counts c tag awaited (finish awaited answer.body) is
+  answer_counts_by c answer true (Asked tag awaited) is =
+      let behind = finish c.session awaited answer.body in
+      behind_counts (record c { session = behind.session }) tag awaited behind.need is
   answer_counts_by c answer true Reading is = omega arith
   answer_counts_by c answer true Ended is = omega arith
   answer_counts_by c answer false stage is = omega arith

@@ -1,22 +1,19 @@
 -- What an input makes of a connection depends neither on its reader nor on the inputs that wait, and changes neither.
-use Rattle.std.proofs.Common.{◌≡◌, ℕ, List, Option, None, Some, refl, sym, ◌∙◌, ap}
+use Rattle.std.proofs.Common.{◌≡◌, ℕ, List, refl, sym, ◌∙◌, ap}
 use Rattle.imap_reply.specs.declared.inputs.Input.{Input}
 use Rattle.imap_reply.specs.declared.inputs.Input.TheVariants.{GoesOn, Asks, Faults}
 use Rattle.mur_model.specs.declared.command.Tag.{Tag}
-use Rattle.mur_model.specs.declared.need.Need.{Need}
-use Rattle.mur_model.specs.declared.need.Need.TheVariants.{Refusal, Turned as turned_at_once, Mailbox}
-use Rattle.mur_model.specs.declared.reply.Reply.{Reply}
 use Rattle.mur_model.specs.declared.request.Request.{Request}
 use Rattle.mur_model.specs.declared.request.Request.TheVariants.{Command as a_command, Unknown as unknown, TooBig as too_big}
-use Rattle.mur_model.specs.declared.session.Sess.{Sess}
-use Rattle.mur_model.specs.declared.session.Sess.TheVariants.{Off, In, Selected, Ended as session_ended}
 use Rattle.mur_model.specs.declared.setting.Setting.{Setting}
-use Rattle.mur_model.specs.Act.{need_of}
+use Rattle.session_core.specs.declared.need.Need.{Need}
+use Rattle.session_core.specs.declared.need.Need.TheVariants.{Reply, Leave, Home}
+use Rattle.session_core.specs.Begin.{begin}
 use Rattle.front_core.specs.declared.connection.Connection.{Connection}
 use Rattle.front_core.specs.declared.connection.Stage.{Stage}
 use Rattle.front_core.specs.declared.connection.Stage.TheVariants.{Reading, Asked, Ended}
 use Rattle.front_core.specs.Reading.{Reading as Read}
-use Rattle.front_core.specs.Taken.{Turned, answers, answers_last, asks, turns, need_in, request_in, input_in, comes_at, input_comes}
+use Rattle.front_core.specs.Taken.{Turned, answers, answers_last, asks, need_in, request_in, input_in, comes_at, input_comes}
 
 -- with another reader, and other inputs that wait
 abbrev pub holding : Read → List Input → Turned → Turned
@@ -27,27 +24,20 @@ reading reader turned = record turned { connection = record turned.connection { 
 
 module _ (setting : Setting) (home : List ℕ) (conn : ℕ) (reader : Read) where
   module _ (waiting : List Input) where
-    turns_apart : (c : Connection) (tag : Tag) (reply : Reply) (session : Option Sess)
-        → turns conn (record c { reader = reader; waiting = waiting }) tag reply session ≡ holding reader waiting (turns conn c tag reply session)
-    unfolding turns answers answers_last
-    turns_apart c tag reply None = refl
-    turns_apart c tag reply (Some Off) = refl
-    turns_apart c tag reply (Some (In user)) = refl
-    turns_apart c tag reply (Some (Selected view)) = refl
-    turns_apart c tag reply (Some session_ended) = refl
-
     need_apart : (c : Connection) (tag : Tag) (need : Need)
         → need_in home conn (record c { reader = reader; waiting = waiting }) tag need ≡ holding reader waiting (need_in home conn c tag need)
-    unfolding need_in answers asks
-    need_apart c tag (Refusal verdict) = refl
-    need_apart c tag (turned_at_once turn) = turns_apart c tag turn.reply turn.session
-    need_apart c tag (Mailbox name work) = refl
+    unfolding need_in answers answers_last asks
+    need_apart c tag (Reply reply) = refl
+    need_apart c tag (Leave reply) = refl
+    need_apart c tag (Home name asking) = refl
 
     request_apart : (c : Connection) (request : Request)
         → request_in setting home conn (record c { reader = reader; waiting = waiting }) request
         ≡ holding reader waiting (request_in setting home conn c request)
     unfolding request_in answers
-    request_apart c (a_command tag it) = need_apart c tag (need_of setting c.session it)
+    request_apart c (a_command tag it) =
+        let behind = begin setting c.session it in
+        need_apart (record c { session = behind.session }) tag behind.need
     request_apart c (unknown tag) = refl
     request_apart c (too_big tag) = refl
 

@@ -1,5 +1,4 @@
 pub mod ReaderLaws
-pub mod NeedLaw
 pub mod FrameLaws
 pub mod FramesLaws
 pub mod CommandLaws

@@ -4,25 +4,19 @@ use Rattle.imap_reply.specs.ReplyText.{reply_text}
 use Rattle.link_msg.specs.declared.answer.BackAnswer.{BackAnswer}
 use Rattle.link_msg.specs.declared.out.Out.TheVariants.{Client, Close}
 use Rattle.mur_model.specs.declared.command.Tag.{Tag}
-use Rattle.mur_model.specs.declared.session.Sess.{Sess}
 use Rattle.mur_model.specs.declared.session.Sess.TheVariants.{Ended as session_ended}
-use Rattle.mur_model.specs.declared.session.Turn.{Turn}
 use Rattle.mur_model.specs.declared.setting.Setting.{Setting}
 use Rattle.front_core.specs.declared.connection.Connection.{Connection}
 use Rattle.front_core.specs.declared.connection.Stage.{Stage}
 use Rattle.front_core.specs.declared.connection.Stage.TheVariants.{Reading, Asked, Ended}
-use Rattle.mur_model.specs.Act.{session_after}
-use Rattle.session_core.specs.Finish.{finish}
-use Rattle.front_core.specs.Taken.{Turned, inputs_come, behind_outs}
+use Rattle.session_core.specs.declared.need.Need.{Need}
+use Rattle.session_core.specs.declared.need.Need.TheVariants as needs
+use Rattle.session_core.specs.Finish.{Finished, finish}
+use Rattle.front_core.specs.Taken.{Turned, asks, inputs_come, behind_outs}
 
 -- the connection behind the answer of its command, before the inputs that waited
-abbrev pub reading_again : Connection → Option Sess → Connection
-reading_again connection session = record connection {
-  waiting = [];
-  session = session_after connection.session session;
-  stage = Reading;
-  answered = connection.answered + 1;
-}
+abbrev pub reading_again : Connection → Connection
+reading_again connection = record connection { waiting = []; stage = Reading; answered = connection.answered + 1 }
 
 -- the connection whose session has ended with the answer of its command
 abbrev pub ended_so : Connection → Connection
@@ -35,19 +29,26 @@ ends_with conn connection text = record { connection = ended_so connection; outs
 abbrev pub unchanged : Connection → Turned
 unchanged connection = record { connection = connection; outs = [] }
 
--- the client is given its reply; where the session has ended nothing follows it (RFC 9051, 7.1.5), else the inputs that waited come
-unfoldable pub replied : Setting → List ℕ → ℕ → Connection → List ℕ → Option Sess → Turned
-replied setting home conn connection text (Some session_ended) = ends_with conn connection text
-replied setting home conn connection text session =
-    behind_outs (Client conn text ∷ []) (inputs_come setting home conn (reading_again connection session) connection.waiting)
+-- the client is given the reply of its command, and the inputs that waited come
+abbrev pub reads_on : Setting → List ℕ → ℕ → Connection → List ℕ → Turned
+reads_on setting home conn connection text =
+    behind_outs (Client conn text ∷ []) (inputs_come setting home conn (reading_again connection) connection.waiting)
 
-abbrev pub turned : Setting → List ℕ → ℕ → Connection → Tag → Option Turn → Turned
-turned setting home conn connection tag None = unchanged connection
-turned setting home conn connection tag (Some turn) = replied setting home conn connection (reply_text tag turn.reply) turn.session
+-- by what the session needs behind the answer: where it has ended nothing follows its reply (RFC 9051, 7.1.5)
+unfoldable pub need_behind : Setting → List ℕ → ℕ → Connection → Tag → Option Need → Turned
+need_behind setting home conn connection tag None = unchanged connection
+need_behind setting home conn connection tag (Some (needs.Reply reply)) = reads_on setting home conn connection (reply_text tag reply)
+need_behind setting home conn connection tag (Some (needs.Leave reply)) = ends_with conn connection (reply_text tag reply)
+need_behind setting home conn connection tag (Some (needs.Home name asking)) = asks home conn connection tag name asking
+
+abbrev pub finished_in : Setting → List ℕ → ℕ → Connection → Tag → Finished → Turned
+finished_in setting home conn connection tag behind =
+    need_behind setting home conn (record connection { session = behind.session }) tag behind.need
 
 -- an answer to another command than the one that waits changes nothing
 unfoldable pub answer_by : Setting → List ℕ → ℕ → Connection → BackAnswer → Bool → Stage → Turned
-answer_by setting home conn connection answer true (Asked tag awaited) = turned setting home conn connection tag (finish awaited answer.body)
+answer_by setting home conn connection answer true (Asked tag awaited) =
+    finished_in setting home conn connection tag (finish connection.session awaited answer.body)
 answer_by setting home conn connection answer fits stage = unchanged connection
 
 unfoldable pub answer_comes : Setting → List ℕ → ℕ → Connection → BackAnswer → Turned

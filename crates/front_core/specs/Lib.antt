@@ -4,5 +4,4 @@ pub mod Taken
 pub mod Answered
 pub mod Front
 pub mod Room
-pub mod Begun
 pub mod Stages

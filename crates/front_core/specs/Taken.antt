@@ -1,6 +1,6 @@
 -- A connection: what an input of its client makes of it, and what it lets out. One command at a time: inputs that come behind
 -- a command which waits for a home wait with it (RFC 9051, 5.5).
-use Rattle.std.specs.Prelude.{ℕ, ◌+◌, List, [], ◌∷◌, ◌++◌, Option, Some}
+use Rattle.std.specs.Prelude.{ℕ, ◌+◌, List, [], ◌∷◌, ◌++◌}
 use Rattle.imap_reply.specs.ByeLine.{bye_line, bye_of}
 use Rattle.imap_reply.specs.Continuation.{continuation_line}
 use Rattle.imap_reply.specs.ReplyText.{reply_text}
@@ -12,9 +12,6 @@ use Rattle.link_msg.specs.declared.counts.Counts.TheVariants.{Always}
 use Rattle.link_msg.specs.declared.out.Out.{Out}
 use Rattle.link_msg.specs.declared.out.Out.TheVariants.{Client, Close, Link, Mark}
 use Rattle.mur_model.specs.declared.command.Tag.{Tag}
-use Rattle.mur_model.specs.declared.need.Need.{Need}
-use Rattle.mur_model.specs.declared.need.Need.TheVariants.{Refusal, Turned as turned_at_once, Mailbox}
-use Rattle.mur_model.specs.declared.need.Work.{Work}
 use Rattle.mur_model.specs.declared.reply.BadText.TheVariants.{Syntax}
 use Rattle.mur_model.specs.declared.reply.NoText.TheVariants.{Limit}
 use Rattle.mur_model.specs.declared.reply.Reply.{Reply}
@@ -24,12 +21,15 @@ use Rattle.mur_model.specs.declared.request.Request.TheVariants.{Command as a_co
 use Rattle.mur_model.specs.declared.session.Sess.{Sess}
 use Rattle.mur_model.specs.declared.session.Sess.TheVariants.{Off, In, Selected, Ended as session_ended}
 use Rattle.mur_model.specs.declared.setting.Setting.{Setting}
-use Rattle.mur_model.specs.Act.{need_of, session_after}
 use Rattle.mur_model.specs.Reply.{reply_of, refused}
 use Rattle.front_core.specs.declared.connection.Connection.{Connection}
 use Rattle.front_core.specs.declared.connection.Stage.{Stage}
 use Rattle.front_core.specs.declared.connection.Stage.TheVariants.{Reading, Asked, Ended}
-use Rattle.session_core.specs.Asking.{asked_for}
+use Rattle.session_core.specs.declared.asking.Asking.{Asking}
+use Rattle.session_core.specs.declared.need.Need.{Need}
+use Rattle.session_core.specs.declared.need.Need.TheVariants as needs
+use Rattle.session_core.specs.Begin.{begin}
+use Rattle.session_core.specs.Need.{Behind}
 
 -- a connection, and what it let out
 pub record Turned : Type 0 where
@@ -50,11 +50,6 @@ answers_last conn connection tag reply = record {
   outs = Client conn (reply_text tag reply) ∷ Mark (record { conn = conn; command = connection.answered + 1 }) Always ∷ Close conn ∷ [];
 }
 
--- a reply that is given at once: where the session has ended nothing follows it (RFC 9051, 7.1.5)
-unfoldable pub turns : ℕ → Connection → Tag → Reply → Option Sess → Turned
-turns conn connection tag reply (Some session_ended) = answers_last conn connection tag reply
-turns conn connection tag reply session = answers conn connection (session_after connection.session session) tag reply
-
 -- the user of a session that has begun
 unfoldable pub user_of : Sess → List ℕ
 user_of Off = []
@@ -62,29 +57,33 @@ user_of (In user) = user
 user_of (Selected view) = view.user
 user_of session_ended = []
 
-abbrev pub ask_for : ℕ → Connection → List ℕ → Work → FrontAsk
-ask_for conn connection name work = record {
+abbrev pub ask_with : ℕ → Connection → List ℕ → Asking → FrontAsk
+ask_with conn connection name asking = record {
   id = record { conn = conn; command = connection.answered + 1 };
   user = user_of connection.session;
   name = name;
-  selected = (asked_for name work).selected;
-  op = (asked_for name work).op;
+  selected = asking.selected;
+  op = asking.op;
 }
 
 -- a command that waits for the home of its mailbox
-unfoldable pub asks : List ℕ → ℕ → Connection → Tag → List ℕ → Work → Turned
-asks home conn connection tag name work = record {
-  connection = record connection { stage = Asked tag (asked_for name work).awaited };
-  outs = Link home (Ask (ask_for conn connection name work)) ∷ [];
+unfoldable pub asks : List ℕ → ℕ → Connection → Tag → List ℕ → Asking → Turned
+asks home conn connection tag name asking = record {
+  connection = record connection { stage = Asked tag asking.awaited };
+  outs = Link home (Ask (ask_with conn connection name asking)) ∷ [];
 }
 
+-- by what the session needs behind a command
 unfoldable pub need_in : List ℕ → ℕ → Connection → Tag → Need → Turned
-need_in home conn connection tag (Refusal verdict) = answers conn connection connection.session tag (reply_of verdict)
-need_in home conn connection tag (turned_at_once turn) = turns conn connection tag turn.reply turn.session
-need_in home conn connection tag (Mailbox name work) = asks home conn connection tag name work
+need_in home conn connection tag (needs.Reply reply) = answers conn connection connection.session tag reply
+need_in home conn connection tag (needs.Leave reply) = answers_last conn connection tag reply
+need_in home conn connection tag (needs.Home name asking) = asks home conn connection tag name asking
+
+abbrev pub begun_in : List ℕ → ℕ → Connection → Tag → Behind → Turned
+begun_in home conn connection tag behind = need_in home conn (record connection { session = behind.session }) tag behind.need
 
 unfoldable pub request_in : Setting → List ℕ → ℕ → Connection → Request → Turned
-request_in setting home conn connection (a_command tag it) = need_in home conn connection tag (need_of setting connection.session it)
+request_in setting home conn connection (a_command tag it) = begun_in home conn connection tag (begin setting connection.session it)
 request_in setting home conn connection (unknown tag) = answers conn connection connection.session tag (reply_of (bad_reply Syntax))
 request_in setting home conn connection (too_big tag) = answers conn connection connection.session tag (refused Limit)
 

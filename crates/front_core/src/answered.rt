@@ -1,23 +1,24 @@
 // The answer of a home to the command that waits for it.
 ghost use Rattle.std.specs.Prelude.{◌≡◌, ◌+◌, ◌<◌, ◌^◌, [], ◌∷◌, length, IfOk};
 ghost use Rattle.link_msg.specs.declared.out.Out.TheVariants.{Client};
-ghost use Rattle.front_core.specs.Answered.{answer_comes, ends_with, reading_again, replied};
+ghost use Rattle.front_core.specs.Answered.{answer_comes, ends_with, reading_again, reads_on};
 ghost use Rattle.front_core.specs.Front.{is_asked};
 ghost use Rattle.front_core.specs.Room.{commands_of};
-ghost use Rattle.front_core.specs.Taken.{inputs_come, behind_outs};
 
+use crate::asks::asks;
 use crate::connection::{Connection, Stage};
 use crate::taken::reply_bytes;
 use crate::waiting::waiting_come;
 use link_msg::{BackAnswer, Out, Outs};
 use mur_base::{Bytes, Memory, NodeName};
 use mur_model::{Sess, Setting};
-use session_core::finish;
+use session_core::{Need, finish};
 use std::alloc::Global;
+use std::mem;
 
 /// Takes an answer, where it is one to the command that waits: the client is given its reply, and the inputs that waited
-/// come. For want of memory the connection is spent.
-#[tactic(auto, unfolding(crate::specs::Answered::answer_comes, crate::specs::Answered::answer_by, crate::specs::Front::is_asked))]
+/// come, unless the session has ended. For want of memory the connection is spent.
+#[tactic(auto, unfolding(crate::specs::Answered::answer_comes, crate::specs::Answered::answer_by, crate::specs::Answered::need_behind, crate::specs::Front::is_asked, session_core::specs::Begin::MayNeed))]
 pub fn answer_comes(
     alloc: Global,
     setting: &Setting,
@@ -32,35 +33,28 @@ pub fn answer_comes(
 {
     match &connection.stage {
         Stage::Asked(tag, awaited) if answer.id.command == connection.answered + 1 => {
-            let Some(turn) = finish(alloc, awaited, answer.body)? else {
-                return Ok(Outs::new(alloc));
-            };
-            let bytes = reply_bytes(alloc, tag, turn.reply)?;
-            replied(alloc, setting, home, conn, connection, bytes, turn.session)
+            match finish(alloc, &mut connection.session, awaited, answer.body)? {
+                None => Ok(Outs::new(alloc)),
+                Some(Need::Reply(reply)) => {
+                    let text = reply_bytes(alloc, tag, reply)?;
+                    reads_on(alloc, setting, home, conn, connection, text)
+                }
+                Some(Need::Leave(reply)) => {
+                    let text = reply_bytes(alloc, tag, reply)?;
+                    end(alloc, conn, connection, text)
+                }
+                Some(Need::Home(name, asking)) => {
+                    let mut outs = Outs::new(alloc);
+                    let stage = mem::replace(&mut connection.stage, Stage::Reading);
+                    let Stage::Asked(tag, _) = stage else {
+                        unreachable!();
+                    };
+                    asks(alloc, home, conn, connection, tag, name, asking, &mut outs)?;
+                    Ok(outs)
+                }
+            }
         }
         _ => Ok(Outs::new(alloc)),
-    }
-}
-
-/// Gives the client its reply; where the session has ended nothing follows it, else the inputs that waited come.
-#[tactic(auto, using(std::proofs::lemmas::Grind::common_steps), unfolding(crate::specs::Answered::replied, crate::specs::Front::is_asked))]
-fn replied(
-    alloc: Global,
-    setting: &Setting,
-    home: &NodeName,
-    conn: u64,
-    connection: &mut Connection,
-    reply: Bytes,
-    session: Option<Sess>,
-) -> Result<Outs, Memory>
-    requires room { commands_of connection.old < 2 ^ 64 }
-    requires asked { is_asked connection.old.stage ≡ 1 }
-    ensures { IfOk result (λ outs. record { connection = connection.new; outs = outs }
-        ≡ replied setting.now home.now conn connection.old reply session) }
-{
-    match session {
-        Some(Sess::Ended) => end(alloc, conn, connection, reply),
-        session => read_again(alloc, setting, home, conn, connection, reply, session),
     }
 }
 
@@ -88,23 +82,20 @@ fn end(alloc: Global, conn: u64, connection: &mut Connection, reply: Bytes) -> R
     Ok(outs)
 }
 
+/// The client is given its reply, and the inputs that waited come.
 #[tactic(auto, using(std::proofs::lemmas::Grind::common_steps), unfolding(crate::specs::Front::is_asked))]
-fn read_again(
+fn reads_on(
     alloc: Global,
     setting: &Setting,
     home: &NodeName,
     conn: u64,
     connection: &mut Connection,
     reply: Bytes,
-    session: Option<Sess>,
 ) -> Result<Outs, Memory>
-    requires room { commands_of (reading_again connection.old session) + length connection.old.waiting < 2 ^ 64 }
+    requires room { commands_of (reading_again connection.old) + length connection.old.waiting < 2 ^ 64 }
     ensures { IfOk result (λ outs. record { connection = connection.new; outs = outs }
-        ≡ behind_outs (Client conn reply ∷ []) (inputs_come setting.now home.now conn (reading_again connection.old session) connection.old.waiting)) }
+        ≡ reads_on setting.now home.now conn connection.old reply) }
 {
-    if let Some(session) = session {
-        connection.session = session;
-    }
     connection.stage = Stage::Reading;
     connection.answered += 1;
     let mut outs = given(alloc, conn, reply)?;

@@ -1,16 +1,16 @@
 // A command that waits for the home of its mailbox.
 ghost use Rattle.std.specs.Prelude.{◌≡◌, ◌+◌, ◌<◌, ◌^◌, IfOk, OnOk};
-ghost use Rattle.front_core.specs.Begun.{HasBegun};
+ghost use Rattle.session_core.specs.Begin.{HasBegun};
 ghost use Rattle.front_core.specs.Taken.{asks, behind_outs, user_of};
 
 use crate::connection::{Connection, Stage};
 use link_msg::{FrontAsk, LinkMsg, Out, Outs};
 use mur_base::{AskId, Copied, MailName, Memory, NodeName, UserName};
-use mur_model::{Sess, Tag, Work};
-use session_core::{Asking, asked_for};
+use mur_model::{Sess, Tag};
+use session_core::Asking;
 use std::alloc::Global;
 
-/// Asks the home for some work, under the number that the command will have. For want of memory the connection is spent.
+/// Asks the home of a mailbox, under the number that the command will have. For want of memory the connection is spent.
 #[tactic(auto, unfolding(crate::specs::Taken::asks))]
 pub fn asks(
     alloc: Global,
@@ -19,19 +19,19 @@ pub fn asks(
     connection: &mut Connection,
     tag: Tag,
     name: MailName,
-    work: Work,
+    asking: Asking,
     outs: &mut Outs,
 ) -> Result<(), Memory>
     requires room { connection.old.answered + 1 < 2 ^ 64 }
     requires begun { HasBegun connection.old.session }
     ensures { OnOk result (record { connection = connection.new; outs = outs.new }
-        ≡ behind_outs outs.old (asks home.now conn connection.old tag name work)) }
+        ≡ behind_outs outs.old (asks home.now conn connection.old tag name asking)) }
 {
     let Asking {
         op,
         selected,
         awaited,
-    } = asked_for(alloc, &name, work)?;
+    } = asking;
     let ask = FrontAsk {
         id: AskId {
             conn,
@@ -46,7 +46,7 @@ pub fn asks(
     outs.push(Out::Link(home.copy(alloc)?, LinkMsg::Ask(ask)))
 }
 
-#[tactic(auto, unfolding(crate::specs::Taken::user_of, crate::specs::Begun::HasBegun))]
+#[tactic(auto, unfolding(crate::specs::Taken::user_of, session_core::specs::Begin::HasBegun))]
 fn user_of(alloc: Global, session: &Sess) -> Result<UserName, Memory>
     requires { HasBegun session.now }
     ensures { IfOk result (λ user. user ≡ user_of session.now) }

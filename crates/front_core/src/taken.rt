@@ -4,10 +4,9 @@ ghost use Rattle.std.specs.Prelude.{◌≡◌, ◌+◌, ◌<◌, ◌^◌, IfOk, 
 ghost use Rattle.imap_reply.specs.ByeLine.{bye_of, bye_line};
 ghost use Rattle.imap_reply.specs.Continuation.{continuation_line};
 ghost use Rattle.imap_reply.specs.ReplyText.{reply_text};
-ghost use Rattle.mur_model.specs.Act.{session_after};
 ghost use Rattle.mur_model.specs.Reply.{reply_of};
-ghost use Rattle.front_core.specs.Begun.{MayNeed};
-ghost use Rattle.front_core.specs.Taken.{input_comes, input_in, request_in, need_in, answers, answers_last, turns, behind_outs};
+ghost use Rattle.session_core.specs.Begin.{MayNeed};
+ghost use Rattle.front_core.specs.Taken.{input_comes, input_in, request_in, need_in, answers, answers_last, behind_outs};
 
 use crate::asks::asks;
 use crate::connection::{Connection, Stage};
@@ -16,9 +15,9 @@ use imap_wire::FrameFault;
 use link_msg::{Counts, Out, Outs};
 use mur_base::{AskId, Bytes, Memory, NodeName};
 use mur_model::{
-    BadText, Bye, Need, NoText, Reply, ReplyLines, Request, Sess, Setting, Tag, Turn, Verdict,
-    begin, refused,
+    BadText, Bye, NoText, Reply, ReplyLines, Request, Sess, Setting, Tag, Verdict, refused,
 };
+use session_core::{Need, begin};
 use std::alloc::Global;
 
 /// Takes an input of a client, and puts what is let out behind the outputs. For want of memory the connection is spent.
@@ -95,7 +94,7 @@ fn bye_of(fault: FrameFault) -> Bye
     }
 }
 
-#[tactic(auto, unfolding(crate::specs::Taken::request_in), using(crate::proofs::NeedLaw::may_need))]
+#[tactic(auto, unfolding(crate::specs::Taken::request_in))]
 fn request_in(
     alloc: Global,
     setting: &Setting,
@@ -111,7 +110,7 @@ fn request_in(
 {
     match request {
         Request::Command(tag, command) => {
-            let need = begin(alloc, setting, &connection.session, command)?;
+            let need = begin(alloc, setting, &mut connection.session, command)?;
             need_in(alloc, home, conn, connection, tag, need, outs)
         }
         Request::Unknown(tag) => {
@@ -125,7 +124,8 @@ fn request_in(
     }
 }
 
-#[tactic(auto, unfolding(crate::specs::Taken::need_in, crate::specs::Taken::answers, crate::specs::Begun::MayNeed))]
+/// Does what the session needs behind a command.
+#[tactic(auto, unfolding(crate::specs::Taken::need_in, session_core::specs::Begin::MayNeed))]
 fn need_in(
     alloc: Global,
     home: &NodeName,
@@ -141,55 +141,10 @@ fn need_in(
         ≡ behind_outs outs.old (need_in home.now conn connection.old tag need)) }
 {
     match need {
-        Need::Refusal(verdict) => {
-            let reply = reply_of(alloc, verdict);
-            answers(alloc, conn, connection, &tag, reply, outs)
-        }
-        Need::Turned(turn) => turns(alloc, conn, connection, &tag, turn, outs),
-        Need::Mailbox(name, work) => asks(alloc, home, conn, connection, tag, name, work, outs),
+        Need::Reply(reply) => answers(alloc, conn, connection, &tag, reply, outs),
+        Need::Leave(reply) => answers_last(alloc, conn, connection, &tag, reply, outs),
+        Need::Home(name, asking) => asks(alloc, home, conn, connection, tag, name, asking, outs),
     }
-}
-
-/// A reply that is given at once: where the session has ended nothing follows it (RFC 9051, 7.1.5).
-#[tactic(auto, unfolding(crate::specs::Taken::turns))]
-fn turns(
-    alloc: Global,
-    conn: u64,
-    connection: &mut Connection,
-    tag: &Tag,
-    turn: Turn,
-    outs: &mut Outs,
-) -> Result<(), Memory>
-    requires room { connection.old.answered + 1 < 2 ^ 64 }
-    ensures { OnOk result (record { connection = connection.new; outs = outs.new }
-        ≡ behind_outs outs.old (turns conn connection.old tag.now turn.reply turn.session)) }
-{
-    let Turn { session, reply } = turn;
-    match session {
-        Some(Sess::Ended) => answers_last(alloc, conn, connection, tag, reply, outs),
-        session => goes_on(alloc, conn, connection, tag, reply, session, outs),
-    }
-}
-
-/// A reply behind which the session goes on.
-#[tactic(auto, unfolding(crate::specs::Taken::answers))]
-fn goes_on(
-    alloc: Global,
-    conn: u64,
-    connection: &mut Connection,
-    tag: &Tag,
-    reply: Reply,
-    session: Option<Sess>,
-    outs: &mut Outs,
-) -> Result<(), Memory>
-    requires room { connection.old.answered + 1 < 2 ^ 64 }
-    ensures { OnOk result (record { connection = connection.new; outs = outs.new }
-        ≡ behind_outs outs.old (answers conn connection.old (session_after connection.old.session session) tag.now reply)) }
-{
-    if let Some(session) = session {
-        connection.session = session;
-    }
-    answers(alloc, conn, connection, tag, reply, outs)
 }
 
 /// The last answer of a connection.

@@ -6,10 +6,17 @@ use imap_command::read_request;
 use imap_reply::write;
 use link_msg::{AnswerBody, FrontAsk, LinkMsg, Out};
 use mail_message::date;
-use mur_base::{Bytes, Items, MailName, User, Users, node_name, user_name};
-use mur_model::{Need, Reply, ReplyLines, Request, Sess, Setting, Tag, Turn, Work, begin, turned};
-use session_core::{Asking, asked_for, finish};
+use mur_base::{Bytes, Items, MailName, User, Users, What, node_name, user_name};
+use mur_model::{Reply, Request, Sess, Setting, Tag};
+use session_core::{Asking, Need, begin, finish, relocated};
 use std::alloc::Global;
+
+/// What becomes of a command that asks the home.
+enum Fate {
+    Answered,
+    BeingMoved,
+    NotReached,
+}
 
 /// Whether steps of a session and of its home, one after the other, give what stands behind them. A step behind which nothing
 /// stands is carried out alone.
@@ -24,7 +31,22 @@ pub fn hold(alloc: Global, steps: &[&str]) -> Result<bool> {
         };
         let text = match given.split_once(' ') {
             Some(("home", words)) => home::text_of(alloc, &mut home, words)?,
-            _ => told(alloc, &setting, &mut home, &mut session, given)?,
+            Some(("moved", line)) => {
+                let fate = Fate::BeingMoved;
+                told(alloc, &setting, &mut home, &mut session, line, fate)?
+            }
+            Some(("unreached", line)) => {
+                let fate = Fate::NotReached;
+                told(alloc, &setting, &mut home, &mut session, line, fate)?
+            }
+            _ => told(
+                alloc,
+                &setting,
+                &mut home,
+                &mut session,
+                given,
+                Fate::Answered,
+            )?,
         };
         if let Some(want) = want {
             if text.as_slice() != want.as_bytes() {
@@ -59,6 +81,7 @@ fn told(
     home: &mut Backend,
     session: &mut Sess,
     line: &str,
+    fate: Fate,
 ) -> Result<Bytes> {
     if matches!(session, Sess::Ended) {
         return Ok(Bytes::new(alloc));
@@ -68,44 +91,49 @@ fn told(
     let Request::Command(tag, command) = read_request(alloc, frame.as_slice())? else {
         return Err(anyhow!("no command: {line}"));
     };
-    let need = begin(alloc, setting, session, command)?;
-    let turn = turn_of(alloc, home, need)?;
-    let reply = turned(session, turn);
+    let reply = match begin(alloc, setting, session, command)? {
+        Need::Reply(reply) => reply,
+        Need::Leave(reply) => reply,
+        Need::Home(name, asking) => reply_of(alloc, home, session, name, asking, fate)?,
+    };
     text_of(alloc, &tag, &reply)
 }
 
-/// What comes of a command that needs this.
-fn turn_of(alloc: Global, home: &mut Backend, need: Need) -> Result<Turn> {
-    match need {
-        Need::Refusal(verdict) => Ok(Turn {
-            session: None,
-            reply: Reply {
-                lines: ReplyLines::new(alloc),
-                verdict,
-            },
-        }),
-        Need::Turned(turn) => Ok(turn),
-        Need::Mailbox(name, work) => work_at(alloc, home, name, work),
-    }
-}
-
-/// What comes of some work at a mailbox.
-fn work_at(alloc: Global, home: &mut Backend, name: MailName, work: Work) -> Result<Turn> {
+/// The reply to a command that asks the home of a mailbox.
+fn reply_of(
+    alloc: Global,
+    home: &mut Backend,
+    session: &mut Sess,
+    name: MailName,
+    asking: Asking,
+    fate: Fate,
+) -> Result<Reply> {
     let Asking {
         op,
         selected,
         awaited,
-    } = asked_for(alloc, &name, work)?;
-    let ask = FrontAsk {
-        id: ID,
-        user: user_name(alloc, b"bob")?,
-        name,
-        selected,
-        op,
+    } = asking;
+    let need = match fate {
+        Fate::BeingMoved => Some(relocated(alloc, session, &awaited, &What::Reserved)?),
+        Fate::NotReached => {
+            let node = What::Unreached(node_name(alloc, b"b1")?);
+            Some(relocated(alloc, session, &awaited, &node)?)
+        }
+        Fate::Answered => {
+            let ask = FrontAsk {
+                id: ID,
+                user: user_name(alloc, b"bob")?,
+                name,
+                selected,
+                op,
+            };
+            finish(alloc, session, &awaited, answer_of(alloc, home, ask)?)?
+        }
     };
-    match finish(alloc, &awaited, answer_of(alloc, home, ask)?)? {
-        Some(turn) => Ok(turn),
-        None => Err(anyhow!("an answer that doesn't fit")),
+    match need {
+        Some(Need::Reply(reply)) => Ok(reply),
+        Some(Need::Leave(reply)) => Ok(reply),
+        _ => Err(anyhow!("an answer that doesn't fit")),
     }
 }
 

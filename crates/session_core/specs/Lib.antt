@@ -1,7 +1,10 @@
 pub mod Append
 pub mod Asking
+pub mod Begin
 pub mod Create
 pub mod Finish
+pub mod Need
+pub mod Relocated
 pub mod Select
 pub mod Status
 pub mod Viewed

@@ -1,6 +1,6 @@
 -- The commands of a selected session: what is told when the home has answered. A mailbox that the home hasn't any more, or that is another of its name,
 -- is gone.
-use Rattle.std.specs.Prelude.{ℕ, List, codes, Option, None, Some}
+use Rattle.std.specs.Prelude.{codes, Option, None, Some}
 use Rattle.link_msg.specs.declared.answer.AnswerBody.{AnswerBody}
 use Rattle.link_msg.specs.declared.answer.AnswerBody.TheVariants.{Done, NotNow}
 use Rattle.link_msg.specs.declared.outcome.Outcome.{Outcome}

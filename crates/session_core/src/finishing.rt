@@ -1,24 +1,50 @@
 // What comes of the home's answer for a session.
 ghost use Rattle.std.specs.Prelude.{◌≡◌, IfOk};
-ghost use Rattle.std.specs.Option.{option_map};
+ghost use Rattle.std.specs.Option.{option_map, IfSome};
 ghost use Rattle.mur_model.specs.Left.{replied};
-ghost use Rattle.session_core.specs.Finish.{finish};
+ghost use Rattle.session_core.specs.Begin.{MayNeed};
+ghost use Rattle.session_core.specs.Finish.{finish, finished_by, turn_of};
 
 use crate::append::append_reply;
 use crate::asking::Awaited;
 use crate::create::create_reply;
+use crate::need::{Need, told};
 use crate::select::select_turn;
 use crate::status::status_reply;
 use crate::viewed::viewed_turn;
 use link_msg::AnswerBody;
 use mur_base::Memory;
-use mur_model::{Reply, Turn};
+use mur_model::{Reply, Sess, Turn};
 use std::alloc::Global;
 
-/// What comes of the answer; nothing of one that doesn't fit what was asked.
-#[tactic(auto, unfolding(crate::specs::Finish::finish))]
-pub fn finish(alloc: Global, awaited: &Awaited, body: AnswerBody) -> Result<Option<Turn>, Memory>
-    ensures { IfOk result (λ turn. turn ≡ finish awaited.now body) }
+/// Takes the home's answer to what was asked for the command that waits. An answer that doesn't fit changes nothing, and nothing is needed
+/// behind it.
+pub fn finish(
+    alloc: Global,
+    sess: &mut Sess,
+    awaited: &Awaited,
+    body: AnswerBody,
+) -> Result<Option<Need>, Memory>
+    ensures fits { IfOk result (λ need. IfSome need (λ it. MayNeed sess.new it)) }
+    ensures behind { IfOk result (λ need. record { session = sess.new; need = need } ≡ finish sess.old awaited.now body) }
+{
+    let turn = turn_of(alloc, awaited, body)?;
+    Ok(finished_by(sess, turn))
+}
+
+#[tactic(auto, unfolding(crate::specs::Finish::finished_by))]
+fn finished_by(sess: &mut Sess, turn: Option<Turn>) -> Option<Need>
+    ensures { record { session = sess.new; need = result } ≡ finished_by sess.old turn }
+{
+    match turn {
+        Some(turn) => Some(told(sess, turn)),
+        None => None,
+    }
+}
+
+#[tactic(auto, unfolding(crate::specs::Finish::turn_of))]
+fn turn_of(alloc: Global, awaited: &Awaited, body: AnswerBody) -> Result<Option<Turn>, Memory>
+    ensures { IfOk result (λ turn. turn ≡ turn_of awaited.now body) }
 {
     match awaited {
         Awaited::Create => Ok(replied(create_reply(alloc, body)?)),

@@ -1,14 +1,20 @@
-//! One session: what each of its commands asks of a home, and what its client is told when the home has answered. Nothing here knows
-//! of nodes, links or bytes.
+//! One session: what each of its commands needs, and what comes of it when the home has answered. Nothing here knows of nodes, links or
+//! bytes.
 #![tactic(auto)]
 
 mod append;
 mod asking;
+mod beginning;
 mod create;
 mod finishing;
+mod need;
+mod relocation;
 mod select;
 mod status;
 mod viewed;
 
 pub use asking::{Asking, Awaited, asked_for};
+pub use beginning::begin;
 pub use finishing::finish;
+pub use need::Need;
+pub use relocation::relocated;

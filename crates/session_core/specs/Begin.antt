@@ -1,0 +1,25 @@
+-- What a session needs behind a command. Only one that has begun asks a home.
+use Rattle.std.specs.Prelude.{⊤}
+use Rattle.mur_model.specs.declared.command.Command.{Command}
+use Rattle.mur_model.specs.declared.session.Sess.{Sess}
+use Rattle.mur_model.specs.declared.session.Sess.TheVariants.{Off, In, Selected, Ended}
+use Rattle.mur_model.specs.declared.setting.Setting.{Setting}
+use Rattle.mur_model.specs.Act.{need_of}
+use Rattle.session_core.specs.declared.need.Need.{Need}
+use Rattle.session_core.specs.declared.need.Need.TheVariants.{Reply, Leave, Home}
+use Rattle.session_core.specs.Need.{Behind, begun_by}
+
+abbrev pub begin : Setting → Sess → Command → Behind
+begin setting session it = begun_by session (need_of setting session it)
+
+unfoldable pub HasBegun : Sess → Type 0
+HasBegun Off = ⊥
+HasBegun (In user) = ⊤
+HasBegun (Selected view) = ⊤
+HasBegun Ended = ⊥
+
+-- a home is asked by a session that has begun alone
+unfoldable pub MayNeed : Sess → Need → Type 0
+MayNeed session (Reply reply) = ⊤
+MayNeed session (Leave reply) = ⊤
+MayNeed session (Home name asking) = HasBegun session

@@ -1,0 +1,34 @@
+-- The refusal of a command whose mailbox is on its way to another server, or whose server isn't reached: the session stays as it was and no news is
+-- told, but that a SELECT or an EXAMINE leaves no mailbox selected, as where it is refused for another cause (RFC 9051, 6.3.2).
+use Rattle.std.specs.Prelude.{⊤}
+use Rattle.mur_base.specs.declared.point.What.{What}
+use Rattle.mur_base.specs.declared.point.What.TheVariants.{Reserved, Unreached}
+use Rattle.mur_model.specs.declared.reply.NoText.{NoText}
+use Rattle.mur_model.specs.declared.reply.NoText.TheVariants.{BeingMoved, NotReached}
+use Rattle.mur_model.specs.declared.session.Sess.{Sess}
+use Rattle.mur_model.specs.declared.session.Turn.{Turn}
+use Rattle.mur_model.specs.Left.{replied}
+use Rattle.mur_model.specs.Reply.{refused}
+use Rattle.mur_model.specs.Select.{unselected}
+use Rattle.session_core.specs.declared.asking.Awaited.{Awaited}
+use Rattle.session_core.specs.declared.asking.Awaited.TheVariants.{Select}
+use Rattle.session_core.specs.Need.{Behind, told}
+
+-- why a command is refused so
+unfoldable pub IsRelocation : What → Type 0
+IsRelocation Reserved = ⊤
+IsRelocation (Unreached node) = ⊤
+IsRelocation what = ⊥
+
+unfoldable pub why_moved : What → NoText
+why_moved Reserved = BeingMoved
+why_moved what = NotReached
+
+unfoldable pub moved_turn : Awaited → NoText → Turn
+moved_turn (Select name it) why = unselected it.user it.was_selected why
+moved_turn awaited why = replied (refused why)
+
+abbrev pub relocated : Sess → Awaited → What → Behind
+relocated session awaited what =
+    let turn = moved_turn awaited (why_moved what) in
+    told session turn.reply turn.session
