@@ -1,15 +1,15 @@
 -- Arguments of commands: strings and atoms, which a space or the end of the line ends, and what stands behind a space.
 use Rattle.std.proofs.Common.{◌≡◌, ℕ, [], ◌∷◌, Bool, true, false, not, ◌==◌, refl}
 use Rattle.grammar.specs.Exact.{any, among}
-use Rattle.grammar.specs.Forms.{Form, Law, behind, several}
+use Rattle.grammar.specs.Forms.{Form, Law, behind, several, ◌spaced◌}
 use Rattle.grammar.specs.Runs.{run}
 use Rattle.grammar.proofs.Conditions.{not_true, among_all}
-use Rattle.grammar.proofs.FormLaw.{Within, one_byte, apart_byte, law_weaker, law_behind, law_spaced}
+use Rattle.grammar.proofs.FormLaw.{Within, one_byte, apart_byte, law_weaker, law_behind, law_maybe, law_spaced}
 use Rattle.grammar.proofs.RepetitionLaw.{begins_any}
 use Rattle.grammar.proofs.RunLaw.{lawful_run, apart_run}
 use Rattle.grammar.proofs.SeveralLaw.{law_several}
 use Rattle.grammar.proofs.WordLaw.{good_word}
-use Rattle.imap_command.specs.Arguments.{one_string, two_strings}
+use Rattle.imap_command.specs.Arguments.{one_string, two_strings, optional_string}
 use Rattle.imap_command.specs.Characters.{is_astring_char, is_atom_char}
 use Rattle.imap_command.specs.Strings.{astring, literal, argument, message, atom}
 use Rattle.imap_command.proofs.StringsLaw.{good_astring, good_literal}
@@ -56,8 +56,25 @@ arguments_behind {A} {starts} {wide} p is g =
 pub law_one_string : Law ends_atom ends_line one_string
 law_one_string = arguments_behind argument refl law_argument
 
+-- two strings, behind which a space may stand
+pub law_strings : Law ends_atom ends_atom two_strings
+law_strings =
+    law_weaker ends_atom ends_atom two_strings (one_byte 32 ends_atom refl) (λ c h. h)
+    (law_behind 32 (argument spaced argument) (law_spaced argument argument refl law_argument law_argument))
+
 pub law_two_strings : Law ends_atom ends_line two_strings
-law_two_strings = arguments_behind _ refl (law_spaced argument argument refl law_argument law_argument)
+law_two_strings = law_weaker ends_atom ends_line two_strings (λ c h. h) line_ends_atom law_strings
+
+pub law_optional_string : Law ends_atom ends_line optional_string
+law_optional_string =
+    law_weaker ends_atom ends_line optional_string (λ c h. h) (one_byte 13 line_only refl)
+    (law_maybe line_only 32 argument refl (law_weaker any line_only argument (λ c h. h) line_within law_argument))
+  where
+    line_only : ℕ → Bool
+    line_only = among (13 ∷ [])
+
+    line_within : Within line_only ends_atom
+    line_within = among_all ends_atom (13 ∷ []) refl
 
 pub law_atoms : Law ends_atom ends_line (behind 32 (several 32 atom))
 law_atoms = arguments_behind (several 32 atom) refl (law_several ends_line 32 atom law_atom refl (apart_byte 32 ends_line refl) line_ends_atom)

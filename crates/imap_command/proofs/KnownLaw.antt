@@ -12,10 +12,10 @@ use Rattle.grammar.proofs.SequenceLaw.{good_then, good_map}
 use Rattle.grammar.proofs.Spelling.{spell_then, spell_map}
 use Rattle.grammar.proofs.StartLaw.{starts_then, starts_byte}
 use Rattle.grammar.proofs.ToolLaws.{begins_then}
-use Rattle.imap_command.specs.Commands.{arguments, uid_arguments, uid_command}
+use Rattle.imap_command.specs.Commands.{arguments, printed_as, uid_arguments, uid_command, verb_of}
 use Rattle.imap_command.specs.Strings.{crlf_part}
 use Rattle.imap_command.specs.Spells.{line, known}
-use Rattle.imap_command.specs.Verbs.{is_uid, verbs, verb_form, verb_of, name_text, uid_verbs}
+use Rattle.imap_command.specs.Verbs.{is_uid, verbs, verb_form, name_text, uid_verbs}
 use Rattle.imap_command.specs.declared.verb.Verb.{Verb}
 use Rattle.imap_command.specs.declared.verb.Verb.TheVariants as verb
 use Rattle.mur_model.specs.declared.command.Command.{Command}
@@ -75,7 +75,7 @@ noop_apart octets bytes j =
     let both : command.LeftOut octets ≡ command.Noop = j.goes_on.goes_on.1 ∙ j.begins.goes_on.1 in cc
 
 pub not_known : (octets bytes : List ℕ) → ¬ known.part.lang bytes (command.LeftOut octets)
-unfolding verb_of
+unfolding printed_as
 not_known octets bytes j =
     let v = j.between in
     let is : verb.Noop ≡ v = (line_branch v).keyed j.back (command.LeftOut octets) j.goes_on in

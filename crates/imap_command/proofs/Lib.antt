@@ -17,7 +17,6 @@ pub mod Utf8Law
 pub mod Values
 pub mod ListLaw
 pub mod SetAclLaw
-pub mod XferLaw
 pub mod AuthenticateLaw
 pub mod FetchLaw
 pub mod KeywordsKept

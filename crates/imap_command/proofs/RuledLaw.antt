@@ -18,11 +18,13 @@ use Rattle.mur_model.specs.declared.command.Command.TheVariants as command
 use Rattle.mur_model.specs.declared.command.Tag.{Tag}
 use Rattle.imap_command.specs.declared.verb.Verb.{Verb}
 use Rattle.imap_command.specs.declared.verb.Verb.TheVariants as verb
+use Rattle.imap_command.specs.declared.verb.MailboxVerb.{MailboxVerb}
+use Rattle.imap_command.specs.declared.verb.MailboxVerb.TheVariants as mailbox_verb
 use Rattle.imap_command.specs.declared.verb.UidVerb.{UidVerb}
 use Rattle.imap_command.specs.declared.verb.UidVerb.TheVariants as uid
 use Rattle.imap_command.specs.Append.{Dated, append, dated, flagged, with_date, without_date, without_flags}
 use Rattle.imap_command.specs.Characters.{is_char8}
-use Rattle.imap_command.specs.Commands.{arguments, uid_arguments}
+use Rattle.imap_command.specs.Commands.{arguments, mailbox_command, uid_arguments}
 use Rattle.imap_command.specs.Date.{date_time}
 use Rattle.imap_command.specs.Flags.{any_keyword, flag_list, flag_list_part, store_flags, store_flags_part}
 use Rattle.imap_command.specs.Ruled.{IsDate, IsRuled}
@@ -183,10 +185,15 @@ module _ (limit : ℕ) where
       under_made (λ x. command.Store true x.0 x.1.0.0 x.1.0.1 x.1.1) store.part (IsRuled limit) stored bytes it j below
   uid_ruled k bytes it j below = subst (IsRuled limit) (sym j.goes_on.1) tt
 
+  mailbox_ruled : (name : MailboxVerb) (mailbox : List ℕ) → IsRuled limit (mailbox_command name mailbox)
+  mailbox_ruled mailbox_verb.Create mailbox = tt
+  mailbox_ruled name mailbox = tt
+
   command_ruled : (v : Verb) → Under (arguments v).part (IsRuled limit)
   unfolding arguments
   command_ruled verb.Append bytes it j below =
       under_made (λ x. command.Append x.0 x.1.0 x.1.1.0 x.1.1.1) append.part (IsRuled limit) ruled_append bytes it j below
+  command_ruled (verb.Mailbox name) bytes it j below = subst (IsRuled limit) (sym j.goes_on.1) (mailbox_ruled name j.between)
   command_ruled verb.Store bytes it j below =
       under_made (λ x. command.Store false x.0 x.1.0.0 x.1.0.1 x.1.1) store.part (IsRuled limit) stored bytes it j below
   command_ruled verb.Uid bytes it j below =

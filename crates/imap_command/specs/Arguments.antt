@@ -1,7 +1,7 @@
--- The arguments that several commands have: a mailbox, or two strings, each behind a space (RFC 9051, 9).
-use Rattle.std.specs.Prelude.{ℕ, List}
+-- The arguments that several commands have: a mailbox, two strings, or a string that may be left out, each behind a space (RFC 9051, 9).
+use Rattle.std.specs.Prelude.{ℕ, List, Option}
 use Rattle.mur_base.specs.Ascii.{space}
-use Rattle.grammar.specs.Forms.{Form, behind, ◌spaced◌}
+use Rattle.grammar.specs.Forms.{Form, behind, maybe, ◌spaced◌}
 use Rattle.imap_command.specs.Strings.{argument}
 
 -- SP mailbox
@@ -11,3 +11,7 @@ one_string = behind space argument
 -- SP userid SP password, SP mailbox SP identifier
 abbrev pub two_strings : Form (List ℕ × List ℕ)
 two_strings = behind space (argument spaced argument)
+
+-- [SP partition]
+abbrev pub optional_string : Form (Option (List ℕ))
+optional_string = maybe space argument

@@ -17,7 +17,6 @@ pub mod Verbs
 pub mod LeftOut
 pub mod List
 pub mod SetAcl
-pub mod Xfer
 pub mod Authenticate
 pub mod Fetch
 pub mod Flags

@@ -1,8 +1,10 @@
 -- The names of the commands, each with what it says (RFC 9051, 9; RFC 4314, 4).
-use Rattle.std.specs.Prelude.{ℕ, Bool, true, false, List, [], ◌∷◌, None, Some, codes}
+use Rattle.std.specs.Prelude.{ℕ, Bool, true, false, List, [], ◌∷◌, codes}
 use Rattle.grammar.specs.Forms.{Form, Row, table}
 use Rattle.imap_command.specs.declared.verb.Verb.{Verb}
 use Rattle.imap_command.specs.declared.verb.Verb.TheVariants as verb
+use Rattle.imap_command.specs.declared.verb.MailboxVerb.{MailboxVerb}
+use Rattle.imap_command.specs.declared.verb.MailboxVerb.TheVariants as mailbox_verb
 use Rattle.imap_command.specs.declared.verb.UidVerb.{UidVerb}
 use Rattle.imap_command.specs.declared.verb.UidVerb.TheVariants as uid
 use Rattle.mur_model.specs.declared.command.Command.{Command}
@@ -11,12 +13,12 @@ use Rattle.mur_model.specs.declared.command.Command.TheVariants as command
 abbrev pub verbs : List (Row Verb)
 verbs =
     (codes "APPEND", verb.Append) ∷ (codes "AUTHENTICATE", verb.Authenticate) ∷ (codes "CAPABILITY", verb.Capability)
-    ∷ (codes "CLOSE", verb.Close) ∷ (codes "COPY", verb.Copy) ∷ (codes "CREATE", verb.Create)
-    ∷ (codes "DELETE", verb.Delete) ∷ (codes "DELETEACL", verb.DeleteAcl) ∷ (codes "ENABLE", verb.Enable)
-    ∷ (codes "EXAMINE", verb.Examine) ∷ (codes "EXPUNGE", verb.Expunge) ∷ (codes "FETCH", verb.Fetch)
-    ∷ (codes "GETACL", verb.GetAcl) ∷ (codes "IDLE", verb.Idle) ∷ (codes "LIST", verb.List)
-    ∷ (codes "LOGIN", verb.Login) ∷ (codes "LOGOUT", verb.Logout) ∷ (codes "MYRIGHTS", verb.MyRights)
-    ∷ (codes "NOOP", verb.Noop) ∷ (codes "SEARCH", verb.Search) ∷ (codes "SELECT", verb.Select) ∷ (codes "SETACL", verb.SetAcl)
+    ∷ (codes "CLOSE", verb.Close) ∷ (codes "COPY", verb.Copy) ∷ (codes "CREATE", verb.Mailbox mailbox_verb.Create)
+    ∷ (codes "DELETE", verb.Mailbox mailbox_verb.Delete) ∷ (codes "DELETEACL", verb.DeleteAcl) ∷ (codes "ENABLE", verb.Enable)
+    ∷ (codes "EXAMINE", verb.Mailbox mailbox_verb.Examine) ∷ (codes "EXPUNGE", verb.Expunge) ∷ (codes "FETCH", verb.Fetch)
+    ∷ (codes "GETACL", verb.Mailbox mailbox_verb.GetAcl) ∷ (codes "IDLE", verb.Idle) ∷ (codes "LIST", verb.List)
+    ∷ (codes "LOGIN", verb.Login) ∷ (codes "LOGOUT", verb.Logout) ∷ (codes "MYRIGHTS", verb.Mailbox mailbox_verb.MyRights)
+    ∷ (codes "NOOP", verb.Noop) ∷ (codes "SEARCH", verb.Search) ∷ (codes "SELECT", verb.Mailbox mailbox_verb.Select) ∷ (codes "SETACL", verb.SetAcl)
     ∷ (codes "STATUS", verb.Status) ∷ (codes "STORE", verb.Store) ∷ (codes "UID", verb.Uid)
     ∷ (codes "UNSELECT", verb.Unselect) ∷ (codes "XFER", verb.Xfer) ∷ []
 
@@ -26,22 +28,22 @@ name_text verb.Authenticate = codes "AUTHENTICATE"
 name_text verb.Capability = codes "CAPABILITY"
 name_text verb.Close = codes "CLOSE"
 name_text verb.Copy = codes "COPY"
-name_text verb.Create = codes "CREATE"
-name_text verb.Delete = codes "DELETE"
+name_text (verb.Mailbox mailbox_verb.Create) = codes "CREATE"
+name_text (verb.Mailbox mailbox_verb.Delete) = codes "DELETE"
 name_text verb.DeleteAcl = codes "DELETEACL"
 name_text verb.Enable = codes "ENABLE"
-name_text verb.Examine = codes "EXAMINE"
+name_text (verb.Mailbox mailbox_verb.Examine) = codes "EXAMINE"
 name_text verb.Expunge = codes "EXPUNGE"
 name_text verb.Fetch = codes "FETCH"
-name_text verb.GetAcl = codes "GETACL"
+name_text (verb.Mailbox mailbox_verb.GetAcl) = codes "GETACL"
 name_text verb.Idle = codes "IDLE"
 name_text verb.List = codes "LIST"
 name_text verb.Login = codes "LOGIN"
 name_text verb.Logout = codes "LOGOUT"
-name_text verb.MyRights = codes "MYRIGHTS"
+name_text (verb.Mailbox mailbox_verb.MyRights) = codes "MYRIGHTS"
 name_text verb.Noop = codes "NOOP"
 name_text verb.Search = codes "SEARCH"
-name_text verb.Select = codes "SELECT"
+name_text (verb.Mailbox mailbox_verb.Select) = codes "SELECT"
 name_text verb.SetAcl = codes "SETACL"
 name_text verb.Status = codes "STATUS"
 name_text verb.Store = codes "STORE"
@@ -51,41 +53,6 @@ name_text verb.Xfer = codes "XFER"
 
 abbrev pub verb_form : Form Verb
 verb_form = table verb.Uid verbs name_text
-
--- the first word of a command; of one that is left out, which is printed as it stands, it says nothing
-unfoldable pub verb_of : Command → Verb
-verb_of (command.Append mailbox flags date message) = verb.Append
-verb_of (command.Authenticate response) = verb.Authenticate
-verb_of command.Capability = verb.Capability
-verb_of command.Close = verb.Close
-verb_of (command.Copy false set mailbox) = verb.Copy
-verb_of (command.Copy true set mailbox) = verb.Uid
-verb_of (command.Create mailbox) = verb.Create
-verb_of (command.Delete mailbox) = verb.Delete
-verb_of (command.DeleteAcl mailbox id) = verb.DeleteAcl
-verb_of (command.Enable names) = verb.Enable
-verb_of (command.Examine mailbox) = verb.Examine
-verb_of (command.Expunge None) = verb.Expunge
-verb_of (command.Expunge (Some set)) = verb.Uid
-verb_of (command.Fetch false set items) = verb.Fetch
-verb_of (command.Fetch true set items) = verb.Uid
-verb_of (command.GetAcl mailbox) = verb.GetAcl
-verb_of (command.Idle behind) = verb.Idle
-verb_of (command.LeftOut octets) = verb.Noop
-verb_of (command.List reference pattern) = verb.List
-verb_of (command.Login user password) = verb.Login
-verb_of command.Logout = verb.Logout
-verb_of (command.MyRights mailbox) = verb.MyRights
-verb_of command.Noop = verb.Noop
-verb_of (command.Search false keys) = verb.Search
-verb_of (command.Search true keys) = verb.Uid
-verb_of (command.Select mailbox) = verb.Select
-verb_of (command.SetAcl mailbox id mode rights) = verb.SetAcl
-verb_of (command.Status mailbox items) = verb.Status
-verb_of (command.Store false set mode is_silent flags) = verb.Store
-verb_of (command.Store true set mode is_silent flags) = verb.Uid
-verb_of command.Unselect = verb.Unselect
-verb_of (command.Xfer mailbox server partition) = verb.Xfer
 
 -- uid = "UID" SP (copy / uid-expunge / fetch / search / store)
 abbrev pub uid_verbs : List (Row UidVerb)

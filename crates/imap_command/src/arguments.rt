@@ -1,10 +1,10 @@
 // The arguments that several commands have.
 ghost use Rattle.std.specs.Prelude.{◌≡◌, ◌++◌, OnOk};
 ghost use Rattle.grammar.specs.Gives.{Gives};
-ghost use Rattle.imap_command.specs.Arguments.{one_string, two_strings};
+ghost use Rattle.imap_command.specs.Arguments.{one_string, two_strings, optional_string};
 
 use crate::strings::{astring_of, put_astring};
-use grammar::{ReadError, byte_of};
+use grammar::{Only, ReadError, begins, byte_of};
 use mur_base::{Bytes, Memory};
 use std::alloc::Global;
 
@@ -27,6 +27,18 @@ pub fn two_strings_of(alloc: Global, bytes: &[u8]) -> Result<((Bytes, Bytes), &[
     Ok(((one, other), rest))
 }
 
+/// Reads a string behind a space, where one stands there.
+pub fn optional_string_of(alloc: Global, bytes: &[u8]) -> Result<(Option<Bytes>, &[u8]), ReadError>
+    ensures { Gives (λ x. (x.0, x.1.now)) result (optional_string.part.at bytes.now) }
+{
+    if begins(&Only(b' '), bytes) {
+        let (text, rest) = one_string_of(alloc, bytes)?;
+        Ok((Some(text), rest))
+    } else {
+        Ok((None, bytes))
+    }
+}
+
 /// Prints a string behind a space.
 #[tactic(auto, using(std::proofs::lemmas::Grind::common_steps))]
 pub fn put_one_string(text: &Bytes, out: &mut Bytes) -> Result<(), Memory>
@@ -45,4 +57,14 @@ pub fn put_two_strings(one: &Bytes, other: &Bytes, out: &mut Bytes) -> Result<()
     put_astring(one.as_slice(), out)?;
     out.push(b' ')?;
     put_astring(other.as_slice(), out)
+}
+
+/// Prints a string behind a space, where there is one.
+pub fn put_optional_string(text: &Option<Bytes>, out: &mut Bytes) -> Result<(), Memory>
+    ensures { OnOk result (out.new ≡ out.old ++ optional_string.text text.now) }
+{
+    match text {
+        Some(text) => put_one_string(text, out),
+        None => Ok(()),
+    }
 }

@@ -1,5 +1,5 @@
 // AUTHENTICATE PLAIN (RFC 9051, 6.2.2; RFC 4616).
-ghost use Rattle.std.specs.Prelude.{◌≡◌, ◌++◌, OnOk, None, Some};
+ghost use Rattle.std.specs.Prelude.{◌≡◌, ◌++◌, OnOk};
 ghost use Rattle.grammar.specs.Gives.{Gives};
 ghost use Rattle.imap_command.specs.Authenticate.{is_base64_char, authenticate};
 
@@ -38,19 +38,16 @@ pub fn authenticate_of(alloc: Global, bytes: &[u8]) -> Result<(Option<Bytes>, &[
     }
 }
 
-/// Prints what stands behind the name AUTHENTICATE, with a response.
+/// Prints what stands behind the name AUTHENTICATE.
 #[tactic(auto, using(std::proofs::lemmas::Grind::common_steps))]
-pub fn put_authenticate_with(response: &Bytes, out: &mut Bytes) -> Result<(), Memory>
-    ensures { OnOk result (out.new ≡ out.old ++ authenticate.text (Some response.now)) }
+pub fn put_authenticate(response: &Option<Bytes>, out: &mut Bytes) -> Result<(), Memory>
+    ensures { OnOk result (out.new ≡ out.old ++ authenticate.text response.now) }
 {
-    out.extend_from_slice(b" PLAIN ")?;
-    out.extend_from_slice(response.as_slice())
-}
-
-/// Prints what stands behind the name AUTHENTICATE, without a response.
-#[tactic(auto, using(std::proofs::lemmas::Grind::common_steps))]
-pub fn put_authenticate(out: &mut Bytes) -> Result<(), Memory>
-    ensures { OnOk result (out.new ≡ out.old ++ authenticate.text None) }
-{
-    out.extend_from_slice(b" PLAIN")
+    match response {
+        Some(response) => {
+            out.extend_from_slice(b" PLAIN ")?;
+            out.extend_from_slice(response.as_slice())
+        }
+        None => out.extend_from_slice(b" PLAIN"),
+    }
 }

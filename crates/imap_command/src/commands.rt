@@ -1,10 +1,10 @@
-// The reader of what stands behind the name of a command: a function a command that has arguments.
+// The reader of what stands behind the name of a command: a function a command that has more arguments than a mailbox.
 ghost use Rattle.std.specs.Prelude.{◌≡◌};
 ghost use Rattle.grammar.specs.Gives.{Gives};
-ghost use Rattle.imap_command.specs.Commands.{arguments, uid_arguments};
+ghost use Rattle.imap_command.specs.Commands.{arguments, mailbox_command, uid_arguments};
 
 use crate::append::append_of;
-use crate::arguments::{one_string_of, two_strings_of};
+use crate::arguments::{one_string_of, optional_string_of, two_strings_of};
 use crate::authenticate::authenticate_of;
 use crate::copy::copy_of;
 use crate::items::fetch_of;
@@ -15,9 +15,9 @@ use crate::sets::set_of;
 use crate::status::status_of;
 use crate::store::store_of;
 use crate::strings::Atom;
-use crate::verb::{UID_VERBS, UidVerb, Verb};
-use crate::xfer::xfer_of;
+use crate::verb::{MailboxVerb, UID_VERBS, UidVerb, Verb};
 use grammar::{ReadError, byte_of, several_of, table_of};
+use mur_base::Bytes;
 use mur_model::Command;
 use std::alloc::Global;
 
@@ -37,52 +37,30 @@ fn copy_command(alloc: Global, bytes: &[u8]) -> Result<(Command, &[u8]), ReadErr
     Ok((Command::Copy(false, set, mailbox), rest))
 }
 
-#[tactic(auto, unfolding(crate::specs::Commands::arguments))]
-fn create_command(alloc: Global, bytes: &[u8]) -> Result<(Command, &[u8]), ReadError>
-    ensures { Gives (λ x. (x.0, x.1.now)) result ((arguments Verb.Create).part.at bytes.now) }
+/// The command of a mailbox that a name says.
+fn mailbox_command(name: MailboxVerb, mailbox: Bytes) -> Command
+    ensures { result ≡ mailbox_command name mailbox }
 {
-    let (mailbox, rest) = one_string_of(alloc, bytes)?;
-    Ok((Command::Create(mailbox), rest))
+    match name {
+        MailboxVerb::Create => Command::Create(mailbox),
+        MailboxVerb::Delete => Command::Delete(mailbox),
+        MailboxVerb::Examine => Command::Examine(mailbox),
+        MailboxVerb::GetAcl => Command::GetAcl(mailbox),
+        MailboxVerb::MyRights => Command::MyRights(mailbox),
+        MailboxVerb::Select => Command::Select(mailbox),
+    }
 }
 
 #[tactic(auto, unfolding(crate::specs::Commands::arguments))]
-fn delete_command(alloc: Global, bytes: &[u8]) -> Result<(Command, &[u8]), ReadError>
-    ensures { Gives (λ x. (x.0, x.1.now)) result ((arguments Verb.Delete).part.at bytes.now) }
+fn named_command(
+    alloc: Global,
+    name: MailboxVerb,
+    bytes: &[u8],
+) -> Result<(Command, &[u8]), ReadError>
+    ensures { Gives (λ x. (x.0, x.1.now)) result ((arguments (Verb.Mailbox name)).part.at bytes.now) }
 {
     let (mailbox, rest) = one_string_of(alloc, bytes)?;
-    Ok((Command::Delete(mailbox), rest))
-}
-
-#[tactic(auto, unfolding(crate::specs::Commands::arguments))]
-fn examine_command(alloc: Global, bytes: &[u8]) -> Result<(Command, &[u8]), ReadError>
-    ensures { Gives (λ x. (x.0, x.1.now)) result ((arguments Verb.Examine).part.at bytes.now) }
-{
-    let (mailbox, rest) = one_string_of(alloc, bytes)?;
-    Ok((Command::Examine(mailbox), rest))
-}
-
-#[tactic(auto, unfolding(crate::specs::Commands::arguments))]
-fn get_acl_command(alloc: Global, bytes: &[u8]) -> Result<(Command, &[u8]), ReadError>
-    ensures { Gives (λ x. (x.0, x.1.now)) result ((arguments Verb.GetAcl).part.at bytes.now) }
-{
-    let (mailbox, rest) = one_string_of(alloc, bytes)?;
-    Ok((Command::GetAcl(mailbox), rest))
-}
-
-#[tactic(auto, unfolding(crate::specs::Commands::arguments))]
-fn my_rights_command(alloc: Global, bytes: &[u8]) -> Result<(Command, &[u8]), ReadError>
-    ensures { Gives (λ x. (x.0, x.1.now)) result ((arguments Verb.MyRights).part.at bytes.now) }
-{
-    let (mailbox, rest) = one_string_of(alloc, bytes)?;
-    Ok((Command::MyRights(mailbox), rest))
-}
-
-#[tactic(auto, unfolding(crate::specs::Commands::arguments))]
-fn select_command(alloc: Global, bytes: &[u8]) -> Result<(Command, &[u8]), ReadError>
-    ensures { Gives (λ x. (x.0, x.1.now)) result ((arguments Verb.Select).part.at bytes.now) }
-{
-    let (mailbox, rest) = one_string_of(alloc, bytes)?;
-    Ok((Command::Select(mailbox), rest))
+    Ok((mailbox_command(name, mailbox), rest))
 }
 
 #[tactic(auto, unfolding(crate::specs::Commands::arguments))]
@@ -146,7 +124,8 @@ fn set_acl_command(alloc: Global, bytes: &[u8]) -> Result<(Command, &[u8]), Read
 fn xfer_command(alloc: Global, bytes: &[u8]) -> Result<(Command, &[u8]), ReadError>
     ensures { Gives (λ x. (x.0, x.1.now)) result ((arguments Verb.Xfer).part.at bytes.now) }
 {
-    let ((mailbox, (server, partition)), rest) = xfer_of(alloc, bytes)?;
+    let ((mailbox, server), rest) = two_strings_of(alloc, bytes)?;
+    let (partition, rest) = optional_string_of(alloc, rest)?;
     Ok((Command::Xfer(mailbox, server, partition), rest))
 }
 
@@ -252,22 +231,17 @@ pub fn arguments_of(alloc: Global, verb: Verb, bytes: &[u8]) -> Result<(Command,
         Verb::Capability => Ok((Command::Capability, bytes)),
         Verb::Close => Ok((Command::Close, bytes)),
         Verb::Copy => copy_command(alloc, bytes),
-        Verb::Create => create_command(alloc, bytes),
-        Verb::Delete => delete_command(alloc, bytes),
         Verb::DeleteAcl => delete_acl_command(alloc, bytes),
         Verb::Enable => enable_command(alloc, bytes),
-        Verb::Examine => examine_command(alloc, bytes),
         Verb::Expunge => Ok((Command::Expunge(None), bytes)),
         Verb::Fetch => fetch_command(alloc, bytes),
-        Verb::GetAcl => get_acl_command(alloc, bytes),
         Verb::Idle => Ok((Command::Idle(None), bytes)),
         Verb::List => list_command(alloc, bytes),
         Verb::Login => login_command(alloc, bytes),
         Verb::Logout => Ok((Command::Logout, bytes)),
-        Verb::MyRights => my_rights_command(alloc, bytes),
+        Verb::Mailbox(name) => named_command(alloc, name, bytes),
         Verb::Noop => Ok((Command::Noop, bytes)),
         Verb::Search => search_command(alloc, bytes),
-        Verb::Select => select_command(alloc, bytes),
         Verb::SetAcl => set_acl_command(alloc, bytes),
         Verb::Status => status_command(alloc, bytes),
         Verb::Store => store_command(alloc, bytes),

@@ -37,7 +37,6 @@ mod store;
 mod strings;
 mod utf8;
 mod verb;
-mod xfer;
 
 pub use fault::{Bad, ReadFault};
 pub use printer::print;

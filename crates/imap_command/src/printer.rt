@@ -2,15 +2,15 @@
 ghost use Rattle.std.specs.Prelude.{◌≡◌, ◌∷◌, ◌++◌, OnOk, IfOk};
 ghost use Rattle.mur_base.specs.Ascii.{space};
 ghost use Rattle.grammar.specs.Forms.{behind, several};
-ghost use Rattle.imap_command.specs.Commands.{arguments_text, behind_text};
+ghost use Rattle.imap_command.specs.Commands.{arguments_text};
 ghost use Rattle.imap_command.specs.Sets.{set as set_form};
 ghost use Rattle.imap_command.specs.Strings.{atom};
 ghost use Rattle.imap_command.specs.Spells.{Spells, IsSpelled, known, command_text};
 ghost use Rattle.imap_command.specs.Print.{tag_text, printed};
 
 use crate::append::put_append;
-use crate::arguments::{put_one_string, put_two_strings};
-use crate::authenticate::{put_authenticate, put_authenticate_with};
+use crate::arguments::{put_one_string, put_optional_string, put_two_strings};
+use crate::authenticate::put_authenticate;
 use crate::copy::put_copy;
 use crate::items::put_fetch;
 use crate::search::put_search;
@@ -19,8 +19,7 @@ use crate::sets::put_set;
 use crate::status::put_status;
 use crate::store::put_store;
 use crate::strings::Atom;
-use crate::verb::{Verb, is_uid, name_of, uid_name_of, uid_verb_of, verb_of};
-use crate::xfer::{put_xfer, put_xfer_to};
+use crate::verb::words_of;
 use grammar::put_several;
 use mail_message::SetParts;
 use mur_base::{Bytes, Memory};
@@ -44,7 +43,7 @@ fn put_spaced_set(set: &SetParts, out: &mut Bytes) -> Result<(), Memory>
 }
 
 /// Prints the arguments of a command.
-#[tactic(auto, unfolding(crate::specs::Commands::arguments_text))]
+#[tactic(auto, using(std::proofs::lemmas::Grind::common_steps), unfolding(crate::specs::Commands::printed_as))]
 fn put_arguments(alloc: Global, command: &Command, out: &mut Bytes) -> Result<(), Memory>
     ensures { OnOk result (out.new ≡ out.old ++ arguments_text command.now) }
 {
@@ -52,8 +51,7 @@ fn put_arguments(alloc: Global, command: &Command, out: &mut Bytes) -> Result<()
         Command::Append(mailbox, flags, date, message) => {
             put_append(alloc, mailbox, flags, date, message, out)
         }
-        Command::Authenticate(Some(response)) => put_authenticate_with(response, out),
-        Command::Authenticate(None) => put_authenticate(out),
+        Command::Authenticate(response) => put_authenticate(response, out),
         Command::Copy(_, set, mailbox) => put_copy(set, mailbox, out),
         Command::Create(mailbox)
         | Command::Delete(mailbox)
@@ -75,9 +73,9 @@ fn put_arguments(alloc: Global, command: &Command, out: &mut Bytes) -> Result<()
         Command::Store(_, set, mode, is_silent, flags) => {
             put_store(alloc, set, *mode, *is_silent, flags, out)
         }
-        Command::Xfer(mailbox, server, None) => put_xfer(mailbox, server, out),
-        Command::Xfer(mailbox, server, Some(partition)) => {
-            put_xfer_to(mailbox, server, partition, out)
+        Command::Xfer(mailbox, server, partition) => {
+            put_two_strings(mailbox, server, out)?;
+            put_optional_string(partition, out)
         }
         Command::Capability
         | Command::Close
@@ -90,26 +88,13 @@ fn put_arguments(alloc: Global, command: &Command, out: &mut Bytes) -> Result<()
     }
 }
 
-/// Prints what stands behind the first word of a command.
-#[tactic(auto, using(std::proofs::lemmas::Grind::common_steps), unfolding(crate::specs::Commands::behind_text))]
-fn put_behind(alloc: Global, verb: Verb, command: &Command, out: &mut Bytes) -> Result<(), Memory>
-    ensures { OnOk result (out.new ≡ out.old ++ behind_text verb command.now) }
-{
-    if is_uid(verb) {
-        out.push(b' ')?;
-        out.extend_from_slice(uid_name_of(uid_verb_of(command)))?;
-    }
-    put_arguments(alloc, command, out)
-}
-
 /// Prints a known command to its end.
 #[tactic(auto, using(std::proofs::lemmas::Grind::common_steps, crate::proofs::TextLaw::known_text))]
 fn put_known(alloc: Global, command: &Command, out: &mut Bytes) -> Result<(), Memory>
     ensures { OnOk result (out.new ≡ out.old ++ known.text command.now) }
 {
-    let verb = verb_of(command);
-    out.extend_from_slice(name_of(verb))?;
-    put_behind(alloc, verb, command, out)?;
+    out.extend_from_slice(words_of(command))?;
+    put_arguments(alloc, command, out)?;
     out.extend_from_slice(b"\r\n")
 }
 
