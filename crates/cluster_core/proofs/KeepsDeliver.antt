@@ -10,6 +10,7 @@ use Rattle.front_core.specs.declared.front.Front.{Front}
 use Rattle.front_core.specs.Answered.{answer_comes}
 use Rattle.front_core.specs.Front.{connection_at, deliver as take_message, answer_at, with_turned}
 use Rattle.front_core.specs.Taken.{Turned, ask_with}
+use Rattle.session_core.specs.Asking.{asked_for}
 use Rattle.imap_reply.specs.declared.inputs.Input.TheVariants.{Asks}
 use Rattle.imap_wire.specs.Frames.{begun}
 use Rattle.link_msg.specs.declared.answer.AnswerBody.{AnswerBody}

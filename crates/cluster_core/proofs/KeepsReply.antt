@@ -7,7 +7,6 @@ use Rattle.front_core.specs.declared.front.Front.{Front}
 use Rattle.front_core.specs.Answered.{answer_comes, reading_again, unchanged}
 use Rattle.front_core.specs.Front.{connection_at}
 use Rattle.front_core.specs.Taken.{Turned}
-use Rattle.imap_reply.specs.ReplyText.{reply_text}
 use Rattle.imap_reply.specs.SessionEnds.{ends_session}
 use Rattle.imap_wire.specs.Frames.{begun}
 use Rattle.link_msg.specs.declared.answer.BackAnswer.{BackAnswer}
@@ -18,6 +17,7 @@ use Rattle.mur_model.specs.declared.command.Tag.{Tag}
 use Rattle.mur_model.specs.declared.request.Answer.{Answer as AnswerOf}
 use Rattle.mur_model.specs.declared.session.Turn.{Turn}
 use Rattle.mur_model.specs.declared.setting.Setting.{Setting}
+use Rattle.mur_model.specs.Act.{session_after}
 use Rattle.mur_model.proofs.HistoryGrows.{same_talk}
 use Rattle.session_core.specs.Asking.{asked_for}
 use Rattle.session_core.specs.declared.asking.Awaited.{Awaited}
@@ -60,7 +60,8 @@ reader_by setting home conn connection tag turn held reader true ended =
     (inl refl)
 reader_by setting home conn connection tag turn held reader false ended =
     subst (λ (t : Turned). HasBegunSo t.connection held) (sym (read_turned setting home conn connection tag turn.reply turn.session ended))
-    (inr (inputs_keep_reader setting home conn (reading_again (record connection { session = session_after connection.session turn.session })) connection.waiting ∙ reader))
+    (inr (inputs_keep_reader setting home conn (reading_again (record connection { session = session_after connection.session turn.session }))
+    connection.waiting ∙ reader))
 
 replied_reader : (setting : Setting) (home : List ℕ) (conn : ℕ) (connection : Connection) (tag : Tag) (awaited : Awaited) (turn : Turn) (held : Read)
     → connection.stage ≡ Asked tag awaited → HasBegunSo connection held
