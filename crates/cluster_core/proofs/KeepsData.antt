@@ -21,7 +21,7 @@ use Rattle.imap_reply.specs.Transcript.Stop.{silent}
 use Rattle.imap_reply.proofs.TranscriptGrows.{AreAnswered, end_told}
 use Rattle.imap_reply.specs.Greeting.{greeting}
 use Rattle.imap_reply.specs.declared.inputs.Input.{Input}
-use Rattle.imap_reply.specs.declared.inputs.Input.TheVariants.{GoesOn, Asks, Faults}
+use Rattle.imap_reply.specs.declared.inputs.Input.TheVariants.{GoesOn as goes_on, Asks, Faults}
 use Rattle.imap_wire.specs.Frames.{begun}
 use Rattle.imap_wire.proofs.FeedLaws.{frames-ended, begun-ended}
 use Rattle.mur_base.proofs.MapLaws.{names_apart}
@@ -166,7 +166,7 @@ faults_behind : (front new : List Input) (held later : Option (List ℕ)) → Fa
 unfolding FaultsLast
 faults_behind [] new held later one two none = two
 faults_behind (Asks request ∷ front) new held later one two none = faults_behind front new held later one two none
-faults_behind (GoesOn why ∷ front) new held later one two none = faults_behind front new held later one two none
+faults_behind (goes_on why ∷ front) new held later one two none = faults_behind front new held later one two none
 faults_behind (Faults fault ∷ front) new held later one two none =
     let is = none one.1 in (ap (λ f. f ++ new) one.0 ∙ is.0, is.1)
 

@@ -170,7 +170,7 @@ all_answered setting told e = rw (e, ← frames-nil) none_answered
 
 first_reader : (setting : Setting) → first_reading ≡ reading_of setting []
 unfolding before_next
-first_reader setting = ap (λ f. record { held = begun []; before = before_next setting at_first f }) (sym frames-nil)
+first_reader setting = ap (λ f. record { held = begun []; before = before_next setting at_first f }) frames-nil
 
 -- a connection at a frontend is greeted
 front_keeps_open : (config : Config) (heard : ℕ → Heard) (world : World) (node : List ℕ) (conn : ℕ) (front : Front) (law : KeepsLaw config heard world)
