@@ -16,9 +16,8 @@ use Rattle.imap_command.specs.declared.verb.UidVerb.{UidVerb}
 use Rattle.imap_command.specs.declared.verb.UidVerb.TheVariants as uid
 use Rattle.imap_command.specs.Append.{append}
 use Rattle.imap_command.specs.Arguments.{one_string, two_strings, optional_string}
-use Rattle.imap_command.specs.Commands.{arguments, arguments_text, mailbox_command, printed_as, uid_arguments, uid_command, verb_of, xfer}
+use Rattle.imap_command.specs.Commands.{arguments, arguments_text, copy, mailbox_command, printed_as, uid_arguments, uid_command, verb_of, xfer}
 use Rattle.imap_command.specs.Authenticate.{authenticate}
-use Rattle.imap_command.specs.Copy.{copy}
 use Rattle.imap_command.specs.Fetch.{fetch}
 use Rattle.imap_command.specs.List.{list}
 use Rattle.imap_command.specs.Search.{search}

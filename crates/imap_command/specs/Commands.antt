@@ -1,7 +1,8 @@
 -- What stands behind the name of each command (RFC 9051, 9; RFC 4314, 4).
 use Rattle.std.specs.Prelude.{ℕ, Bool, true, false, List, [], ◌∷◌, ◌++◌, if◌then◌else◌, Option, None, Some}
 use Rattle.mur_base.specs.Ascii.{space}
-use Rattle.grammar.specs.Forms.{Form, ◌and◌, behind, constant, dispatch, made, several}
+use Rattle.grammar.specs.Forms.{Form, ◌and◌, behind, constant, dispatch, made, several, ◌spaced◌}
+use Rattle.mail_message.specs.declared.set.SetPart.{SetPart}
 use Rattle.mur_model.specs.declared.command.Command.{Command}
 use Rattle.mur_model.specs.declared.command.Command.TheVariants as command
 use Rattle.imap_command.specs.declared.verb.Verb.{Verb}
@@ -13,7 +14,6 @@ use Rattle.imap_command.specs.declared.verb.UidVerb.TheVariants as uid
 use Rattle.imap_command.specs.Append.{append}
 use Rattle.imap_command.specs.Arguments.{one_string, two_strings, optional_string}
 use Rattle.imap_command.specs.Authenticate.{authenticate}
-use Rattle.imap_command.specs.Copy.{copy}
 use Rattle.imap_command.specs.Fetch.{fetch}
 use Rattle.imap_command.specs.List.{list}
 use Rattle.imap_command.specs.Search.{search}
@@ -21,8 +21,12 @@ use Rattle.imap_command.specs.SetAcl.{set_acl}
 use Rattle.imap_command.specs.Sets.{set}
 use Rattle.imap_command.specs.Status.{status}
 use Rattle.imap_command.specs.Store.{store}
-use Rattle.imap_command.specs.Strings.{atom}
+use Rattle.imap_command.specs.Strings.{argument, atom}
 use Rattle.imap_command.specs.Verbs.{is_uid, name_text, uid_verb_form, uid_verb_of, uid_name_text}
+
+-- SP sequence-set SP mailbox
+abbrev pub copy : Form (List SetPart × List ℕ)
+copy = behind space (set spaced argument)
 
 -- SP mailbox SP server [SP partition]
 abbrev pub xfer : Form ((List ℕ × List ℕ) × Option (List ℕ))
@@ -77,12 +81,25 @@ uid_words first it = if is_uid first then space ∷ uid_name_text (uid_verb_of i
 unfoldable pub words_text : Command → List ℕ
 words_text it = name_text (verb_of it) ++ uid_words (verb_of it) it
 
+-- commands that may be by UID
+abbrev pub copy_command : Bool → Form Command
+copy_command by_uid = made (λ x. command.Copy by_uid x.0 x.1) arguments_text copy
+
+abbrev pub fetch_command : Bool → Form Command
+fetch_command by_uid = made (λ x. command.Fetch by_uid x.0 x.1) arguments_text fetch
+
+abbrev pub search_command : Bool → Form Command
+search_command by_uid = made (command.Search by_uid) arguments_text search
+
+abbrev pub store_command : Bool → Form Command
+store_command by_uid = made (λ x. command.Store by_uid x.0 x.1.0.0 x.1.0.1 x.1.1) arguments_text store
+
 unfoldable pub uid_arguments : UidVerb → Form Command
-uid_arguments uid.Copy = made (λ x. command.Copy true x.0 x.1) arguments_text copy
+uid_arguments uid.Copy = copy_command true
 uid_arguments uid.Expunge = made (λ parts. command.Expunge (Some parts)) arguments_text (behind space set)
-uid_arguments uid.Fetch = made (λ x. command.Fetch true x.0 x.1) arguments_text fetch
-uid_arguments uid.Search = made (command.Search true) arguments_text search
-uid_arguments uid.Store = made (λ x. command.Store true x.0 x.1.0.0 x.1.0.1 x.1.1) arguments_text store
+uid_arguments uid.Fetch = fetch_command true
+uid_arguments uid.Search = search_command true
+uid_arguments uid.Store = store_command true
 
 -- SP (copy / uid-expunge / fetch / search / store)
 abbrev pub uid_command : Form Command
@@ -102,21 +119,21 @@ arguments verb.Append = made (λ x. command.Append x.0 x.1.0 x.1.1.0 x.1.1.1) ar
 arguments verb.Authenticate = made command.Authenticate arguments_text authenticate
 arguments verb.Capability = constant command.Capability arguments_text
 arguments verb.Close = constant command.Close arguments_text
-arguments verb.Copy = made (λ x. command.Copy false x.0 x.1) arguments_text copy
+arguments verb.Copy = copy_command false
 arguments verb.DeleteAcl = made (λ x. command.DeleteAcl x.0 x.1) arguments_text two_strings
 arguments verb.Enable = made command.Enable arguments_text (behind space (several space atom))
 arguments verb.Expunge = constant (command.Expunge None) arguments_text
-arguments verb.Fetch = made (λ x. command.Fetch false x.0 x.1) arguments_text fetch
+arguments verb.Fetch = fetch_command false
 arguments verb.Idle = constant (command.Idle None) arguments_text
 arguments verb.List = made (λ x. command.List x.0 x.1) arguments_text list
 arguments verb.Login = made (λ x. command.Login x.0 x.1) arguments_text two_strings
 arguments verb.Logout = constant command.Logout arguments_text
 arguments (verb.Mailbox name) = made (mailbox_command name) arguments_text one_string
 arguments verb.Noop = constant command.Noop arguments_text
-arguments verb.Search = made (command.Search false) arguments_text search
+arguments verb.Search = search_command false
 arguments verb.SetAcl = made (λ x. command.SetAcl x.0 x.1.0 x.1.1.0 x.1.1.1) arguments_text set_acl
 arguments verb.Status = made (λ x. command.Status x.0 x.1) arguments_text status
-arguments verb.Store = made (λ x. command.Store false x.0 x.1.0.0 x.1.0.1 x.1.1) arguments_text store
+arguments verb.Store = store_command false
 arguments verb.Uid = uid_command
 arguments verb.Unselect = constant command.Unselect arguments_text
 arguments verb.Xfer = made (λ x. command.Xfer x.0.0 x.0.1 x.1) arguments_text xfer

@@ -3,7 +3,6 @@ pub mod Arguments
 pub mod Bad
 pub mod Characters
 pub mod Commands
-pub mod Copy
 pub mod Date
 pub mod Print
 pub mod Request

@@ -3,7 +3,6 @@ use Rattle.std.specs.Prelude.{ℕ, Bool, true, false, List, [], ◌∷◌, codes
 use Rattle.grammar.specs.Forms.{Form, Row, table}
 use Rattle.imap_command.specs.declared.verb.Verb.{Verb}
 use Rattle.imap_command.specs.declared.verb.Verb.TheVariants as verb
-use Rattle.imap_command.specs.declared.verb.MailboxVerb.{MailboxVerb}
 use Rattle.imap_command.specs.declared.verb.MailboxVerb.TheVariants as mailbox_verb
 use Rattle.imap_command.specs.declared.verb.UidVerb.{UidVerb}
 use Rattle.imap_command.specs.declared.verb.UidVerb.TheVariants as uid

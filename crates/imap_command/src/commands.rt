@@ -1,12 +1,11 @@
 // The reader of what stands behind the name of a command: a function a command that has more arguments than a mailbox.
 ghost use Rattle.std.specs.Prelude.{◌≡◌};
 ghost use Rattle.grammar.specs.Gives.{Gives};
-ghost use Rattle.imap_command.specs.Commands.{arguments, mailbox_command, uid_arguments};
+ghost use Rattle.imap_command.specs.Commands.{arguments, uid_arguments, copy_command, fetch_command, mailbox_command, search_command, store_command};
 
 use crate::append::append_of;
 use crate::arguments::{one_string_of, optional_string_of, two_strings_of};
 use crate::authenticate::authenticate_of;
-use crate::copy::copy_of;
 use crate::items::fetch_of;
 use crate::list::list_of;
 use crate::search::search_of;
@@ -29,12 +28,13 @@ fn append_command(alloc: Global, bytes: &[u8]) -> Result<(Command, &[u8]), ReadE
     Ok((Command::Append(mailbox, flags, date, message), rest))
 }
 
-#[tactic(auto, unfolding(crate::specs::Commands::arguments))]
-fn copy_command(alloc: Global, bytes: &[u8]) -> Result<(Command, &[u8]), ReadError>
-    ensures { Gives (λ x. (x.0, x.1.now)) result ((arguments Verb.Copy).part.at bytes.now) }
+fn copy_command(alloc: Global, by_uid: bool, bytes: &[u8]) -> Result<(Command, &[u8]), ReadError>
+    ensures { Gives (λ x. (x.0, x.1.now)) result ((copy_command by_uid).part.at bytes.now) }
 {
-    let ((set, mailbox), rest) = copy_of(alloc, bytes)?;
-    Ok((Command::Copy(false, set, mailbox), rest))
+    let rest = byte_of(b' ', bytes)?;
+    let (set, rest) = set_of(alloc, rest)?;
+    let (mailbox, rest) = one_string_of(alloc, rest)?;
+    Ok((Command::Copy(by_uid, set, mailbox), rest))
 }
 
 /// The command of a mailbox that a name says.
@@ -51,6 +51,7 @@ fn mailbox_command(name: MailboxVerb, mailbox: Bytes) -> Command
     }
 }
 
+/// Reads the mailbox of a command that has no other argument.
 #[tactic(auto, unfolding(crate::specs::Commands::arguments))]
 fn named_command(
     alloc: Global,
@@ -129,60 +130,25 @@ fn xfer_command(alloc: Global, bytes: &[u8]) -> Result<(Command, &[u8]), ReadErr
     Ok((Command::Xfer(mailbox, server, partition), rest))
 }
 
-#[tactic(auto, unfolding(crate::specs::Commands::arguments))]
-fn fetch_command(alloc: Global, bytes: &[u8]) -> Result<(Command, &[u8]), ReadError>
-    ensures { Gives (λ x. (x.0, x.1.now)) result ((arguments Verb.Fetch).part.at bytes.now) }
+fn fetch_command(alloc: Global, by_uid: bool, bytes: &[u8]) -> Result<(Command, &[u8]), ReadError>
+    ensures { Gives (λ x. (x.0, x.1.now)) result ((fetch_command by_uid).part.at bytes.now) }
 {
     let ((set, items), rest) = fetch_of(alloc, bytes)?;
-    Ok((Command::Fetch(false, set, items), rest))
+    Ok((Command::Fetch(by_uid, set, items), rest))
 }
 
-#[tactic(auto, unfolding(crate::specs::Commands::arguments))]
-fn search_command(alloc: Global, bytes: &[u8]) -> Result<(Command, &[u8]), ReadError>
-    ensures { Gives (λ x. (x.0, x.1.now)) result ((arguments Verb.Search).part.at bytes.now) }
+fn search_command(alloc: Global, by_uid: bool, bytes: &[u8]) -> Result<(Command, &[u8]), ReadError>
+    ensures { Gives (λ x. (x.0, x.1.now)) result ((search_command by_uid).part.at bytes.now) }
 {
     let (keys, rest) = search_of(alloc, bytes)?;
-    Ok((Command::Search(false, keys), rest))
+    Ok((Command::Search(by_uid, keys), rest))
 }
 
-#[tactic(auto, unfolding(crate::specs::Commands::uid_arguments))]
-fn uid_search_command(alloc: Global, bytes: &[u8]) -> Result<(Command, &[u8]), ReadError>
-    ensures { Gives (λ x. (x.0, x.1.now)) result ((uid_arguments UidVerb.Search).part.at bytes.now) }
-{
-    let (keys, rest) = search_of(alloc, bytes)?;
-    Ok((Command::Search(true, keys), rest))
-}
-
-#[tactic(auto, unfolding(crate::specs::Commands::arguments))]
-fn store_command(alloc: Global, bytes: &[u8]) -> Result<(Command, &[u8]), ReadError>
-    ensures { Gives (λ x. (x.0, x.1.now)) result ((arguments Verb.Store).part.at bytes.now) }
+fn store_command(alloc: Global, by_uid: bool, bytes: &[u8]) -> Result<(Command, &[u8]), ReadError>
+    ensures { Gives (λ x. (x.0, x.1.now)) result ((store_command by_uid).part.at bytes.now) }
 {
     let ((set, ((mode, is_silent), flags)), rest) = store_of(alloc, bytes)?;
-    Ok((Command::Store(false, set, mode, is_silent, flags), rest))
-}
-
-#[tactic(auto, unfolding(crate::specs::Commands::uid_arguments))]
-fn uid_store_command(alloc: Global, bytes: &[u8]) -> Result<(Command, &[u8]), ReadError>
-    ensures { Gives (λ x. (x.0, x.1.now)) result ((uid_arguments UidVerb.Store).part.at bytes.now) }
-{
-    let ((set, ((mode, is_silent), flags)), rest) = store_of(alloc, bytes)?;
-    Ok((Command::Store(true, set, mode, is_silent, flags), rest))
-}
-
-#[tactic(auto, unfolding(crate::specs::Commands::uid_arguments))]
-fn uid_fetch_command(alloc: Global, bytes: &[u8]) -> Result<(Command, &[u8]), ReadError>
-    ensures { Gives (λ x. (x.0, x.1.now)) result ((uid_arguments UidVerb.Fetch).part.at bytes.now) }
-{
-    let ((set, items), rest) = fetch_of(alloc, bytes)?;
-    Ok((Command::Fetch(true, set, items), rest))
-}
-
-#[tactic(auto, unfolding(crate::specs::Commands::uid_arguments))]
-fn uid_copy_command(alloc: Global, bytes: &[u8]) -> Result<(Command, &[u8]), ReadError>
-    ensures { Gives (λ x. (x.0, x.1.now)) result ((uid_arguments UidVerb.Copy).part.at bytes.now) }
-{
-    let ((set, mailbox), rest) = copy_of(alloc, bytes)?;
-    Ok((Command::Copy(true, set, mailbox), rest))
+    Ok((Command::Store(by_uid, set, mode, is_silent, flags), rest))
 }
 
 #[tactic(auto, unfolding(crate::specs::Commands::uid_arguments))]
@@ -195,6 +161,7 @@ fn uid_expunge_command(alloc: Global, bytes: &[u8]) -> Result<(Command, &[u8]), 
 }
 
 /// Reads what stands behind a word behind UID.
+#[tactic(auto, unfolding(crate::specs::Commands::uid_arguments))]
 fn uid_arguments_of(
     alloc: Global,
     verb: UidVerb,
@@ -203,11 +170,11 @@ fn uid_arguments_of(
     ensures { Gives (λ x. (x.0, x.1.now)) result ((uid_arguments verb).part.at bytes.now) }
 {
     match verb {
-        UidVerb::Copy => uid_copy_command(alloc, bytes),
+        UidVerb::Copy => copy_command(alloc, true, bytes),
         UidVerb::Expunge => uid_expunge_command(alloc, bytes),
-        UidVerb::Fetch => uid_fetch_command(alloc, bytes),
-        UidVerb::Search => uid_search_command(alloc, bytes),
-        UidVerb::Store => uid_store_command(alloc, bytes),
+        UidVerb::Fetch => fetch_command(alloc, true, bytes),
+        UidVerb::Search => search_command(alloc, true, bytes),
+        UidVerb::Store => store_command(alloc, true, bytes),
     }
 }
 
@@ -230,21 +197,21 @@ pub fn arguments_of(alloc: Global, verb: Verb, bytes: &[u8]) -> Result<(Command,
         Verb::Authenticate => authenticate_command(alloc, bytes),
         Verb::Capability => Ok((Command::Capability, bytes)),
         Verb::Close => Ok((Command::Close, bytes)),
-        Verb::Copy => copy_command(alloc, bytes),
+        Verb::Copy => copy_command(alloc, false, bytes),
         Verb::DeleteAcl => delete_acl_command(alloc, bytes),
         Verb::Enable => enable_command(alloc, bytes),
         Verb::Expunge => Ok((Command::Expunge(None), bytes)),
-        Verb::Fetch => fetch_command(alloc, bytes),
+        Verb::Fetch => fetch_command(alloc, false, bytes),
         Verb::Idle => Ok((Command::Idle(None), bytes)),
         Verb::List => list_command(alloc, bytes),
         Verb::Login => login_command(alloc, bytes),
         Verb::Logout => Ok((Command::Logout, bytes)),
         Verb::Mailbox(name) => named_command(alloc, name, bytes),
         Verb::Noop => Ok((Command::Noop, bytes)),
-        Verb::Search => search_command(alloc, bytes),
+        Verb::Search => search_command(alloc, false, bytes),
         Verb::SetAcl => set_acl_command(alloc, bytes),
         Verb::Status => status_command(alloc, bytes),
-        Verb::Store => store_command(alloc, bytes),
+        Verb::Store => store_command(alloc, false, bytes),
         Verb::Uid => uid_command(alloc, bytes),
         Verb::Unselect => Ok((Command::Unselect, bytes)),
         Verb::Xfer => xfer_command(alloc, bytes),

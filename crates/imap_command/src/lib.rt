@@ -5,18 +5,18 @@
 //! spells just its command, so [`reread`] gives back what it is given.
 //!
 //! A name that is left out has its own reader (`left_out`), which keeps the frame as it is; each other command begins with a verb.
-//! What stands behind the name of a command is a form of the crate `grammar`. Arguments that several commands have (none,
-//! a mailbox, two strings) are in `arguments`; others have a file in `src`, reader and printer, one in `specs`, the form, and
-//! its law in `proofs`. A new command has a row in `src/verb.rt` and `specs/Verbs.antt`, its line in `src/commands.rt`,
-//! `src/printer.rt` and `specs/Commands.antt`, and a line in `proofs/CommandsLaw.antt`, which says both that it is read exactly
-//! and that it is spelled as it is printed.
+//! What stands behind the name of a command is a form of the crate `grammar`. Arguments that several commands have (a
+//! mailbox, two strings, a string that may be left out) are in `arguments`; others have a file in `src`, reader and printer,
+//! one in `specs`, the form, and its law in `proofs`. A new command has its rows in `src/verb.rt` and `specs/Verbs.antt`, its
+//! lines in `src/commands.rt`, `src/printer.rt` and `specs/Commands.antt`, and a line in `proofs/CommandsLaw.antt`, which says
+//! both that it is read exactly and that it is spelled as it is printed. The names behind which just a mailbox stands are
+//! told apart by `MailboxVerb` (`src/verb.rt`), and have one reader, one form and one such line.
 #![tactic(auto)]
 
 mod append;
 mod arguments;
 mod authenticate;
 mod commands;
-mod copy;
 mod date;
 mod dates;
 mod fault;

@@ -11,7 +11,6 @@ ghost use Rattle.imap_command.specs.Print.{tag_text, printed};
 use crate::append::put_append;
 use crate::arguments::{put_one_string, put_optional_string, put_two_strings};
 use crate::authenticate::put_authenticate;
-use crate::copy::put_copy;
 use crate::items::put_fetch;
 use crate::search::put_search;
 use crate::set_acl::put_set_acl;
@@ -52,7 +51,10 @@ fn put_arguments(alloc: Global, command: &Command, out: &mut Bytes) -> Result<()
             put_append(alloc, mailbox, flags, date, message, out)
         }
         Command::Authenticate(response) => put_authenticate(response, out),
-        Command::Copy(_, set, mailbox) => put_copy(set, mailbox, out),
+        Command::Copy(_, set, mailbox) => {
+            put_spaced_set(set, out)?;
+            put_one_string(mailbox, out)
+        }
         Command::Create(mailbox)
         | Command::Delete(mailbox)
         | Command::Examine(mailbox)
