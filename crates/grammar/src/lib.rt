@@ -16,7 +16,6 @@
 //! `copy = "COPY" SP sequence-set SP mailbox` (RFC 9051, 9). Behind the name it is
 //!
 //! ```text
-//! -- specs/Copy.antt
 //! abbrev pub copy : Form (List SetPart × List ℕ)
 //! copy = behind space (set spaced argument)
 //! ```
@@ -24,7 +23,6 @@
 //! Its reader and its printer are the same text as code, and need no proof file:
 //!
 //! ```text
-//! // src/copy.rt
 //! pub fn copy_of(alloc: Global, bytes: &[u8]) -> Result<((SetParts, Bytes), &[u8]), ReadError>
 //!     ensures { Gives (λ x. (x.0, x.1.now)) result (copy.part.at bytes.now) }
 //! {
