@@ -21,6 +21,3 @@ pub use memory::{
 pub use returned::{Returned, Room};
 pub use sink::{Sink, write_all};
 pub use source::{Source, read_front};
-
-#[cfg(test)]
-mod tests;
