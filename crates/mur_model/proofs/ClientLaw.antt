@@ -16,7 +16,7 @@ use Rattle.std.proofs.lemmas.Bool.Decides.{nat_tests}
 use Rattle.mail_message.specs.RowOrder.{row_at}
 
 -- lines one behind another
-after_both : (known : Known) (lines more : List ReplyLine) → known_after_all known (lines ++ more) ≡ known_after_all (known_after_all known lines) more
+pub after_both : (known : Known) (lines more : List ReplyLine) → known_after_all known (lines ++ more) ≡ known_after_all (known_after_all known lines) more
 after_both known [] more = refl
 after_both known (line ∷ lines) more = after_both (known_after known line) lines more
 
@@ -45,7 +45,7 @@ agrees_both (Some told ∷ known) more [] others agrees agree = elim agrees [ ]
 agrees_both (None ∷ known) more (uid ∷ list) others agrees agree = agrees_both known more list others agrees agree
 agrees_both (Some told ∷ known) more (uid ∷ list) others agrees agree = (agrees.0, agrees_both known more list others agrees.1 agree)
 
-nothing_known : (list : List ℕ) → Agrees (replicate (length list) None) list
+pub nothing_known : (list : List ℕ) → Agrees (replicate (length list) None) list
 unfolding Agrees
 nothing_known [] = tt
 nothing_known (uid ∷ list) = nothing_known list
@@ -145,7 +145,7 @@ told_agree lines rows now told known agrees =
     (rw (fresh_uids now rows) (exists_agree (known_after_all known lines) rows behind agrees)))))
 
 -- a client that knew the numbers of its view knows those of the view behind the news
-news_agree : (rows now : List Row) (expunges : Bool) (told : List ℕ) (known : Known) → Agrees known (uids rows)
+pub news_agree : (rows now : List Row) (expunges : Bool) (told : List ℕ) (known : Known) → Agrees known (uids rows)
     → Agrees (known_after_all known (news rows now expunges told).lines) (uids (news rows now expunges told).rows)
 unfolding news Agrees
 news_agree rows now true told known agrees =

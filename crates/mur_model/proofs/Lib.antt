@@ -2,7 +2,7 @@ mod AppendLaws
 pub mod Numbered
 pub mod HistoryGrows
 pub mod EachAnswer
-mod ClientLaw
+pub mod ClientLaw
 mod ViewLaw
 mod StoreLaw
 mod FlagLaw

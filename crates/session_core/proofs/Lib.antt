@@ -1,1 +1,4 @@
+pub mod AtOnceLaw
 pub mod NeedLaw
+pub mod NumbersLaw
+pub mod NoExpungeLaw

@@ -4,6 +4,7 @@ pub mod Begin
 pub mod Create
 pub mod Finish
 pub mod Need
+pub mod Numbers
 pub mod Relocated
 pub mod Select
 pub mod Status

@@ -1,7 +1,9 @@
 // What a session does with a command.
 ghost use Rattle.std.specs.Prelude.{◌≡◌, IfOk};
 ghost use Rattle.session_core.specs.Begin.{begin, MayNeed};
+ghost use Rattle.mur_model.specs.ClientView.{Known};
 ghost use Rattle.session_core.specs.Need.{begun_by};
+ghost use Rattle.session_core.specs.Numbers.{Knows, KnowsBehind};
 
 use crate::asking::asked_for;
 use crate::need::{Need, told};
@@ -18,6 +20,7 @@ pub fn begin(
 ) -> Result<Need, Memory>
     ensures behind { IfOk result (λ need. record { session = sess.new; need = need } ≡ begin with.now sess.old command) }
     ensures fits { IfOk result (λ need. MayNeed sess.new need) }
+    ensures numbers { IfOk result (λ need. (known : Known) → Knows known sess.old → KnowsBehind known sess.new need) }
 {
     let needed = need_of(alloc, with, sess, command)?;
     begun_by(alloc, sess, needed)

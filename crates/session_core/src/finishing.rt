@@ -3,6 +3,8 @@ ghost use Rattle.std.specs.Prelude.{◌≡◌, IfOk};
 ghost use Rattle.std.specs.Option.{option_map, IfSome};
 ghost use Rattle.mur_model.specs.Left.{replied};
 ghost use Rattle.session_core.specs.Begin.{MayNeed};
+ghost use Rattle.mur_model.specs.ClientView.{Known};
+ghost use Rattle.session_core.specs.Numbers.{IsByNumbers, IsOf, Knows, KnowsBehind, TellsNoExpunge, known_before};
 ghost use Rattle.session_core.specs.Finish.{finish, finished_by, turn_of};
 
 use crate::append::append_reply;
@@ -26,6 +28,9 @@ pub fn finish(
     body: AnswerBody,
 ) -> Result<Option<Need>, Memory>
     ensures fits { IfOk result (λ need. IfSome need (λ it. MayNeed sess.new it)) }
+    ensures numbers { IfOk result (λ need. (known : Known) → IsOf sess.old awaited.now → Knows known sess.old
+        → IfSome need (KnowsBehind (known_before awaited.now known) sess.new)) }
+    ensures expunges { IfOk result (λ need. IsByNumbers awaited.now → IfSome need TellsNoExpunge) }
     ensures behind { IfOk result (λ need. record { session = sess.new; need = need } ≡ finish sess.old awaited.now body) }
 {
     let turn = turn_of(alloc, awaited, body)?;

@@ -1,0 +1,299 @@
+-- What comes of a command leaves its client knowing the numbers of the view.
+use Rattle.std.proofs.Common.{◌≡◌, ℕ, ◌+◌, ◌-◌, Bool, true, false, if◌then◌else◌, List, [], ◌∷◌, ◌++◌, length, replicate, Option, None, Some}
+use Rattle.std.proofs.Common.{refl, sym, ◌∙◌, ap, subst, arith, Result}
+use Rattle.std.proofs.lemmas.Result.{IfOk-weaker}
+use Rattle.std.specs.Result.{IfOk}
+use Rattle.std.proofs.lemmas.Grind.{common_steps}
+use Rattle.std.proofs.lemmas.List.{length-map}
+use Rattle.std.specs.Prelude.{⊤}
+use Rattle.std.specs.Option.{IfSome, option_map}
+use Rattle.link_msg.specs.declared.answer.AnswerBody.{AnswerBody}
+use Rattle.link_msg.specs.declared.answer.AnswerBody.TheVariants.{Done, NotNow}
+use Rattle.link_msg.specs.declared.outcome.Outcome.{Outcome}
+use Rattle.link_msg.specs.declared.outcome.Outcome.TheVariants.{None as nothing, Messages, Rows, Uids, Exists, Limit as full, Gone}
+use Rattle.mail_message.specs.declared.message.Message.{Message}
+use Rattle.mail_message.specs.declared.message.Row.{Row}
+use Rattle.mail_message.specs.declared.message.Snapshot.{Snapshot}
+use Rattle.mail_message.specs.RowOrder.{row_at}
+use Rattle.mur_base.specs.declared.memory.Memory.{Memory}
+use Rattle.mur_model.specs.declared.command.Command.{Command}
+use Rattle.mur_model.specs.declared.command.StatusItem.{StatusItem}
+use Rattle.mur_model.specs.declared.need.Need.{Need as Needed}
+use Rattle.mur_model.specs.declared.need.Need.TheVariants.{Refusal, Turned, Mailbox}
+use Rattle.mur_model.specs.declared.setting.Setting.{Setting}
+use Rattle.mur_model.specs.declared.fetch.Fetching.{Fetching}
+use Rattle.mur_model.specs.declared.need.ViewWork.{ViewWork}
+use Rattle.mur_model.specs.declared.need.ViewWork.TheVariants.{News, Close, Expunge, Store, Fetch, Search}
+use Rattle.mur_model.specs.declared.reply.Reply.{Reply}
+use Rattle.mur_model.specs.declared.reply.ReplyLine.{ReplyLine}
+use Rattle.mur_model.specs.declared.reply.Verdict.{Verdict}
+use Rattle.mur_model.specs.declared.search.Searching.{Searching}
+use Rattle.mur_model.specs.declared.select.Opening.{Opening}
+use Rattle.mur_model.specs.declared.session.Sess.{Sess}
+use Rattle.mur_model.specs.declared.session.Sess.TheVariants.{Off, In, Selected, Ended}
+use Rattle.mur_model.specs.declared.session.Turn.{Turn}
+use Rattle.mur_model.specs.declared.store_flags.FlagStore.{FlagStore}
+use Rattle.mur_model.specs.declared.view.View.{View}
+use Rattle.mur_model.specs.Act.{need_of, session_after}
+use Rattle.mur_model.specs.ClientView.{Agrees, Known, known_after, known_after_all, uids}
+use Rattle.mur_model.specs.Fetch.{fetch_line, fetch_lines, number_in}
+use Rattle.mur_model.specs.Left.{replied}
+use Rattle.mur_model.specs.News.{news}
+use Rattle.mur_model.specs.Search.{search_line}
+use Rattle.mur_model.specs.Select.{closed_lines, select_told}
+use Rattle.mur_model.specs.Selected.{with_news}
+use Rattle.mur_model.specs.Status.{status_reply as reply_with_counts}
+use Rattle.mur_model.specs.Append.{append_reply as reply_with_uid}
+use Rattle.mur_model.specs.StoreFlags.{own_lines, stored_line, stored_lines}
+use Rattle.mur_model.proofs.ClientLaw.{after_both, news_agree, nothing_known}
+use Rattle.session_core.specs.declared.asking.Awaited.{Awaited}
+use Rattle.session_core.specs.declared.asking.Awaited.TheVariants as awaits
+use Rattle.session_core.proofs.AtOnceLaw.{AreStill, IsQuiet, LeavesQuietly, need_quiet}
+use Rattle.session_core.specs.Append as append
+use Rattle.session_core.specs.Create as create
+use Rattle.session_core.specs.Finish.{Finished, finished_by, turn_of}
+use Rattle.session_core.specs.declared.need.Need.{Need}
+use Rattle.session_core.specs.Need.{Behind, begun_by, told}
+use Rattle.session_core.specs.Numbers.{Knows, KnowsBehind, IsOf, known_before}
+use Rattle.session_core.specs.Select as select
+use Rattle.session_core.specs.Status as status
+use Rattle.session_core.specs.Viewed.{viewed_done, viewed_turn}
+
+both_still : (lines more : List ReplyLine) → AreStill lines → AreStill more → AreStill (lines ++ more)
+both_still lines more one other known = after_both known lines more ∙ ap (λ k. known_after_all k more) (one known) ∙ other known
+
+fetched_still : (it : Fetching) (message : Message) (number : Option ℕ) (row : Option Row) → AreStill (fetch_line it message number row)
+unfolding known_after
+fetched_still it message None row known = refl
+fetched_still it message (Some number) None known = refl
+fetched_still it message (Some number) (Some row) known = refl
+
+fetch_still : (it : Fetching) (rows now : List Row) (before : List Message) → AreStill (fetch_lines it rows now before)
+fetch_still it rows now [] known = refl
+fetch_still it rows now (message ∷ before) known =
+    both_still (fetch_line it message (number_in rows message.uid) (row_at now message.uid)) (fetch_lines it rows now before)
+    (fetched_still it message (number_in rows message.uid) (row_at now message.uid)) (fetch_still it rows now before) known
+
+line_still : (by_uid : Bool) (number : ℕ) (row : Option Row) → AreStill (stored_line by_uid number row)
+unfolding known_after
+line_still by_uid number None known = refl
+line_still by_uid number (Some row) known = refl
+
+stored_still : (by_uid : Bool) (changes : List Row) (number : ℕ) (rows : List Row) → AreStill (stored_lines by_uid changes number rows)
+stored_still by_uid changes number [] known = refl
+stored_still by_uid changes number (row ∷ rows) known =
+    both_still (stored_line by_uid number (row_at changes row.uid)) (stored_lines by_uid changes (number + 1) rows)
+    (line_still by_uid number (row_at changes row.uid)) (stored_still by_uid changes (number + 1) rows) known
+
+unless_still : (silent : Bool) (lines : List ReplyLine) → AreStill lines → AreStill (if silent then [] else lines)
+unless_still true lines still known = refl
+unless_still false lines still known = still known
+
+own_still : (it : FlagStore) (changes rows : List Row) → AreStill (own_lines it changes rows)
+own_still it changes rows = unless_still it.is_silent (stored_lines it.by_uid changes 1 rows) (stored_still it.by_uid changes 1 rows)
+
+-- what the client knows behind a reply, and the session behind it
+abbrev Leaves : Known → Sess → Reply → Option Sess → Type 0
+Leaves known session reply later = Knows (known_after_all known reply.lines) (session_after session later)
+
+abbrev TurnLeaves : Known → Sess → Turn → Type 0
+TurnLeaves known session turn = Leaves known session turn.reply turn.session
+
+-- a reply whose lines change no number leaves the session as it was
+still_leaves : (known : Known) (session : Sess) (reply : Reply) → AreStill reply.lines → Knows known session → Leaves known session reply None
+still_leaves known session reply still knows = subst (λ k. Knows k session) (sym (still known)) knows
+
+-- the news tell of what has changed
+news_leave : (known : Known) (view : View) (lines : List ReplyLine) (now : List Row) (expunges : Bool) (told_already : List ℕ)
+    → AreStill lines → Agrees known (uids view.rows)
+    → (let behind = news view.rows now expunges told_already in
+    Knows (known_after_all known (lines ++ behind.lines)) (Selected (record view { rows = behind.rows })))
+unfolding Knows
+news_leave known view lines now expunges told_already still agrees =
+    let behind = news view.rows now expunges told_already in
+    subst (λ k. Agrees k (uids behind.rows)) (sym (after_both known lines behind.lines ∙ ap (λ k. known_after_all k behind.lines) (still known)))
+    (news_agree view.rows now expunges told_already known agrees)
+
+none_still : AreStill []
+none_still known = refl
+
+search_still : (it : Searching) (rows : List Row) (messages : List Message) → AreStill (search_line it rows messages ∷ [])
+unfolding known_after
+search_still it rows messages known = refl
+
+-- a command at the mailbox that is selected
+viewed_leaves : (known : Known) (session : Sess) (view : View) (work : ViewWork) (outcome : Outcome) (seen : Snapshot) → Agrees known (uids view.rows)
+    → IfSome (viewed_done view work outcome seen) (TurnLeaves known session)
+unfolding viewed_done Knows
+viewed_leaves known session view (News why) nothing seen agrees = news_leave known view [] seen.rows true [] none_still agrees
+viewed_leaves known session view Close (Uids uids) seen agrees = tt
+viewed_leaves known session view (Expunge only) (Uids uids) seen agrees = news_leave known view [] seen.rows true [] none_still agrees
+viewed_leaves known session view (Store it) (Rows changes) seen agrees =
+    news_leave known view (own_lines it changes view.rows) seen.rows it.by_uid _ (own_still it changes view.rows) agrees
+viewed_leaves known session view (Store it) full seen agrees = news_leave known view [] seen.rows it.by_uid [] none_still agrees
+viewed_leaves known session view (Fetch it) (Messages before) seen agrees =
+    news_leave known view (fetch_lines it view.rows seen.rows before) seen.rows it.by_uid _ (fetch_still it view.rows seen.rows before) agrees
+viewed_leaves known session view (Search it) (Messages found) seen agrees =
+    news_leave known view (search_line it view.rows found ∷ []) seen.rows it.by_uid [] (search_still it view.rows found) agrees
+viewed_leaves known session view work Gone seen agrees = tt
+viewed_leaves known session view work outcome seen agrees = tt
+
+view_leaves : (known : Known) (session : Sess) (view : View) (work : ViewWork) (body : AnswerBody) → Agrees known (uids view.rows)
+    → IfSome (viewed_turn view work body) (TurnLeaves known session)
+unfolding viewed_turn Knows
+view_leaves known session view work (Done outcome seen) agrees = viewed_leaves known session view work outcome seen agrees
+view_leaves known session view work NotNow agrees = tt
+view_leaves known session view work body agrees = tt
+
+-- a mailbox that is selected: as many messages as its EXISTS says
+
+closed_still : (was_selected : Bool) → AreStill (closed_lines was_selected)
+unfolding known_after
+closed_still true known = refl
+closed_still false known = refl
+
+selected_leaves : (session : Sess) (it : Opening) (name : List ℕ) (seen : Snapshot) → TurnLeaves [] session (select_told it name seen)
+unfolding Knows known_after
+selected_leaves session it name seen = by it.was_selected it.is_writable
+  where
+    same : length seen.rows - length {A = Option ℕ} [] ≡ length (uids seen.rows)
+    same = grind (arith, common_steps, length-map seen.rows (λ (row : Row). row.uid))
+
+    all : Agrees ([] ++ replicate (length seen.rows - length {A = Option ℕ} []) None) (uids seen.rows)
+    all = subst (λ n. Agrees (replicate n None) (uids seen.rows)) (sym same) (nothing_known (uids seen.rows))
+
+    by : (was_selected is_writable : Bool) → TurnLeaves [] session (select_told (record it { was_selected = was_selected; is_writable = is_writable }) name seen)
+    by true true = all
+    by true false = all
+    by false true = all
+    by false false = all
+
+select_done_leaves : (session : Sess) (name : List ℕ) (it : Opening) (outcome : Outcome) (seen : Snapshot)
+    → IfSome (select.select_done name it outcome seen) (TurnLeaves [] session)
+unfolding select.select_done
+select_done_leaves session name it nothing seen = selected_leaves session it name seen
+select_done_leaves session name it outcome seen = tt
+
+select_leaves : (session : Sess) (name : List ℕ) (it : Opening) (body : AnswerBody) → IfSome (select.select_turn name it body) (TurnLeaves [] session)
+unfolding select.select_turn Knows
+select_leaves session name it (Done outcome seen) = select_done_leaves session name it outcome seen
+select_leaves session name it NotNow = tt
+select_leaves session name it body = tt
+
+-- the replies of other commands
+
+abbrev HasStill : Reply → Type 0
+HasStill reply = AreStill reply.lines
+
+created_still : (body : AnswerBody) → IfSome (create.create_reply body) HasStill
+unfolding create.create_reply create.reply_to_done
+created_still (Done outcome seen) = by outcome
+  where
+    by : (outcome : Outcome) → IfSome (create.reply_to_done outcome) HasStill
+    by nothing = none_still
+    by Exists = none_still
+    by full = none_still
+    by outcome = tt
+created_still body = tt
+
+appended_still : (body : AnswerBody) → IfSome (append.append_reply body) HasStill
+unfolding append.append_reply append.reply_to_done append.reply_to_uids reply_with_uid
+appended_still (Done outcome seen) = by outcome
+  where
+    uids_still : (serial : ℕ) (uids : List ℕ) → IfSome (append.reply_to_uids serial uids) HasStill
+    uids_still serial [] = tt
+    uids_still serial (uid ∷ []) = none_still
+    uids_still serial (uid ∷ other ∷ uids) = tt
+
+    by : (outcome : Outcome) → IfSome (append.reply_to_done outcome seen) HasStill
+    by (Uids uids) = uids_still seen.serial uids
+    by full = none_still
+    by outcome = tt
+appended_still NotNow = none_still
+appended_still body = tt
+
+counted_still : (shown : List ℕ) (items : List StatusItem) (body : AnswerBody) → IfSome (status.status_reply shown items body) HasStill
+unfolding status.status_reply status.reply_to_done reply_with_counts known_after
+counted_still shown items (Done outcome seen) = by outcome
+  where
+    by : (outcome : Outcome) → IfSome (status.reply_to_done shown items outcome seen) HasStill
+    by nothing = λ known. refl
+    by outcome = tt
+counted_still shown items NotNow = none_still
+counted_still shown items body = tt
+
+replied_leave : (known : Known) (session : Sess) (reply : Option Reply) → IfSome reply HasStill → Knows known session
+    → IfSome (option_map replied reply) (TurnLeaves known session)
+replied_leave known session None still knows = tt
+replied_leave known session (Some reply) still knows = still_leaves known session reply still knows
+
+turn_leaves : (known : Known) (session : Sess) (awaited : Awaited) (body : AnswerBody) → IsOf session awaited → Knows known session
+    → IfSome (turn_of awaited body) (TurnLeaves (known_before awaited known) session)
+unfolding turn_of known_before IsOf Knows
+turn_leaves known session awaits.Create body of knows = replied_leave known session (create.create_reply body) (created_still body) knows
+turn_leaves known session awaits.Append body of knows = replied_leave known session (append.append_reply body) (appended_still body) knows
+turn_leaves known session (awaits.Status shown items) body of knows =
+    replied_leave known session (status.status_reply shown items body) (counted_still shown items body) knows
+turn_leaves known session (awaits.Select name it) body of knows = select_leaves session name it body
+turn_leaves known session (awaits.Viewed view work) body of knows =
+    view_leaves known session view work body (subst (λ s. Knows known s) of knows)
+
+-- the same of what is needed
+
+told_leaves : (known : Known) (session : Sess) (reply : Reply) (later : Option Sess) → Leaves known session reply later
+    → let behind = told session reply later in KnowsBehind known behind.session behind.need
+unfolding told KnowsBehind
+told_leaves known session reply None leaves = leaves
+told_leaves known session reply (Some Off) leaves = leaves
+told_leaves known session reply (Some (In user)) leaves = leaves
+told_leaves known session reply (Some (Selected view)) leaves = leaves
+told_leaves known session reply (Some Ended) leaves = leaves
+
+finished_leaves : (known : Known) (session : Sess) (turn : Option Turn) → IfSome turn (TurnLeaves known session)
+    → let behind = finished_by session turn in IfSome behind.need (KnowsBehind known behind.session)
+unfolding finished_by
+finished_leaves known session None leaves = tt
+finished_leaves known session (Some turn) leaves = told_leaves known session turn.reply turn.session leaves
+
+-- what comes of a command at once
+
+quiet_leaves : (known : Known) (session : Sess) (reply : Reply) (later : Option Sess) → LeavesQuietly later reply → Knows known session
+    → Leaves known session reply later
+unfolding LeavesQuietly Knows
+quiet_leaves known session reply None quiet knows = still_leaves known session reply quiet knows
+quiet_leaves known session reply (Some Off) quiet knows = tt
+quiet_leaves known session reply (Some (In user)) quiet knows = tt
+quiet_leaves known session reply (Some (Selected view)) quiet knows = absurd quiet
+quiet_leaves known session reply (Some Ended) quiet knows = tt
+
+begun_leaves : (known : Known) (session : Sess) (needed : Needed) → IsQuiet needed → Knows known session
+    → let behind = begun_by session needed in KnowsBehind known behind.session behind.need
+unfolding IsQuiet KnowsBehind begun_by
+begun_leaves known session (Refusal verdict) quiet knows = knows
+begun_leaves known session (Turned turn) quiet knows =
+    told_leaves known session turn.reply turn.session (quiet_leaves known session turn.reply turn.session quiet knows)
+begun_leaves known session (Mailbox name work) quiet knows = knows
+
+apart_knows : (known : Known) (behind : Behind) (session : Sess) (need : Need) → record { session = session; need = need } ≡ behind
+    → KnowsBehind known behind.session behind.need → KnowsBehind known session need
+apart_knows known behind session need is knows = subst (λ (b : Behind). KnowsBehind known b.session b.need) (sym is) knows
+
+pub begin_knows : (setting : Setting) (before session : Sess) (it : Command) (needed : Needed) (result : Result Need Memory) → needed ≡ need_of setting before it
+    → IfOk result (λ need. record { session = session; need = need } ≡ begun_by before needed)
+    → IfOk result (λ need. (known : Known) → Knows known before → KnowsBehind known session need)
+begin_knows setting before session it needed result same is =
+    IfOk-weaker result (λ need. record { session = session; need = need } ≡ begun_by before needed)
+    (λ need. (known : Known) → Knows known before → KnowsBehind known session need)
+    (λ need e known knows. apart_knows known (begun_by before (need_of setting before it)) session need (e ∙ ap (begun_by before) same)
+    (begun_leaves known before (need_of setting before it) (need_quiet setting before it) knows)) is
+
+some_knows : (known : Known) (finished : Finished) (session : Sess) (need : Option Need) → record { session = session; need = need } ≡ finished
+    → IfSome finished.need (KnowsBehind known finished.session) → IfSome need (KnowsBehind known session)
+some_knows known finished session need is knows = subst (λ (f : Finished). IfSome f.need (KnowsBehind known f.session)) (sym is) knows
+
+pub finish_knows : (before session : Sess) (awaited : Awaited) (body : AnswerBody) (turn : Option Turn) (need : Option Need) → turn ≡ turn_of awaited body
+    → record { session = session; need = need } ≡ finished_by before turn
+    → (known : Known) → IsOf before awaited → Knows known before → IfSome need (KnowsBehind (known_before awaited known) session)
+finish_knows before session awaited body turn need same is known of knows =
+    some_knows (known_before awaited known) (finished_by before (turn_of awaited body)) session need (is ∙ ap (finished_by before) same)
+    (finished_leaves (known_before awaited known) before (turn_of awaited body) (turn_leaves known before awaited body of knows))
