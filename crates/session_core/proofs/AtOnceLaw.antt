@@ -1,5 +1,5 @@
 -- What comes of a command at once, whatever mailboxes there are, leaves no mailbox selected or changes no number that its client knows.
-use Rattle.std.proofs.Common.{◌≡◌, ℕ, Bool, true, false, if◌then◌else◌, List, [], length, Option, None, Some, codes, refl}
+use Rattle.std.proofs.Common.{◌≡◌, ℕ, Bool, true, false, if◌then◌else◌, List, length, Option, None, Some, codes, refl}
 use Rattle.std.specs.Prelude.{⊤}
 use Rattle.std.specs.Str.{bytes_eq}
 use Rattle.mail_message.specs.declared.key.Key.{Key}
@@ -7,7 +7,6 @@ use Rattle.mail_message.specs.declared.message.Message.{Message}
 use Rattle.mail_message.specs.declared.set.SetPart.{SetPart}
 use Rattle.mur_base.specs.declared.name.NameFault.{NameFault}
 use Rattle.mur_base.specs.declared.user.User.{User}
-use Rattle.mur_base.specs.Names.{mail_name_fault}
 use Rattle.mur_model.specs.declared.command.Command.{Command}
 use Rattle.mur_model.specs.declared.command.Command.TheVariants as command
 use Rattle.mur_model.specs.declared.command.StatusItem.{StatusItem}
@@ -22,11 +21,11 @@ use Rattle.mur_model.specs.declared.session.Sess.{Sess}
 use Rattle.mur_model.specs.declared.session.Sess.TheVariants.{Off, In, Selected, Ended}
 use Rattle.mur_model.specs.declared.setting.Setting.{Setting}
 use Rattle.mur_model.specs.declared.view.View.{View}
-use Rattle.mur_model.specs.Act.{idled, need_begun, need_in, need_of, need_off, need_selected, need_unselected, wants_selected}
-use Rattle.mur_model.specs.Append.{append, append_as, append_by, new_message}
+use Rattle.mur_model.specs.Act.{idled, need_begun, need_in, need_of, need_off, need_selected, wants_selected}
+use Rattle.mur_model.specs.Append.{append, append_as, append_by}
 use Rattle.mur_model.specs.AtOnce.{is_done}
 use Rattle.mur_model.specs.ClientView.{Known, known_after, known_after_all}
-use Rattle.mur_model.specs.Create.{create, create_as, create_by, create_meant, is_inbox, without_separator}
+use Rattle.mur_model.specs.Create.{create, create_as, create_by, create_meant}
 use Rattle.mur_model.specs.Keys.{have_all_numbers, keys_at}
 use Rattle.mur_model.specs.Login.{login, login_as, login_by, login_failed}
 use Rattle.mur_model.specs.NamedRows.{last_uid}
@@ -34,7 +33,7 @@ use Rattle.mur_model.specs.Plain.{acts_as, authenticate, authenticate_as, authen
 use Rattle.mur_model.specs.Rights.{has_rights, may_create, user_named}
 use Rattle.mur_model.specs.Select.{opening, select, select_as, select_by}
 use Rattle.mur_model.specs.Status.{status, status_as, status_by}
-use Rattle.mur_model.specs.Viewing.{at_mailbox, close, expunge, expunge_named, fetch, fetch_named, names_messages, no_such_number, read_only, search, store, store_named}
+use Rattle.mur_model.specs.Viewing.{at_mailbox, expunge_named, fetch_named, names_messages, no_such_number, read_only, search, store_named}
 
 -- lines that change no number
 abbrev pub AreStill : List ReplyLine → Type 0

@@ -1,9 +1,8 @@
 -- Only a session that has begun asks a home.
-use Rattle.std.proofs.Common.{◌≡◌, Bool, true, false, if◌then◌else◌, List, ℕ, Option, None, Some, codes, sym, ◌∙◌, ap, subst, Result}
+use Rattle.std.proofs.Common.{◌≡◌, Option, None, Some, sym, ◌∙◌, ap, subst, Result}
 use Rattle.std.proofs.lemmas.Result.{IfOk-weaker}
 use Rattle.mur_base.specs.declared.memory.Memory.{Memory}
 use Rattle.mur_model.specs.declared.command.Command.{Command}
-use Rattle.mur_model.specs.declared.command.Command.TheVariants as command
 use Rattle.mur_model.specs.declared.need.Need.{Need as Needed}
 use Rattle.mur_model.specs.declared.need.Need.TheVariants.{Refusal, Turned, Mailbox}
 use Rattle.mur_model.specs.declared.reply.BadText.TheVariants.{State}

@@ -1,11 +1,10 @@
 -- No EXPUNGE line stands in the reply to a FETCH, a STORE or a SEARCH by numbers.
 use Rattle.std.proofs.Common.{◌≡◌, ℕ, zero, suc, ◌+◌, Bool, true, false, not, ◌&&◌, if◌then◌else◌, List, [], ◌∷◌, ◌++◌, length, Option, None, Some, sym, ap, ◌∙◌, subst}
-use Rattle.std.specs.Prelude.{⊤}
 use Rattle.std.specs.Option.{IfSome}
 use Rattle.link_msg.specs.declared.answer.AnswerBody.{AnswerBody}
 use Rattle.link_msg.specs.declared.answer.AnswerBody.TheVariants.{Done, NotNow}
 use Rattle.link_msg.specs.declared.outcome.Outcome.{Outcome}
-use Rattle.link_msg.specs.declared.outcome.Outcome.TheVariants.{Messages, Rows, Limit as full, Gone}
+use Rattle.link_msg.specs.declared.outcome.Outcome.TheVariants.{Messages, Rows, Limit as full}
 use Rattle.mail_message.specs.declared.message.Message.{Message}
 use Rattle.mail_message.specs.declared.message.Row.{Row}
 use Rattle.mail_message.specs.declared.message.Snapshot.{Snapshot}

@@ -5,7 +5,6 @@ use Rattle.std.proofs.lemmas.Result.{IfOk-weaker}
 use Rattle.std.specs.Result.{IfOk}
 use Rattle.std.proofs.lemmas.Grind.{common_steps}
 use Rattle.std.proofs.lemmas.List.{length-map}
-use Rattle.std.specs.Prelude.{⊤}
 use Rattle.std.specs.Option.{IfSome, option_map}
 use Rattle.link_msg.specs.declared.answer.AnswerBody.{AnswerBody}
 use Rattle.link_msg.specs.declared.answer.AnswerBody.TheVariants.{Done, NotNow}
@@ -26,7 +25,6 @@ use Rattle.mur_model.specs.declared.need.ViewWork.{ViewWork}
 use Rattle.mur_model.specs.declared.need.ViewWork.TheVariants.{News, Close, Expunge, Store, Fetch, Search}
 use Rattle.mur_model.specs.declared.reply.Reply.{Reply}
 use Rattle.mur_model.specs.declared.reply.ReplyLine.{ReplyLine}
-use Rattle.mur_model.specs.declared.reply.Verdict.{Verdict}
 use Rattle.mur_model.specs.declared.search.Searching.{Searching}
 use Rattle.mur_model.specs.declared.select.Opening.{Opening}
 use Rattle.mur_model.specs.declared.session.Sess.{Sess}
@@ -41,7 +39,6 @@ use Rattle.mur_model.specs.Left.{replied}
 use Rattle.mur_model.specs.News.{news}
 use Rattle.mur_model.specs.Search.{search_line}
 use Rattle.mur_model.specs.Select.{closed_lines, select_told}
-use Rattle.mur_model.specs.Selected.{with_news}
 use Rattle.mur_model.specs.Status.{status_reply as reply_with_counts}
 use Rattle.mur_model.specs.Append.{append_reply as reply_with_uid}
 use Rattle.mur_model.specs.StoreFlags.{own_lines, stored_line, stored_lines}
