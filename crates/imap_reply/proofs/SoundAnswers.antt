@@ -1,7 +1,7 @@
 -- The texts of each answer of a sound store to a sound request are sound, so a client reads what was meant; and the store stays sound.
-use Rattle.std.proofs.Common.{◌≡◌, ℕ, ◌^◌, Bool, true, false, if◌then◌else◌, List, [], ◌∷◌, ◌++◌, codes, refl}
+use Rattle.std.proofs.Common.{◌≡◌, ℕ, ◌^◌, Bool, true, false, if◌then◌else◌, List, [], codes, refl}
 use Rattle.std.proofs.Common.{Option, None, Some}
-use Rattle.std.specs.Prelude.{All, IfSome, ⊤, unwrap_or, length}
+use Rattle.std.specs.Prelude.{IfSome, unwrap_or, length}
 use Rattle.std.specs.Str.{bytes_eq}
 use Rattle.std.proofs.lemmas.List.Elements.{All-nil, All-cons}
 use Rattle.mur_base.specs.declared.name.NameFault.{NameFault}
@@ -33,7 +33,7 @@ use Rattle.mur_model.specs.declared.session.Sess.TheVariants.{Off, In, Selected 
 use Rattle.mur_model.specs.declared.setting.Setting.{Setting}
 use Rattle.mur_model.specs.declared.store.Store.{Store}
 use Rattle.mur_model.specs.declared.view.View.{View}
-use Rattle.mur_model.specs.Act.{act_by, act_of, worked_at, need_of, need_off, need_in, need_begun, need_selected, need_unselected, not_yet, wants_selected}
+use Rattle.mur_model.specs.Act.{act_by, act_of, worked_at, need_of, need_off, need_in, need_begun, need_selected, need_unselected, wants_selected}
 use Rattle.mur_model.specs.Answer.{answer_of}
 use Rattle.mur_model.specs.Append.{new_message, append, append_as, append_by}
 use Rattle.mur_model.specs.AtOnce.{is_done, told_at_once}

@@ -1,9 +1,8 @@
 -- What is told of a mailbox has sound texts, where its messages have, and they keep them.
-use Rattle.std.proofs.Common.{◌≡◌, ℕ, ◌==◌, Bool, true, false, not, ◌&&◌, if◌then◌else◌, List, [], ◌∷◌, ◌++◌, length, map, codes, refl}
+use Rattle.std.proofs.Common.{◌≡◌, ℕ, ◌==◌, Bool, true, false, if◌then◌else◌, List, [], ◌∷◌, length, map, codes, refl}
 use Rattle.std.proofs.Common.{Option, None, Some}
 use Rattle.std.specs.Prelude.{All, IfSome, ⊤}
-use Rattle.std.specs.List.{list_any}
-use Rattle.std.proofs.lemmas.List.Elements.{All-nil, All-cons, All-append, All-map, All-weaker, All-from_recursion}
+use Rattle.std.proofs.lemmas.List.Elements.{All-nil, All-cons, All-append, All-map, All-from_recursion}
 use Rattle.mail_fetch.specs.Parts.{part_text}
 use Rattle.mail_fetch.proofs.PartLaws.{flags_is_part, item_is_part, uid_is_part}
 use Rattle.mail_message.specs.Boxes.{Content, messages_at, relabelled, snapshot_of}
