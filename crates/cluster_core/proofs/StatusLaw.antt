@@ -1,6 +1,5 @@
 -- A STATUS at the home is one at the store.
 use Rattle.std.proofs.Common.{◌≡◌, ℕ, List, Option, None, Some, refl, sym, ap, subst}
-use Rattle.std.proofs.lemmas.List.{length-map}
 use Rattle.backend_core.specs.declared.backend.Backend.{Backend}
 use Rattle.backend_core.specs.declared.held.Held.{Held}
 use Rattle.backend_core.specs.HomeStep.{held_at, answers}
@@ -8,14 +7,14 @@ use Rattle.backend_core.specs.Look.{look_step, look_at, look_unless}
 use Rattle.backend_core.specs.Response.{done}
 use Rattle.link_msg.specs.declared.counts.Counts.TheVariants.{Always, IfAnswered}
 use Rattle.link_msg.specs.declared.outcome.Outcome.TheVariants.{None as nothing}
-use Rattle.mail_message.specs.Boxes.{row_of, snapshot_of}
+use Rattle.mail_message.specs.Boxes.{snapshot_of}
 use Rattle.mur_base.specs.declared.home.Phase.TheVariants.{Open as open_here}
 use Rattle.mur_model.specs.declared.command.StatusItem.{StatusItem}
 use Rattle.mur_model.specs.declared.need.Work.TheVariants.{Status as status_work}
 use Rattle.mur_model.specs.declared.store.Store.{Store}
 use Rattle.mur_model.specs.Act.{MayWork}
-use Rattle.mur_model.specs.Left.{replied, store_after}
-use Rattle.mur_model.specs.Status.{status_on, status_reply as model_reply}
+use Rattle.mur_model.specs.Left.{store_after}
+use Rattle.mur_model.specs.Status.{status_on}
 use Rattle.session_core.specs.Asking.{asked_for}
 use Rattle.session_core.specs.Finish.{turn_of}
 use Rattle.session_core.specs.Status.{status_reply, reply_to_done}

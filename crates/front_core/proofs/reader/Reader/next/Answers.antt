@@ -1,9 +1,7 @@
 use Rattle.std.proofs.Common.{◌≡◌, ℕ, ◌++◌, drop, Option, None, Result, Ok, sym, ◌∙◌, ap}
-use Rattle.std.specs.Option.{option_to_list}
 use Rattle.imap_wire.specs.declared.frame.Frame.{Frame}
-use Rattle.imap_wire.specs.More.{frames_of_more}
 use Rattle.mur_base.specs.declared.memory.Memory.{Memory}
-use Rattle.front_core.specs.Reading.{Reading, inputs_of_more, read_more}
+use Rattle.front_core.specs.Reading.{inputs_of_more, read_more}
 use Rattle.front_core.proofs.ReaderLaws.{next_frames, next_begun}
 use Rattle.front_core.proofs.ReadingLaws.{next_inputs, next_reading}
 use Rattle.front_core.proofs.reader.Reader.next.Goals as goal
