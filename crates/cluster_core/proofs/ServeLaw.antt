@@ -13,7 +13,8 @@ use Rattle.mur_model.specs.declared.store.Store.{Store}
 use Rattle.mur_model.specs.declared.view.View.{View}
 use Rattle.mur_model.specs.Act.{worked_at, work_on}
 use Rattle.mur_model.specs.Store.{is_spent}
-use Rattle.session_core.specs.Asking.{asked_for, view_op}
+use Rattle.session_core.specs.Asking.{asked_for}
+use Rattle.session_core.specs.Viewed.{view_op}
 use Rattle.cluster_core.specs.OneStore.{open_content}
 use Rattle.cluster_core.proofs.AppendLaw.{appends_alike}
 use Rattle.cluster_core.proofs.CreateLaw.{creates_alike}

@@ -12,6 +12,7 @@ use session_core::{Asking, Need, begin, finish, relocated};
 use std::alloc::Global;
 
 /// What becomes of a command that asks the home.
+#[derive(Clone, Copy)]
 enum Fate {
     Answered,
     BeingMoved,

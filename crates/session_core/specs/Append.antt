@@ -9,6 +9,14 @@ use Rattle.mur_model.specs.declared.reply.NoText.TheVariants.{TryCreate, Limit}
 use Rattle.mur_model.specs.declared.reply.Reply.{Reply}
 use Rattle.mur_model.specs.Append.{append_reply as reply_with_uid}
 use Rattle.mur_model.specs.Reply.{refused}
+use Rattle.link_msg.specs.declared.op.Op.TheVariants.{Append as append_op}
+use Rattle.mail_message.specs.declared.message.Message.{Message}
+use Rattle.session_core.specs.declared.asking.Asking.{Asking}
+use Rattle.session_core.specs.declared.asking.Awaited.TheVariants as awaited
+use Rattle.session_core.specs.Unselected.{unselected}
+
+abbrev pub append_asks : Message → Asking
+append_asks message = unselected (append_op (message ∷ [])) awaited.Append
 
 -- one message got one UID
 unfoldable pub reply_to_uids : ℕ → List ℕ → Option Reply

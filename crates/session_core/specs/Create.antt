@@ -7,6 +7,13 @@ use Rattle.link_msg.specs.declared.outcome.Outcome.TheVariants.{None as nothing,
 use Rattle.mur_model.specs.declared.reply.NoText.TheVariants.{AlreadyExists, Limit}
 use Rattle.mur_model.specs.declared.reply.Reply.{Reply}
 use Rattle.mur_model.specs.Reply.{completed, refused}
+use Rattle.link_msg.specs.declared.op.Op.TheVariants.{Create as create_op}
+use Rattle.session_core.specs.declared.asking.Asking.{Asking}
+use Rattle.session_core.specs.declared.asking.Awaited.TheVariants as awaited
+use Rattle.session_core.specs.Unselected.{unselected}
+
+abbrev pub create_asks : Asking
+create_asks = unselected create_op awaited.Create
 
 unfoldable pub reply_to_done : Outcome → Option Reply
 reply_to_done nothing = Some (completed (codes "CREATE"))

@@ -8,4 +8,5 @@ pub mod Numbers
 pub mod Relocated
 pub mod Select
 pub mod Status
+pub mod Unselected
 pub mod Viewed

@@ -9,6 +9,13 @@ use Rattle.mur_model.specs.declared.reply.NoText.TheVariants.{NonExistent}
 use Rattle.mur_model.specs.declared.select.Opening.{Opening}
 use Rattle.mur_model.specs.declared.session.Turn.{Turn}
 use Rattle.mur_model.specs.Select.{select_told, unselected}
+use Rattle.link_msg.specs.declared.op.Op.TheVariants.{Look}
+use Rattle.session_core.specs.declared.asking.Asking.{Asking}
+use Rattle.session_core.specs.declared.asking.Awaited.TheVariants as awaited
+use Rattle.session_core.specs.Unselected.{unselected as unselected_ask}
+
+abbrev pub select_asks : List ℕ → Opening → Asking
+select_asks name it = unselected_ask Look (awaited.Select name it)
 
 unfoldable pub select_done : List ℕ → Opening → Outcome → Snapshot → Option Turn
 select_done name it nothing seen = Some (select_told it name seen)

@@ -10,6 +10,13 @@ use Rattle.mur_model.specs.declared.reply.NoText.TheVariants.{NonExistent}
 use Rattle.mur_model.specs.declared.reply.Reply.{Reply}
 use Rattle.mur_model.specs.Reply.{refused}
 use Rattle.mur_model.specs.Status.{status_reply as reply_with_counts}
+use Rattle.link_msg.specs.declared.op.Op.TheVariants.{Look}
+use Rattle.session_core.specs.declared.asking.Asking.{Asking}
+use Rattle.session_core.specs.declared.asking.Awaited.TheVariants as awaited
+use Rattle.session_core.specs.Unselected.{unselected}
+
+abbrev pub status_asks : List ℕ → List StatusItem → Asking
+status_asks shown items = unselected Look (awaited.Status shown items)
 
 unfoldable pub reply_to_done : List ℕ → List StatusItem → Outcome → Snapshot → Option Reply
 reply_to_done shown items nothing seen = Some (reply_with_counts shown items seen)

@@ -1,6 +1,6 @@
 -- The commands of a selected session: what is told when the home has answered. A mailbox that the home hasn't any more, or that is another of its name,
 -- is gone.
-use Rattle.std.specs.Prelude.{codes, Option, None, Some}
+use Rattle.std.specs.Prelude.{false, codes, Option, None, Some}
 use Rattle.link_msg.specs.declared.answer.AnswerBody.{AnswerBody}
 use Rattle.link_msg.specs.declared.answer.AnswerBody.TheVariants.{Done, NotNow}
 use Rattle.link_msg.specs.declared.outcome.Outcome.{Outcome}
@@ -16,6 +16,24 @@ use Rattle.mur_model.specs.Search.{search_told}
 use Rattle.mur_model.specs.Selected.{gone}
 use Rattle.mur_model.specs.StoreFlags.{store_told, store_refused}
 use Rattle.mur_model.specs.Viewing.{news_told, left_by}
+use Rattle.link_msg.specs.declared.op.Op.{Op}
+use Rattle.link_msg.specs.declared.op.Op.TheVariants.{Look, Expunge as expunge_op, Flags as flags_op, Read as read_op}
+use Rattle.mur_model.specs.ClientView.{uids as uids_of}
+use Rattle.mur_model.specs.Fetch.{sees}
+use Rattle.session_core.specs.declared.asking.Asking.{Asking}
+use Rattle.session_core.specs.declared.asking.Awaited.TheVariants as awaited
+
+unfoldable pub view_op : View → ViewWork → Op
+view_op view (News why) = Look
+view_op view Close = expunge_op None
+view_op view (Expunge only) = expunge_op only
+view_op view (Store it) = flags_op it.uids it.mode it.flags
+view_op view (Fetch it) = read_op it.uids (sees view it)
+view_op view (Search it) = read_op (uids_of view.rows) false
+
+-- an ask of a session that has a mailbox selected names its UIDVALIDITY (RFC 9051, 2.3.1.1)
+abbrev pub viewed_asks : View → ViewWork → Asking
+viewed_asks view work = record { op = view_op view work; selected = Some view.serial; awaited = awaited.Viewed view work }
 
 -- the outcomes that the operation of each command can have
 unfoldable pub viewed_done : View → ViewWork → Outcome → Snapshot → Option Turn

@@ -1,12 +1,22 @@
 // APPEND.
 ghost use Rattle.std.specs.Prelude.{◌≡◌, IfOk};
-ghost use Rattle.session_core.specs.Append.{append_reply, reply_to_done, reply_to_uids};
+ghost use Rattle.session_core.specs.Append.{append_asks, append_reply, reply_to_done, reply_to_uids};
 
-use link_msg::{AnswerBody, Outcome};
-use mail_message::Snapshot;
+use crate::asking::{Asking, Awaited, unselected};
+use link_msg::{AnswerBody, Op, Outcome};
+use mail_message::{Message, Messages, Snapshot};
 use mur_base::Memory;
 use mur_model::{NoText, Reply, append_reply as reply_with_uid, refused};
 use std::alloc::Global;
+
+/// What an APPEND of a message asks.
+pub fn append_asks(alloc: Global, message: Message) -> Result<Asking, Memory>
+    ensures { IfOk result (λ it. it ≡ append_asks message) }
+{
+    let mut messages = Messages::new(alloc);
+    messages.push(message)?;
+    Ok(unselected(Op::Append(messages), Awaited::Append))
+}
 
 /// What is replied to the answer of an APPEND; nothing to one that it can't have.
 #[tactic(auto, unfolding(crate::specs::Append::append_reply))]

@@ -1,12 +1,16 @@
 // What a command asks of a home.
 ghost use Rattle.std.specs.Prelude.{◌≡◌, IfOk};
-ghost use Rattle.mur_model.specs.ClientView.{uids};
-ghost use Rattle.session_core.specs.Asking.{asked_for, unselected, view_op};
+ghost use Rattle.session_core.specs.Asking.{asked_for};
+ghost use Rattle.session_core.specs.Unselected.{unselected};
 
+use crate::append::append_asks;
+use crate::create::create_asks;
+use crate::select::select_asks;
+use crate::status::status_asks;
+use crate::viewed::viewed_asks;
 use link_msg::Op;
-use mail_message::{Messages, Uids};
-use mur_base::{Bytes, Copied, MailName, Memory};
-use mur_model::{Opening, StatusItems, View, ViewWork, Work, sees};
+use mur_base::{Bytes, MailName, Memory};
+use mur_model::{Opening, StatusItems, View, ViewWork, Work};
 use std::alloc::Global;
 
 /// What the client of an ask waits for, and what its reply is made of besides the home's answer.
@@ -36,23 +40,16 @@ pub fn asked_for(alloc: Global, name: &MailName, work: Work) -> Result<Asking, M
     ensures { IfOk result (λ it. it ≡ asked_for name.now work) }
 {
     match work {
-        Work::Make => Ok(unselected(Op::Create, Awaited::Create)),
-        Work::Append(message) => {
-            let mut messages = Messages::new(alloc);
-            messages.push(message)?;
-            Ok(unselected(Op::Append(messages), Awaited::Append))
-        }
-        Work::Status(shown, items) => Ok(unselected(Op::Look, Awaited::Status(shown, items))),
-        Work::Select(it) => Ok(unselected(Op::Look, Awaited::Select(name.copy(alloc)?, it))),
-        Work::Viewed(view, work) => Ok(Asking {
-            op: view_op(alloc, &view, &work)?,
-            selected: Some(view.serial),
-            awaited: Awaited::Viewed(view, work),
-        }),
+        Work::Make => Ok(create_asks()),
+        Work::Append(message) => append_asks(alloc, message),
+        Work::Status(shown, items) => Ok(status_asks(shown, items)),
+        Work::Select(it) => select_asks(alloc, name, it),
+        Work::Viewed(view, work) => viewed_asks(alloc, view, work),
     }
 }
 
-fn unselected(op: Op, awaited: Awaited) -> Asking
+/// What is asked without a mailbox that is selected.
+pub fn unselected(op: Op, awaited: Awaited) -> Asking
     ensures { result ≡ unselected op awaited }
 {
     Asking {
@@ -60,44 +57,4 @@ fn unselected(op: Op, awaited: Awaited) -> Asking
         selected: None,
         awaited,
     }
-}
-
-/// What is asked of the home of the selected mailbox.
-#[tactic(auto, unfolding(crate::specs::Asking::view_op))]
-fn view_op(alloc: Global, view: &View, work: &ViewWork) -> Result<Op, Memory>
-    ensures { IfOk result (λ op. op ≡ view_op view.now work.now) }
-{
-    match work {
-        ViewWork::News(_) => Ok(Op::Look),
-        ViewWork::Close | ViewWork::Expunge(None) => Ok(Op::Expunge(None)),
-        ViewWork::Expunge(Some(uids)) => Ok(Op::Expunge(Some(uids_of(alloc, uids)?))),
-        ViewWork::Store(it) => Ok(Op::Flags(
-            uids_of(alloc, &it.uids)?,
-            it.mode,
-            it.flags.copy(alloc)?,
-        )),
-        ViewWork::Fetch(it) => Ok(Op::Read(uids_of(alloc, &it.uids)?, sees(view, it))),
-        ViewWork::Search(_) => Ok(Op::Read(uids_in(alloc, view)?, false)),
-    }
-}
-
-/// The UIDs of a view.
-fn uids_in(alloc: Global, view: &View) -> Result<Uids, Memory>
-    ensures { IfOk result (λ list. list ≡ uids (view.now).rows) }
-{
-    let mut list = Uids::new(alloc);
-    for row in view.rows.as_slice() {
-        list.push(row.uid)?;
-    }
-    Ok(list)
-}
-
-fn uids_of(alloc: Global, uids: &Uids) -> Result<Uids, Memory>
-    ensures { IfOk result (λ list. list ≡ uids.now) }
-{
-    let mut list = Uids::new(alloc);
-    for uid in uids.as_slice() {
-        list.push(*uid)?;
-    }
-    Ok(list)
 }

@@ -1,11 +1,19 @@
 // CREATE.
 ghost use Rattle.std.specs.Prelude.{◌≡◌, IfOk};
-ghost use Rattle.session_core.specs.Create.{create_reply, reply_to_done};
+ghost use Rattle.session_core.specs.Create.{create_asks, create_reply, reply_to_done};
 
-use link_msg::{AnswerBody, Outcome};
+use crate::asking::{Asking, Awaited, unselected};
+use link_msg::{AnswerBody, Op, Outcome};
 use mur_base::Memory;
 use mur_model::{NoText, Reply, completed, refused};
 use std::alloc::Global;
+
+/// What a CREATE asks.
+pub fn create_asks() -> Asking
+    ensures { result ≡ create_asks }
+{
+    unselected(Op::Create, Awaited::Create)
+}
 
 /// What is replied to the answer of a CREATE; nothing to one that it can't have.
 #[tactic(auto, unfolding(crate::specs::Create::create_reply))]

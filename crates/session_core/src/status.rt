@@ -1,12 +1,20 @@
 // STATUS.
 ghost use Rattle.std.specs.Prelude.{◌≡◌, IfOk};
-ghost use Rattle.session_core.specs.Status.{status_reply, reply_to_done};
+ghost use Rattle.session_core.specs.Status.{reply_to_done, status_asks, status_reply};
 
-use link_msg::{AnswerBody, Outcome};
+use crate::asking::{Asking, Awaited, unselected};
+use link_msg::{AnswerBody, Op, Outcome};
 use mail_message::Snapshot;
 use mur_base::{Bytes, Memory};
 use mur_model::{NoText, Reply, StatusItems, refused, status_reply as reply_with_counts};
 use std::alloc::Global;
+
+/// What a STATUS asks, of these items under this name.
+pub fn status_asks(shown: Bytes, items: StatusItems) -> Asking
+    ensures { result ≡ status_asks shown items }
+{
+    unselected(Op::Look, Awaited::Status(shown, items))
+}
 
 /// What is replied to the answer of a STATUS under this name; nothing to one that it can't have.
 #[tactic(auto, unfolding(crate::specs::Status::status_reply))]

@@ -1,16 +1,69 @@
 // The commands of a selected session.
 ghost use Rattle.std.specs.Prelude.{◌≡◌, IfOk};
 ghost use Rattle.std.specs.Option.{option_copied};
-ghost use Rattle.session_core.specs.Viewed.{viewed_turn, viewed_done};
+ghost use Rattle.mur_model.specs.ClientView.{uids};
+ghost use Rattle.session_core.specs.Viewed.{view_op, viewed_asks, viewed_done, viewed_turn};
 
-use link_msg::{AnswerBody, Outcome};
+use crate::asking::{Asking, Awaited};
+use link_msg::{AnswerBody, Op, Outcome};
 use mail_message::{Snapshot, Uids};
-use mur_base::Memory;
+use mur_base::{Copied, Memory};
 use mur_model::{
-    Turn, View, ViewWork, expunge_told, fetch_told, gone, left_by, news_told, search_told,
+    Turn, View, ViewWork, expunge_told, fetch_told, gone, left_by, news_told, search_told, sees,
     store_refused, store_told,
 };
 use std::alloc::Global;
+
+/// What a command of a selected session asks: the home of its mailbox is told its UIDVALIDITY (RFC 9051, 2.3.1.1).
+pub fn viewed_asks(alloc: Global, view: View, work: ViewWork) -> Result<Asking, Memory>
+    ensures { IfOk result (λ it. it ≡ viewed_asks view work) }
+{
+    Ok(Asking {
+        op: view_op(alloc, &view, &work)?,
+        selected: Some(view.serial),
+        awaited: Awaited::Viewed(view, work),
+    })
+}
+
+/// What is asked of the home of the selected mailbox.
+#[tactic(auto, unfolding(crate::specs::Viewed::view_op))]
+fn view_op(alloc: Global, view: &View, work: &ViewWork) -> Result<Op, Memory>
+    ensures { IfOk result (λ op. op ≡ view_op view.now work.now) }
+{
+    match work {
+        ViewWork::News(_) => Ok(Op::Look),
+        ViewWork::Close | ViewWork::Expunge(None) => Ok(Op::Expunge(None)),
+        ViewWork::Expunge(Some(uids)) => Ok(Op::Expunge(Some(uids_of(alloc, uids)?))),
+        ViewWork::Store(it) => Ok(Op::Flags(
+            uids_of(alloc, &it.uids)?,
+            it.mode,
+            it.flags.copy(alloc)?,
+        )),
+        ViewWork::Fetch(it) => Ok(Op::Read(uids_of(alloc, &it.uids)?, sees(view, it))),
+        ViewWork::Search(_) => Ok(Op::Read(uids_in(alloc, view)?, false)),
+    }
+}
+
+/// The UIDs of a view.
+fn uids_in(alloc: Global, view: &View) -> Result<Uids, Memory>
+    ensures { IfOk result (λ list. list ≡ uids (view.now).rows) }
+{
+    let mut list = Uids::new(alloc);
+    for row in view.rows.as_slice() {
+        list.push(row.uid)?;
+    }
+    Ok(list)
+}
+
+fn uids_of(alloc: Global, uids: &Uids) -> Result<Uids, Memory>
+    ensures { IfOk result (λ list. list ≡ uids.now) }
+{
+    let mut list = Uids::new(alloc);
+    for uid in uids.as_slice() {
+        list.push(*uid)?;
+    }
+    Ok(list)
+}
 
 /// What comes of the answer to a command of a selected session; nothing of one that it can't have.
 #[tactic(auto, unfolding(crate::specs::Viewed::viewed_turn))]
