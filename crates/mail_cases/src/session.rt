@@ -4,11 +4,11 @@ use anyhow::{Result, anyhow};
 use backend_core::{BackInput, Backend};
 use imap_command::read_request;
 use imap_reply::write;
-use link_msg::{AnswerBody, FrontAsk, LinkMsg, Out};
+use link_msg::{AnswerBody, FrontAsk, LinkMsg, Op, Out};
 use mail_message::date;
 use mur_base::{Bytes, Items, MailName, User, Users, What, node_name, user_name};
 use mur_model::{Reply, Request, Sess, Setting, Tag};
-use session_core::{Asking, Need, begin, finish, relocated};
+use session_core::{Asking, Awaited, Need, begin, finish, relocated};
 use std::alloc::Global;
 
 /// What becomes of a command that asks the home.
@@ -101,6 +101,7 @@ fn told(
 }
 
 /// The reply to a command that asks the home of a mailbox.
+#[tactic(auto, unfolding(session_core::specs::Relocated::IsRelocation))]
 fn reply_of(
     alloc: Global,
     home: &mut Backend,
@@ -116,26 +117,45 @@ fn reply_of(
     } = asking;
     let need = match fate {
         Fate::BeingMoved => Some(relocated(alloc, session, &awaited, &What::Reserved)?),
-        Fate::NotReached => {
-            let node = What::Unreached(node_name(alloc, b"b1")?);
-            Some(relocated(alloc, session, &awaited, &node)?)
-        }
+        Fate::NotReached => Some(unreached(alloc, session, &awaited)?),
         Fate::Answered => {
-            let ask = FrontAsk {
-                id: ID,
-                user: user_name(alloc, b"bob")?,
-                name,
-                selected,
-                op,
-            };
-            finish(alloc, session, &awaited, answer_of(alloc, home, ask)?)?
+            let body = asked(alloc, home, name, selected, op)?;
+            finish(alloc, session, &awaited, body)?
         }
     };
+    reply_in(need)
+}
+
+fn reply_in(need: Option<Need>) -> Result<Reply> {
     match need {
         Some(Need::Reply(reply)) => Ok(reply),
         Some(Need::Leave(reply)) => Ok(reply),
         _ => Err(anyhow!("an answer that doesn't fit")),
     }
+}
+
+#[tactic(auto, unfolding(session_core::specs::Relocated::IsRelocation))]
+fn unreached(alloc: Global, session: &mut Sess, awaited: &Awaited) -> Result<Need> {
+    let node = What::Unreached(node_name(alloc, b"b1")?);
+    Ok(relocated(alloc, session, awaited, &node)?)
+}
+
+/// What the home answers to an ask.
+fn asked(
+    alloc: Global,
+    home: &mut Backend,
+    name: MailName,
+    selected: Option<u32>,
+    op: Op,
+) -> Result<AnswerBody> {
+    let ask = FrontAsk {
+        id: ID,
+        user: user_name(alloc, b"bob")?,
+        name,
+        selected,
+        op,
+    };
+    answer_of(alloc, home, ask)
 }
 
 fn answer_of(alloc: Global, home: &mut Backend, ask: FrontAsk) -> Result<AnswerBody> {
