@@ -19,7 +19,7 @@ use Rattle.mur_model.specs.declared.reply.Verdict.TheVariants.{Bad as bad_reply}
 use Rattle.mur_model.specs.declared.request.Request.{Request}
 use Rattle.mur_model.specs.declared.request.Request.TheVariants.{Command as a_command, Unknown as unknown, TooBig as too_big}
 use Rattle.mur_model.specs.declared.session.Sess.{Sess}
-use Rattle.mur_model.specs.declared.session.Sess.TheVariants.{Off, In, Selected, Ended as session_ended}
+use Rattle.mur_model.specs.declared.session.Sess.TheVariants.{Ended as session_ended}
 use Rattle.mur_model.specs.declared.setting.Setting.{Setting}
 use Rattle.mur_model.specs.Reply.{reply_of, refused}
 use Rattle.front_core.specs.declared.connection.Connection.{Connection}
@@ -28,7 +28,7 @@ use Rattle.front_core.specs.declared.connection.Stage.TheVariants.{Reading, Aske
 use Rattle.session_core.specs.declared.asking.Asking.{Asking}
 use Rattle.session_core.specs.declared.need.Need.{Need}
 use Rattle.session_core.specs.declared.need.Need.TheVariants as needs
-use Rattle.session_core.specs.Begin.{begin}
+use Rattle.session_core.specs.Begin.{begin, user_of}
 use Rattle.session_core.specs.Need.{Behind}
 
 -- a connection, and what it let out
@@ -49,13 +49,6 @@ answers_last conn connection tag reply = record {
   connection = record connection { session = session_ended; stage = Ended; answered = connection.answered + 1 };
   outs = Client conn (reply_text tag reply) ∷ Mark (record { conn = conn; command = connection.answered + 1 }) Always ∷ Close conn ∷ [];
 }
-
--- the user of a session that has begun
-unfoldable pub user_of : Sess → List ℕ
-user_of Off = []
-user_of (In user) = user
-user_of (Selected view) = view.user
-user_of session_ended = []
 
 abbrev pub ask_with : ℕ → Connection → List ℕ → Asking → FrontAsk
 ask_with conn connection name asking = record {

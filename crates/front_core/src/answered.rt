@@ -11,8 +11,8 @@ use crate::taken::reply_bytes;
 use crate::waiting::waiting_come;
 use link_msg::{BackAnswer, Out, Outs};
 use mur_base::{Bytes, Memory, NodeName};
-use mur_model::{Sess, Setting};
-use session_core::{Need, finish};
+use mur_model::Setting;
+use session_core::Need;
 use std::alloc::Global;
 use std::mem;
 
@@ -33,7 +33,7 @@ pub fn answer_comes(
 {
     match &connection.stage {
         Stage::Asked(tag, awaited) if answer.id.command == connection.answered + 1 => {
-            match finish(alloc, &mut connection.session, awaited, answer.body)? {
+            match connection.session.finish(alloc, awaited, answer.body)? {
                 None => Ok(Outs::new(alloc)),
                 Some(Need::Reply(reply)) => {
                     let text = reply_bytes(alloc, tag, reply)?;
@@ -74,7 +74,7 @@ fn end(alloc: Global, conn: u64, connection: &mut Connection, reply: Bytes) -> R
         ≡ ends_with conn connection.old reply) }
 {
     connection.waiting.clear();
-    connection.session = Sess::Ended;
+    connection.session.end();
     connection.stage = Stage::Ended;
     connection.answered += 1;
     let mut outs = given(alloc, conn, reply)?;

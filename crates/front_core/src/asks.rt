@@ -1,12 +1,12 @@
 // A command that waits for the home of its mailbox.
 ghost use Rattle.std.specs.Prelude.{◌≡◌, ◌+◌, ◌<◌, ◌^◌, IfOk, OnOk};
 ghost use Rattle.session_core.specs.Begin.{HasBegun};
-ghost use Rattle.front_core.specs.Taken.{asks, behind_outs, user_of};
+ghost use Rattle.front_core.specs.Taken.{asks, behind_outs};
 
 use crate::connection::{Connection, Stage};
 use link_msg::{FrontAsk, LinkMsg, Out, Outs};
-use mur_base::{AskId, Copied, MailName, Memory, NodeName, UserName};
-use mur_model::{Sess, Tag};
+use mur_base::{AskId, Copied, MailName, Memory, NodeName};
+use mur_model::Tag;
 use session_core::Asking;
 use std::alloc::Global;
 
@@ -37,23 +37,11 @@ pub fn asks(
             conn,
             command: connection.answered + 1,
         },
-        user: user_of(alloc, &connection.session)?,
+        user: connection.session.user(alloc)?,
         name,
         selected,
         op,
     };
     connection.stage = Stage::Asked(tag, awaited);
     outs.push(Out::Link(home.copy(alloc)?, LinkMsg::Ask(ask)))
-}
-
-#[tactic(auto, unfolding(crate::specs::Taken::user_of, session_core::specs::Begin::HasBegun))]
-fn user_of(alloc: Global, session: &Sess) -> Result<UserName, Memory>
-    requires { HasBegun session.now }
-    ensures { IfOk result (λ user. user ≡ user_of session.now) }
-{
-    match session {
-        Sess::In(user) => user.copy(alloc),
-        Sess::Selected(view) => view.user.copy(alloc),
-        Sess::Off | Sess::Ended => unreachable!(),
-    }
 }

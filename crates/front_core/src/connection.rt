@@ -6,8 +6,8 @@ ghost use Rattle.front_core.specs.Stages.{is_reading, has_ended};
 use crate::reader::Reader;
 use imap_reply::Input;
 use mur_base::Queue;
-use mur_model::{Sess, Tag};
-use session_core::Awaited;
+use mur_model::Tag;
+use session_core::{Awaited, Session};
 
 /// What a connection is at.
 #[derive(Drop)]
@@ -26,7 +26,7 @@ pub struct Connection {
     pub reader: Reader,
     /// The inputs that came behind a command that waits.
     pub waiting: Queue<Input>,
-    pub session: Sess,
+    pub session: Session,
     pub stage: Stage,
     /// How many commands were answered.
     pub answered: u64,

@@ -10,7 +10,8 @@ use crate::reader::Reader;
 use imap_reply::put_greeting;
 use link_msg::{BackAnswer, LinkMsg, Out, Outs};
 use mur_base::{Bytes, Map, Memory, NodeName, Queue};
-use mur_model::{Sess, Setting};
+use mur_model::Setting;
+use session_core::Session;
 use std::alloc::Global;
 
 /// A frontend: its connections by their numbers.
@@ -130,7 +131,7 @@ fn new_connection(alloc: Global) -> Connection
     Connection {
         reader: Reader::new(alloc),
         waiting: Queue::new(alloc),
-        session: Sess::Off,
+        session: Session::new(),
         stage: Stage::Reading,
         answered: 0,
     }

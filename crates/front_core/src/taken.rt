@@ -14,10 +14,8 @@ use imap_reply::{Continuation, Input, put_bye, put_continuation, write};
 use imap_wire::FrameFault;
 use link_msg::{Counts, Out, Outs};
 use mur_base::{AskId, Bytes, Memory, NodeName};
-use mur_model::{
-    BadText, Bye, NoText, Reply, ReplyLines, Request, Sess, Setting, Tag, Verdict, refused,
-};
-use session_core::{Need, begin};
+use mur_model::{BadText, Bye, NoText, Reply, ReplyLines, Request, Setting, Tag, Verdict, refused};
+use session_core::Need;
 use std::alloc::Global;
 
 /// Takes an input of a client, and puts what is let out behind the outputs. For want of memory the connection is spent.
@@ -110,7 +108,7 @@ fn request_in(
 {
     match request {
         Request::Command(tag, command) => {
-            let need = begin(alloc, setting, &mut connection.session, command)?;
+            let need = connection.session.begin(alloc, setting, command)?;
             need_in(alloc, home, conn, connection, tag, need, outs)
         }
         Request::Unknown(tag) => {
@@ -161,7 +159,7 @@ fn answers_last(
     ensures { OnOk result (record { connection = connection.new; outs = outs.new }
         ≡ behind_outs outs.old (answers_last conn connection.old tag.now reply)) }
 {
-    connection.session = Sess::Ended;
+    connection.session.end();
     connection.stage = Stage::Ended;
     answers(alloc, conn, connection, tag, reply, outs)?;
     outs.push(Out::Close(conn))

@@ -7,8 +7,8 @@ use imap_reply::write;
 use link_msg::{AnswerBody, FrontAsk, LinkMsg, Op, Out};
 use mail_message::date;
 use mur_base::{Bytes, Items, MailName, User, Users, What, node_name, user_name};
-use mur_model::{Reply, Request, Sess, Setting, Tag};
-use session_core::{Asking, Awaited, Need, begin, finish, relocated};
+use mur_model::{Reply, Request, Setting, Tag};
+use session_core::{Asking, Awaited, Need, Session};
 use std::alloc::Global;
 
 /// What becomes of a command that asks the home.
@@ -19,12 +19,30 @@ enum Fate {
     NotReached,
 }
 
-/// Whether steps of a session and of its home, one after the other, give what stands behind them. A step behind which nothing
+/// A client, and the session that it has until it is told that it has ended.
+#[derive(Drop)]
+struct Client {
+    session: Session,
+    has_left: bool,
+}
+
+/// Whether steps of a session of bob's and of its home, one after the other, give what stands behind them. A step behind which nothing
 /// stands is carried out alone.
 pub fn hold(alloc: Global, steps: &[&str]) -> Result<bool> {
     let setting = setting(alloc)?;
     let mut home = home::empty(alloc)?;
-    let mut session = Sess::In(user_name(alloc, b"bob")?);
+    let mut client = Client {
+        session: Session::new(),
+        has_left: false,
+    };
+    let _ = told(
+        alloc,
+        &setting,
+        &mut home,
+        &mut client,
+        "l LOGIN bob x",
+        Fate::Answered,
+    )?;
     for step in steps {
         let (given, want) = match step.split_once(" = ") {
             Some((given, want)) => (given, Some(want)),
@@ -32,19 +50,27 @@ pub fn hold(alloc: Global, steps: &[&str]) -> Result<bool> {
         };
         let text = match given.split_once(' ') {
             Some(("home", words)) => home::text_of(alloc, &mut home, words)?,
-            Some(("moved", line)) => {
-                let fate = Fate::BeingMoved;
-                told(alloc, &setting, &mut home, &mut session, line, fate)?
-            }
-            Some(("unreached", line)) => {
-                let fate = Fate::NotReached;
-                told(alloc, &setting, &mut home, &mut session, line, fate)?
-            }
+            Some(("moved", line)) => told(
+                alloc,
+                &setting,
+                &mut home,
+                &mut client,
+                line,
+                Fate::BeingMoved,
+            )?,
+            Some(("unreached", line)) => told(
+                alloc,
+                &setting,
+                &mut home,
+                &mut client,
+                line,
+                Fate::NotReached,
+            )?,
             _ => told(
                 alloc,
                 &setting,
                 &mut home,
-                &mut session,
+                &mut client,
                 given,
                 Fate::Answered,
             )?,
@@ -80,11 +106,11 @@ fn told(
     alloc: Global,
     setting: &Setting,
     home: &mut Backend,
-    session: &mut Sess,
+    client: &mut Client,
     line: &str,
     fate: Fate,
 ) -> Result<Bytes> {
-    if matches!(session, Sess::Ended) {
+    if client.has_left {
         return Ok(Bytes::new(alloc));
     }
     let mut frame = Bytes::from_slice(alloc, line.as_bytes())?;
@@ -92,52 +118,50 @@ fn told(
     let Request::Command(tag, command) = read_request(alloc, frame.as_slice())? else {
         return Err(anyhow!("no command: {line}"));
     };
-    let reply = match begin(alloc, setting, session, command)? {
-        Need::Reply(reply) => reply,
-        Need::Leave(reply) => reply,
-        Need::Home(name, asking) => reply_of(alloc, home, session, name, asking, fate)?,
+    let session = &mut client.session;
+    let need = match session.begin(alloc, setting, command)? {
+        Need::Home(name, asking) => answered(alloc, home, session, name, asking, fate)?,
+        need => Some(need),
     };
-    text_of(alloc, &tag, &reply)
+    match need {
+        Some(Need::Reply(reply)) => text_of(alloc, &tag, &reply),
+        Some(Need::Leave(reply)) => {
+            client.has_left = true;
+            text_of(alloc, &tag, &reply)
+        }
+        _ => Err(anyhow!("an answer that doesn't fit")),
+    }
 }
 
-/// The reply to a command that asks the home of a mailbox.
+/// What a session needs behind the answer of the home of a mailbox.
 #[tactic(auto, unfolding(session_core::specs::Relocated::IsRelocation))]
-fn reply_of(
+fn answered(
     alloc: Global,
     home: &mut Backend,
-    session: &mut Sess,
+    session: &mut Session,
     name: MailName,
     asking: Asking,
     fate: Fate,
-) -> Result<Reply> {
+) -> Result<Option<Need>> {
     let Asking {
         op,
         selected,
         awaited,
     } = asking;
-    let need = match fate {
-        Fate::BeingMoved => Some(relocated(alloc, session, &awaited, &What::Reserved)?),
-        Fate::NotReached => Some(unreached(alloc, session, &awaited)?),
+    match fate {
+        Fate::BeingMoved => Ok(Some(session.relocated(alloc, &awaited, &What::Reserved)?)),
+        Fate::NotReached => Ok(Some(unreached(alloc, session, &awaited)?)),
         Fate::Answered => {
             let body = asked(alloc, home, name, selected, op)?;
-            finish(alloc, session, &awaited, body)?
+            Ok(session.finish(alloc, &awaited, body)?)
         }
-    };
-    reply_in(need)
-}
-
-fn reply_in(need: Option<Need>) -> Result<Reply> {
-    match need {
-        Some(Need::Reply(reply)) => Ok(reply),
-        Some(Need::Leave(reply)) => Ok(reply),
-        _ => Err(anyhow!("an answer that doesn't fit")),
     }
 }
 
 #[tactic(auto, unfolding(session_core::specs::Relocated::IsRelocation))]
-fn unreached(alloc: Global, session: &mut Sess, awaited: &Awaited) -> Result<Need> {
+fn unreached(alloc: Global, session: &mut Session, awaited: &Awaited) -> Result<Need> {
     let node = What::Unreached(node_name(alloc, b"b1")?);
-    Ok(relocated(alloc, session, awaited, &node)?)
+    Ok(session.relocated(alloc, awaited, &node)?)
 }
 
 /// What the home answers to an ask.

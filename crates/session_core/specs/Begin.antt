@@ -1,5 +1,5 @@
 -- What a session needs behind a command. Only one that has begun asks a home.
-use Rattle.std.specs.Prelude.{⊤}
+use Rattle.std.specs.Prelude.{⊤, ℕ, List, []}
 use Rattle.mur_model.specs.declared.command.Command.{Command}
 use Rattle.mur_model.specs.declared.session.Sess.{Sess}
 use Rattle.mur_model.specs.declared.session.Sess.TheVariants.{Off, In, Selected, Ended}
@@ -17,6 +17,13 @@ HasBegun Off = ⊥
 HasBegun (In user) = ⊤
 HasBegun (Selected view) = ⊤
 HasBegun Ended = ⊥
+
+-- the user of a session that has begun
+unfoldable pub user_of : Sess → List ℕ
+user_of Off = []
+user_of (In user) = user
+user_of (Selected view) = view.user
+user_of Ended = []
 
 -- a home is asked by a session that has begun alone
 unfoldable pub MayNeed : Sess → Need → Type 0

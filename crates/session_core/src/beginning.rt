@@ -7,23 +7,22 @@ ghost use Rattle.session_core.specs.Numbers.{Knows, KnowsBehind};
 
 use crate::asking::asked_for;
 use crate::need::{Need, told};
+use crate::session::Session;
 use mur_base::Memory;
 use mur_model::{Command, Need as Needed, Reply, ReplyLines, Sess, Setting, begin as need_of};
 use std::alloc::Global;
 
-/// Takes a command: it is answered at once, or the home of its mailbox has to be asked (RFC 9051, 6). For want of memory the session is spent.
-pub fn begin(
-    alloc: Global,
-    with: &Setting,
-    sess: &mut Sess,
-    command: Command,
-) -> Result<Need, Memory>
-    ensures behind { IfOk result (λ need. record { session = sess.new; need = need } ≡ begin with.now sess.old command) }
-    ensures fits { IfOk result (λ need. MayNeed sess.new need) }
-    ensures numbers { IfOk result (λ need. (known : Known) → Knows known sess.old → KnowsBehind known sess.new need) }
-{
-    let needed = need_of(alloc, with, sess, command)?;
-    begun_by(alloc, sess, needed)
+impl Session {
+    /// Takes a command: it is answered at once, or the home of its mailbox has to be asked (RFC 9051, 6). For want of memory the session is
+    /// spent.
+    pub fn begin(&mut self, alloc: Global, with: &Setting, command: Command) -> Result<Need, Memory>
+        ensures behind { IfOk result (λ need. record { session = self.new; need = need } ≡ begin with.now self.old command) }
+        ensures fits { IfOk result (λ need. MayNeed self.new need) }
+        ensures numbers { IfOk result (λ need. (known : Known) → Knows known self.old → KnowsBehind known self.new need) }
+    {
+        let needed = need_of(alloc, with, &self.state, command)?;
+        begun_by(alloc, &mut self.state, needed)
+    }
 }
 
 #[tactic(auto, unfolding(crate::specs::Need::begun_by))]

@@ -12,6 +12,7 @@ use crate::asking::Awaited;
 use crate::create::create_reply;
 use crate::need::{Need, told};
 use crate::select::select_turn;
+use crate::session::Session;
 use crate::status::status_reply;
 use crate::viewed::viewed_turn;
 use link_msg::AnswerBody;
@@ -19,22 +20,24 @@ use mur_base::Memory;
 use mur_model::{Reply, Sess, Turn};
 use std::alloc::Global;
 
-/// Takes the home's answer to what was asked for the command that waits. An answer that doesn't fit changes nothing, and nothing is needed
-/// behind it.
-pub fn finish(
-    alloc: Global,
-    sess: &mut Sess,
-    awaited: &Awaited,
-    body: AnswerBody,
-) -> Result<Option<Need>, Memory>
-    ensures fits { IfOk result (λ need. IfSome need (λ it. MayNeed sess.new it)) }
-    ensures numbers { IfOk result (λ need. (known : Known) → IsOf sess.old awaited.now → Knows known sess.old
-        → IfSome need (KnowsBehind (known_before awaited.now known) sess.new)) }
-    ensures expunges { IfOk result (λ need. IsByNumbers awaited.now → IfSome need TellsNoExpunge) }
-    ensures behind { IfOk result (λ need. record { session = sess.new; need = need } ≡ finish sess.old awaited.now body) }
-{
-    let turn = turn_of(alloc, awaited, body)?;
-    Ok(finished_by(sess, turn))
+impl Session {
+    /// Takes the home's answer to what was asked for the command that waits. An answer that doesn't fit changes nothing, and nothing is
+    /// needed behind it.
+    pub fn finish(
+        &mut self,
+        alloc: Global,
+        awaited: &Awaited,
+        body: AnswerBody,
+    ) -> Result<Option<Need>, Memory>
+        ensures fits { IfOk result (λ need. IfSome need (λ it. MayNeed self.new it)) }
+        ensures numbers { IfOk result (λ need. (known : Known) → IsOf self.old awaited.now → Knows known self.old
+            → IfSome need (KnowsBehind (known_before awaited.now known) self.new)) }
+        ensures expunges { IfOk result (λ need. IsByNumbers awaited.now → IfSome need TellsNoExpunge) }
+        ensures behind { IfOk result (λ need. record { session = self.new; need = need } ≡ finish self.old awaited.now body) }
+    {
+        let turn = turn_of(alloc, awaited, body)?;
+        Ok(finished_by(&mut self.state, turn))
+    }
 }
 
 #[tactic(auto, unfolding(crate::specs::Finish::finished_by))]

@@ -10,11 +10,10 @@ mod finishing;
 mod need;
 mod relocation;
 mod select;
+mod session;
 mod status;
 mod viewed;
 
 pub use asking::{Asking, Awaited, asked_for};
-pub use beginning::begin;
-pub use finishing::finish;
 pub use need::Need;
-pub use relocation::relocated;
+pub use session::Session;

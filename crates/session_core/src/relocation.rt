@@ -4,22 +4,26 @@ ghost use Rattle.session_core.specs.Relocated.{moved_turn, relocated, why_moved,
 
 use crate::asking::Awaited;
 use crate::need::{Need, told};
+use crate::session::Session;
 use mur_base::{Memory, What};
-use mur_model::{NoText, Sess, Turn, refused, unselected};
+use mur_model::{NoText, Turn, refused, unselected};
 use std::alloc::Global;
 
-/// Refuses the command that waits. Its session stays as it was, but that a SELECT or an EXAMINE leaves no mailbox selected (RFC 9051, 6.3.2).
-pub fn relocated(
-    alloc: Global,
-    sess: &mut Sess,
-    awaited: &Awaited,
-    why: &What,
-) -> Result<Need, Memory>
-    requires why { IsRelocation why.now }
-    ensures { IfOk result (λ need. record { session = sess.new; need = need } ≡ relocated sess.old awaited.now why.now) }
-{
-    let turn = moved_turn(alloc, awaited, why_moved(why))?;
-    Ok(told(sess, turn))
+impl Session {
+    /// Refuses the command that waits. The session stays as it was, but that a SELECT or an EXAMINE leaves no mailbox selected (RFC 9051,
+    /// 6.3.2).
+    pub fn relocated(
+        &mut self,
+        alloc: Global,
+        awaited: &Awaited,
+        why: &What,
+    ) -> Result<Need, Memory>
+        requires why { IsRelocation why.now }
+        ensures { IfOk result (λ need. record { session = self.new; need = need } ≡ relocated self.old awaited.now why.now) }
+    {
+        let turn = moved_turn(alloc, awaited, why_moved(why))?;
+        Ok(told(&mut self.state, turn))
+    }
 }
 
 #[tactic(auto, unfolding(crate::specs::Relocated::why_moved))]

@@ -1,0 +1,13 @@
+use Rattle.session_core.proofs.NeedLaw.{begin_fits}
+use Rattle.session_core.proofs.NumbersLaw.{begin_knows}
+use Rattle.session_core.proofs.beginning.Session.begin.Goals as goal
+
+pub returns-clause-fits : goal.returns-clause-fits
+returns-clause-fits c =
+    begin_fits c.args.with.now c.args.self.now c.begun_by.new.sess c.args.command c.in_ok-needed.needed c.begun_by.result c.in_ok-needed.ensures
+    c.begun_by.ensures
+
+pub returns-clause-numbers : goal.returns-clause-numbers
+returns-clause-numbers c =
+    begin_knows c.args.with.now c.args.self.now c.begun_by.new.sess c.args.command c.in_ok-needed.needed c.begun_by.result c.in_ok-needed.ensures
+    c.begun_by.ensures
