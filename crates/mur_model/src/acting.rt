@@ -14,23 +14,23 @@ use crate::setting::Setting;
 use crate::status::status_at;
 use crate::store::Store;
 use crate::viewing::viewed_at;
-use mur_base::{Copied, MailName, Memory};
+use mur_base::{MailName, Memory};
 use std::alloc::Global;
 
 /// Carries out one command on the store and gives its reply (RFC 9051, 6). A mailbox that is made gets the serial as
-/// its UIDVALIDITY; a history is legal only where that was free. For want of memory nothing is said of the store.
+/// its UIDVALIDITY; a history is legal only where that was free. A message isn't copied. For want of memory nothing is said of the store.
 #[tactic(auto, unfolding(crate::specs::Act::act_of))]
 pub fn act(
     alloc: Global,
     with: &Setting,
     store: &mut Store,
     sess: &mut Sess,
-    command: &Command,
+    command: Command,
     serial: u32,
 ) -> Result<Reply, Memory>
-    ensures { IfOk result (λ reply. record { store = store.new; session = sess.new; reply = reply } ≡ act_of with.now store.old sess.old command.now serial) }
+    ensures { IfOk result (λ reply. record { store = store.new; session = sess.new; reply = reply } ≡ act_of with.now store.old sess.old command serial) }
 {
-    let need = begin(alloc, with, sess, command.copy(alloc)?)?;
+    let need = begin(alloc, with, sess, command)?;
     act_by(alloc, store, sess, need, serial)
 }
 

@@ -1,9 +1,6 @@
 // The commands of a mail client (RFC 9051, 6).
-ghost use Rattle.std.specs.Prelude.{◌≡◌, IfOk};
-
 use mail_message::{DateText, FetchItems, FlagSet, Keys, Mode, SetParts};
-use mur_base::{Bytes, Copied, Items, Memory};
-use std::alloc::Global;
+use mur_base::{Bytes, Items};
 
 /// What a reply begins with: the command's tag, or `*` where none reads.
 #[derive(Drop)]
@@ -27,12 +24,6 @@ pub enum StatusItem {
     Deleted,
     /// The bytes of all messages.
     Size,
-}
-
-impl Copied for StatusItem {
-    fn copy(&self, _alloc: Global) -> Result<StatusItem, Memory> {
-        Ok(*self)
-    }
 }
 
 /// What one STATUS asks for, in its order.
@@ -99,115 +90,4 @@ pub enum Command {
     GetAcl(Bytes),
     /// MYRIGHTS of a mailbox (RFC 4314, 3.5).
     MyRights(Bytes),
-}
-
-impl Copied for Command {
-    fn copy(&self, alloc: Global) -> Result<Command, Memory> {
-        match self {
-            Command::Capability => Ok(Command::Capability),
-            Command::Noop => Ok(Command::Noop),
-            Command::Logout => Ok(Command::Logout),
-            Command::Login(user, password) => Ok(Command::Login(
-                copy_of(alloc, user)?,
-                copy_of(alloc, password)?,
-            )),
-            Command::Authenticate(None) => Ok(Command::Authenticate(None)),
-            Command::Authenticate(Some(response)) => {
-                Ok(Command::Authenticate(Some(copy_of(alloc, response)?)))
-            }
-            Command::Enable(names) => Ok(Command::Enable(copy_of_texts(alloc, names)?)),
-            Command::Select(text) => Ok(Command::Select(copy_of(alloc, text)?)),
-            Command::Examine(text) => Ok(Command::Examine(copy_of(alloc, text)?)),
-            Command::Create(text) => Ok(Command::Create(copy_of(alloc, text)?)),
-            Command::Delete(text) => Ok(Command::Delete(copy_of(alloc, text)?)),
-            Command::List(reference, pattern) => Ok(Command::List(
-                copy_of(alloc, reference)?,
-                copy_of(alloc, pattern)?,
-            )),
-            Command::Append(text, flags, date, body) => Ok(Command::Append(
-                copy_of(alloc, text)?,
-                flags.copy(alloc)?,
-                *date,
-                copy_of(alloc, body)?,
-            )),
-            Command::Status(text, items) => Ok(Command::Status(
-                copy_of(alloc, text)?,
-                items.copy(alloc)?,
-            )),
-            Command::Idle(None) => Ok(Command::Idle(None)),
-            Command::Idle(Some(line)) => Ok(Command::Idle(Some(copy_of(alloc, line)?))),
-            Command::Xfer(text, server, None) => Ok(Command::Xfer(
-                copy_of(alloc, text)?,
-                copy_of(alloc, server)?,
-                None,
-            )),
-            Command::Xfer(text, server, Some(partition)) => Ok(Command::Xfer(
-                copy_of(alloc, text)?,
-                copy_of(alloc, server)?,
-                Some(copy_of(alloc, partition)?),
-            )),
-            Command::Close => Ok(Command::Close),
-            Command::Unselect => Ok(Command::Unselect),
-            Command::Expunge(None) => Ok(Command::Expunge(None)),
-            Command::Expunge(Some(set)) => Ok(Command::Expunge(Some(copy_of_all(alloc, set)?))),
-            Command::Search(by_uid, keys) => Ok(Command::Search(*by_uid, keys.copy(alloc)?)),
-            Command::Fetch(by_uid, set, items) => Ok(Command::Fetch(
-                *by_uid,
-                copy_of_all(alloc, set)?,
-                copy_of_all(alloc, items)?,
-            )),
-            Command::Store(by_uid, set, mode, is_silent, flags) => Ok(Command::Store(
-                *by_uid,
-                copy_of_all(alloc, set)?,
-                *mode,
-                *is_silent,
-                flags.copy(alloc)?,
-            )),
-            Command::Copy(by_uid, set, text) => Ok(Command::Copy(
-                *by_uid,
-                copy_of_all(alloc, set)?,
-                copy_of(alloc, text)?,
-            )),
-            Command::LeftOut(line) => Ok(Command::LeftOut(copy_of(alloc, line)?)),
-            Command::SetAcl(text, id, mode, rights) => Ok(Command::SetAcl(
-                copy_of(alloc, text)?,
-                copy_of(alloc, id)?,
-                *mode,
-                copy_of(alloc, rights)?,
-            )),
-            Command::DeleteAcl(text, id) => Ok(Command::DeleteAcl(
-                copy_of(alloc, text)?,
-                copy_of(alloc, id)?,
-            )),
-            Command::GetAcl(text) => Ok(Command::GetAcl(copy_of(alloc, text)?)),
-            Command::MyRights(text) => Ok(Command::MyRights(copy_of(alloc, text)?)),
-        }
-    }
-}
-
-fn copy_of(alloc: Global, bytes: &Bytes) -> Result<Bytes, Memory>
-    ensures { IfOk result (λ copy. copy ≡ bytes.now) }
-{
-    Bytes::from_slice(alloc, bytes.as_slice())
-}
-
-fn copy_of_texts(alloc: Global, texts: &Atoms) -> Result<Atoms, Memory>
-    ensures { IfOk result (λ copy. copy ≡ texts.now) }
-{
-    let mut copy = Atoms::new(alloc);
-    for text in texts.as_slice() {
-        copy.push(copy_of(alloc, text)?)?;
-    }
-    Ok(copy)
-}
-
-/// A copy of a list of values that are copied as they stand.
-fn copy_of_all<T: Copy>(alloc: Global, list: &Items<T>) -> Result<Items<T>, Memory>
-    ensures { IfOk result (λ copy. copy ≡ list.now) }
-{
-    let mut copy = Items::new(alloc);
-    for item in list.as_slice() {
-        copy.push(*item)?;
-    }
-    Ok(copy)
 }
