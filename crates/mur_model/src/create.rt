@@ -1,10 +1,12 @@
 // CREATE (RFC 9051, 6.3.4).
-ghost use Rattle.std.specs.Prelude.{◌≡◌, IfOk};
+ghost use Rattle.std.specs.Prelude.{◌≡◌, ◌++◌, ◌∷◌, [], IfOk, OnOk};
+ghost use Rattle.mail_message.specs.FirstAcl.{first_acl};
+ghost use Rattle.mail_message.specs.Boxes.{empty_box};
 ghost use Rattle.mur_base.specs.Names.{mail_name_fault};
 ghost use Rattle.mur_model.specs.Create.{without_separator, is_inbox, create, create_meant, create_by, create_on};
 ghost use Rattle.mur_model.specs.Left.{replied, store_after};
 ghost use Rattle.mur_model.specs.Rights.{may_create};
-ghost use Rattle.mur_model.specs.Store.{box_at, is_spent};
+ghost use Rattle.mur_model.specs.Store.{box_at, is_spent, with_new_box};
 
 use crate::need::{Need, Work};
 use crate::reply::{NoText, Reply, Verdict, completed, refused};
@@ -79,14 +81,26 @@ pub fn make(alloc: Global, store: &mut Store, name: MailName, serial: u32) -> Re
     if is_spent(store) {
         return Ok(refused(alloc, NoText::Limit));
     }
-    let made = MailBox::make(alloc, serial, first_acl(alloc, &name)?);
-    let pair = Pair {
-        name: name.copy(alloc)?,
-        serial,
-    };
-    store.given.push(pair)?;
-    store.boxes.insert(name, made)?;
+    put_new(alloc, store, name, serial)?;
     completed(alloc, b"CREATE")
+}
+
+/// Puts an empty mailbox into the store.
+fn put_new(alloc: Global, store: &mut Store, name: MailName, serial: u32) -> Result<(), Memory>
+    ensures { OnOk result (store.new ≡ with_new_box store.old name (empty_box serial (first_acl name))) }
+{
+    note_given(alloc, store, &name, serial)?;
+    let new = MailBox::make(alloc, serial, first_acl(alloc, &name)?);
+    store.boxes.insert(name, new)?;
+    Ok(())
+}
+
+/// Notes that a mailbox of this name was given a UIDVALIDITY.
+fn note_given(alloc: Global, store: &mut Store, name: &MailName, serial: u32) -> Result<(), Memory>
+    ensures { OnOk result (store.new ≡ record store.old { given = store.old.given ++ record { name = name.now; serial = serial } ∷ [] }) }
+{
+    let name = name.copy(alloc)?;
+    store.given.push(Pair { name, serial })
 }
 
 #[tactic(auto, unfolding(crate::specs::Store::is_spent))]

@@ -1,23 +1,16 @@
 //! `murder replay CONFIG SCHEDULE` runs the schedule on the cluster of the configuration and writes what clients were
-//! given and the history.
+//! given and the history. Here stands the process: its files, its outputs and its words.
 #![tactic(auto)]
 
-mod call;
-mod file;
 mod host;
-mod output;
-mod replay;
-mod status;
 mod stream;
-mod words;
 
-use crate::call::{murder, tell};
 use crate::host::SystemHost;
-use crate::status::Status;
 use mur_base::Memory;
 use std::env;
 use std::io::ErrorKind;
 use std::process::ExitCode;
+use top_call::{Status, murder, tell};
 
 // The words behind the program's name. Where one of them isn't text, there are none.
 fn given_words(rt: &HostRuntime) -> Result<Vec<String>, Memory> {

@@ -1,0 +1,122 @@
+// The output of a run, written part by part.
+ghost use Rattle.std.specs.Prelude.{OnOk};
+ghost use Rattle.std.specs.List.{flat_map};
+ghost use Rattle.mur_edge.specs.Counts.{HasHostCause};
+ghost use Rattle.mur_edge.specs.Sink.{Took, TookFront};
+ghost use Rattle.top_call.specs.Output.{client_lines, point_line, box_line, lines_of};
+ghost use Rattle.top_call.specs.Writing.{DidPut};
+
+mod lines;
+
+use cluster_core::{Client, HomeRows, Points, World};
+use lines::{End, Given, Line};
+use mur_base::limits::PIECE_LIMIT;
+use mur_base::{Bytes, Map};
+use mur_edge::{HostFault, Sink, write_all};
+use schedule_text::LineCuts;
+use std::alloc::Global;
+
+/// Writes the output of a run, whose history and mailboxes are these, a part of about `PIECE_LIMIT` bytes at a time. Where it
+/// fails a front of the output is taken.
+pub fn write_output<S: Sink>(
+    alloc: Global,
+    world: &World,
+    points: &Points,
+    rows: &HomeRows,
+    sink: &mut S,
+) -> Result<(), HostFault>
+    ensures all { OnOk result (Took (S.facts sink.old).taken (S.facts sink.new).taken (lines_of world.now points.now rows.now)) }
+    ensures front { TookFront (S.facts sink.old).taken (S.facts sink.new).taken (lines_of world.now points.now rows.now) }
+    ensures cause { HasHostCause (S.facts sink.old).faults (S.facts sink.new).faults result }
+{
+    let mut part = Bytes::new(alloc);
+    write_lines(world, points, rows, &mut part, sink)?;
+    write_all(sink, part.as_slice())?;
+    Ok(())
+}
+
+/// All lines but what is kept back in `part`.
+fn write_lines<S: Sink>(
+    world: &World,
+    points: &Points,
+    rows: &HomeRows,
+    part: &mut Bytes,
+    sink: &mut S,
+) -> Result<(), HostFault>
+    ensures did { DidPut (S.facts sink.old).taken (S.facts sink.new).taken part.old part.new (lines_of world.now points.now rows.now) result }
+    ensures cause { HasHostCause (S.facts sink.old).faults (S.facts sink.new).faults result }
+{
+    write_clients(&world.clients, part, sink)?;
+    write_points(points, part, sink)?;
+    write_boxes(rows, part, sink)?;
+    let end = End {
+        steps: world.steps,
+        points: points.len() as u64,
+    };
+    write_line(&end, part, sink)?;
+    Ok(())
+}
+
+fn write_clients<S: Sink>(
+    clients: &Map<u64, Client>,
+    part: &mut Bytes,
+    sink: &mut S,
+) -> Result<(), HostFault>
+    ensures did { DidPut (S.facts sink.old).taken (S.facts sink.new).taken part.old part.new (flat_map client_lines clients.now) result }
+    ensures cause { HasHostCause (S.facts sink.old).faults (S.facts sink.new).faults result }
+{
+    for (conn, client) in clients.iter() {
+        write_client(*conn, client, part, sink)?;
+    }
+    Ok(())
+}
+
+fn write_points<S: Sink>(points: &Points, part: &mut Bytes, sink: &mut S) -> Result<(), HostFault>
+    ensures did { DidPut (S.facts sink.old).taken (S.facts sink.new).taken part.old part.new (flat_map point_line points.now) result }
+    ensures cause { HasHostCause (S.facts sink.old).faults (S.facts sink.new).faults result }
+{
+    for point in points.as_slice() {
+        write_line(point, part, sink)?;
+    }
+    Ok(())
+}
+
+fn write_boxes<S: Sink>(rows: &HomeRows, part: &mut Bytes, sink: &mut S) -> Result<(), HostFault>
+    ensures did { DidPut (S.facts sink.old).taken (S.facts sink.new).taken part.old part.new (flat_map box_line rows.now) result }
+    ensures cause { HasHostCause (S.facts sink.old).faults (S.facts sink.new).faults result }
+{
+    for row in rows.as_slice() {
+        write_line(row, part, sink)?;
+    }
+    Ok(())
+}
+
+/// A line is put behind the part, and a part that is large enough is written.
+#[tactic(auto, using(crate::proofs::WritingLaws::by_line))]
+fn write_line<L: Line, S: Sink>(line: &L, part: &mut Bytes, sink: &mut S) -> Result<(), HostFault>
+    ensures did { DidPut (S.facts sink.old).taken (S.facts sink.new).taken part.old part.new (L.text line.now) result }
+    ensures cause { HasHostCause (S.facts sink.old).faults (S.facts sink.new).faults result }
+{
+    line.put(part)?;
+    if part.len() < PIECE_LIMIT {
+        return Ok(());
+    }
+    write_all(sink, part.as_slice())?;
+    part.clear();
+    Ok(())
+}
+
+fn write_client<S: Sink>(
+    conn: u64,
+    client: &Client,
+    part: &mut Bytes,
+    sink: &mut S,
+) -> Result<(), HostFault>
+    ensures did { DidPut (S.facts sink.old).taken (S.facts sink.new).taken part.old part.new (client_lines (conn, client.now)) result }
+    ensures cause { HasHostCause (S.facts sink.old).faults (S.facts sink.new).faults result }
+{
+    for piece in LineCuts::new(client.given.as_slice()) {
+        write_line(&Given { conn, piece }, part, sink)?;
+    }
+    Ok(())
+}

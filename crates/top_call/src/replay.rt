@@ -1,0 +1,114 @@
+// `replay CONFIG SCHEDULE`: reads both files, runs the cluster and writes the text of the run.
+ghost use Rattle.std.specs.Prelude.{◌≡◌, ◌<◌, ◌^◌, IfOk};
+ghost use Rattle.cluster_core.specs.Headline.{IsOneServer};
+ghost use Rattle.schedule_text.specs.ScheduleFits.{HasCountRoom};
+ghost use Rattle.top_call.specs.Replay.{DidReadConfig, DidReadSchedule, EndsWriting, DidReplay, run_text};
+ghost use Rattle.top_call.specs.Status.{CountsStatus, CountsFile};
+ghost use Rattle.top_call.specs.declared.status.Status.TheVariants.{Schedule};
+ghost use Rattle.schedule_text.specs.ScheduleRules.{rule_number};
+
+use crate::file::read_file;
+use crate::output::write_output;
+use crate::status::Status;
+use crate::words::Names;
+use cluster_core::run;
+use mur_base::limits::SCHEDULE_LIMIT;
+use mur_config::{CONFIG_LIMIT, Config, ConfigFault, read_config};
+use mur_edge::{Host, HostFault, Used};
+use schedule_text::{Events, SchedFault, ScheduleError, read_schedule};
+use std::alloc::Global;
+
+/// Runs a schedule on the cluster of a configuration, and writes what clients were given and the history.
+pub fn replay<H: Host>(alloc: Global, host: &mut H, names: &Names<'_>) -> Status
+    ensures did { DidReplay (record { config = names.now.config.now; schedule = names.now.schedule.now }) (H.facts host.old) (H.facts host.new) result }
+    ensures counts { CountsStatus result (H.facts host.old).faults (H.facts host.new).faults }
+{
+    let config = match configuration(alloc, host, names.config) {
+        Ok(config) => config,
+        Err(status) => return status,
+    };
+    let events = match schedule(alloc, host, names.schedule, &config) {
+        Ok(events) => events,
+        Err(status) => return status,
+    };
+    write_run(alloc, host, config, events)
+}
+
+// The configuration of a file, or how the call ends.
+fn configuration<H: Host>(alloc: Global, host: &mut H, name: &[u8]) -> Result<Config, Status>
+    ensures did { DidReadConfig name.now (H.facts host.old) (H.facts host.new) result }
+    ensures counts { CountsFile result (H.facts host.old).faults (H.facts host.new).faults }
+{
+    let text = match read_file(alloc, host, name, CONFIG_LIMIT) {
+        Ok(text) => text,
+        Err(HostFault::Failed) => return Err(Status::Read),
+        Err(HostFault::Memory) => return Err(Status::Memory),
+    };
+    match read_config(alloc, text.as_slice()) {
+        Ok(config) => Ok(config),
+        Err(ConfigFault::Unknown) => Err(Status::Config { rule: 0 }),
+        Err(ConfigFault::Memory) => Err(Status::Memory),
+    }
+}
+
+// The events of a file, whose bytes are let go, or how the call ends.
+fn schedule<H: Host>(
+    alloc: Global,
+    host: &mut H,
+    name: &[u8],
+    config: &Config,
+) -> Result<Events, Status>
+    ensures did { DidReadSchedule config.now name.now (H.facts host.old) (H.facts host.new) result }
+    ensures room { IfOk result (λ events. HasCountRoom events) }
+    ensures counts { CountsFile result (H.facts host.old).faults (H.facts host.new).faults }
+{
+    let text = match read_file(alloc, host, name, SCHEDULE_LIMIT) {
+        Ok(text) => text,
+        Err(HostFault::Failed) => return Err(Status::Read),
+        Err(HostFault::Memory) => return Err(Status::Memory),
+    };
+    match read_schedule(alloc, text.as_slice(), config) {
+        Ok(events) => Ok(events),
+        Err(ScheduleError::Refused(fault)) => Err(refused(fault)),
+        Err(ScheduleError::Memory) => Err(Status::Memory),
+    }
+}
+
+// How a call ends whose schedule is refused.
+fn refused(fault: SchedFault) -> Status
+    ensures { result ≡ Schedule fault.line (rule_number fault.why) }
+{
+    Status::Schedule {
+        line: fault.line,
+        rule: fault.why.number(),
+    }
+}
+
+// Runs the events and writes the text of the run.
+#[tactic(auto, unfolding(crate::specs::Output::output_of))]
+fn write_run<H: Host>(alloc: Global, host: &mut H, config: Config, events: Events) -> Status
+    requires room { HasCountRoom events }
+    ensures one_server { IsOneServer config events }
+    ensures did { EndsWriting (run_text config events) (H.facts host.old) (H.facts host.new) result }
+    ensures counts { CountsStatus result (H.facts host.old).faults (H.facts host.new).faults }
+{
+    let Ok(cluster) = run(alloc, &config, events) else {
+        return Status::Memory;
+    };
+    drop(config);
+    let (Ok(points), Ok(rows)) = (cluster.history(alloc), cluster.homes(alloc)) else {
+        return Status::Memory;
+    };
+    let mut out = match host.out() {
+        Ok(out) => out,
+        Err(HostFault::Failed) => return Status::Write,
+        Err(HostFault::Memory) => return Status::Memory,
+    };
+    let written = write_output(alloc, cluster.world(), &points, &rows, &mut out);
+    host.back(Used::Out(out));
+    match written {
+        Ok(()) => Status::Done,
+        Err(HostFault::Failed) => Status::Write,
+        Err(HostFault::Memory) => Status::Memory,
+    }
+}
