@@ -1,6 +1,6 @@
 use Rattle.session_core.proofs.NeedLaw.{begin_fits}
 use Rattle.session_core.proofs.NumbersLaw.{begin_knows}
-use Rattle.session_core.proofs.beginning.Session.begin.Goals as goal
+use Rattle.session_core.proofs.session.Session.begin.Goals as goal
 
 pub returns-clause-fits : goal.returns-clause-fits
 returns-clause-fits c =

@@ -1,7 +1,7 @@
 use Rattle.session_core.proofs.NeedLaw.{finish_fits}
 use Rattle.session_core.proofs.NumbersLaw.{finish_knows}
 use Rattle.session_core.proofs.NoExpungeLaw.{finish_tells_none}
-use Rattle.session_core.proofs.finishing.Session.finish.Goals as goal
+use Rattle.session_core.proofs.session.Session.finish.Goals as goal
 
 pub returns-clause-fits : goal.returns-clause-fits
 returns-clause-fits c = finish_fits c.args.self.now c.finished_by.new.sess c.in_ok-turn.turn c.finished_by.result c.finished_by.ensures
