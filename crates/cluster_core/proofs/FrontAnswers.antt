@@ -42,7 +42,8 @@ pub data IsTaken (setting : Setting) (home : List ℕ) (conn : ℕ) (session : S
       → ((connection : Connection) → connection.session ≡ session → request_in setting home conn connection request ≡ answers_last conn connection tag reply)
       → IsTaken setting home conn session request
   asked : (tag : Tag) (it : Command) (name : List ℕ) (work : Work) → request ≡ a_command tag it → need_of setting session it ≡ Mailbox name work
-      → ((connection : Connection) → connection.session ≡ session → request_in setting home conn connection request ≡ asks home conn connection tag name (asked_for name work))
+      → ((connection : Connection) → connection.session ≡ session
+      → request_in setting home conn connection request ≡ asks home conn connection tag name (asked_for name work))
       → IsTaken setting home conn session request
 
 -- the frontend does what the session needs behind the command

@@ -73,7 +73,8 @@ replied_reads : (setting : Setting) (front home : List ℕ) (backend : Backend) 
     → AreAnswered passed (story.told conn)
     → story.talk.answers conn ≡ story.told conn ++ (record { tag = tag; reply = reply }) ∷ []
     → ends reply ≡ false → AreOnWay world.links conn front home [] [] → IsTold setting world.steps world.marks backend story.talk story.course
-    → ReadsOn setting front home backend conn (passed ++ Asks request ∷ []) (reading_again (record connection { session = session_after connection.session later })) world story
+    → ReadsOn setting front home backend conn (passed ++ Asks request ∷ [])
+      (reading_again (record connection { session = session_after connection.session later })) world story
     (carry_all front world (to_client conn (reply_text tag reply) ∷ []))
 replied_reads setting front home backend conn all passed request connection tag reply later world story parts count at session lasts answered said stays
     way told =
@@ -84,7 +85,8 @@ replied_reads setting front home backend conn all passed request connection tag 
     let now : Story = told_more story conn answer in
     let stops : replies_to all (story.told conn) ≡ replies_to passed (story.told conn) =
     ap (λ f. replies_to f (story.told conn)) parts ∙ sym (replies_stop passed (story.told conn) request connection.waiting answered) in
-    subst (λ w. ReadsOn setting front home backend conn (passed ++ Asks request ∷ []) (reading_again (record connection { session = session_after connection.session later })) world story w)
+    subst (λ w. ReadsOn setting front home backend conn (passed ++ Asks request ∷ [])
+        (reading_again (record connection { session = session_after connection.session later })) world story w)
     (sym (line_carried front world conn client text at))
     (record {
       story = now;
@@ -127,13 +129,15 @@ read_stands : (setting : Setting) (front home : List ℕ) (backend : Backend) (c
     (carry_all front world (read_turn setting home conn connection (reply_text tag reply) later).outs)
 read_stands setting front home backend conn all passed held request connection tag reply later world story parts count at session lasts answered said stays way
     told last asked =
-    let behind : Turned = inputs_come setting home conn (reading_again (record connection { session = session_after connection.session later })) connection.waiting in
+    let behind : Turned =
+        inputs_come setting home conn (reading_again (record connection { session = session_after connection.session later })) connection.waiting in
     let whole : all ≡ (passed ++ Asks request ∷ []) ++ connection.waiting = parts ∙ sym (append_assoc passed (Asks request ∷ []) connection.waiting) in
     subst (λ w. StandsOn setting front home backend conn all held behind.connection world story w)
     (sym (carry_all-append front world (to_client conn (reply_text tag reply) ∷ []) behind.outs))
     (subst (λ f. StandsOn setting front home backend conn f held behind.connection world story
     (carry_all front (carry_all front world (to_client conn (reply_text tag reply) ∷ [])) behind.outs)) (sym whole)
-    (inputs_kept setting front home backend conn connection.waiting held world story last (passed ++ Asks request ∷ []) (reading_again (record connection { session = session_after connection.session later }))
+    (inputs_kept setting front home backend conn connection.waiting held world story last (passed ++ Asks request ∷ [])
+    (reading_again (record connection { session = session_after connection.session later }))
     (carry_all front world (to_client conn (reply_text tag reply) ∷ []))
     (asked ∙ ap requests_in whole)
     (replied_reads setting front home backend conn all passed request connection tag reply later world story parts count at session lasts answered said stays

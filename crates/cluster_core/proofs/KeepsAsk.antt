@@ -11,6 +11,7 @@ use Rattle.backend_core.specs.Plan.{plan_of, answer_outs}
 use Rattle.backend_core.specs.Step.{home_step}
 use Rattle.front_core.specs.declared.connection.Connection.{Connection}
 use Rattle.front_core.specs.Taken.{ask_with}
+use Rattle.session_core.specs.Begin.{user_of}
 use Rattle.imap_reply.specs.SessionEnds.{TurnEnds}
 use Rattle.imap_reply.proofs.AnswersEnd.{worked_ends}
 use Rattle.link_msg.specs.declared.answer.AnswerBody.{AnswerBody}

@@ -174,7 +174,8 @@ told_at : (config : Config) (talk : Talk) (steps before later : List Event) → 
     → IsToldSoFar config talk (history_of (run_steps (start config) steps)) before (run_steps (start config) before)
 told_at config talk steps before later e are date_is now last =
     subst (λ s. IsToldSoFar config talk (history_of (run_steps (start config) s)) before (run_steps (start config) before)) (sym e)
-    (told_so_far config talk before later are date_is now (subst (λ s. KeepsLaw config (λ conn. heard_from config conn nobody s) (run_steps (start config) s)) e last))
+    (told_so_far config talk before later are date_is now
+    (subst (λ s. KeepsLaw config (λ conn. heard_from config conn nobody s) (run_steps (start config) s)) e last))
 
 pub kept_all : (config : Config) (events : List Event) (are : AreNodes config.nodes)
     → KeepsAll config (told_of (start_keeps config are).story) (λ conn. nobody) (start config) (unrolled (start config) events)

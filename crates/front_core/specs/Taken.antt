@@ -1,12 +1,13 @@
 -- A connection: what an input of its client makes of it, and what it lets out. One command at a time: inputs that come behind
 -- a command which waits for a home wait with it (RFC 9051, 5.5).
-use Rattle.std.specs.Prelude.{ℕ, ◌+◌, List, [], ◌∷◌, ◌++◌}
+use Rattle.std.specs.Prelude.{ℕ, ◌+◌, List, [], ◌∷◌, ◌++◌, Option}
 use Rattle.imap_reply.specs.ByeLine.{bye_line, bye_of}
 use Rattle.imap_reply.specs.Continuation.{continuation_line}
 use Rattle.imap_reply.specs.ReplyText.{reply_text}
 use Rattle.imap_reply.specs.declared.inputs.Input.{Input}
 use Rattle.imap_reply.specs.declared.inputs.Input.TheVariants.{GoesOn, Asks, Faults}
 use Rattle.link_msg.specs.declared.ask.FrontAsk.{FrontAsk}
+use Rattle.link_msg.specs.declared.op.Op.{Op}
 use Rattle.link_msg.specs.declared.message.LinkMsg.TheVariants.{Ask}
 use Rattle.link_msg.specs.declared.counts.Counts.TheVariants.{Always}
 use Rattle.link_msg.specs.declared.out.Out.{Out}
@@ -50,14 +51,18 @@ answers_last conn connection tag reply = record {
   outs = Client conn (reply_text tag reply) ∷ Mark (record { conn = conn; command = connection.answered + 1 }) Always ∷ Close conn ∷ [];
 }
 
-abbrev pub ask_with : ℕ → Connection → List ℕ → Asking → FrontAsk
-ask_with conn connection name asking = record {
+-- what the user of a connection asks for its next command
+abbrev pub ask_of : ℕ → Connection → List ℕ → Option ℕ → Op → FrontAsk
+ask_of conn connection name selected op = record {
   id = record { conn = conn; command = connection.answered + 1 };
   user = user_of connection.session;
   name = name;
-  selected = asking.selected;
-  op = asking.op;
+  selected = selected;
+  op = op;
 }
+
+abbrev pub ask_with : ℕ → Connection → List ℕ → Asking → FrontAsk
+ask_with conn connection name asking = ask_of conn connection name asking.selected asking.op
 
 -- a command that waits for the home of its mailbox
 unfoldable pub asks : List ℕ → ℕ → Connection → Tag → List ℕ → Asking → Turned

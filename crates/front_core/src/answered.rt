@@ -58,8 +58,8 @@ pub fn answer_comes(
     }
 }
 
-/// The client is given its reply.
-fn given(alloc: Global, conn: u64, reply: Bytes) -> Result<Outs, Memory>
+/// The client is given this.
+pub fn given(alloc: Global, conn: u64, reply: Bytes) -> Result<Outs, Memory>
     ensures { IfOk result (λ outs. outs ≡ Client conn reply ∷ []) }
 {
     let mut outs = Outs::new(alloc);

@@ -1,10 +1,10 @@
 // A command that waits for the home of its mailbox.
 ghost use Rattle.std.specs.Prelude.{◌≡◌, ◌+◌, ◌<◌, ◌^◌, IfOk, OnOk};
 ghost use Rattle.session_core.specs.Begin.{HasBegun};
-ghost use Rattle.front_core.specs.Taken.{asks, behind_outs};
+ghost use Rattle.front_core.specs.Taken.{ask_of, asks, behind_outs};
 
 use crate::connection::{Connection, Stage};
-use link_msg::{FrontAsk, LinkMsg, Out, Outs};
+use link_msg::{FrontAsk, LinkMsg, Op, Out, Outs};
 use mur_base::{AskId, Copied, MailName, Memory, NodeName};
 use mur_model::Tag;
 use session_core::Asking;
@@ -32,16 +32,33 @@ pub fn asks(
         selected,
         awaited,
     } = asking;
-    let ask = FrontAsk {
+    let ask = ask_of(alloc, conn, connection, name, selected, op)?;
+    connection.stage = Stage::Asked(tag, awaited);
+    outs.push(Out::Link(home.copy(alloc)?, LinkMsg::Ask(ask)))
+}
+
+/// The ask for the next command of a connection.
+fn ask_of(
+    alloc: Global,
+    conn: u64,
+    connection: &Connection,
+    name: MailName,
+    selected: Option<u32>,
+    op: Op,
+) -> Result<FrontAsk, Memory>
+    requires room { connection.now.answered + 1 < 2 ^ 64 }
+    requires begun { HasBegun connection.now.session }
+    ensures { IfOk result (λ ask. ask ≡ ask_of conn connection.now name selected op) }
+{
+    let user = connection.session.user(alloc)?;
+    Ok(FrontAsk {
         id: AskId {
             conn,
             command: connection.answered + 1,
         },
-        user: connection.session.user(alloc)?,
+        user,
         name,
         selected,
         op,
-    };
-    connection.stage = Stage::Asked(tag, awaited);
-    outs.push(Out::Link(home.copy(alloc)?, LinkMsg::Ask(ask)))
+    })
 }

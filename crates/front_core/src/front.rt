@@ -1,14 +1,15 @@
 // A frontend, which speaks to mail clients and asks the homes of their mailboxes.
 ghost use Rattle.std.specs.Prelude.{◌≡◌, length, IfOk};
+ghost use Rattle.imap_reply.specs.Greeting.{greeting};
 ghost use Rattle.front_core.specs.Front.{new_front, new_connection, connect, connection_at, bytes_in, hang, deliver, answer_at};
 ghost use Rattle.front_core.specs.Room.{HasRoomAt, HasRoomFor};
 
-use crate::answered::answer_comes;
+use crate::answered::{answer_comes, given};
 use crate::connection::{Connection, Stage};
 use crate::piece::piece_comes;
 use crate::reader::Reader;
 use imap_reply::put_greeting;
-use link_msg::{BackAnswer, LinkMsg, Out, Outs};
+use link_msg::{BackAnswer, LinkMsg, Outs};
 use mur_base::{Bytes, Map, Memory, NodeName, Queue};
 use mur_model::Setting;
 use session_core::Session;
@@ -43,15 +44,11 @@ impl Front {
     pub fn connect(&mut self, alloc: Global, conn: u64) -> Result<Outs, Memory>
         ensures { IfOk result (λ outs. record { front = self.new; outs = outs } ≡ connect self.old conn) }
     {
-        let mut outs = Outs::new(alloc);
         if self.connections.contains_key(&conn) {
-            return Ok(outs);
+            return Ok(Outs::new(alloc));
         }
         self.connections.insert(conn, new_connection(alloc))?;
-        let mut line = Bytes::new(alloc);
-        put_greeting(&mut line)?;
-        outs.push(Out::Client(conn, line))?;
-        Ok(outs)
+        given(alloc, conn, greeting(alloc)?)
     }
 
     /// Bytes of a client come. For want of memory the frontend is spent.
@@ -122,6 +119,14 @@ impl Front {
             None => Ok(Outs::new(alloc)),
         }
     }
+}
+
+fn greeting(alloc: Global) -> Result<Bytes, Memory>
+    ensures { IfOk result (λ line. line ≡ greeting) }
+{
+    let mut line = Bytes::new(alloc);
+    put_greeting(&mut line)?;
+    Ok(line)
 }
 
 #[tactic(auto, unfolding(crate::specs::Front::new_connection))]

@@ -394,7 +394,8 @@ view_needs setting view (command.Fetch by_uid set items) =
     either_needs (names_messages view by_uid set) (fetch_named view by_uid set items) no_such_number tt tt
 view_needs setting view (command.Search by_uid keys) =
     let placed = keys_at (length view.rows) (last_uid view.rows) keys in
-    either_needs (have_all_numbers (length view.rows) keys) (at_mailbox view (view_work.Search (record { by_uid = by_uid; keys = placed }))) no_such_number tt tt
+    either_needs (have_all_numbers (length view.rows) keys) (at_mailbox view (view_work.Search (record { by_uid = by_uid; keys = placed })))
+    no_such_number tt tt
 view_needs setting view it = begun_ends setting view.user true it
 
 pub need_ends : (setting : Setting) (session : Sess) (it : Command) → NeedEnds (need_of setting session it)

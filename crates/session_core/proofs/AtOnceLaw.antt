@@ -173,7 +173,8 @@ in_quiet : (setting : Setting) (user : List ℕ) (it : Command) → IsQuiet (nee
 unfolding IsQuiet LeavesQuietly known_after need_in
 in_quiet setting user command.Noop = λ known. refl
 in_quiet setting user (command.Idle (Some line)) = idled_quiet line (Turned _) (λ known. refl)
-in_quiet setting user it = either_quiet (wants_selected it) (Refusal (bad_reply State)) (need_begun setting user false it) tt (begun_quiet setting user false it)
+in_quiet setting user it =
+    either_quiet (wants_selected it) (Refusal (bad_reply State)) (need_begun setting user false it) tt (begun_quiet setting user false it)
 
 expunge_quiet : (view : View) (only : Option (List SetPart)) → IsQuiet (expunge_named view only)
 unfolding IsQuiet

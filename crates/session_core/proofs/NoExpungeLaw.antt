@@ -1,5 +1,6 @@
 -- No EXPUNGE line stands in the reply to a FETCH, a STORE or a SEARCH by numbers.
-use Rattle.std.proofs.Common.{◌≡◌, ℕ, zero, suc, ◌+◌, Bool, true, false, not, ◌&&◌, if◌then◌else◌, List, [], ◌∷◌, ◌++◌, length, Option, None, Some, sym, ap, ◌∙◌, subst}
+use Rattle.std.proofs.Common.{◌≡◌, ℕ, zero, suc, ◌+◌, Bool, true, false, not, ◌&&◌, if◌then◌else◌, List, [], ◌∷◌, ◌++◌, length}
+use Rattle.std.proofs.Common.{Option, None, Some, sym, ap, ◌∙◌, subst}
 use Rattle.std.specs.Option.{IfSome}
 use Rattle.link_msg.specs.declared.answer.AnswerBody.{AnswerBody}
 use Rattle.link_msg.specs.declared.answer.AnswerBody.TheVariants.{Done, NotNow}
@@ -127,7 +128,8 @@ nothing_none = tt
 done_none : (view : View) (work : ViewWork) (outcome : Outcome) (seen : Snapshot) → IsByNumbers (Viewed view work)
     → IfSome (viewed_done view work outcome seen) TurnHasNone
 unfolding viewed_done IsByNumbers HasNoExpunge
-done_none view (Store it) (Rows changes) seen by = behind_none view.rows seen.rows it.by_uid _ (own_lines it changes view.rows) by (own_none it changes view.rows)
+done_none view (Store it) (Rows changes) seen by =
+    behind_none view.rows seen.rows it.by_uid _ (own_lines it changes view.rows) by (own_none it changes view.rows)
 done_none view (Store it) full seen by = behind_none view.rows seen.rows it.by_uid [] [] by nothing_none
 done_none view (Fetch it) (Messages before) seen by =
     behind_none view.rows seen.rows it.by_uid _ (fetch_lines it view.rows seen.rows before) by (fetch_none it view.rows seen.rows before)

@@ -159,7 +159,8 @@ selected_leaves session it name seen = by it.was_selected it.is_writable
     all : Agrees ([] ++ replicate (length seen.rows - length {A = Option ℕ} []) None) (uids seen.rows)
     all = subst (λ n. Agrees (replicate n None) (uids seen.rows)) (sym same) (nothing_known (uids seen.rows))
 
-    by : (was_selected is_writable : Bool) → TurnLeaves [] session (select_told (record it { was_selected = was_selected; is_writable = is_writable }) name seen)
+    by : (was_selected is_writable : Bool)
+        → TurnLeaves [] session (select_told (record it { was_selected = was_selected; is_writable = is_writable }) name seen)
     by true true = all
     by true false = all
     by false true = all
@@ -275,7 +276,8 @@ apart_knows : (known : Known) (behind : Behind) (session : Sess) (need : Need) �
     → KnowsBehind known behind.session behind.need → KnowsBehind known session need
 apart_knows known behind session need is knows = subst (λ (b : Behind). KnowsBehind known b.session b.need) (sym is) knows
 
-pub begin_knows : (setting : Setting) (before session : Sess) (it : Command) (needed : Needed) (result : Result Need Memory) → needed ≡ need_of setting before it
+pub begin_knows : (setting : Setting) (before session : Sess) (it : Command) (needed : Needed) (result : Result Need Memory)
+    → needed ≡ need_of setting before it
     → IfOk result (λ need. record { session = session; need = need } ≡ begun_by before needed)
     → IfOk result (λ need. (known : Known) → Knows known before → KnowsBehind known session need)
 begin_knows setting before session it needed result same is =
