@@ -74,7 +74,7 @@ replied_reads : (setting : Setting) (front home : List ℕ) (backend : Backend) 
     → story.talk.answers conn ≡ story.told conn ++ (record { tag = tag; reply = reply }) ∷ []
     → ends reply ≡ false → AreOnWay world.links conn front home [] [] → IsTold setting world.steps world.marks backend story.talk story.course
     → ReadsOn setting front home backend conn (passed ++ Asks request ∷ [])
-      (reading_again (record connection { session = session_after connection.session later })) world story
+    (reading_again (record connection { session = session_after connection.session later })) world story
     (carry_all front world (to_client conn (reply_text tag reply) ∷ []))
 replied_reads setting front home backend conn all passed request connection tag reply later world story parts count at session lasts answered said stays
     way told =
@@ -86,7 +86,7 @@ replied_reads setting front home backend conn all passed request connection tag 
     let stops : replies_to all (story.told conn) ≡ replies_to passed (story.told conn) =
     ap (λ f. replies_to f (story.told conn)) parts ∙ sym (replies_stop passed (story.told conn) request connection.waiting answered) in
     subst (λ w. ReadsOn setting front home backend conn (passed ++ Asks request ∷ [])
-        (reading_again (record connection { session = session_after connection.session later })) world story w)
+    (reading_again (record connection { session = session_after connection.session later })) world story w)
     (sym (line_carried front world conn client text at))
     (record {
       story = now;
@@ -130,7 +130,7 @@ read_stands : (setting : Setting) (front home : List ℕ) (backend : Backend) (c
 read_stands setting front home backend conn all passed held request connection tag reply later world story parts count at session lasts answered said stays way
     told last asked =
     let behind : Turned =
-        inputs_come setting home conn (reading_again (record connection { session = session_after connection.session later })) connection.waiting in
+    inputs_come setting home conn (reading_again (record connection { session = session_after connection.session later })) connection.waiting in
     let whole : all ≡ (passed ++ Asks request ∷ []) ++ connection.waiting = parts ∙ sym (append_assoc passed (Asks request ∷ []) connection.waiting) in
     subst (λ w. StandsOn setting front home backend conn all held behind.connection world story w)
     (sym (carry_all-append front world (to_client conn (reply_text tag reply) ∷ []) behind.outs))
