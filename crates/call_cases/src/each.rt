@@ -14,7 +14,7 @@ pub fn ends(alloc: Global, place: Place, status: &str) -> Result<bool, Memory> {
     let calls = if place == Place::Output {
         last
     } else {
-        last + 1
+        last.saturating_add(1)
     };
     for call in 0..calls {
         let front = if place == Place::Output {
