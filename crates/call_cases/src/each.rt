@@ -4,37 +4,46 @@ use crate::call::{is_status, played};
 use crate::fault::{Fault, Place};
 use crate::held::{Files, OUTPUT};
 use mur_base::Memory;
+use mur_edge::MemHost;
 use std::alloc::Global;
 
 /// Whether each run in which one call of a place fails ends with this status, and with the bytes on the output that went before; and the
 /// run in which none fails with the whole.
 pub fn ends(alloc: Global, place: Place, status: &str) -> Result<bool, Memory> {
-    // The last read of a file finds its end, and an output has no such call.
-    let last = Files::RIGHT.length_at(place) as u64;
-    let calls = if place == Place::Output {
-        last
-    } else {
-        last.saturating_add(1)
-    };
-    for call in 0..calls {
-        let front = if place == Place::Output {
-            call as usize
-        } else {
-            0
-        };
-        if !one_ends(alloc, &Fault::of_call(alloc, place, call)?, status, front)? {
+    for call in 0..calls_at(place) {
+        let fault = Fault::of_call(alloc, place, call)?;
+        if !one_ends(alloc, &fault, status, front_of(place, call))? {
             return Ok(false);
         }
     }
     one_ends(alloc, &Fault::read(alloc, "host")?, "0", OUTPUT.len())
 }
 
+/// How many calls of a place there are. The last read of a file finds its end, and an output has no such call.
+fn calls_at(place: Place) -> u64 {
+    let bytes = Files::RIGHT.length_at(place) as u64;
+    match place {
+        Place::Output => bytes,
+        _ => bytes.saturating_add(1),
+    }
+}
+
+/// How many bytes are on the output where this call fails.
+fn front_of(place: Place, call: u64) -> usize {
+    match place {
+        Place::Output => call as usize,
+        _ => 0,
+    }
+}
+
 /// Whether a run ends with this status and so many bytes on its output.
 fn one_ends(alloc: Global, fault: &Fault, status: &str, front: usize) -> Result<bool, Memory> {
-    let mut bytes = ByteHost {
-        host: Files::RIGHT.held(alloc, fault)?,
-    };
+    let host = Files::RIGHT.held(alloc, fault)?;
+    let mut bytes = ByteHost { host };
     let ended = played(alloc, &mut bytes, "replay config schedule")?;
-    let host = &bytes.host;
-    Ok(is_status(ended, status) && OUTPUT.get(..front) == Some(host.output()) && host.held == 0)
+    Ok(is_status(ended, status) && is_left_so(&bytes.host, front))
+}
+
+fn is_left_so(host: &MemHost, front: usize) -> bool {
+    OUTPUT.get(..front) == Some(host.output()) && host.held == 0
 }

@@ -11,7 +11,6 @@ mod call;
 mod each;
 mod fault;
 mod held;
-mod lines;
 
 use crate::fault::{Fault, place_of};
 use crate::held::Files;
@@ -28,7 +27,6 @@ fn holds(alloc: Global, fields: &[&str]) -> Result<bool, Memory> {
             call::ends(alloc, words, Files::named(files), &fault, status, error)
         }
         ["each", place, status] => each::ends(alloc, place_of(place), status),
-        ["lines"] => lines::are_printed(alloc),
         _ => Ok(false),
     }
 }
