@@ -1,140 +1,152 @@
 // Configurations, and lists of nodes and users.
-use anyhow::{Result, anyhow};
-use mur_base::{Bytes, Items, User, Users, UsersFault, node_name, user_name};
+use crate::case::Case;
+use crate::fault::Fault;
+use mur_base::{Bytes, Items, Memory, User, Users, UsersFault, node_name, user_name};
 use mur_config::{Config, ConfigFault, Kind, Node, Nodes, NodesFault, read_config};
 use std::alloc::Global;
 
-/// A text, and the configuration that it is; or a list, and how it is taken.
-pub fn holds(alloc: Global, fields: &[&str]) -> Result<bool> {
-    match fields {
-        ["configuration", text, shown] => match read_config(alloc, text.as_bytes()) {
-            Ok(config) => Ok(shown_config(alloc, &config)?.as_slice() == shown.as_bytes()),
-            Err(ConfigFault::Unknown) => Ok(*shown == "unknown"),
-            Err(ConfigFault::Memory) => Err(anyhow!("out of memory")),
-        },
-        ["nodes", list, want] => Ok(word_of_nodes(nodes_of(alloc, list)?) == *want),
-        ["links", list, want] => {
-            Ok(shown_links(alloc, nodes_of(alloc, list)?)?.as_slice() == want.as_bytes())
-        }
-        ["users", list, want] => Ok(word_of_users(users_of(alloc, list)?) == *want),
-        _ => Ok(false),
+/// Puts what is made of a case: the configuration that a text is, or how a list is taken.
+pub fn put_found(alloc: Global, case: Case, out: &mut Bytes) -> Result<(), Fault> {
+    match case.kind {
+        "configuration" => Ok(put_read(alloc, case.given.as_bytes(), out)?),
+        "nodes" => put_taken_nodes(alloc, case.given, out),
+        "links" => put_links(alloc, case.given, out),
+        "users" => put_taken_users(alloc, case.given, out),
+        _ => Err(Fault::Unreadable("no such kind of case")),
     }
 }
 
-/// The nodes, the users, the first frontend and the date of a configuration.
-fn shown_config(alloc: Global, config: &Config) -> Result<Bytes> {
-    let mut shown = Bytes::new(alloc);
+fn put_read(alloc: Global, text: &[u8], out: &mut Bytes) -> Result<(), Memory> {
+    match read_config(alloc, text) {
+        Ok(config) => put_config(&config, out),
+        Err(ConfigFault::Unknown) => out.extend_from_slice(b"unknown"),
+        Err(ConfigFault::Memory) => Err(Memory),
+    }
+}
+
+/// Puts the nodes, the users, the first frontend and the date of a configuration.
+fn put_config(config: &Config, out: &mut Bytes) -> Result<(), Memory> {
     for node in config.nodes.as_slice() {
-        put_node(node, &mut shown)?;
+        put_node(node, out)?;
     }
     for user in config.users.as_slice() {
-        put_user(user, &mut shown)?;
+        put_user(user, out)?;
     }
     if let Some(name) = config.nodes.frontend() {
-        shown.extend_from_slice(name.as_bytes())?;
-        shown.push(b' ')?;
+        out.extend_from_slice(name.as_bytes())?;
+        out.push(b' ')?;
     }
-    shown.extend_from_slice(config.date.as_bytes())?;
-    Ok(shown)
+    out.extend_from_slice(config.date.as_bytes())
 }
 
-fn put_node(node: &Node, shown: &mut Bytes) -> Result<()> {
-    shown.extend_from_slice(node.name.as_bytes())?;
-    shown.extend_from_slice(match node.kind {
+fn put_node(node: &Node, out: &mut Bytes) -> Result<(), Memory> {
+    out.extend_from_slice(node.name.as_bytes())?;
+    out.extend_from_slice(match node.kind {
         Kind::Master => b"=master".as_slice(),
         Kind::Frontend => b"=frontend",
         Kind::Backend => b"=backend:",
     })?;
-    shown.extend_from_slice(node.partition.as_slice())?;
-    shown.push(b' ')?;
-    Ok(())
+    out.extend_from_slice(node.partition.as_slice())?;
+    out.push(b' ')
 }
 
-fn put_user(user: &User, shown: &mut Bytes) -> Result<()> {
-    shown.extend_from_slice(user.name.as_bytes())?;
-    shown.push(b':')?;
-    shown.extend_from_slice(user.password.as_slice())?;
-    shown.extend_from_slice(if user.admin {
+fn put_user(user: &User, out: &mut Bytes) -> Result<(), Memory> {
+    out.extend_from_slice(user.name.as_bytes())?;
+    out.push(b':')?;
+    out.extend_from_slice(user.password.as_slice())?;
+    out.extend_from_slice(if user.admin {
         b":admin ".as_slice()
     } else {
         b" "
-    })?;
-    Ok(())
+    })
 }
 
 /// The nodes of a list of `NAME=KIND` and `NAME=backend:PARTITION`.
-pub fn nodes_of(alloc: Global, list: &str) -> Result<Items<Node>> {
+pub fn nodes_of(alloc: Global, list: &str) -> Result<Items<Node>, Fault> {
     let mut nodes = Items::new(alloc);
     for text in list.split_whitespace() {
-        let Some((name, kind)) = text.split_once('=') else {
-            return Err(anyhow!("no node: {text}"));
-        };
-        let (kind, partition) = match kind.split_once(':') {
-            Some(parts) => parts,
-            None => (kind, ""),
-        };
-        nodes.push(Node {
-            name: node_name(alloc, name.as_bytes())?,
-            kind: kind_of(kind)?,
-            partition: Bytes::from_slice(alloc, partition.as_bytes())?,
-        })?;
+        nodes.push(node_of(alloc, text)?)?;
     }
     Ok(nodes)
 }
 
-fn kind_of(word: &str) -> Result<Kind> {
+fn node_of(alloc: Global, text: &str) -> Result<Node, Fault> {
+    let Some((name, kind)) = text.split_once('=') else {
+        return Err(Fault::Unreadable("no node"));
+    };
+    let (kind, partition) = kind.split_once(':').unwrap_or((kind, ""));
+    let Some(kind) = kind_of(kind) else {
+        return Err(Fault::Unreadable("no kind of node"));
+    };
+    Ok(Node {
+        name: node_name(alloc, name.as_bytes())?,
+        kind,
+        partition: Bytes::from_slice(alloc, partition.as_bytes())?,
+    })
+}
+
+fn kind_of(word: &str) -> Option<Kind> {
     match word {
-        "master" => Ok(Kind::Master),
-        "frontend" => Ok(Kind::Frontend),
-        "backend" => Ok(Kind::Backend),
-        _ => Err(anyhow!("no kind of node: {word}")),
+        "master" => Some(Kind::Master),
+        "frontend" => Some(Kind::Frontend),
+        "backend" => Some(Kind::Backend),
+        _ => None,
     }
 }
 
-fn word_of_nodes(nodes: Items<Node>) -> &'static str {
-    match Nodes::new(nodes) {
-        Ok(_) => "nodes",
-        Err(NodesFault::NameTwice) => "name twice",
-        Err(NodesFault::NodeCount) => "node count",
-        Err(NodesFault::BadPartition) => "bad partition",
-    }
+fn put_taken_nodes(alloc: Global, list: &str, out: &mut Bytes) -> Result<(), Fault> {
+    let nodes = nodes_of(alloc, list)?;
+    Ok(out.extend_from_slice(match Nodes::new(nodes) {
+        Ok(_) => b"nodes".as_slice(),
+        Err(NodesFault::NameTwice) => b"name twice",
+        Err(NodesFault::NodeCount) => b"node count",
+        Err(NodesFault::BadPartition) => b"bad partition",
+    })?)
 }
 
-/// The links of nodes, each as `FROM>TO`.
-fn shown_links(alloc: Global, nodes: Items<Node>) -> Result<Bytes> {
-    let nodes = Nodes::new(nodes)?;
-    let mut shown = Bytes::new(alloc);
+/// Puts the links of nodes, each as `FROM>TO`.
+fn put_links(alloc: Global, list: &str, out: &mut Bytes) -> Result<(), Fault> {
+    let nodes = Nodes::new(nodes_of(alloc, list)?)?;
+    Ok(put_links_of(alloc, &nodes, out)?)
+}
+
+fn put_links_of(alloc: Global, nodes: &Nodes, out: &mut Bytes) -> Result<(), Memory> {
     for link in nodes.links(alloc)?.as_slice() {
-        if !shown.is_empty() {
-            shown.push(b' ')?;
+        if !out.is_empty() {
+            out.push(b' ')?;
         }
-        shown.extend_from_slice(link.from.as_bytes())?;
-        shown.push(b'>')?;
-        shown.extend_from_slice(link.to.as_bytes())?;
+        out.extend_from_slice(link.from.as_bytes())?;
+        out.push(b'>')?;
+        out.extend_from_slice(link.to.as_bytes())?;
     }
-    Ok(shown)
+    Ok(())
 }
 
 /// The users of a list of `NAME:PASSWORD`.
-fn users_of(alloc: Global, list: &str) -> Result<Items<User>> {
+fn users_of(alloc: Global, list: &str) -> Result<Items<User>, Fault> {
     let mut users = Items::new(alloc);
     for text in list.split_whitespace() {
-        let Some((name, password)) = text.split_once(':') else {
-            return Err(anyhow!("no user: {text}"));
-        };
-        users.push(User {
-            name: user_name(alloc, name.as_bytes())?,
-            password: Bytes::from_slice(alloc, password.as_bytes())?,
-            admin: false,
-        })?;
+        users.push(user_of(alloc, text)?)?;
     }
     Ok(users)
 }
 
-fn word_of_users(users: Items<User>) -> &'static str {
-    match Users::new(users) {
-        Ok(_) => "users",
-        Err(UsersFault::NameTwice) => "name twice",
-        Err(UsersFault::BadPassword) => "bad password",
-    }
+fn user_of(alloc: Global, text: &str) -> Result<User, Fault> {
+    let Some((name, password)) = text.split_once(':') else {
+        return Err(Fault::Unreadable("no user"));
+    };
+    Ok(User {
+        name: user_name(alloc, name.as_bytes())?,
+        password: Bytes::from_slice(alloc, password.as_bytes())?,
+        admin: false,
+    })
+}
+
+fn put_taken_users(alloc: Global, list: &str, out: &mut Bytes) -> Result<(), Fault> {
+    let users = users_of(alloc, list)?;
+    Ok(out.extend_from_slice(match Users::new(users) {
+        Ok(_) => b"users".as_slice(),
+        Err(UsersFault::NameTwice) => b"name twice",
+        Err(UsersFault::BadPassword) => b"bad password",
+    })?)
 }

@@ -2,15 +2,20 @@
 //! with what the case wants: `schedule_cases CONFIGURATION TEXT SCHEDULE` prints how many cases of each file passed, or
 //! ends with status 1 at the first one that differs.
 //!
-//! A case is a line of fields with ` | ` between them. Lines that begin with `#` say what the fields are.
+//! A case is a line: its kind, what it is about, and what is wanted of it, with ` | ` between them. Lines that begin with `#` say
+//! what these are.
 #![tactic(auto)]
 
+mod case;
 mod configuration;
-mod field;
+mod fault;
 mod schedule;
 mod text;
 
 use anyhow::{Result, anyhow};
+use case::{Case, case_of};
+use fault::Fault;
+use mur_base::Bytes;
 use std::alloc::Global;
 use std::{env, fs};
 
@@ -23,12 +28,26 @@ enum Subject {
 }
 
 impl Subject {
-    /// Whether a case comes out as it wants.
-    fn holds(self, alloc: Global, fields: &[&str]) -> Result<bool> {
+    /// Puts what the crates make of a case.
+    fn put_found(self, alloc: Global, case: Case, out: &mut Bytes) -> Result<(), Fault> {
         match self {
-            Subject::Configuration => configuration::holds(alloc, fields),
-            Subject::Text => text::holds(alloc, fields),
-            Subject::Schedule => schedule::holds(alloc, fields),
+            Subject::Configuration => configuration::put_found(alloc, case, out),
+            Subject::Text => text::put_found(alloc, case, out),
+            Subject::Schedule => schedule::put_found(alloc, case, out),
+        }
+    }
+
+    /// Compares what the crates make of a case with what it wants.
+    fn compare(self, alloc: Global, line: &str) -> Result<(), Fault> {
+        let Some(case) = case_of(line) else {
+            return Err(Fault::Unreadable("no case"));
+        };
+        let mut found = Bytes::new(alloc);
+        self.put_found(alloc, case, &mut found)?;
+        if found.as_slice() == case.want.as_bytes() {
+            Ok(())
+        } else {
+            Err(Fault::Differs)
         }
     }
 
@@ -39,8 +58,9 @@ impl Subject {
             if line.is_empty() || line.starts_with('#') {
                 continue;
             }
-            if !self.holds(alloc, field::fields_of(alloc, line)?.as_slice())? {
-                return Err(anyhow!("differs: {line}"));
+            if let Err(fault) = self.compare(alloc, line) {
+                let why = fault.text();
+                return Err(anyhow!("{why}: {line}"));
             }
             passed = passed.wrapping_add(1);
         }
@@ -54,9 +74,15 @@ fn main(rt: HostRuntime) -> Result<()> {
         let Some(file) = files.next() else {
             return Err(anyhow!("schedule_cases CONFIGURATION TEXT SCHEDULE"));
         };
-        let cases = fs::read_to_string(&rt, file.as_str())?;
-        let passed = subject.passed(rt.alloc(), cases.as_str())?;
-        println!(rt; "{file}: {passed} cases passed")?;
+        tell(&rt, subject, file.as_str())?;
     }
+    Ok(())
+}
+
+/// Prints how many cases of a file passed.
+fn tell(rt: &HostRuntime, subject: Subject, file: &str) -> Result<()> {
+    let cases = fs::read_to_string(rt, file)?;
+    let passed = subject.passed(rt.alloc(), cases.as_str())?;
+    println!(rt; "{file}: {passed} cases passed")?;
     Ok(())
 }

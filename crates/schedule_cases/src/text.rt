@@ -1,55 +1,61 @@
 // Bytes as printable text, and texts cut into lines.
-use crate::field::{bytes_of_hex, bytes_of_lines};
-use anyhow::Result;
-use mur_base::Bytes;
+use crate::case::{Case, bytes_of_hex, bytes_of_lines, put_hex, put_lines};
+use crate::fault::Fault;
+use mur_base::{Bytes, Memory};
 use schedule_text::{LineCuts, put_name_text, put_text, read_text};
 use std::alloc::Global;
 
-/// A kind of case, what it is about, and what is wanted.
-pub fn holds(alloc: Global, fields: &[&str]) -> Result<bool> {
-    match fields {
-        ["text", bytes, text] => is_text(alloc, bytes, text),
-        ["name", bytes, text] => is_name_text(alloc, bytes, text),
-        ["read", text, bytes] => is_read(alloc, text.as_bytes(), bytes),
-        ["read hex", text, bytes] => is_read(alloc, bytes_of_hex(alloc, text)?.as_slice(), bytes),
-        ["lines", text, lines] => are_lines(alloc, text, lines),
-        _ => Ok(false),
+/// Puts what is made of a case.
+pub fn put_found(alloc: Global, case: Case, out: &mut Bytes) -> Result<(), Fault> {
+    match case.kind {
+        "text" => put_written(alloc, case.given, out),
+        "name" => put_name(alloc, case.given, out),
+        "read" => Ok(put_read(alloc, case.given.as_bytes(), out)?),
+        "read hex" => put_hex_read(alloc, case.given, out),
+        "lines" => Ok(put_cuts(alloc, case.given, out)?),
+        _ => Err(Fault::Unreadable("no such kind of case")),
     }
 }
 
-/// Whether a text is what is written of bytes, and is read as them.
-fn is_text(alloc: Global, bytes: &str, text: &str) -> Result<bool> {
-    let wanted = bytes_of_hex(alloc, bytes)?;
-    let mut written = Bytes::new(alloc);
-    put_text(wanted.as_slice(), &mut written)?;
-    Ok(written.as_slice() == text.as_bytes() && is_read(alloc, text.as_bytes(), bytes)?)
+/// Puts the text that is written of bytes, and says so where that isn't read as them.
+fn put_written(alloc: Global, hex: &str, out: &mut Bytes) -> Result<(), Fault> {
+    let bytes = bytes_of_hex(alloc, hex)?;
+    put_text(bytes.as_slice(), out)?;
+    if !is_read(alloc, out.as_slice(), bytes.as_slice())? {
+        out.extend_from_slice(b", read otherwise")?;
+    }
+    Ok(())
 }
 
-fn is_name_text(alloc: Global, bytes: &str, text: &str) -> Result<bool> {
-    let mut written = Bytes::new(alloc);
-    put_name_text(bytes_of_hex(alloc, bytes)?.as_slice(), &mut written)?;
-    Ok(written.as_slice() == text.as_bytes())
+fn is_read(alloc: Global, text: &[u8], bytes: &[u8]) -> Result<bool, Memory> {
+    Ok(read_text(alloc, text)?.is_some_and(|read| read.as_slice() == bytes))
 }
 
-/// Whether a text is read as bytes, or refused where `none` is wanted.
-fn is_read(alloc: Global, text: &[u8], bytes: &str) -> Result<bool> {
+fn put_name(alloc: Global, hex: &str, out: &mut Bytes) -> Result<(), Fault> {
+    let bytes = bytes_of_hex(alloc, hex)?;
+    Ok(put_name_text(bytes.as_slice(), out)?)
+}
+
+fn put_hex_read(alloc: Global, hex: &str, out: &mut Bytes) -> Result<(), Fault> {
+    let text = bytes_of_hex(alloc, hex)?;
+    Ok(put_read(alloc, text.as_slice(), out)?)
+}
+
+/// Puts the bytes as which a text is read, in base 16, or `none`.
+fn put_read(alloc: Global, text: &[u8], out: &mut Bytes) -> Result<(), Memory> {
     match read_text(alloc, text)? {
-        Some(read) if bytes != "none" => {
-            Ok(read.as_slice() == bytes_of_hex(alloc, bytes)?.as_slice())
-        }
-        Some(_) => Ok(false),
-        None => Ok(bytes == "none"),
+        Some(read) => put_hex(read.as_slice(), out),
+        None => out.extend_from_slice(b"none"),
     }
 }
 
-/// Whether a text is cut into lines, each put in brackets.
-fn are_lines(alloc: Global, text: &str, lines: &str) -> Result<bool> {
+/// Puts the lines into which a text is cut, each in brackets.
+fn put_cuts(alloc: Global, text: &str, out: &mut Bytes) -> Result<(), Memory> {
     let text = bytes_of_lines(alloc, text)?;
-    let mut found = Bytes::new(alloc);
     for line in LineCuts::new(text.as_slice()) {
-        found.push(b'[')?;
-        found.extend_from_slice(line)?;
-        found.push(b']')?;
+        out.push(b'[')?;
+        put_lines(line, out)?;
+        out.push(b']')?;
     }
-    Ok(found.as_slice() == bytes_of_lines(alloc, lines)?.as_slice())
+    Ok(())
 }
