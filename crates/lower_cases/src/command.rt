@@ -1,52 +1,52 @@
 // Frames and the commands that they spell, or where they spell none.
-use crate::field::{bytes_of, number_of};
+use crate::fault::Fault;
+use crate::field::{bytes_of, number_of, writes};
 use crate::shown::shown;
-use anyhow::Result;
-use imap_command::{ReadFault, print, read, read_request, reread, too_big};
+use imap_command::{Bad, ReadFault, print, read, read_request, reread, too_big};
 use mur_base::{Bytes, Memory};
 use mur_model::{Command, Request, Tag};
 use std::alloc::Global;
 
 /// `FRAME | bad | AT | TAG`, or `FRAME | TAG | NAME | ARGUMENT | .. | PRINTED`.
-pub fn holds(alloc: Global, fields: &[&str]) -> Result<bool> {
+pub fn holds(alloc: Global, fields: &[&str]) -> Result<bool, Fault> {
     match fields {
         [frame, "bad", at, tag] => holds_bad(alloc, frame, number_of(at)?, tag),
         [frame, tag, told @ .., printed] => {
-            let frame = bytes_of(alloc, frame)?;
-            let mut wanted = Wanted {
-                tag: bytes_of(alloc, tag)?,
-                told: Vec::new(alloc),
-                printed: bytes_of(alloc, printed)?,
-            };
-            for field in told {
-                wanted.told.push(bytes_of(alloc, field)?)?;
-            }
-            Ok(wanted.is_read(alloc, frame.as_slice())?)
+            let wanted = Wanted { tag, told, printed };
+            wanted.is_spelled(alloc, frame)
         }
         _ => Ok(false),
     }
 }
 
 /// Whether a frame spells no command behind this place, under this tag or, where that is empty, under `*`.
-fn holds_bad(alloc: Global, frame: &str, at: u64, tag: &str) -> Result<bool> {
+fn holds_bad(alloc: Global, frame: &str, at: u64, tag: &str) -> Result<bool, Fault> {
     let frame = bytes_of(alloc, frame)?;
     let tag = bytes_of(alloc, tag)?;
-    let told = is_told(alloc, frame.as_slice(), at, tag.as_slice());
-    let unknown = read_request(alloc, frame.as_slice())?;
-    let refused = too_big(alloc, frame.as_slice())?;
-    Ok(told && is_refused(&unknown, tag.as_slice()) && is_refused(&refused, tag.as_slice()))
+    Ok(
+        is_told(alloc, frame.as_slice(), at, tag.as_slice())
+            && are_refused(alloc, frame.as_slice(), tag.as_slice())?,
+    )
 }
 
 /// Whether a frame is read as no command, with this place and this tag, which is empty for none.
 fn is_told(alloc: Global, frame: &[u8], at: u64, tag: &[u8]) -> bool {
-    let Err(ReadFault::Bad(bad)) = read(alloc, frame) else {
-        return false;
-    };
-    let tagged = match &bad.tag {
+    match &read(alloc, frame) {
+        Err(ReadFault::Bad(bad)) => bad.at as u64 == at && is_tag_told(bad, tag),
+        _ => false,
+    }
+}
+
+fn is_tag_told(bad: &Bad, tag: &[u8]) -> bool {
+    match &bad.tag {
         Some(told) => is_tag(told, tag) && !tag.is_empty(),
         None => tag.is_empty(),
-    };
-    tagged && bad.at as u64 == at
+    }
+}
+
+/// Whether a frame is refused under a tag, as no command and as too big a one.
+fn are_refused(alloc: Global, frame: &[u8], tag: &[u8]) -> Result<bool, Memory> {
+    Ok(is_refused(&read_request(alloc, frame)?, tag) && is_refused(&too_big(alloc, frame)?, tag))
 }
 
 /// Whether a request is refused under a tag.
@@ -59,66 +59,81 @@ fn is_refused(request: &Request, tag: &[u8]) -> bool {
 
 /// Whether a tag is this text, which is empty for `*`.
 fn is_tag(tag: &Tag, text: &[u8]) -> bool {
+    tag_text(tag) == text
+}
+
+fn tag_text(tag: &Tag) -> &[u8] {
     match tag {
-        Tag::Text(tag) => tag.as_slice() == text,
-        Tag::Star => text.is_empty(),
+        Tag::Text(tag) => tag.as_slice(),
+        Tag::Star => b"",
     }
 }
 
-/// What is wanted of a frame: its tag, the command's name and arguments, and how it is printed.
-#[derive(Drop)]
-struct Wanted {
-    tag: Bytes,
-    told: Vec<Bytes>,
-    printed: Bytes,
+/// The fields of what is wanted of a frame: its tag, the command's name and arguments, and how it is printed.
+#[derive(Clone, Copy)]
+struct Wanted<'a> {
+    tag: &'a str,
+    told: &'a [&'a str],
+    printed: &'a str,
 }
 
-impl Wanted {
+impl Wanted<'_> {
     /// Whether a frame spells just this, also once it is printed and read again.
-    fn is_read(&self, alloc: Global, frame: &[u8]) -> Result<bool, Memory> {
-        if !self.is_spelled(alloc, frame)? || !self.is_printed(alloc, frame)? {
+    fn is_spelled(self, alloc: Global, frame: &str) -> Result<bool, Fault> {
+        let frame = bytes_of(alloc, frame)?;
+        Ok(
+            self.is_read(alloc, frame.as_slice())?
+                && self.is_printed(alloc, frame.as_slice())?
+                && self.is_read_again(alloc, frame.as_slice())?,
+        )
+    }
+
+    fn is_read(self, alloc: Global, frame: &[u8]) -> Result<bool, Fault> {
+        match &read(alloc, frame) {
+            Ok((tag, command)) => self.is_this(alloc, tag, command),
+            Err(_) => Ok(false),
+        }
+    }
+
+    fn is_printed(self, alloc: Global, frame: &[u8]) -> Result<bool, Fault> {
+        match &read(alloc, frame) {
+            Ok((tag, command)) => {
+                let printed = print(alloc, tag, command)?;
+                writes(alloc, self.printed, printed.as_slice())
+            }
+            Err(_) => Ok(false),
+        }
+    }
+
+    fn is_read_again(self, alloc: Global, frame: &[u8]) -> Result<bool, Fault> {
+        match &read(alloc, frame) {
+            Ok((tag, command)) => {
+                let (tag, command) = &reread(alloc, tag, command)?;
+                self.is_this(alloc, tag, command)
+            }
+            Err(_) => Ok(false),
+        }
+    }
+
+    fn is_this(self, alloc: Global, tag: &Tag, command: &Command) -> Result<bool, Fault> {
+        Ok(writes(alloc, self.tag, tag_text(tag))? && self.is_command(alloc, command)?)
+    }
+
+    fn is_command(self, alloc: Global, command: &Command) -> Result<bool, Fault> {
+        let told = shown(alloc, command)?;
+        are_written(alloc, self.told, told.as_slice())
+    }
+}
+
+/// Whether fields write just these texts.
+fn are_written(alloc: Global, fields: &[&str], texts: &[Bytes]) -> Result<bool, Fault> {
+    if fields.len() != texts.len() {
+        return Ok(false);
+    }
+    for (field, text) in fields.iter().zip(texts.iter()) {
+        if !writes(alloc, field, text.as_slice())? {
             return Ok(false);
         }
-        self.is_read_again(alloc, frame)
     }
-
-    fn is_spelled(&self, alloc: Global, frame: &[u8]) -> Result<bool, Memory> {
-        match read(alloc, frame) {
-            Ok((tag, command)) => self.is_this(alloc, &tag, &command),
-            Err(_) => Ok(false),
-        }
-    }
-
-    fn is_printed(&self, alloc: Global, frame: &[u8]) -> Result<bool, Memory> {
-        match read(alloc, frame) {
-            Ok((tag, command)) => {
-                let printed = print(alloc, &tag, &command)?;
-                Ok(printed.as_slice() == self.printed.as_slice())
-            }
-            Err(_) => Ok(false),
-        }
-    }
-
-    fn is_read_again(&self, alloc: Global, frame: &[u8]) -> Result<bool, Memory> {
-        match read(alloc, frame) {
-            Ok((tag, command)) => {
-                let again = reread(alloc, &tag, &command)?;
-                self.is_this(alloc, &again.0, &again.1)
-            }
-            Err(_) => Ok(false),
-        }
-    }
-
-    fn is_this(&self, alloc: Global, tag: &Tag, command: &Command) -> Result<bool, Memory> {
-        let told = shown(alloc, command)?;
-        Ok(is_tag(tag, self.tag.as_slice()) && are_same(&told, &self.told))
-    }
-}
-
-fn are_same(told: &Vec<Bytes>, wanted: &Vec<Bytes>) -> bool {
-    told.len() == wanted.len()
-        && told
-            .iter()
-            .zip(wanted.iter())
-            .all(|(one, other)| one.as_slice() == other.as_slice())
+    Ok(true)
 }

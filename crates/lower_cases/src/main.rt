@@ -8,14 +8,18 @@
 
 mod base;
 mod command;
+mod fault;
 mod field;
+mod lines;
 mod pattern;
 mod reply;
 mod shown;
 mod shown_keys;
+mod verdict;
 mod wire;
 
 use anyhow::{Result, anyhow};
+use fault::Fault;
 use std::alloc::Global;
 use std::{env, fs};
 
@@ -31,13 +35,23 @@ enum Subject {
 
 impl Subject {
     /// Whether a case comes out as it wants.
-    fn holds(self, alloc: Global, fields: &[&str]) -> Result<bool> {
+    fn holds(self, alloc: Global, line: &str) -> Result<bool, Fault> {
+        let fields = field::fields_of(alloc, line)?;
         match self {
-            Subject::Wire => wire::holds(alloc, fields),
-            Subject::Command => command::holds(alloc, fields),
-            Subject::Reply => reply::holds(alloc, fields),
-            Subject::Base => base::holds(alloc, fields),
-            Subject::Pattern => pattern::holds(alloc, fields),
+            Subject::Wire => wire::holds(alloc, fields.as_slice()),
+            Subject::Command => command::holds(alloc, fields.as_slice()),
+            Subject::Reply => reply::holds(alloc, fields.as_slice()),
+            Subject::Base => base::holds(alloc, fields.as_slice()),
+            Subject::Pattern => pattern::holds(alloc, fields.as_slice()),
+        }
+    }
+
+    /// Compares what the crates make of a case with what it wants.
+    fn compare(self, alloc: Global, line: &str) -> Result<(), Fault> {
+        if self.holds(alloc, line)? {
+            Ok(())
+        } else {
+            Err(Fault::Differs)
         }
     }
 
@@ -48,8 +62,9 @@ impl Subject {
             if line.is_empty() || line.starts_with('#') {
                 continue;
             }
-            if !self.holds(alloc, field::fields_of(alloc, line)?.as_slice())? {
-                return Err(anyhow!("differs: {line}"));
+            if let Err(fault) = self.compare(alloc, line) {
+                let why = fault.text();
+                return Err(anyhow!("{why}: {line}"));
             }
             passed = passed.wrapping_add(1);
         }
@@ -69,9 +84,15 @@ fn main(rt: HostRuntime) -> Result<()> {
         let Some(file) = files.next() else {
             return Err(anyhow!("lower_cases WIRE COMMAND REPLY BASE PATTERN"));
         };
-        let text = fs::read_to_string(&rt, file.as_str())?;
-        let passed = subject.passed(rt.alloc(), text.as_str())?;
-        println!(rt; "{file}: {passed} cases passed")?;
+        tell(&rt, subject, file.as_str())?;
     }
+    Ok(())
+}
+
+/// Prints how many cases of a file passed.
+fn tell(rt: &HostRuntime, subject: Subject, file: &str) -> Result<()> {
+    let text = fs::read_to_string(rt, file)?;
+    let passed = subject.passed(rt.alloc(), text.as_str())?;
+    println!(rt; "{file}: {passed} cases passed")?;
     Ok(())
 }

@@ -1,137 +1,173 @@
 // A command as texts: its name, and a text for each argument.
-use crate::shown_keys::keys_text;
-use mail_message::{DateText, FetchItems, FlagSet, Item, Mode, Partial, SetEnd, SetPart, SetParts};
+use crate::shown_keys::put_keys;
+use mail_message::{
+    DateText, FetchItems, FlagSet, Item, Keys, Mode, Partial, SetEnd, SetPart, SetParts,
+};
 use mur_base::{Bytes, Memory, put_number};
 use mur_model::{Atoms, Command, StatusItem, StatusItems};
 use std::alloc::Global;
 
 /// The name and the arguments of a command.
 pub fn shown(alloc: Global, command: &Command) -> Result<Vec<Bytes>, Memory> {
+    let mut texts = Vec::new(alloc);
+    add(alloc, name_of(command), &mut texts)?;
+    add_strings(alloc, command, &mut texts)?;
+    Ok(texts)
+}
+
+fn name_of(command: &Command) -> &'static [u8] {
     match command {
-        Command::Capability => named(alloc, b"CAPABILITY"),
-        Command::Noop => named(alloc, b"NOOP"),
-        Command::Logout => named(alloc, b"LOGOUT"),
-        Command::Idle(_) => named(alloc, b"IDLE"),
-        Command::Close => named(alloc, b"CLOSE"),
-        Command::Unselect => named(alloc, b"UNSELECT"),
-        Command::Authenticate(None) => named(alloc, b"AUTHENTICATE"),
-        Command::Expunge(None) => named(alloc, b"EXPUNGE"),
-        _ => shown_texts(alloc, command),
+        Command::Capability => b"CAPABILITY",
+        Command::Noop => b"NOOP",
+        Command::Logout => b"LOGOUT",
+        Command::Login(_, _) => b"LOGIN",
+        Command::Authenticate(_) => b"AUTHENTICATE",
+        Command::Enable(_) => b"ENABLE",
+        Command::Select(_) => b"SELECT",
+        Command::Examine(_) => b"EXAMINE",
+        Command::Create(_) => b"CREATE",
+        Command::Delete(_) => b"DELETE",
+        Command::List(_, _) => b"LIST",
+        Command::Append(_, _, _, _) => b"APPEND",
+        Command::Status(_, _) => b"STATUS",
+        Command::Idle(_) => b"IDLE",
+        Command::Xfer(_, _, _) => b"XFER",
+        Command::Close => b"CLOSE",
+        Command::Unselect => b"UNSELECT",
+        Command::Expunge(None) => b"EXPUNGE",
+        Command::Expunge(Some(_)) => b"UID EXPUNGE",
+        Command::Search(false, _) => b"SEARCH",
+        Command::Search(true, _) => b"UID SEARCH",
+        Command::Fetch(false, _, _) => b"FETCH",
+        Command::Fetch(true, _, _) => b"UID FETCH",
+        Command::Store(false, _, _, _, _) => b"STORE",
+        Command::Store(true, _, _, _, _) => b"UID STORE",
+        Command::Copy(false, _, _) => b"COPY",
+        Command::Copy(true, _, _) => b"UID COPY",
+        Command::LeftOut(_) => b"left out",
+        Command::SetAcl(_, _, _, _) => b"SETACL",
+        Command::DeleteAcl(_, _) => b"DELETEACL",
+        Command::GetAcl(_) => b"GETACL",
+        Command::MyRights(_) => b"MYRIGHTS",
     }
 }
 
-/// The commands whose arguments are strings.
-fn shown_texts(alloc: Global, command: &Command) -> Result<Vec<Bytes>, Memory> {
+/// Adds the arguments of a command whose arguments are strings.
+fn add_strings(alloc: Global, command: &Command, texts: &mut Vec<Bytes>) -> Result<(), Memory> {
     match command {
-        Command::Login(user, password) => two(alloc, b"LOGIN", user, password),
-        Command::Authenticate(Some(response)) => one(alloc, b"AUTHENTICATE", response),
-        Command::LeftOut(octets) => one(alloc, b"left out", octets),
-        Command::List(reference, pattern) => two(alloc, b"LIST", reference, pattern),
-        Command::Create(mailbox) => one(alloc, b"CREATE", mailbox),
-        Command::Delete(mailbox) => one(alloc, b"DELETE", mailbox),
-        Command::Select(mailbox) => one(alloc, b"SELECT", mailbox),
-        Command::Examine(mailbox) => one(alloc, b"EXAMINE", mailbox),
-        Command::GetAcl(mailbox) => one(alloc, b"GETACL", mailbox),
-        Command::MyRights(mailbox) => one(alloc, b"MYRIGHTS", mailbox),
-        Command::DeleteAcl(mailbox, id) => two(alloc, b"DELETEACL", mailbox, id),
-        Command::Xfer(mailbox, server, None) => two(alloc, b"XFER", mailbox, server),
+        Command::Authenticate(Some(text))
+        | Command::LeftOut(text)
+        | Command::Create(text)
+        | Command::Delete(text)
+        | Command::Select(text)
+        | Command::Examine(text)
+        | Command::GetAcl(text)
+        | Command::MyRights(text) => add(alloc, text.as_slice(), texts),
+        Command::Login(one, other)
+        | Command::List(one, other)
+        | Command::DeleteAcl(one, other)
+        | Command::Xfer(one, other, None) => {
+            add(alloc, one.as_slice(), texts)?;
+            add(alloc, other.as_slice(), texts)
+        }
         Command::Xfer(mailbox, server, Some(partition)) => {
-            let fields = two(alloc, b"XFER", mailbox, server)?;
-            with(alloc, fields, partition.as_slice())
+            add(alloc, mailbox.as_slice(), texts)?;
+            add(alloc, server.as_slice(), texts)?;
+            add(alloc, partition.as_slice(), texts)
         }
         Command::SetAcl(mailbox, id, mode, rights) => {
-            let fields = two(alloc, b"SETACL", mailbox, id)?;
-            let fields = with(alloc, fields, mode_text(*mode))?;
-            with(alloc, fields, rights.as_slice())
+            add(alloc, mailbox.as_slice(), texts)?;
+            add(alloc, id.as_slice(), texts)?;
+            add(alloc, mode_text(*mode), texts)?;
+            add(alloc, rights.as_slice(), texts)
         }
-        _ => shown_lists(alloc, command),
+        _ => add_lists(alloc, command, texts),
     }
 }
 
-/// The commands with lists, sets, items and flags.
-fn shown_lists(alloc: Global, command: &Command) -> Result<Vec<Bytes>, Memory> {
+/// Adds the arguments of a command with a list, a set, items or flags.
+fn add_lists(alloc: Global, command: &Command, texts: &mut Vec<Bytes>) -> Result<(), Memory> {
     match command {
-        Command::Enable(names) => shown_names(alloc, names),
+        Command::Enable(names) => add_names(alloc, names, texts),
         Command::Append(mailbox, flags, date, message) => {
-            let fields = two(alloc, b"APPEND", mailbox, &flags_text(alloc, flags)?)?;
-            let fields = with(alloc, fields, date_text(date))?;
-            with(alloc, fields, message.as_slice())
+            add(alloc, mailbox.as_slice(), texts)?;
+            add_flags(alloc, flags, texts)?;
+            add(alloc, date_text(date), texts)?;
+            add(alloc, message.as_slice(), texts)
         }
         Command::Status(mailbox, items) => {
-            let items = status_text(alloc, items)?;
-            two(alloc, b"STATUS", mailbox, &items)
+            add(alloc, mailbox.as_slice(), texts)?;
+            add_status(alloc, items, texts)
         }
-        Command::Expunge(Some(set)) => one(alloc, b"UID EXPUNGE", &set_text(alloc, set)?),
-        Command::Copy(true, set, mailbox) => {
-            two(alloc, b"UID COPY", &set_text(alloc, set)?, mailbox)
+        Command::Expunge(Some(set)) => add_set(alloc, set, texts),
+        Command::Copy(_, set, mailbox) => {
+            add_set(alloc, set, texts)?;
+            add(alloc, mailbox.as_slice(), texts)
         }
-        Command::Copy(false, set, mailbox) => two(alloc, b"COPY", &set_text(alloc, set)?, mailbox),
-        Command::Search(true, keys) => {
-            one(alloc, b"UID SEARCH", &keys_text(alloc, keys.as_slice())?)
+        Command::Search(_, keys) => add_keys(alloc, keys, texts),
+        Command::Fetch(_, set, items) => {
+            add_set(alloc, set, texts)?;
+            add_items(alloc, items, texts)
         }
-        Command::Search(false, keys) => {
-            one(alloc, b"SEARCH", &keys_text(alloc, keys.as_slice())?)
+        Command::Store(_, set, mode, is_silent, flags) => {
+            add_set(alloc, set, texts)?;
+            add(alloc, mode_text(*mode), texts)?;
+            add(alloc, silence_text(*is_silent), texts)?;
+            add_flags(alloc, flags, texts)
         }
-        Command::Fetch(true, set, items) => shown_fetch(alloc, b"UID FETCH", set, items),
-        Command::Fetch(false, set, items) => shown_fetch(alloc, b"FETCH", set, items),
-        Command::Store(by_uid, set, mode, is_silent, flags) => {
-            let fields = shown_store(alloc, *by_uid, set)?;
-            let fields = with(alloc, fields, mode_text(*mode))?;
-            let fields = with(alloc, fields, silence_text(*is_silent))?;
-            with(alloc, fields, flags_text(alloc, flags)?.as_slice())
-        }
-        _ => Ok(Vec::new(alloc)),
+        _ => Ok(()),
     }
 }
 
-fn shown_names(alloc: Global, names: &Atoms) -> Result<Vec<Bytes>, Memory> {
-    let mut fields = named(alloc, b"ENABLE")?;
+fn add(alloc: Global, text: &[u8], texts: &mut Vec<Bytes>) -> Result<(), Memory> {
+    texts.push(Bytes::from_slice(alloc, text)?)?;
+    Ok(())
+}
+
+fn add_names(alloc: Global, names: &Atoms, texts: &mut Vec<Bytes>) -> Result<(), Memory> {
     for name in names.as_slice() {
-        fields.push(Bytes::from_slice(alloc, name.as_slice())?)?;
+        add(alloc, name.as_slice(), texts)?;
     }
-    Ok(fields)
+    Ok(())
 }
 
-fn shown_fetch(
-    alloc: Global,
-    name: &[u8],
-    set: &SetParts,
-    items: &FetchItems,
-) -> Result<Vec<Bytes>, Memory> {
-    let set = set_text(alloc, set)?;
-    let items = items_text(alloc, items)?;
-    two(alloc, name, &set, &items)
+fn add_set(alloc: Global, set: &SetParts, texts: &mut Vec<Bytes>) -> Result<(), Memory> {
+    let mut text = Bytes::new(alloc);
+    put_set(set, &mut text)?;
+    texts.push(text)?;
+    Ok(())
 }
 
-fn shown_store(alloc: Global, by_uid: bool, set: &SetParts) -> Result<Vec<Bytes>, Memory> {
-    let set = set_text(alloc, set)?;
-    if by_uid {
-        one(alloc, b"UID STORE", &set)
-    } else {
-        one(alloc, b"STORE", &set)
+fn add_keys(alloc: Global, keys: &Keys, texts: &mut Vec<Bytes>) -> Result<(), Memory> {
+    let mut text = Bytes::new(alloc);
+    put_keys(keys.as_slice(), &mut text)?;
+    texts.push(text)?;
+    Ok(())
+}
+
+fn add_status(alloc: Global, items: &StatusItems, texts: &mut Vec<Bytes>) -> Result<(), Memory> {
+    let mut text = Bytes::new(alloc);
+    for item in items.as_slice() {
+        text.extend_from_slice(status_text(*item))?;
     }
+    texts.push(text)?;
+    Ok(())
 }
 
-fn named(alloc: Global, name: &[u8]) -> Result<Vec<Bytes>, Memory> {
-    let fields = Vec::new(alloc);
-    with(alloc, fields, name)
+fn add_items(alloc: Global, items: &FetchItems, texts: &mut Vec<Bytes>) -> Result<(), Memory> {
+    let mut text = Bytes::new(alloc);
+    for item in items.as_slice() {
+        put_item(*item, &mut text)?;
+    }
+    texts.push(text)?;
+    Ok(())
 }
 
-fn one(alloc: Global, name: &[u8], text: &Bytes) -> Result<Vec<Bytes>, Memory> {
-    let fields = named(alloc, name)?;
-    with(alloc, fields, text.as_slice())
-}
-
-fn two(alloc: Global, name: &[u8], text: &Bytes, other: &Bytes) -> Result<Vec<Bytes>, Memory> {
-    let fields = one(alloc, name, text)?;
-    with(alloc, fields, other.as_slice())
-}
-
-/// The fields with one more.
-fn with(alloc: Global, fields: Vec<Bytes>, text: &[u8]) -> Result<Vec<Bytes>, Memory> {
-    let mut fields = fields;
-    fields.push(Bytes::from_slice(alloc, text)?)?;
-    Ok(fields)
+fn add_flags(alloc: Global, flags: &FlagSet, texts: &mut Vec<Bytes>) -> Result<(), Memory> {
+    let mut text = Bytes::new(alloc);
+    put_flags(flags, &mut text)?;
+    texts.push(text)?;
+    Ok(())
 }
 
 /// The date, or nothing where none is given.
@@ -161,37 +197,49 @@ fn put_end(end: SetEnd, out: &mut Bytes) -> Result<(), Memory> {
     }
 }
 
-/// The parts of a set, a space before each.
-pub fn set_text(alloc: Global, set: &SetParts) -> Result<Bytes, Memory> {
-    let mut out = Bytes::new(alloc);
+/// Puts the parts of a set, a space before each.
+pub fn put_set(set: &SetParts, out: &mut Bytes) -> Result<(), Memory> {
     for part in set.as_slice() {
         out.push(b' ')?;
         match *part {
-            SetPart::One(one) => put_end(one, &mut out)?,
+            SetPart::One(one) => put_end(one, out)?,
             SetPart::Range(one, other) => {
-                put_end(one, &mut out)?;
+                put_end(one, out)?;
                 out.push(b'-')?;
-                put_end(other, &mut out)?;
+                put_end(other, out)?;
             }
         }
     }
-    Ok(out)
+    Ok(())
 }
 
-/// The items of a STATUS, a space before each.
-fn status_text(alloc: Global, items: &StatusItems) -> Result<Bytes, Memory> {
-    let mut out = Bytes::new(alloc);
-    for item in items.as_slice() {
-        out.extend_from_slice(match item {
-            StatusItem::Messages => b" messages",
-            StatusItem::UidNext => b" next",
-            StatusItem::UidValidity => b" validity",
-            StatusItem::Unseen => b" unseen",
-            StatusItem::Deleted => b" deleted",
-            StatusItem::Size => b" size",
-        })?;
+fn status_text(item: StatusItem) -> &'static [u8] {
+    match item {
+        StatusItem::Messages => b" messages",
+        StatusItem::UidNext => b" next",
+        StatusItem::UidValidity => b" validity",
+        StatusItem::Unseen => b" unseen",
+        StatusItem::Deleted => b" deleted",
+        StatusItem::Size => b" size",
     }
-    Ok(out)
+}
+
+/// Puts an item of a FETCH, a space before it.
+fn put_item(item: Item, out: &mut Bytes) -> Result<(), Memory> {
+    match item {
+        Item::Flags => out.extend_from_slice(b" flags"),
+        Item::Uid => out.extend_from_slice(b" uid"),
+        Item::InternalDate => out.extend_from_slice(b" date"),
+        Item::Size => out.extend_from_slice(b" size"),
+        Item::Body(part) => {
+            out.extend_from_slice(b" body")?;
+            put_part(part, out)
+        }
+        Item::BodyPeek(part) => {
+            out.extend_from_slice(b" peek")?;
+            put_part(part, out)
+        }
+    }
 }
 
 fn put_part(part: Option<Partial>, out: &mut Bytes) -> Result<(), Memory> {
@@ -204,31 +252,8 @@ fn put_part(part: Option<Partial>, out: &mut Bytes) -> Result<(), Memory> {
     Ok(())
 }
 
-/// The items of a FETCH, a space before each.
-fn items_text(alloc: Global, items: &FetchItems) -> Result<Bytes, Memory> {
-    let mut out = Bytes::new(alloc);
-    for item in items.as_slice() {
-        match *item {
-            Item::Flags => out.extend_from_slice(b" flags")?,
-            Item::Uid => out.extend_from_slice(b" uid")?,
-            Item::InternalDate => out.extend_from_slice(b" date")?,
-            Item::Size => out.extend_from_slice(b" size")?,
-            Item::Body(part) => {
-                out.extend_from_slice(b" body")?;
-                put_part(part, &mut out)?;
-            }
-            Item::BodyPeek(part) => {
-                out.extend_from_slice(b" peek")?;
-                put_part(part, &mut out)?;
-            }
-        }
-    }
-    Ok(out)
-}
-
-/// The letters of the system flags, and the keywords, a space before each.
-fn flags_text(alloc: Global, flags: &FlagSet) -> Result<Bytes, Memory> {
-    let mut out = Bytes::new(alloc);
+/// Puts the letters of the system flags, and the keywords, a space before each.
+fn put_flags(flags: &FlagSet, out: &mut Bytes) -> Result<(), Memory> {
     let system = flags.system();
     for (is_set, letter) in [
         (system.answered, b'a'),
@@ -245,5 +270,5 @@ fn flags_text(alloc: Global, flags: &FlagSet) -> Result<Bytes, Memory> {
         out.push(b' ')?;
         out.extend_from_slice(keyword.as_bytes())?;
     }
-    Ok(out)
+    Ok(())
 }

@@ -1,51 +1,44 @@
 // Search keys as texts, not as they are spelled: each key is a space and a word, with what it holds in brackets behind it.
-use crate::shown::set_text;
+use crate::shown::put_set;
 use mail_message::{Day, FlagName, Key, SystemFlag};
 use mur_base::{Bytes, Memory, put_number};
-use std::alloc::Global;
 
-/// The keys of a command.
-pub fn keys_text(alloc: Global, keys: &[Key]) -> Result<Bytes, Memory> {
-    let mut out = Bytes::new(alloc);
-    put_keys(alloc, keys, &mut out)?;
-    Ok(out)
-}
-
+/// Puts the keys of a command.
 #[cycle(shown)]
-fn put_keys(alloc: Global, keys: &[Key], out: &mut Bytes) -> Result<(), Memory> {
+pub fn put_keys(keys: &[Key], out: &mut Bytes) -> Result<(), Memory> {
     for key in keys {
-        put_key(alloc, key, out)?;
+        put_key(key, out)?;
     }
     Ok(())
 }
 
 #[cycle(shown)]
-fn put_key(alloc: Global, key: &Key, out: &mut Bytes) -> Result<(), Memory> {
+fn put_key(key: &Key, out: &mut Bytes) -> Result<(), Memory> {
     out.push(b' ')?;
     out.extend_from_slice(word_of(key))?;
     match key {
         Key::Not(key) => {
             out.push(b'[')?;
-            put_key(alloc, key.get(), out)?;
+            put_key(key.get(), out)?;
             out.push(b']')
         }
         Key::Or(one, other) => {
             out.push(b'[')?;
-            put_key(alloc, one.get(), out)?;
-            put_key(alloc, other.get(), out)?;
+            put_key(one.get(), out)?;
+            put_key(other.get(), out)?;
             out.push(b']')
         }
         Key::Group(keys) => {
             out.push(b'[')?;
-            put_keys(alloc, keys.as_slice(), out)?;
+            put_keys(keys.as_slice(), out)?;
             out.push(b']')
         }
-        _ => put_held(alloc, key, out),
+        _ => put_held(key, out),
     }
 }
 
 /// What a key holds that holds no key.
-fn put_held(alloc: Global, key: &Key, out: &mut Bytes) -> Result<(), Memory> {
+fn put_held(key: &Key, out: &mut Bytes) -> Result<(), Memory> {
     match key {
         Key::Keyword(flag) | Key::Unkeyword(flag) => put_flag(flag, out),
         Key::Larger(size) | Key::Smaller(size) => {
@@ -55,7 +48,7 @@ fn put_held(alloc: Global, key: &Key, out: &mut Bytes) -> Result<(), Memory> {
         Key::Before(day) | Key::On(day) | Key::Since(day) => put_day(*day, out),
         Key::Uid(set) | Key::Numbers(set) => {
             out.push(b'[')?;
-            out.extend_from_slice(set_text(alloc, set)?.as_slice())?;
+            put_set(set, out)?;
             out.push(b']')
         }
         _ => Ok(()),
