@@ -1,5 +1,5 @@
 // The fields of a case, and the numbers that they write.
-use anyhow::{Result, anyhow};
+use crate::fault::Fault;
 use mail_message::Uids;
 use mur_base::{Bytes, Memory, put_number, read_number};
 use std::alloc::Global;
@@ -19,21 +19,33 @@ pub fn fields_of(alloc: Global, line: &str) -> Result<Vec<&str>, Memory> {
     Ok(fields)
 }
 
+/// The words of a text.
+pub fn words_of(alloc: Global, text: &str) -> Result<Vec<&str>, Memory> {
+    let mut words = Vec::new(alloc);
+    for word in text.split_whitespace() {
+        words.push(word)?;
+    }
+    Ok(words)
+}
+
 /// The number that a field writes.
-pub fn number_of(field: &str) -> Result<u32> {
-    Ok(u32::try_from(wide_number_of(field)?)?)
+pub fn number_of(field: &str) -> Result<u32, Fault> {
+    match u32::try_from(wide_number_of(field)?) {
+        Ok(number) => Ok(number),
+        Err(_) => Err(Fault::Unreadable("too large a number")),
+    }
 }
 
 /// The number of at most 64 bits that a field writes.
-pub fn wide_number_of(field: &str) -> Result<u64> {
+pub fn wide_number_of(field: &str) -> Result<u64, Fault> {
     match read_number(field.as_bytes()) {
         Some(number) => Ok(number),
-        None => Err(anyhow!("no number: {field}")),
+        None => Err(Fault::Unreadable("no number")),
     }
 }
 
 /// The UIDs between commas.
-pub fn uids_of(alloc: Global, field: &str) -> Result<Uids> {
+pub fn uids_of(alloc: Global, field: &str) -> Result<Uids, Fault> {
     let mut uids = Uids::new(alloc);
     for word in field.split(',') {
         uids.push(number_of(word)?)?;
@@ -42,9 +54,17 @@ pub fn uids_of(alloc: Global, field: &str) -> Result<Uids> {
 }
 
 /// Puts a number at the end of a text, behind a space where it isn't the first.
-pub fn put_separated(text: &mut Bytes, number: u32) -> Result<(), Memory> {
-    if !text.is_empty() {
-        text.push(b' ')?;
+pub fn put_separated(out: &mut Bytes, number: u32) -> Result<(), Memory> {
+    if !out.is_empty() {
+        out.push(b' ')?;
     }
-    put_number(u64::from(number), text)
+    put_number(u64::from(number), out)
+}
+
+/// Puts numbers at the end of a text, a space between them.
+pub fn put_numbers(out: &mut Bytes, numbers: &[u32]) -> Result<(), Memory> {
+    for number in numbers {
+        put_separated(out, *number)?;
+    }
+    Ok(())
 }

@@ -6,58 +6,54 @@
 //! fields of each kind are.
 #![tactic(auto)]
 
+mod fault;
 mod field;
 mod flags;
 mod home;
 mod keys;
 mod operation;
+mod outs;
 mod parts;
 mod session;
 mod sets;
+mod told;
 
 use anyhow::{Result, anyhow};
-use mail_message::{date, first_acl};
-use mur_base::{Bytes, mail_name};
+use fault::Fault;
 use std::alloc::Global;
 use std::{env, fs};
 
 /// Whether a case comes out as it wants.
-fn holds(alloc: Global, fields: &[&str]) -> Result<bool> {
-    match fields {
-        ["date", text, want] => Ok(is_date(text) == (*want == "date")),
-        ["flag", text, want] => Ok(flags::kind_of(alloc, text) == *want),
-        ["flags", before, mode, named, want] => {
-            flags::are_after(alloc, before, mode, named, want)
-        }
-        ["set", set, want] => Ok(sets::members(alloc, set)?.as_slice() == want.as_bytes()),
-        ["key", key, message @ .., want] => keys::match_message(alloc, key, message, want),
-        ["search", keys, messages, want] => keys::find(alloc, keys, messages, want),
-        ["part", item, message @ .., want] => parts::give(alloc, item, message, want),
-        ["long", item, bytes, head, rest] => parts::give_long(alloc, item, bytes, head, rest),
-        ["acl", name, want] => is_first_acl(alloc, name, want),
-        ["box", operations @ ..] => operation::hold(alloc, operations),
-        ["home", steps @ ..] => home::hold(alloc, steps),
-        ["session", steps @ ..] => session::hold(alloc, steps),
-        _ => Ok(false),
+fn holds(alloc: Global, line: &str) -> Result<bool, Fault> {
+    let fields = field::fields_of(alloc, line)?;
+    match fields.as_slice().split_first() {
+        Some((kind, rest)) => holds_of(alloc, kind, rest),
+        None => Ok(false),
     }
 }
 
-/// Whether a text is a date, and then the text of that date.
-fn is_date(text: &str) -> bool {
-    match date(text.as_bytes()) {
-        Some(read) => read.as_bytes() == text.as_bytes(),
-        None => false,
+/// Whether the case of a kind comes out as it wants.
+fn holds_of(alloc: Global, kind: &str, fields: &[&str]) -> Result<bool, Fault> {
+    match kind {
+        "flags" => flags::are_after(alloc, fields),
+        "key" => keys::match_message(alloc, fields),
+        "search" => keys::find(alloc, fields),
+        "part" => parts::give(alloc, fields),
+        "long" => parts::give_long(alloc, fields),
+        "box" => operation::hold(alloc, fields),
+        "home" => home::hold(alloc, fields),
+        "session" => session::hold(alloc, fields),
+        _ => told::holds(alloc, kind, fields),
     }
 }
 
-/// Whether a new mailbox of this name has this access list, in which a comma stands for each TAB.
-fn is_first_acl(alloc: Global, name: &str, want: &str) -> Result<bool> {
-    let acl = first_acl(alloc, &mail_name(alloc, name.as_bytes())?)?;
-    let mut text = Bytes::new(alloc);
-    for byte in acl.as_slice() {
-        text.push(if *byte == b'\t' { b',' } else { *byte })?;
+/// Compares what the crates make of a case with what it wants.
+fn compare(alloc: Global, line: &str) -> Result<(), Fault> {
+    if holds(alloc, line)? {
+        Ok(())
+    } else {
+        Err(Fault::Differs)
     }
-    Ok(text.as_slice() == want.as_bytes())
 }
 
 /// How many cases a text has, each of which holds.
@@ -67,8 +63,9 @@ fn passed(alloc: Global, text: &str) -> Result<u64> {
         if line.is_empty() || line.starts_with('#') {
             continue;
         }
-        if !holds(alloc, field::fields_of(alloc, line)?.as_slice())? {
-            return Err(anyhow!("differs: {line}"));
+        if let Err(fault) = compare(alloc, line) {
+            let why = fault.text();
+            return Err(anyhow!("{why}: {line}"));
         }
         passed = passed.wrapping_add(1);
     }
@@ -77,9 +74,15 @@ fn passed(alloc: Global, text: &str) -> Result<u64> {
 
 fn main(rt: HostRuntime) -> Result<()> {
     for file in env::args(&rt)?.skip(1) {
-        let text = fs::read_to_string(&rt, file.as_str())?;
-        let passed = passed(rt.alloc(), text.as_str())?;
-        println!(rt; "{file}: {passed} cases passed")?;
+        tell(&rt, file.as_str())?;
     }
+    Ok(())
+}
+
+/// Prints how many cases of a file passed.
+fn tell(rt: &HostRuntime, file: &str) -> Result<()> {
+    let text = fs::read_to_string(rt, file)?;
+    let passed = passed(rt.alloc(), text.as_str())?;
+    println!(rt; "{file}: {passed} cases passed")?;
     Ok(())
 }

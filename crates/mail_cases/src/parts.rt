@@ -1,36 +1,68 @@
 // Fetch items, and what they give of a message.
+use crate::fault::Fault;
 use crate::field::wide_number_of;
-use crate::keys::{date_of, message_of};
-use anyhow::{Result, anyhow};
+use crate::keys::{DATE, message_of};
 use mail_fetch::part;
-use mail_message::{Item, Partial};
+use mail_message::{Item, Message, Partial};
 use mur_base::{Bytes, Memory};
 use std::alloc::Global;
 
-/// Whether an item gives of a message the text that is wanted; `<CRLF>` in the fields stands for CR and LF.
-pub fn give(alloc: Global, item: &str, message: &[&str], want: &str) -> Result<bool> {
-    let [uid, flags, date, body] = message else {
+/// `ITEM | UID | FLAGS | DATE | BODY | WANTED`: whether an item gives of a message the text that is wanted; `<CRLF>` in the fields stands
+/// for CR and LF.
+pub fn give(alloc: Global, fields: &[&str]) -> Result<bool, Fault> {
+    let [item, uid, flags, date, body, want] = fields else {
         return Ok(false);
     };
-    let body = octets_of(alloc, body)?;
-    let message = message_of(alloc, uid, flags, date_of(date)?, body)?;
-    let text = part(alloc, &item_of(item)?, &message)?;
-    Ok(text.as_slice() == octets_of(alloc, want)?.as_slice())
+    let message = message_with(alloc, uid, flags, date, body)?;
+    gives(alloc, item, &message, want)
 }
 
-/// Whether an item gives of a body of so many `x` a text and then so many `x`.
-pub fn give_long(alloc: Global, item: &str, bytes: &str, head: &str, rest: &str) -> Result<bool> {
-    let date = date_of("17-Jul-1996 02:44:25 -0700")?;
-    let body = filled(Bytes::new(alloc), wide_number_of(bytes)?)?;
-    let message = message_of(alloc, "1", "", date, body)?;
-    let text = part(alloc, &item_of(item)?, &message)?;
-    let want = filled(octets_of(alloc, head)?, wide_number_of(rest)?)?;
+fn message_with(
+    alloc: Global,
+    uid: &str,
+    flags: &str,
+    date: &str,
+    body: &str,
+) -> Result<Message, Fault> {
+    let body = octets_of(alloc, body)?;
+    message_of(alloc, uid, flags, date, body.as_slice())
+}
+
+fn gives(alloc: Global, item: &str, message: &Message, want: &str) -> Result<bool, Fault> {
+    let text = part(alloc, &item_of(item)?, message)?;
+    Ok(octets_of(alloc, want)?.as_slice() == text.as_slice())
+}
+
+/// `ITEM | BYTES | HEAD | REST`: whether an item gives of a body of so many `x` a text and then so many `x`.
+pub fn give_long(alloc: Global, fields: &[&str]) -> Result<bool, Fault> {
+    let [item, bytes, head, rest] = fields else {
+        return Ok(false);
+    };
+    let message = long_message(alloc, bytes)?;
+    gives_long(alloc, item, &message, head, rest)
+}
+
+fn long_message(alloc: Global, bytes: &str) -> Result<Message, Fault> {
+    let body = filled(Bytes::new(alloc), bytes)?;
+    message_of(alloc, "1", "", DATE, body.as_slice())
+}
+
+fn gives_long(
+    alloc: Global,
+    item: &str,
+    message: &Message,
+    head: &str,
+    rest: &str,
+) -> Result<bool, Fault> {
+    let text = part(alloc, &item_of(item)?, message)?;
+    let want = filled(octets_of(alloc, head)?, rest)?;
     Ok(text.as_slice() == want.as_slice())
 }
 
-fn filled(text: Bytes, count: u64) -> Result<Bytes, Memory> {
+/// A text with so many `x` behind it as a field writes.
+pub fn filled(text: Bytes, count: &str) -> Result<Bytes, Fault> {
     let mut text = text;
-    for _ in 0..count {
+    for _ in 0..wide_number_of(count)? {
         text.push(b'x')?;
     }
     Ok(text)
@@ -47,22 +79,26 @@ fn octets_of(alloc: Global, field: &str) -> Result<Bytes, Memory> {
     Ok(octets)
 }
 
-fn item_of(text: &str) -> Result<Item> {
+fn item_of(text: &str) -> Result<Item, Fault> {
     match text {
         "FLAGS" => Ok(Item::Flags),
         "UID" => Ok(Item::Uid),
         "INTERNALDATE" => Ok(Item::InternalDate),
         "RFC822.SIZE" => Ok(Item::Size),
-        _ => match text.split_once("[]") {
-            Some(("BODY", partial)) => Ok(Item::Body(partial_of(partial)?)),
-            Some(("BODY.PEEK", partial)) => Ok(Item::BodyPeek(partial_of(partial)?)),
-            _ => Err(anyhow!("no item: {text}")),
-        },
+        _ => body_of(text),
+    }
+}
+
+fn body_of(text: &str) -> Result<Item, Fault> {
+    match text.split_once("[]") {
+        Some(("BODY", partial)) => Ok(Item::Body(partial_of(partial)?)),
+        Some(("BODY.PEEK", partial)) => Ok(Item::BodyPeek(partial_of(partial)?)),
+        _ => Err(Fault::Unreadable("no item")),
     }
 }
 
 /// What `<o.n>` writes, or nothing.
-fn partial_of(text: &str) -> Result<Option<Partial>> {
+fn partial_of(text: &str) -> Result<Option<Partial>, Fault> {
     if text.is_empty() {
         return Ok(None);
     }
@@ -71,6 +107,6 @@ fn partial_of(text: &str) -> Result<Option<Partial>> {
     let count = wide_number_of(count.strip_suffix('>').unwrap_or(count))?;
     match Partial::new(from, count) {
         Some(partial) => Ok(Some(partial)),
-        None => Err(anyhow!("no partial: {text}")),
+        None => Err(Fault::Unreadable("no partial")),
     }
 }

@@ -1,13 +1,13 @@
 // One session over one home of mailboxes: what its client is told.
-use crate::home::{self, ID};
-use anyhow::{Result, anyhow};
+use crate::fault::Fault;
+use crate::home;
 use backend_core::{BackInput, Backend};
 use imap_command::read_request;
 use imap_reply::write;
-use link_msg::{AnswerBody, FrontAsk, LinkMsg, Op, Out};
+use link_msg::{AnswerBody, LinkMsg, Op, Out, Outs};
 use mail_message::date;
-use mur_base::{Bytes, Items, MailName, User, Users, What, node_name, user_name};
-use mur_model::{Reply, Request, Setting, Tag};
+use mur_base::{Bytes, Items, MailName, Memory, User, Users, What, node_name, user_name};
+use mur_model::{Command, Reply, Request, Setting, Tag};
 use session_core::{Asking, Awaited, Need, Session};
 use std::alloc::Global;
 
@@ -19,206 +19,239 @@ enum Fate {
     NotReached,
 }
 
-/// A client, and the session that it has until it is told that it has ended.
+/// A client's session, until the client is told that it has ended, and the home that it asks.
 #[derive(Drop)]
-struct Client {
+struct Stage {
+    setting: Setting,
+    home: Backend,
     session: Session,
     has_left: bool,
 }
 
 /// Whether steps of a session of bob's and of its home, one after the other, give what stands behind them. A step behind which nothing
 /// stands is carried out alone.
-pub fn hold(alloc: Global, steps: &[&str]) -> Result<bool> {
+pub fn hold(alloc: Global, steps: &[&str]) -> Result<bool, Fault> {
+    let mut stage = empty_stage(alloc)?;
+    stage.hold(alloc, steps)
+}
+
+/// A session over a home without mailboxes.
+fn empty_stage(alloc: Global) -> Result<Stage, Fault> {
     let setting = setting(alloc)?;
-    let mut home = home::empty(alloc)?;
-    let mut client = Client {
+    Ok(Stage {
+        setting,
+        home: home::empty(alloc)?,
         session: Session::new(),
         has_left: false,
-    };
-    let _ = told(
-        alloc,
-        &setting,
-        &mut home,
-        &mut client,
-        "l LOGIN bob x",
-        Fate::Answered,
-    )?;
-    for step in steps {
-        let (given, want) = match step.split_once(" = ") {
-            Some((given, want)) => (given, Some(want)),
-            None => (*step, None),
-        };
-        let text = match given.split_once(' ') {
-            Some(("home", words)) => home::text_of(alloc, &mut home, words)?,
-            Some(("moved", line)) => told(
-                alloc,
-                &setting,
-                &mut home,
-                &mut client,
-                line,
-                Fate::BeingMoved,
-            )?,
-            Some(("unreached", line)) => told(
-                alloc,
-                &setting,
-                &mut home,
-                &mut client,
-                line,
-                Fate::NotReached,
-            )?,
-            _ => told(
-                alloc,
-                &setting,
-                &mut home,
-                &mut client,
-                given,
-                Fate::Answered,
-            )?,
-        };
-        if let Some(want) = want {
-            if text.as_slice() != want.as_bytes() {
-                return Ok(false);
-            }
-        }
-    }
-    Ok(true)
+    })
 }
 
 /// A service of which bob is the only user.
-fn setting(alloc: Global) -> Result<Setting> {
+fn setting(alloc: Global) -> Result<Setting, Fault> {
     let Some(date) = date(b" 1-Jan-2026 00:00:00 +0000") else {
-        return Err(anyhow!("no date"));
+        return Err(Fault::Unreadable("no date"));
     };
     let mut users = Items::new(alloc);
-    users.push(User {
+    users.push(bob(alloc)?)?;
+    match Users::new(users) {
+        Ok(users) => Ok(Setting { users, date }),
+        Err(_) => Err(Fault::Unreadable("no users")),
+    }
+}
+
+fn bob(alloc: Global) -> Result<User, Fault> {
+    Ok(User {
         name: user_name(alloc, b"bob")?,
         password: Bytes::from_slice(alloc, b"x")?,
         admin: false,
-    })?;
-    match Users::new(users) {
-        Ok(users) => Ok(Setting { users, date }),
-        Err(_) => Err(anyhow!("no users")),
+    })
+}
+
+impl Stage {
+    /// Whether steps behind bob's LOGIN give what stands behind them.
+    fn hold(&mut self, alloc: Global, steps: &[&str]) -> Result<bool, Fault> {
+        let _ = self.gives(alloc, "l LOGIN bob x", None)?;
+        for step in steps {
+            let (given, want) = match step.split_once(" = ") {
+                Some((given, want)) => (given, Some(want)),
+                None => (*step, None),
+            };
+            if !self.gives(alloc, given, want)? {
+                return Ok(false);
+            }
+        }
+        Ok(true)
+    }
+
+    /// Whether a step gives what is wanted, if anything is.
+    fn gives(&mut self, alloc: Global, given: &str, want: Option<&str>) -> Result<bool, Fault> {
+        let mut text = Bytes::new(alloc);
+        self.put_given(alloc, given, &mut text)?;
+        Ok(want.is_none_or(|want| text.as_slice() == want.as_bytes()))
+    }
+
+    fn put_given(&mut self, alloc: Global, given: &str, out: &mut Bytes) -> Result<(), Fault> {
+        match given.split_once(' ') {
+            Some(("home", words)) => home::put_given(alloc, &mut self.home, words, out),
+            Some(("moved", line)) => self.put_told(alloc, line, Fate::BeingMoved, out),
+            Some(("unreached", line)) => self.put_told(alloc, line, Fate::NotReached, out),
+            _ => self.put_told(alloc, given, Fate::Answered, out),
+        }
+    }
+
+    /// Puts what the client is told for a line; nothing once its session has ended.
+    fn put_told(
+        &mut self,
+        alloc: Global,
+        line: &str,
+        fate: Fate,
+        out: &mut Bytes,
+    ) -> Result<(), Fault> {
+        if self.has_left {
+            return Ok(());
+        }
+        match request_of(alloc, line)? {
+            Request::Command(tag, command) => self.put_reply(alloc, tag, command, fate, out),
+            _ => Err(Fault::Unreadable("no command")),
+        }
+    }
+
+    /// Puts the reply to a command.
+    fn put_reply(
+        &mut self,
+        alloc: Global,
+        tag: Tag,
+        command: Command,
+        fate: Fate,
+        out: &mut Bytes,
+    ) -> Result<(), Fault> {
+        let need = self.need_of(alloc, command, fate)?;
+        match &need {
+            Some(Need::Reply(reply)) => Ok(put_text(alloc, &tag, reply, out)?),
+            Some(Need::Leave(reply)) => {
+                self.has_left = true;
+                Ok(put_text(alloc, &tag, reply, out)?)
+            }
+            _ => Err(Fault::Unreadable("an answer that doesn't fit")),
+        }
+    }
+
+    /// What the session needs for a command, once the home has answered where it is asked.
+    fn need_of(
+        &mut self,
+        alloc: Global,
+        command: Command,
+        fate: Fate,
+    ) -> Result<Option<Need>, Fault> {
+        match self.session.begin(alloc, &self.setting, command)? {
+            Need::Home(name, asking) => self.need_behind(alloc, name, asking, fate),
+            need => Ok(Some(need)),
+        }
+    }
+
+    /// What the session needs behind what becomes of its ask of the home of a mailbox.
+    fn need_behind(
+        &mut self,
+        alloc: Global,
+        name: MailName,
+        asking: Asking,
+        fate: Fate,
+    ) -> Result<Option<Need>, Fault> {
+        match fate {
+            Fate::Answered => self.answered(alloc, name, asking),
+            Fate::BeingMoved => self.moved(alloc, &asking.awaited),
+            Fate::NotReached => self.unreached(alloc, &asking.awaited),
+        }
+    }
+
+    #[tactic(auto, unfolding(session_core::specs::Relocated::IsRelocation))]
+    fn moved(&mut self, alloc: Global, awaited: &Awaited) -> Result<Option<Need>, Fault> {
+        Ok(Some(self.session.relocated(alloc, awaited, &What::Reserved)?))
+    }
+
+    #[tactic(auto, unfolding(session_core::specs::Relocated::IsRelocation))]
+    fn unreached(&mut self, alloc: Global, awaited: &Awaited) -> Result<Option<Need>, Fault> {
+        let why = What::Unreached(node_name(alloc, b"b1")?);
+        Ok(Some(self.session.relocated(alloc, awaited, &why)?))
+    }
+
+    fn answered(
+        &mut self,
+        alloc: Global,
+        name: MailName,
+        asking: Asking,
+    ) -> Result<Option<Need>, Fault> {
+        let Asking {
+            op,
+            selected,
+            awaited,
+        } = asking;
+        let body = answer_of(alloc, &mut self.home, name, selected, op)?;
+        Ok(self.session.finish(alloc, &awaited, body)?)
     }
 }
 
-/// What the client is told for a line; nothing once its session has ended.
-fn told(
-    alloc: Global,
-    setting: &Setting,
-    home: &mut Backend,
-    client: &mut Client,
-    line: &str,
-    fate: Fate,
-) -> Result<Bytes> {
-    if client.has_left {
-        return Ok(Bytes::new(alloc));
-    }
+/// The request that a line spells.
+fn request_of(alloc: Global, line: &str) -> Result<Request, Memory> {
     let mut frame = Bytes::from_slice(alloc, line.as_bytes())?;
     frame.extend_from_slice(b"\r\n")?;
-    let Request::Command(tag, command) = read_request(alloc, frame.as_slice())? else {
-        return Err(anyhow!("no command: {line}"));
-    };
-    let session = &mut client.session;
-    let need = match session.begin(alloc, setting, command)? {
-        Need::Home(name, asking) => answered(alloc, home, session, name, asking, fate)?,
-        need => Some(need),
-    };
-    match need {
-        Some(Need::Reply(reply)) => text_of(alloc, &tag, &reply),
-        Some(Need::Leave(reply)) => {
-            client.has_left = true;
-            text_of(alloc, &tag, &reply)
-        }
-        _ => Err(anyhow!("an answer that doesn't fit")),
-    }
-}
-
-/// What a session needs behind the answer of the home of a mailbox.
-#[tactic(auto, unfolding(session_core::specs::Relocated::IsRelocation))]
-fn answered(
-    alloc: Global,
-    home: &mut Backend,
-    session: &mut Session,
-    name: MailName,
-    asking: Asking,
-    fate: Fate,
-) -> Result<Option<Need>> {
-    let Asking {
-        op,
-        selected,
-        awaited,
-    } = asking;
-    match fate {
-        Fate::BeingMoved => Ok(Some(session.relocated(alloc, &awaited, &What::Reserved)?)),
-        Fate::NotReached => Ok(Some(unreached(alloc, session, &awaited)?)),
-        Fate::Answered => {
-            let body = asked(alloc, home, name, selected, op)?;
-            Ok(session.finish(alloc, &awaited, body)?)
-        }
-    }
-}
-
-#[tactic(auto, unfolding(session_core::specs::Relocated::IsRelocation))]
-fn unreached(alloc: Global, session: &mut Session, awaited: &Awaited) -> Result<Need> {
-    let node = What::Unreached(node_name(alloc, b"b1")?);
-    Ok(session.relocated(alloc, awaited, &node)?)
+    read_request(alloc, frame.as_slice())
 }
 
 /// What the home answers to an ask.
-fn asked(
+fn answer_of(
     alloc: Global,
     home: &mut Backend,
     name: MailName,
     selected: Option<u32>,
     op: Op,
-) -> Result<AnswerBody> {
-    let ask = FrontAsk {
-        id: ID,
-        user: user_name(alloc, b"bob")?,
-        name,
-        selected,
-        op,
-    };
-    answer_of(alloc, home, ask)
+) -> Result<AnswerBody, Fault> {
+    let ask = home::ask_of(alloc, name, selected, op)?;
+    let input = BackInput::FromFront(node_name(alloc, b"f1")?, ask);
+    match body_in(home::outs_of(alloc, home, input)?) {
+        Some(body) => Ok(body),
+        None => Err(Fault::Unreadable("no answer")),
+    }
 }
 
-fn answer_of(alloc: Global, home: &mut Backend, ask: FrontAsk) -> Result<AnswerBody> {
-    let input = BackInput::FromFront(node_name(alloc, b"f1")?, ask);
-    let plan = home.plan(alloc, input)?;
-    let outs = home.settle(plan);
+/// The answer in what a home puts out.
+fn body_in(outs: Outs) -> Option<AnswerBody> {
     for out in outs.into_vec() {
         if let Some(body) = body_of(out) {
-            return Ok(body);
+            return Some(body);
         }
     }
-    Err(anyhow!("no answer"))
+    None
 }
 
 fn body_of(out: Out) -> Option<AnswerBody> {
     match out {
-        Out::Link(_to, message) => body_in(message),
+        Out::Link(_to, message) => body_said(message),
         _ => None,
     }
 }
 
-fn body_in(message: LinkMsg) -> Option<AnswerBody> {
+fn body_said(message: LinkMsg) -> Option<AnswerBody> {
     match message {
         LinkMsg::Answer(answer) => Some(answer.body),
         _ => None,
     }
 }
 
-/// A reply with a `/` for each CRLF.
-fn text_of(alloc: Global, tag: &Tag, reply: &Reply) -> Result<Bytes> {
+/// Puts a reply with a `/` for each CRLF.
+fn put_text(alloc: Global, tag: &Tag, reply: &Reply, out: &mut Bytes) -> Result<(), Memory> {
     let mut lines = Bytes::new(alloc);
     write(tag, reply, &mut lines)?;
-    let mut text = Bytes::new(alloc);
-    for byte in lines.as_slice() {
+    put_slashed(lines.as_slice(), out)
+}
+
+fn put_slashed(lines: &[u8], out: &mut Bytes) -> Result<(), Memory> {
+    for byte in lines {
         match *byte {
             b'\r' => (),
-            b'\n' => text.push(b'/')?,
-            other => text.push(other)?,
+            b'\n' => out.push(b'/')?,
+            other => out.push(other)?,
         }
     }
-    Ok(text)
+    Ok(())
 }
