@@ -125,12 +125,17 @@ impl Stage {
         fate: Fate,
         out: &mut Bytes,
     ) -> Result<(), Fault> {
-        let need = self.need_of(alloc, command, fate)?;
-        match &need {
-            Some(Need::Reply(reply)) => Ok(put_text(alloc, &tag, reply, out)?),
+        let reply = self.reply_of(alloc, command, fate)?;
+        Ok(put_text(alloc, &tag, &reply, out)?)
+    }
+
+    /// The reply to a command. Whether the session has ended with it is noted.
+    fn reply_of(&mut self, alloc: Global, command: Command, fate: Fate) -> Result<Reply, Fault> {
+        match self.need_of(alloc, command, fate)? {
+            Some(Need::Reply(reply)) => Ok(reply),
             Some(Need::Leave(reply)) => {
                 self.has_left = true;
-                Ok(put_text(alloc, &tag, reply, out)?)
+                Ok(reply)
             }
             _ => Err(Fault::Unreadable("an answer that doesn't fit")),
         }
