@@ -1,7 +1,7 @@
 // APPEND (RFC 9051, 6.3.12).
 ghost use Rattle.std.specs.Prelude.{◌≡◌, ◌++◌, OnOk};
 ghost use Rattle.grammar.specs.Gives.{Gives};
-ghost use Rattle.imap_command.specs.Append.{dated, dated_text, flagged, flagged_text, append};
+ghost use Rattle.imap_command.specs.Append.{dated, dated_text, flagged, append};
 
 use crate::date::{date_named, date_time_of, put_date_time};
 use crate::flags::{flag_list_of, put_flags};

@@ -1,9 +1,9 @@
 // Days (RFC 9051, 9: date).
-ghost use Rattle.std.specs.Prelude.{◌≡◌, ◌+◌, ◌*◌, ◌≤◌, ◌<◌, ◌++◌, map, IfOk, OnOk};
+ghost use Rattle.std.specs.Prelude.{◌≡◌, ◌≤◌, ◌++◌, map, IfOk, OnOk};
 ghost use Rattle.grammar.specs.Gives.{Finds};
 ghost use Rattle.imap_command.specs.Dates.{date_day, month_text, name_in, digit, date_year, year_text, date_text, date};
 
-use grammar::{Digit, Only, Stop, begins, byte_in, byte_of, number_of, put_decimal, table_of};
+use grammar::{Only, Stop, begins, byte_of, number_of, put_decimal, table_of};
 use mail_message::Day;
 use mur_base::{Bytes, Memory};
 

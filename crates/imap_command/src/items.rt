@@ -1,7 +1,7 @@
 // FETCH and its items (RFC 9051, 6.4.5).
 ghost use Rattle.std.specs.Prelude.{◌≡◌, ◌++◌, OnOk, Some};
 ghost use Rattle.grammar.specs.Gives.{Finds, Gives};
-ghost use Rattle.imap_command.specs.Fetch.{partial, partial_text, item_name_text, name_of, behind_name, item_of, item, single_of, single, item_list, items};
+ghost use Rattle.imap_command.specs.Fetch.{partial, item_name_text, name_of, behind_name, item_of, item, single_of, item_list, items};
 ghost use Rattle.imap_command.specs.Fetch.{fetch};
 
 use crate::sets::{put_set, set_of};

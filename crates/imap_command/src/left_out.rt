@@ -1,5 +1,4 @@
 // The commands that are left out (RFC 9051, 6.3.6 to 6.3.8, 6.3.10, 6.4.8 and 6.4.9; RFC 3501, 6.3.9).
-ghost use Rattle.std.specs.Prelude.{◌≡◌};
 ghost use Rattle.grammar.specs.Gives.{Gives};
 ghost use Rattle.imap_command.specs.LeftOut.{left_out};
 

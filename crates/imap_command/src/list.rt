@@ -1,11 +1,10 @@
 // LIST (RFC 9051, 6.3.9).
-ghost use Rattle.std.specs.Prelude.{◌≡◌, ◌++◌, OnOk};
 ghost use Rattle.grammar.specs.Gives.{Gives};
 ghost use Rattle.imap_command.specs.List.{is_list_char, list_mailbox, list};
 
 use crate::strings::{AstringChar, astring_of, string_of};
 use grammar::{Class, ReadError, Run, begins, byte_of, word_of};
-use mur_base::{Bytes, Memory};
+use mur_base::Bytes;
 use std::alloc::Global;
 
 /// list-char.

@@ -1,9 +1,9 @@
 // The reader of commands.
-ghost use Rattle.std.specs.Prelude.{◌≡◌, ◌⊎◌, Result, Ok, Err, IfOk, nat_le, if◌then◌else◌};
+ghost use Rattle.std.specs.Prelude.{◌≡◌, ◌⊎◌, Ok, Err, IfOk, nat_le, if◌then◌else◌};
 ghost use Rattle.grammar.specs.Gives.{Gives};
 ghost use Rattle.grammar.specs.Exact.{whole_at};
 ghost use Rattle.imap_command.specs.LeftOut.{left_out};
-ghost use Rattle.imap_command.specs.Spells.{Spells, known, commands, tagged_command, tags};
+ghost use Rattle.imap_command.specs.Spells.{Spells, known, commands, tagged_command};
 ghost use Rattle.imap_command.specs.Bad.{IsBad, IsFirstTag};
 
 use crate::commands::arguments_of;

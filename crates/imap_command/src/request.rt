@@ -1,6 +1,6 @@
 // What a frame asks for.
 ghost use Rattle.std.specs.Prelude.{◌≡◌, IfOk};
-ghost use Rattle.imap_command.specs.Request.{request_of, too_big_request, tag_or_star, first_tag};
+ghost use Rattle.imap_command.specs.Request.{request_of, too_big_request, tag_or_star};
 
 use crate::fault::ReadFault;
 use crate::reader::{first_tag, read};

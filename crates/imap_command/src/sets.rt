@@ -1,7 +1,7 @@
 // Sets of message numbers (RFC 9051, 9: sequence-set).
 ghost use Rattle.std.specs.Prelude.{◌≡◌, ◌++◌, OnOk};
 ghost use Rattle.grammar.specs.Gives.{Finds, Gives};
-ghost use Rattle.imap_command.specs.Sets.{end_text, part_text, set_end, set_part, set};
+ghost use Rattle.imap_command.specs.Sets.{end_text, set_end, set_part, set};
 
 use grammar::{
     Class, Digit, Only, Production, ReadError, Stop, begins, byte_of, number_of, put_decimal,

@@ -1,5 +1,5 @@
 // Strings (RFC 9051, 4.3 and 9).
-ghost use Rattle.std.specs.Prelude.{◌≡◌, ◌==◌, ◌++◌, not, true, OnOk};
+ghost use Rattle.std.specs.Prelude.{◌≡◌, ◌++◌, OnOk};
 ghost use Rattle.std.specs.List.{list_all};
 ghost use Rattle.mur_base.specs.Ascii.{lf};
 ghost use Rattle.grammar.specs.Gives.{Finds, Gives};
