@@ -1,4 +1,4 @@
--- Dates are words: a text that begins one goes on to one with the rest of a sample, so does each front of a date.
+-- Dates are words: a text that begins one goes on to one with the rest of a sample, and so does each front of a date.
 use Rattle.std.proofs.Common.{◌≡◌, ℕ, zero, suc, ◌<◌, ◌≤◌, List, [], ◌∷◌, ◌++◌, Bool, true, false, ◌&&◌, ◌||◌, ◌==◌, length, drop, slice_set}
 use Rattle.std.proofs.Common.{codes, refl, sym, ap, ◌∙◌, subst, arith, eqb-true, eq-eqb, ne_eqb, append-nil, append_assoc, length-append}
 use Rattle.std.specs.Char.{is_ascii_digit, to_ascii_lowercase}

@@ -33,7 +33,6 @@ unfoldable pub flagged_text : Flags × Dated → List ℕ
 flagged_text x = flags_text x.0 ++ space ∷ dated_text x.1
 
 -- [flag-list SP] [date-time SP] literal
-
 abbrev pub flagged : Form (Flags × Dated)
 flagged = choice (λ c. c == open_paren) flagged_text (flag_list spaced dated) without_flags
 

@@ -19,11 +19,12 @@ use Rattle.imap_command.specs.Fetch.{number64_most}
 use Rattle.imap_command.specs.Flags.{any_keyword, system_text}
 use Rattle.imap_command.specs.Sets.{is_set_start, set}
 
--- flag-keyword
+-- how a flag is printed; no key is spelled with a system flag
 abbrev pub flag_text : FlagName → List ℕ
 flag_text (System flag) = backslash ∷ system_text flag
 flag_text (Keyword keyword) = keyword
 
+-- flag-keyword
 abbrev pub keyword : Form FlagName
 keyword = made Keyword flag_text (as_it_stands any_keyword)
 

@@ -9,7 +9,7 @@ use grammar::{Kind, Stop, byte_of, word_of};
 use mail_message::{DATE_LENGTH, DateText, date};
 use mur_base::{Bytes, Memory};
 
-/// A date in each month.
+/// A date in each month. A text begins a date exactly where it makes one with the rest of one of these behind it.
 const SAMPLES: [&[u8; DATE_LENGTH]; 12] = [
     b"01-Jan-0000 00:00:00 +0000",
     b"01-Feb-0000 00:00:00 +0000",

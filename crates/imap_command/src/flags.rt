@@ -240,6 +240,7 @@ pub fn store_flags_of(alloc: Global, bytes: &[u8]) -> Result<(FlagSet, &[u8]), R
     }
 }
 
+/// The name of a system flag, with its backslash.
 #[tactic(auto, unfolding(crate::specs::Flags::system_text))]
 pub fn system_name(flag: SystemFlag) -> &'static [u8]
     ensures { result.now ≡ backslash ∷ system_text flag }

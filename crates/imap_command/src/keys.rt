@@ -126,7 +126,7 @@ fn spaced_set_of(alloc: Global, bytes: &[u8]) -> Result<(SetParts, &[u8]), ReadE
     set_of(alloc, rest)
 }
 
-/// Reads what stands behind the name of a key that holds no key, but has an argument.
+/// Reads what stands behind the name of a key that holds no key: its argument, if it has one.
 #[tactic(auto, unfolding(crate::specs::Keys::behind_flat))]
 fn behind_flat_of(alloc: Global, name: FlatName, bytes: &[u8]) -> Result<(Key, &[u8]), ReadError>
     ensures { Gives (λ x. (x.0, x.1.now)) result ((behind_flat name).at bytes.now) }
@@ -313,7 +313,7 @@ fn next_key_of(
     Ok((list, rest))
 }
 
-/// Prints a keyword behind a space.
+/// Prints the name of a key, and a flag behind a space.
 #[tactic(auto, using(std::proofs::lemmas::Grind::common_steps))]
 fn put_flag(name: &[u8], flag: &FlagName, out: &mut Bytes) -> Result<(), Memory>
     ensures { OnOk result (out.new ≡ out.old ++ (name.now ++ (behind space keyword).text flag.now)) }

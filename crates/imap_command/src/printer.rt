@@ -125,7 +125,7 @@ fn put_tag(tag: &Tag, out: &mut Bytes) -> Result<(), Memory>
     }
 }
 
-/// Prints a command under its tag, as a frame that spells just that, where some frame does.
+/// Prints a command that some frame spells under this tag, as a frame that spells just that.
 #[tactic(auto, using(std::proofs::lemmas::Grind::common_steps), unfolding(crate::specs::Print::printed))]
 pub fn print(alloc: Global, tag: &Tag, command: &Command) -> Result<Bytes, Memory>
     requires { IsSpelled tag.now command.now }

@@ -131,7 +131,7 @@ pub fn first_tag(alloc: Global, frame: &[u8]) -> Result<Option<Tag>, Memory>
     }
 }
 
-/// Reads a frame: the command that it spells, under its tag, or where and under which tag it spells none.
+/// Reads a frame: the command that it spells, under its tag, or where and under which tag it spells none (RFC 9051, 9: command).
 pub fn read(alloc: Global, frame: &[u8]) -> Result<(Tag, Command), ReadFault>
     ensures found { IfOk result (λ tagged. Spells frame.now tagged) }
     ensures only { (tagged : Tag × Command) → Spells frame.now tagged → (result ≡ Ok tagged) ⊎ (result ≡ Err ReadFault.Memory) }

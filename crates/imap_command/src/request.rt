@@ -8,7 +8,8 @@ use mur_base::Memory;
 use mur_model::{Request, Tag};
 use std::alloc::Global;
 
-/// What a whole frame asks for: the command that it spells, or a refusal under its first word.
+/// What a whole frame asks for: the command that it spells, or a refusal under its first word where that is a tag with a
+/// space behind it, else under `*` (RFC 9051, 2.2.1 and 7.1.3).
 pub fn read_request(alloc: Global, frame: &[u8]) -> Result<Request, Memory>
     ensures { IfOk result (λ request. request ≡ request_of frame.now) }
 {
@@ -19,7 +20,7 @@ pub fn read_request(alloc: Global, frame: &[u8]) -> Result<Request, Memory>
     }
 }
 
-/// What is refused of a frame that is too big.
+/// The refusal of a frame that is too big, under its first word where that is a tag with a space behind it, else under `*`.
 #[tactic(auto, unfolding(crate::specs::Request::too_big_request))]
 pub fn too_big(alloc: Global, frame: &[u8]) -> Result<Request, Memory>
     ensures { IfOk result (λ request. request ≡ too_big_request frame.now) }

@@ -19,7 +19,7 @@ const ITEM_ROWS: [(&[u8], StatusItem); 6] = [
     (b"SIZE", StatusItem::Size),
 ];
 
-/// Prints the name of an item.
+/// Prints the name of an item (RFC 9051, 9: status-att).
 #[tactic(auto, unfolding(crate::specs::Status::item_text))]
 pub fn put_item(item: StatusItem, out: &mut Bytes) -> Result<(), Memory>
     ensures { OnOk result (out.new ≡ out.old ++ item_text item) }

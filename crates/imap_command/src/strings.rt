@@ -248,7 +248,7 @@ fn is_astring_atom(text: &[u8]) -> bool
     are_all(&AstringChar, text) && !text.is_empty()
 }
 
-/// Whether a text is an atom.
+/// Whether a text is an atom (RFC 9051, 9: atom).
 #[tactic(auto, unfolding(crate::specs::Strings::is_atom))]
 pub fn is_atom(text: &[u8]) -> bool
     ensures { result ≡ is_atom text.now }
@@ -289,7 +289,8 @@ fn put_escaped_text(text: &[u8], out: &mut Bytes) -> Result<(), Memory>
     Ok(())
 }
 
-/// Prints a text as a quoted string, with a backslash before each `"` and `\`.
+/// Prints a text as a quoted string, with a backslash before each `"` and `\` (RFC 9051, 9: quoted). Whether its bytes may
+/// stand there is for the caller to know.
 #[tactic(auto, using(std::proofs::lemmas::Grind::common_steps), unfolding(crate::specs::Strings::quoted_text))]
 pub fn put_quoted(text: &[u8], out: &mut Bytes) -> Result<(), Memory>
     ensures { OnOk result (out.new ≡ out.old ++ quoted_text text.now) }
