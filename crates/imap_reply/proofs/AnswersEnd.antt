@@ -410,12 +410,6 @@ turned_ends setting session it turn is = subst NeedEnds is (need_ends setting se
 
 -- what comes of it
 
-pub is_ended : (session : Sess) → has_ended session ≡ true → session ≡ Ended
-is_ended Off ended = cc
-is_ended (In user) ended = cc
-is_ended (selected view) ended = cc
-is_ended Ended ended = refl
-
 -- the session behind a turn has ended where the turn ends it, as it hadn't before
 pub ended_by : (session : Sess) (later : Option Sess) → has_ended session ≡ false → has_ended (session_after session later) ≡ ends_session later
 ended_by session None goes_on = goes_on
