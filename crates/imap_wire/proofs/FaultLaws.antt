@@ -21,10 +21,6 @@ FaultsLast (Whole bytes ∷ rest) held = FaultsLast rest held
 FaultsLast (TooBig bytes ∷ rest) held = FaultsLast rest held
 FaultsLast (NeedLiteral size ∷ rest) held = FaultsLast rest held
 
-pub nothing_faults : (held : Option (List ℕ)) → FaultsLast [] held
-unfolding FaultsLast
-nothing_faults held = tt
-
 none_spent : (s : State) → IsNone (begun_of s) → s.spent ≡ true
 none_spent s h = by s.spent refl h
   where

@@ -100,10 +100,6 @@ begun_fed bytes piece taken held own next =
     sym (begun_with_more bytes piece (Some bytes) own) ∙ ap begun whole ∙ begun_with_more (bytes ++ take taken piece) (drop taken piece) held next
 
 -- once the connection has ended, nothing changes
-pub ended_fed : (piece : List ℕ) (taken : ℕ) → frames_of_more None piece ≡ frames_of_more None (drop taken piece)
-unfolding frames_of_more
-ended_fed piece taken = refl
-
 pub ended_stays : (piece : List ℕ) → begun_by_more None piece ≡ None
 unfolding begun_by_more
 ended_stays [] = refl
