@@ -1,4 +1,4 @@
--- The line after which a connection is given nothing more (RFC 9051, 7.1.5).
+-- The line that says that a connection ends: with the reply that holds it, or at once where it stands alone (RFC 9051, 7.1.5).
 use Rattle.std.specs.Prelude.{ℕ, List, ◌++◌, codes}
 use Rattle.imap_wire.specs.declared.frame.FrameFault.{FrameFault}
 use Rattle.imap_wire.specs.declared.frame.FrameFault.TheVariants.{LineTooLong as line_fault, PlusTooLong as literal_fault}

@@ -1,4 +1,4 @@
--- What a connection is given first (RFC 9051, 7.1.5).
+-- What a connection is given first (RFC 9051, 7.1.1).
 use Rattle.std.specs.Prelude.{ℕ, List, codes}
 
 unfoldable pub greeting : List ℕ

@@ -1,4 +1,4 @@
--- What a client reads of a reply is what was meant, whatever the texts in it are.
+-- What a client reads of a reply is what was meant, whatever the texts in it are (RFC 9051, 2.2.2).
 use Rattle.std.specs.Prelude.{◌≡◌, ℕ, Bool, true, false, ◌&&◌, ◌==◌, List, [], ◌∷◌, ◌++◌, codes, map, All}
 use Rattle.mur_model.specs.declared.command.Tag.{Tag}
 use Rattle.mur_model.specs.declared.reply.Reply.{Reply}

@@ -16,7 +16,7 @@ use Rattle.mur_model.specs.declared.reply.Verdict.TheVariants.{Nothing, Ok as ok
 use Rattle.imap_command.specs.Characters.{is_tag_byte}
 use Rattle.mail_message.specs.Literals.{IsPlain, IsPart, is_within}
 
--- tag = 1*<any ASTRING-CHAR except "+">
+-- tag = 1*<any ASTRING-CHAR except "+"> (RFC 9051, 9)
 pub record IsTag (text : List ℕ) : Type 0 where
   pub bytes : list_all is_tag_byte text ≡ true
   pub some : 0 < length text
@@ -25,7 +25,7 @@ unfoldable pub IsSoundTag : Tag → Type 0
 IsSoundTag Star = ⊤
 IsSoundTag (Text text) = IsTag text
 
--- identifiers, rights and the TABs between them
+-- a byte that neither ends a line nor begins to announce a literal, as all of identifiers, rights and the TABs between them
 abbrev pub is_calm : ℕ → Bool
 is_calm c = is_within c && not (c == open_brace)
 

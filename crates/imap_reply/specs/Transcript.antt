@@ -1,6 +1,6 @@
 -- What a client is given: the greeting, and then for each input in order a continuation or an answer (RFC 9051, 2.2.2 and 7). The line of
--- a fault is the last, and so is that of a lost command. Behind a BYE nothing is given (RFC 9051, 7.1.5), and nothing behind a request
--- that has no answer.
+-- a fault is the last, and so is that of a lost command. Behind a reply that holds a BYE nothing is given (RFC 9051, 7.1.5), and nothing behind
+-- a request that has no answer.
 use Rattle.std.specs.Prelude.{ℕ, Bool, true, false, List, [], ◌∷◌, ◌++◌, Option, None, Some}
 use Rattle.std.specs.List.{list_any}
 use Rattle.imap_wire.specs.Frames.{frames}

@@ -5,7 +5,7 @@ ghost use Rattle.imap_reply.specs.ByeLine.{bye_line, bye_text};
 use mur_base::{Bytes, Memory};
 use mur_model::Bye;
 
-/// Writes the line after which a connection is given nothing more.
+/// Writes the line that says that a connection ends: with the reply that holds it, or at once where it stands alone.
 #[tactic(auto, unfolding(crate::specs::ByeLine::bye_line))]
 pub fn put_bye(bye: Bye, out: &mut Bytes) -> Result<(), Memory>
     ensures { OnOk result (out.new ≡ out.old ++ bye_line bye) }

@@ -1,4 +1,4 @@
-// The greeting (RFC 9051, 7.1.5).
+// The greeting (RFC 9051, 7.1.1).
 ghost use Rattle.std.specs.Prelude.{◌≡◌, ◌++◌, OnOk};
 ghost use Rattle.imap_reply.specs.Greeting.{greeting};
 

@@ -1,6 +1,6 @@
 //! The bytes that a mail client is given: the greeting, continuations, replies and BYE lines, a file for each kind of line,
 //! and as definitions the transcript of a connection (`specs/Transcript.antt`). Each call writes behind what is there; want
-//! of memory spends the list of bytes.
+//! of memory spends the list of bytes. And what the frames that a client sends are to its session (`input_at`).
 #![tactic(auto)]
 
 mod access;
