@@ -18,7 +18,7 @@ use Rattle.imap_wire.specs.Bulk.{line_feeds, most_moves, frame_moves, IsUpTo, Is
 use Rattle.imap_wire.proofs.StepLaws.{step-line, line_step-fits, line_step-too_long}
 use Rattle.imap_wire.proofs.LineLaws.{least_length-ge}
 
--- each block takes a byte or is followed by one that does
+-- a block has room for a byte, or the new one behind it where it is full
 filled-less : (block : Block) → filled block < BLOCK_ROOM
 filled-less block = grind (arith, nat_tests)
 

@@ -84,7 +84,7 @@ pub begun-start : (s : State) → s ≡ start → begun_of s ≡ begun []
 unfolding after
 begun-start s is = rw is (sym (begun-shown []))
 
--- a frame has a byte, and a piece too
+-- of a piece that has bytes some are taken
 pub Takes-some : (s to : State) (piece : List ℕ) (frame : Option Frame) (taken : ℕ) → Takes s piece frame taken to
     → (frame ≡ None → taken ≡ length piece)
     → 0 < length piece → 0 < taken

@@ -18,7 +18,7 @@ use Rattle.imap_wire.specs.Feeding.{Leaves}
 use Rattle.imap_wire.proofs.StepLaws.{step-literal, step-end, step-line, line_step-fits, line_step-too_long, given-append, after-append}
 use Rattle.imap_wire.proofs.TakeLaws.{spent-none}
 
--- the frame of a step, if it gives one
+-- a step leaves what its frame has to, if it gives one
 abbrev pub StepLeaves : Step → Type 0
 StepLeaves next = IfSome next.frame (λ frame. Leaves frame (begun_of next.after))
 

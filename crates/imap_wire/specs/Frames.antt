@@ -1,4 +1,4 @@
--- The frames of a connection: its bytes cut into lines with their literals, whatever state the session has.
+-- The frames of a connection: its bytes cut into lines with their literals, whatever state the session has (RFC 9051, 2.2.1 and 4.3).
 use Rattle.std.specs.Prelude.{ℕ, zero, suc, ◌-◌, nat_lt, List, [], ◌∷◌, ◌++◌, length, take, drop, Option, None, Some, if◌then◌else◌}
 use Rattle.mur_base.specs.declared.limits.TheConstants.{LINE_LIMIT, COMMAND_LITERALS_LIMIT}
 use Rattle.mur_base.specs.Ascii.{crlf}

@@ -16,6 +16,6 @@ joined full last = joined_blocks full ++ last.bytes.items
 abbrev pub next_room : Block → ℕ
 next_room block = let left = block.room - length block.bytes.items in if nat_lt 0 left then left else BLOCK_ROOM
 
--- how many bytes less this block takes than a new one
+-- how many bytes fewer have room there than in a new block
 abbrev pub filled : Block → ℕ
 filled block = BLOCK_ROOM - next_room block

@@ -1,8 +1,8 @@
+// The command that has begun, and how it grows.
 ghost use Rattle.std.specs.Prelude.{◌≡◌, ◌+◌, ◌<◌, ◌≤◌, ◌⊎◌, length, take, slice_index, IfOk, OnOk, OnErr, true, false};
 ghost use Rattle.std.specs.Prelude.{[], ◌∷◌, ◌++◌, IsTrue, ◌↔◌, None, min};
 ghost use Rattle.mur_base.specs.declared.limits.TheConstants.{LINE_LIMIT};
 
-// The command that has begun, and how it grows.
 use crate::frame::{Frame, FrameFault};
 use crate::kept::Kept;
 use crate::literal::{Admission, Literal, announced};

@@ -8,6 +8,7 @@ use mur_base::limits::{MESSAGE_LIMIT, PLUS_LITERAL_LIMIT};
 /// A literal as a line announces it: `{n}` or `{n+}` (RFC 9051, 4.3).
 #[derive(Clone, Copy)]
 pub struct Literal {
+    /// How many octets it has.
     pub size: usize,
     /// Whether the client waits for a continuation before it sends the literal, as after `{n}`.
     pub waits: bool,
