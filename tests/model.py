@@ -1,8 +1,8 @@
 #!/usr/bin/env python3
 """What README.md says that a schedule prints, worked out beside the program:  tests/model.py CONFIG SCHEDULE
 
-It is written from README.md and RFC 9051 alone, and knows no proof and no code of the program. It keeps every byte of a
-connection and cuts it anew, so it is slow and plain. What a frame spells is in commands.py. `.ci/large` and `tests/random_schedules`
+It is written from README.md, examples/ and RFC 9051 alone, and knows no proof and no code of the program. It keeps every byte of
+a connection and cuts it anew, so it is slow and plain. What a frame spells is in commands.py. `.ci/large` and `tests/random_schedules`
 compare the program with it, and the outputs of tests/replays were worked out by it and read.
 """
 import base64, binascii, json, re, sys
