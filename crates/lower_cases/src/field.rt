@@ -49,8 +49,8 @@ impl Piece<'_> {
     }
 }
 
-/// The bytes of a field: `\r`, `\n`, `\\`, `\xHH`, `\*N:B` for N times the byte B, and `\[N:TEXT]` for N times TEXT, which has
-/// no `]`; each other byte is itself.
+/// The bytes of a field: `\r`, `\n`, `\\`, `\xHH` in capitals, `\*N:B` for N times the byte B, and `\[N:TEXT]` for N times TEXT,
+/// which has no `]`; each other byte is itself.
 pub fn bytes_of(alloc: Global, field: &str) -> Result<Bytes, Fault> {
     let mut bytes = Bytes::new(alloc);
     let mut rest = field.as_bytes();

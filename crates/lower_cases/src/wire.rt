@@ -57,7 +57,7 @@ fn gives(alloc: Global, bytes: &[u8], wanted: &[Frame]) -> Result<bool, Memory> 
     Ok(gives_byte_by_byte(alloc, bytes, wanted)? && gives_in_two(alloc, bytes, wanted)?)
 }
 
-/// Whether the bytes one by one give the frames that are wanted, with each byte taken until a fault, and no byte after it.
+/// Whether the bytes one by one give the frames that are wanted, and each is taken unless the framer is spent by a fault.
 fn gives_byte_by_byte(alloc: Global, bytes: &[u8], wanted: &[Frame]) -> Result<bool, Memory> {
     let mut found = Items::new(alloc);
     let has_taken_all = feed_each(alloc, bytes, &mut found)?;
@@ -75,7 +75,7 @@ fn feed_each(alloc: Global, bytes: &[u8], found: &mut Items<Frame>) -> Result<bo
     Ok(has_taken_all(&framer, bytes))
 }
 
-/// Whether a framer has taken all bytes that came one by one, and moved each by itself; or none after a fault.
+/// Whether a framer that isn't spent has taken all bytes that came one by one, and moved each that it took by itself.
 fn has_taken_all(framer: &Framer, bytes: &[u8]) -> bool {
     let taken = framer.tally().taken;
     (framer.spent() || taken == bytes.len() as u64) && framer.moves() >= taken
