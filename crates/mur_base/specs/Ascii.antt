@@ -1,4 +1,4 @@
--- Bytes by their names (RFC 20, 4.1), and the line end of the mail protocols (RFC 5234, B.1).
+-- Bytes by their names (RFC 20, 4), and the line end of the mail protocols (RFC 5234, B.1).
 use Rattle.std.specs.Prelude.{ℕ, Bool, false, ◌==◌, List, [], ◌∷◌}
 
 abbrev pub nul : ℕ

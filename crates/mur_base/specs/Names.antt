@@ -24,11 +24,11 @@ short_name_fault text =
     else if not (has_short_name_bytes text) then Some BadByte
     else None
 
--- a byte that no mailbox name has: a control, '"', '\', '%' or '*'
+-- a byte that a mailbox name may have: no control, and none of '"', '\', '%' and '*'
 unfoldable pub is_mail_name_byte : ℕ → Bool
 is_mail_name_byte b = nat_le space b && not (b == delete) && not (b == quote) && not (b == backslash) && not (b == percent) && not (b == star)
 
--- the bytes of a mailbox name: UTF-8, and no other byte
+-- the text is UTF-8, and a mailbox name may have each of its bytes
 unfoldable pub has_mail_name_bytes : List ℕ → Bool
 has_mail_name_bytes text = is_utf8 text && list_all is_mail_name_byte text
 

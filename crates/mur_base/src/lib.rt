@@ -1,5 +1,5 @@
-//! What every crate of the Murder speaks of: lists of bytes and of values, queues, the ordered map, names,
-//! numbers as text, the points of a history, locations, phases and the limits.
+//! What every crate of the Murder speaks of: lists of bytes and of values, boxes, queues, the ordered map, names and
+//! patterns of them, users, numbers as text, the points of a history, locations, phases and the limits.
 #![tactic(auto)]
 
 mod boxed;
