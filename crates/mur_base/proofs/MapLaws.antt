@@ -1,6 +1,5 @@
 -- What a look-up finds after a change of a map, under an order that tells all keys apart.
-use Rattle.std.proofs.Math.Logic.{⊎_elim}
-use Rattle.std.proofs.Common.{◌≡◌, ◌≢◌, ◌⊎◌, inl, inr, Bool, true, false, cond, List, [], ◌∷◌, Some, refl, sym, ◌∙◌, ap, subst}
+use Rattle.std.proofs.Common.{◌≡◌, ◌≢◌, ◌⊎◌, inl, inr, Bool, true, false, cond, List, [], ◌∷◌, Some, refl, sym, ap, subst}
 use Rattle.std.specs.declared.cmp.Ordering.{Ordering}
 use Rattle.std.specs.declared.cmp.Ordering.TheVariants.{Less, Equal, Greater}
 use Rattle.std.specs.Ordering.{is_eq, nat_cmp, match_ordering}
@@ -103,14 +102,3 @@ module _ {K : Type 0} (cmp : K → K → Ordering) (apart : TellsApart cmp) wher
   -- a key is another one or is not
   pub same_or_other : (q k : K) → (q ≡ k) ⊎ (q ≢ k)
   same_or_other q k = key_by q k (is_eq (cmp q k)) refl
-
-module _ {K X : Type 0} (cmp : K → K → Ordering) (apart : TellsApart cmp) where
-  -- two maps in which every key finds the same still do so with one entry more
-  pub same_after_entry : (es fs : List (K × X)) (k : K) (v : X) → ((q : K) → value_at cmp es q ≡ value_at cmp fs q)
-      → (q : K) → value_at cmp (with_entry cmp es k v) q ≡ value_at cmp (with_entry cmp fs k v) q
-  same_after_entry es fs k v same q =
-      ⊎_elim
-      (λ (e : q ≡ k). subst (λ x. value_at cmp (with_entry cmp es k v) x ≡ value_at cmp (with_entry cmp fs k v) x) (sym e)
-      (value_at-with_entry cmp apart es k v ∙ sym (value_at-with_entry cmp apart fs k v)))
-      (λ (ne : q ≢ k). value_at-with_entry-other cmp apart es k q v ne ∙ same q ∙ sym (value_at-with_entry-other cmp apart fs k q v ne))
-      (same_or_other cmp apart q k)

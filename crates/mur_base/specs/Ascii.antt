@@ -53,9 +53,6 @@ digit_nine = 57
 abbrev pub colon : ℕ
 colon = 58
 
-abbrev pub open_bracket : ℕ
-open_bracket = 91
-
 abbrev pub backslash : ℕ
 backslash = 92
 

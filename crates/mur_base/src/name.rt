@@ -4,7 +4,6 @@ ghost use Rattle.mur_base.specs.declared.name.NameFault.{NameFault};
 ghost use Rattle.mur_base.specs.Names.{IsReadAsName};
 
 use crate::copied::Copied;
-use crate::limits::{NAME_LIMIT, SHORT_NAME_LIMIT};
 use crate::list::Bytes;
 use crate::memory::Memory;
 use std::alloc::Global;

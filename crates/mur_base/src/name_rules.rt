@@ -1,5 +1,5 @@
 // The rules of names of nodes, users and mailboxes.
-ghost use Rattle.std.specs.Prelude.{◌≡◌, ℕ, List, Bool};
+ghost use Rattle.std.specs.Prelude.{◌≡◌};
 ghost use Rattle.std.specs.List.{list_all};
 ghost use Rattle.std.specs.Str.{is_utf8};
 ghost use Rattle.mur_base.specs.Names.{short_name_fault, has_short_name_bytes, mail_name_fault, is_short_name_byte, is_mail_name_byte, has_mail_name_bytes};

@@ -1,8 +1,5 @@
 // The points of a history: which step told what of which command.
-use crate::copied::Copied;
-use crate::memory::Memory;
 use crate::name_rules::NodeName;
-use std::alloc::Global;
 
 /// A command of a client: the number of its connection, and its own number in it, from 1.
 #[derive(Clone, Copy, Debug, PartialEq, Eq)]
@@ -32,26 +29,4 @@ pub struct Point {
     pub step: u64,
     pub ask: AskId,
     pub what: What,
-}
-
-impl Copied for What {
-    fn copy(&self, alloc: Global) -> Result<What, Memory> {
-        match self {
-            What::Reply => Ok(What::Reply),
-            What::Read => Ok(What::Read),
-            What::Lost => Ok(What::Lost),
-            What::Reserved => Ok(What::Reserved),
-            What::Unreached(node) => Ok(What::Unreached(node.copy(alloc)?)),
-        }
-    }
-}
-
-impl Copied for Point {
-    fn copy(&self, alloc: Global) -> Result<Point, Memory> {
-        Ok(Point {
-            step: self.step,
-            ask: self.ask,
-            what: self.what.copy(alloc)?,
-        })
-    }
 }
