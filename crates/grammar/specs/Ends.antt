@@ -4,11 +4,12 @@ use Rattle.std.specs.Str.{bytes_eq}
 use Rattle.grammar.specs.Part.{Part}
 use Rattle.grammar.specs.Exact.{whole_at}
 
--- the first n bytes, where the others are the ending
+-- the front, and nothing behind it, where the ending is there
 abbrev pub cut_by : Bool → List ℕ → Result (List ℕ × List ℕ) ℕ
 cut_by true front = Ok (front, [])
 cut_by false front = Err 0
 
+-- the first n bytes, where the others are the ending
 abbrev pub cut_before : List ℕ → ℕ → List ℕ → Result (List ℕ × List ℕ) ℕ
 cut_before ending n bytes = cut_by (bytes_eq (drop n bytes) ending) (take n bytes)
 

@@ -49,7 +49,7 @@ followed p c = record { part = p.part then λ a. map_part (λ _. a) (byte c); te
 abbrev pub worded : {A : Type 0} → List ℕ → Form A → Form A
 worded name p = record { part = word (any_case (name ∷ [])) then λ _. p.part; text = λ a. name ++ p.text a }
 
--- two forms with a space between them (the RFCs' SP)
+-- two forms with a space between them (SP of RFC 5234, B.1)
 abbrev pub ◌spaced◌ : {A B : Type 0} → Form A → Form B → Form (A × B)
 p spaced q = p and behind space q
 
@@ -65,16 +65,17 @@ choice test text p q = record { part = choose test p.part q.part; text = text }
 abbrev pub constant : {A : Type 0} → A → (A → List ℕ) → Form A
 constant a text = made (λ _. a) text nothing
 
--- a form behind a byte, both of which may be left out
+-- a byte and the text of a value, or nothing
 abbrev pub maybe_text : {A : Type 0} → ℕ → (A → List ℕ) → Option A → List ℕ
 maybe_text c text None = []
 maybe_text c text (Some a) = c ∷ text a
 
--- the form behind the byte
+-- the text of a value, where there is one
 abbrev pub given_text : {A : Type 0} → (A → List ℕ) → Option A → List ℕ
 given_text text None = []
 given_text text (Some a) = text a
 
+-- a form behind a byte, both of which may be left out
 abbrev pub maybe : {A : Type 0} → ℕ → Form A → Form (Option A)
 maybe c p = choice (λ b. b == c) (maybe_text c p.text) (behind c (made Some (given_text p.text) p)) (constant None (maybe_text c p.text))
 
@@ -127,7 +128,7 @@ list_text c text (a ∷ list) = text a ++ more_text c text list
 abbrev pub one_more : {A : Type 0} → ℕ → Part A → List A → Part (List A)
 one_more c p so_far = byte c then λ _. map_part (λ a. so_far ++ a ∷ []) p
 
--- one or more of a form, a byte between any two (the RFCs' X *(c X))
+-- one or more of a form, a byte between any two (RFC 5234, 3.6: X *(c X))
 abbrev pub several : {A : Type 0} → ℕ → Form A → Form (List A)
 several c p = record {
   part = map_part (λ a. a ∷ []) p.part then repeat (λ b. b == c) (one_more c p.part);

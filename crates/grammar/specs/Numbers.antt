@@ -8,7 +8,7 @@ use Rattle.grammar.specs.Part.{Part, map}
 use Rattle.grammar.specs.Words.{Words, word}
 use Rattle.grammar.specs.Runs.{some}
 
--- the number that digits (the RFCs' DIGIT) stand for
+-- the number that digits (DIGIT of RFC 5234, B.1) stand for
 abbrev pub value_of : List ℕ → ℕ
 value_of = digits_behind 0
 

@@ -75,7 +75,7 @@ byte c = one_of (λ b. b == c)
 abbrev pub between : ℕ → ℕ → ℕ → Bool
 between low high c = nat_le low c && nat_le c high
 
--- one part, a space and another part (the RFCs' SP)
+-- one part, a space and another part (SP of RFC 5234, B.1)
 abbrev pub ◌sp◌ : {A B : Type 0} → Part A → (A → Part B) → Part B
 p sp f = p then λ a. byte space then λ _. f a
 

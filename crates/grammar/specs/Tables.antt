@@ -1,4 +1,4 @@
--- Words of a table, in any case of letters.
+-- Words of a table, in any case of letters (RFC 5234, 2.3).
 use Rattle.std.specs.Prelude.{ℕ, Bool, true, false, ◌&&◌, not, List, [], ◌∷◌}
 use Rattle.std.specs.List.{list_all, list_any}
 use Rattle.std.specs.Char.{eq_ignore_ascii_case}

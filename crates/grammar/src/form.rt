@@ -20,6 +20,7 @@ pub trait Production {
     fn read<'a>(&self, alloc: Global, bytes: &'a [u8]) -> Result<(Self::Value, &'a [u8]), ReadError>
         ensures { Gives (λ x. (x.0, x.1.now)) result ((form self.now).part.at bytes.now) };
 
+    /// Prints a value at the end of `out`, of which nothing is said after want of memory.
     fn put(&self, value: &Self::Value, out: &mut Bytes) -> Result<(), Memory>
         ensures { OnOk result (out.new ≡ out.old ++ (form self.now).text value.now) };
 }

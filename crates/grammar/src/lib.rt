@@ -2,9 +2,10 @@
 //! the longest prefix that begins some spelling.
 //!
 //! A [`Part`](specs/Part.antt) is a set of spellings beside a reader on lists, and the combinators of `specs` make one of
-//! others: nothing, one part behind another, the one or the other by the first byte, words, numbers, so many bytes,
-//! turns that change a state, lists. The law of each, that it is good before whatever follows, is a public function of
-//! `laws`, and stands in `proofs` for the laws of productions. The readers of the code give what their part says.
+//! others: nothing, one part behind another, the one or the other by the first byte, words, numbers, so many bytes, all
+//! bytes before an ending, turns that change a state, lists. The law of each, that it is good before what may follow it,
+//! stands in `proofs` for the laws of productions; those of one part behind another, of the one or the other, of words, of
+//! so many bytes and of turns are public functions of `laws` too. The readers of the code give what their part says.
 //!
 //! A [`Form`](specs/Forms.antt) is a part and the text that a value is printed as. Its one law says that it is read exactly
 //! before what follows, what it begins with, and that each value that some bytes spell is spelled as it is printed. Each
@@ -43,7 +44,8 @@
 //!
 //! At the top [`whole_of`] reads a frame by a [`Grammar`]: its contract is that of the whole language.
 //!
-//! Reading takes time in proportion to the bytes; nothing here looks twice at a byte of a literal.
+//! Reading takes time in proportion to the bytes, and at a word of a table to its names and their lengths too; nothing here
+//! looks twice at a byte of a literal.
 #![tactic(auto)]
 
 mod class;
