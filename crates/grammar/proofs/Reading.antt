@@ -57,11 +57,6 @@ takes_some {V} read v = go (read []) refl
     go (Ok x) e = ([], x, e)
     go (Err left) e = let s = v [] left e in (s.front ++ s.more, s.value, s.begins)
 
--- a list of no length
-pub empty_from_length : (s : List ℕ) → length s ≡ 0 → s ≡ []
-empty_from_length [] e = refl
-empty_from_length (c ∷ s) e = absurd (omega arith)
-
 -- the halves of an empty text are empty
 pub empty_halves : (a b : List ℕ) → [] ≡ a ++ b → (a ≡ []) × (b ≡ [])
 empty_halves [] b e = (refl, sym e)

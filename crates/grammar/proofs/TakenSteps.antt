@@ -32,9 +32,3 @@ module _ {S : Type 0} (test : ℕ → Bool) (turn : S → Part S) (first s : S) 
       let one : left ≡ suc (left - 1) = omega arith in
       sym so_far ∙ ap (λ n. (turns test turn n s).at rest) one ∙ turns_more test turn s rest (left - 1) e
       ∙ ap (λ r. r >>= (λ t. (turns test turn (left - 1) t).at)) r
-
-  pub repeat_more : (next : S) (behind : List ℕ) (taken : ℕ) → TakesTurns test turn left s rest next behind taken
-      → (turns test turn (left - taken) next).at behind ≡ (turns test turn (length bytes) first).at bytes
-  repeat_more next behind taken takes =
-      let both : taken + (left - taken) ≡ left = omega (arith, takes.upto) in
-      sym (takes.all (left - taken)) ∙ ap (λ n. (turns test turn n s).at rest) both ∙ so_far

@@ -1,5 +1,5 @@
 // Sets of bytes, and readers of bytes of a set.
-ghost use Rattle.std.specs.Prelude.{◌≡◌, ℕ, Bool, ◌&&◌, nat_le, true, false, take, ◌≤◌, ◌<◌, length, slice_index, Ok};
+ghost use Rattle.std.specs.Prelude.{◌≡◌, ℕ, Bool, true, false, take, ◌≤◌, ◌<◌, length, slice_index, Ok};
 ghost use Rattle.std.specs.List.{list_all};
 ghost use Rattle.grammar.specs.Part.{byte, one_of, starts, exactly, optional, between};
 ghost use Rattle.grammar.specs.Gives.{Finds};

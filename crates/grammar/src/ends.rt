@@ -1,5 +1,4 @@
 // What stands before the end of the bytes.
-ghost use Rattle.std.specs.Prelude.{◌≡◌};
 ghost use Rattle.grammar.specs.Ends.{all_before};
 ghost use Rattle.grammar.specs.Gives.{Finds};
 

@@ -1,5 +1,5 @@
 // Forms: readers and printers of the same parts.
-ghost use Rattle.std.specs.Prelude.{◌≡◌, ◌==◌, ◌++◌, ℕ, List, OnOk};
+ghost use Rattle.std.specs.Prelude.{◌≡◌, ◌==◌, ◌++◌, OnOk};
 ghost use Rattle.grammar.specs.Forms.{Form, several, one_more, more_text, list_text};
 ghost use Rattle.grammar.specs.Gives.{Gives};
 

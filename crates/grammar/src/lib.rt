@@ -74,9 +74,9 @@ pub use laws::{
 };
 pub use members::Members;
 pub use number::{counted_of, number_of, put_decimal};
-pub use rows::{begins_row, table_of};
+pub use rows::table_of;
 pub use run::{Run, RunUpTo};
-pub use table::{AnyCase, names};
+pub use table::AnyCase;
 pub use turn::{Turn, repeated_of};
 pub use whole::{Grammar, ended, whole_of};
 pub use word::{Kind, word_of};

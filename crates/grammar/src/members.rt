@@ -1,7 +1,7 @@
 // Words that are one of some texts, byte by byte.
 ghost use Rattle.std.specs.Prelude.{◌≡◌, ◌∷◌, [], ◌++◌, map};
 ghost use Rattle.std.specs.List.{list_any};
-ghost use Rattle.grammar.specs.Members.{begins_with, begins_some_of, is_same, members};
+ghost use Rattle.grammar.specs.Members.{begins_with, is_same, members};
 
 use crate::class::Class;
 use crate::word::Kind;

@@ -1,6 +1,5 @@
 // Numbers in decimal digits.
-ghost use Rattle.std.specs.Prelude.{◌≡◌, ◌+◌, ◌-◌, ◌*◌, ◌≤◌, ◌<◌, ◌&&◌, ◌||◌, not, nat_le, ◌==◌, true, [], ◌++◌};
-ghost use Rattle.std.specs.Prelude.{◌∷◌, length, take, drop, min, IfOk, OnOk};
+ghost use Rattle.std.specs.Prelude.{◌≡◌, ◌+◌, ◌-◌, ◌*◌, ◌≤◌, true, [], ◌++◌, length, take, drop, min, IfOk, OnOk};
 ghost use Rattle.std.specs.Option.{SomeIff};
 ghost use Rattle.grammar.specs.Words.{scan, halt};
 ghost use Rattle.mur_base.specs.Ascii.{digit_zero};

@@ -2,7 +2,7 @@
 ghost use Rattle.std.specs.Prelude.{◌≡◌, ◌∷◌, [], ◌++◌, map};
 ghost use Rattle.std.specs.List.{list_any};
 ghost use Rattle.grammar.specs.Tables.{any_case, starts_name, is_name};
-ghost use Rattle.grammar.specs.Forms.{named, names_of, begins_row, table};
+ghost use Rattle.grammar.specs.Forms.{named, names_of, table};
 ghost use Rattle.grammar.specs.Gives.{Finds};
 
 use crate::error::Stop;
@@ -64,13 +64,6 @@ fn value_of<T: Copy>(other: T, rows: &[(&[u8], T)], text: &[u8]) -> T
         }
     }
     other
-}
-
-/// Whether a byte begins a name of the rows.
-pub fn begins_row<T>(rows: &[(&[u8], T)], byte: u8) -> bool
-    ensures { result ≡ begins_row (map (λ row. (row.0.now, row.1)) rows.now) byte }
-{
-    some_begins_with(rows, b"", byte)
 }
 
 /// Reads a name, in any case of letters, and gives its value. The other value stands in no answer.

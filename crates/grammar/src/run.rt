@@ -1,5 +1,4 @@
 // Runs of bytes of a set.
-ghost use Rattle.std.specs.Prelude.{◌≡◌};
 ghost use Rattle.grammar.specs.Runs.{run, run_upto};
 
 use crate::class::Class;

@@ -1,5 +1,4 @@
 // The reader of a grammar on whole byte strings.
-ghost use Rattle.std.specs.Prelude.{◌≡◌};
 ghost use Rattle.grammar.specs.Part.{Part};
 ghost use Rattle.grammar.specs.Exact.{Exact, at_end, whole_at};
 ghost use Rattle.grammar.specs.Gives.{Gives, Finds, ReadsAs};
