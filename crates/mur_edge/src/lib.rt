@@ -1,8 +1,9 @@
 //! The edge of the program: where bytes come from and go to, and who hands out such objects.
 //!
 //! A [`Source`] is read, a [`Sink`] is written, and a [`Host`] hands both out and takes them back. Each object and each
-//! host counts its faults, and no call fails but where a count rose. `read_front` and `write_all` are the two loops
-//! over them; `MemSource`, `MemSink` and `MemHost` are the objects in memory, whose faults are given by number.
+//! host counts its faults, and no call answers `Failed` but where a count rose; one that answers `Memory` counts none.
+//! `read_front` and `write_all` are the two loops over them; `MemSource`, `MemSink` and `MemHost` are the same in memory,
+//! and which of their calls fail is given by number.
 #![tactic(auto)]
 
 mod fault;
