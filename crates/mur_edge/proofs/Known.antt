@@ -1,11 +1,11 @@
 -- Bytes that were given or taken in two steps.
-use Rattle.std.specs.Prelude.{◌≡◌, ℕ, ◌+◌, ◌-◌, ◌≤◌, min, List, [], ◌++◌, MatchOption, ⊤, Option, None, Some, Ok, take, drop}
+use Rattle.std.specs.Prelude.{◌≡◌, ℕ, ◌+◌, ◌-◌, ◌≤◌, min, List, ◌++◌, Option, None, Some, Ok, take, drop}
 use Rattle.std.specs.Prelude.{length, refl}
 use Rattle.std.proofs.Common.{◌∙◌, ap, sym, subst, arith, append_assoc, length-drop}
 use Rattle.std.proofs.Math.Seq.{take-append-add}
-use Rattle.std.proofs.lemmas.List.{take-append-le, take-append-drop, length-take-le, take_min, take_all, drop-drop, drop_all}
+use Rattle.std.proofs.lemmas.List.{take-append-drop, length-take-le, take_all, drop-drop, drop_all}
 use Rattle.std.specs.Io.KnownBytes.{prepend_known, append_known}
-use Rattle.mur_edge.specs.Sink.{Took, TookFront, HoldsAll, HoldsFront}
+use Rattle.mur_edge.specs.Sink.{Took, TookFront}
 use Rattle.mur_edge.specs.Source.{ReadGives}
 
 pub prepend_known-append : (xs ys : List ℕ) (known : Option (List ℕ)) → prepend_known (xs ++ ys) known ≡ prepend_known xs (prepend_known ys known)
@@ -18,13 +18,6 @@ append_known-append (Some zs) xs ys = ap (λ bytes. Some bytes) (sym (append_ass
 
 pub Took-append : (first second third : Option (List ℕ)) (xs ys : List ℕ) → Took first second xs → Took second third ys → Took first third (xs ++ ys)
 Took-append first second third xs ys one two = two ∙ ap (λ known. append_known known ys) one ∙ sym (append_known-append first xs ys)
-
--- a front of the first part is a front of the whole
-pub TookFront-append_left : (first second : Option (List ℕ)) (xs ys : List ℕ) → TookFront first second xs → TookFront first second (xs ++ ys)
-TookFront-append_left first second xs ys front =
-    let n = min front.0 (length xs) in
-    let same : take n (xs ++ ys) ≡ take front.0 xs = take-append-le n xs ys (omega arith) ∙ take_min front.0 xs in
-    (n, rw same front.1)
 
 -- all of the first part and a front of the second are a front of the whole
 pub TookFront-append_right : (first second third : Option (List ℕ)) (xs ys : List ℕ) → Took first second xs → TookFront second third ys
@@ -57,15 +50,3 @@ ReadGives-drop whole at n buffer count bytes =
       ap (λ list. Some list) (rw (bytes, ← rest) (sym parts)),
       λ none room. rw (← rest) (drop_all n (drop at whole) (omega arith)),
     )
-
--- what a sink has taken since it was handed out is all that it holds
-pub HoldsAll-from_fresh : (before now : Option (List ℕ)) (text : List ℕ) → MatchOption before ⊤ (λ bytes. bytes ≡ []) → Took before now text
-    → HoldsAll now text
-HoldsAll-from_fresh None now text empty took = subst (λ known. HoldsAll known text) (sym took) tt
-HoldsAll-from_fresh (Some bytes) now text empty took = subst (λ known. HoldsAll known text) (sym took) (ap (λ front. front ++ text) empty)
-
-pub HoldsFront-from_fresh : (before now : Option (List ℕ)) (text : List ℕ) → MatchOption before ⊤ (λ bytes. bytes ≡ []) → TookFront before now text
-    → HoldsFront now text
-HoldsFront-from_fresh None now text empty took = subst (λ known. HoldsFront known text) (sym took.1) tt
-HoldsFront-from_fresh (Some bytes) now text empty took =
-    subst (λ known. HoldsFront known text) (sym took.1) (took.0, ap (λ front. front ++ take took.0 text) empty)

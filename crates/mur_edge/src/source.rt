@@ -1,5 +1,5 @@
 // What is read: the trait, and the loop that reads up to a limit.
-ghost use Rattle.std.specs.Prelude.{◌≡◌, ◌+◌, ◌<◌, length, IfOk};
+ghost use Rattle.std.specs.Prelude.{◌≡◌, ◌+◌, ◌<◌, IfOk};
 ghost use Rattle.std.specs.Io.{ReadsAtMost};
 ghost use Rattle.mur_edge.specs.Counts.{HasHostCause};
 ghost use Rattle.mur_edge.specs.Source.{SourceFacts, DidRead, GaveFront, GaveAtMost};
