@@ -1,4 +1,4 @@
--- A text has an empty level where a separator, or the end, stands at a level's begin.
+-- A text has an empty level where a separator, or the end, stands at the beginning of a level.
 use Rattle.std.proofs.Common.{◌≡◌, ℕ, Bool, true, false, ◌||◌, cond, List, [], ◌∷◌, refl, ap, sym, ◌∙◌, nat_eq}
 use Rattle.std.specs.List.{list_any}
 use Rattle.mur_base.specs.Names.{levels_of, with_first, has_empty_level, is_empty_level}
