@@ -30,18 +30,18 @@ mod view;
 mod viewing;
 mod wait;
 
-pub use acting::{act, turned};
+pub use acting::act;
 pub use append::append_reply;
 pub use command::{Atoms, Command, StatusItem, StatusItems, Tag};
-pub use expunge::{expunge_on, expunge_told};
+pub use expunge::expunge_told;
 pub use fetch::{Fetching, fetch_told, sees};
 pub use need::{Need, NewsFor, ViewWork, Work, begin};
-pub use news::{Told, flag_parts, news_of};
+pub use news::{Told, news_of};
 pub use reply::{
     Attribute, BadText, Bye, Code, FlagNames, NoText, Parts, Reply, ReplyLine, ReplyLines,
     StatusCount, StatusCounts, Verdict, completed, refused,
 };
-pub use request::{Answer, Answers, Request, Requests};
+pub use request::{Answer, Request};
 pub use search::{Searching, search_told};
 pub use select::{Opening, select_told, unselected};
 pub use selected::gone;
@@ -49,7 +49,7 @@ pub use session::{Sess, Turn};
 pub use setting::Setting;
 pub use status::status_reply;
 pub use store::{Pair, Store};
-pub use store_flags::{FlagStore, store_on, store_refused, store_told};
+pub use store_flags::{FlagStore, store_refused, store_told};
 pub use view::View;
 pub use viewing::{left_by, news_told};
 pub use wait::{Wait, begun_behind, wait_of, waits_begun, with_line};

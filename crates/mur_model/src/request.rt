@@ -1,7 +1,6 @@
 // What a client asks, and what it is answered, each as one value (RFC 9051, 2.2).
 use crate::command::{Command, Tag};
 use crate::reply::Reply;
-use mur_base::Items;
 
 /// What a client asked for, one at a time: each is answered under its tag.
 #[derive(Drop)]
@@ -14,15 +13,9 @@ pub enum Request {
     TooBig(Tag),
 }
 
-/// The requests of one connection, in order.
-pub type Requests = Items<Request>;
-
 /// A reply under the tag of its request (RFC 9051, 7).
 #[derive(Drop)]
 pub struct Answer {
     pub tag: Tag,
     pub reply: Reply,
 }
-
-/// The answers of one connection, in order.
-pub type Answers = Items<Answer>;

@@ -14,6 +14,6 @@ mod session;
 mod status;
 mod viewed;
 
-pub use asking::{Asking, Awaited, asked_for};
+pub use asking::{Asking, Awaited};
 pub use need::Need;
 pub use session::Session;
