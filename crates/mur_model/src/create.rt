@@ -2,7 +2,6 @@
 ghost use Rattle.std.specs.Prelude.{◌≡◌, ◌++◌, ◌∷◌, [], IfOk, OnOk};
 ghost use Rattle.mail_message.specs.FirstAcl.{first_acl};
 ghost use Rattle.mail_message.specs.Boxes.{empty_box};
-ghost use Rattle.mur_base.specs.Names.{mail_name_fault};
 ghost use Rattle.mur_model.specs.Create.{without_separator, is_inbox, create, create_meant, create_by, create_on};
 ghost use Rattle.mur_model.specs.Left.{replied, store_after};
 ghost use Rattle.mur_model.specs.Rights.{may_create};

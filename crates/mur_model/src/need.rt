@@ -5,7 +5,7 @@ ghost use Rattle.mur_model.specs.declared.need.NewsFor.TheVariants.{Idle};
 ghost use Rattle.mur_model.specs.declared.need.ViewWork.TheVariants.{News};
 ghost use Rattle.mur_model.specs.Left.{replied};
 ghost use Rattle.mur_model.specs.Reply.{completed};
-ghost use Rattle.mur_model.specs.Act.{need_off, need_in, need_begun, need_selected, need_of, need_unselected, not_yet, cannot_yet};
+ghost use Rattle.mur_model.specs.Act.{need_off, need_in, need_begun, need_selected, need_of, need_unselected, not_yet};
 ghost use Rattle.mur_model.specs.Act.{idled, nothing_new, wants_selected};
 ghost use Rattle.mur_model.specs.Viewing.{at_mailbox};
 

@@ -1,5 +1,5 @@
 // What a client is told of its view (RFC 9051, 7.4 and 7.5).
-ghost use Rattle.std.specs.Prelude.{◌≡◌, ◌++◌, ℕ, [], length, true, IfOk, OnOk};
+ghost use Rattle.std.specs.Prelude.{◌≡◌, ◌++◌, IfOk, OnOk};
 ghost use Rattle.mail_message.specs.RowOrder.{AreRising};
 ghost use Rattle.mur_model.specs.ClientView.{Known, Agrees, known_after_all, uids};
 ghost use Rattle.mur_model.specs.News.{is_among, news, told_of, expunge_lines, rows_there, rows_behind, is_above};

@@ -1,7 +1,7 @@
 // AUTHENTICATE PLAIN (RFC 9051, 6.2.2; RFC 4616).
 ghost use Rattle.std.specs.Prelude.{◌≡◌, ◌<◌, IfOk, IfSome, length, position};
 ghost use Rattle.std.specs.Option.{option_map};
-ghost use Rattle.mur_model.specs.Plain.{acts_as, authenticate, authenticate_as, authenticate_with, cut_at_nul, decoded, is_nul};
+ghost use Rattle.mur_model.specs.Plain.{acts_as, authenticate, authenticate_as, cut_at_nul, decoded, is_nul};
 
 use crate::login::{login, login_failed};
 use crate::need::Need;
