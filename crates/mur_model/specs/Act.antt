@@ -1,5 +1,6 @@
--- What one command does to the store and its session, and its reply (RFC 9051, 6). Refusals are tested in the order state,
--- what can't be done, rights, missing mailbox, limits; a refused command leaves store and session as they were.
+-- What one command does to the store and its session, and its reply (RFC 9051, 6). Refusals are tested in the order state, message number,
+-- what can't be done, rights, missing mailbox, limits. A refused command leaves the store as it was, and the session too, but that a SELECT or an
+-- EXAMINE leaves no mailbox selected, and a STORE that a limit refuses tells the news.
 use Rattle.std.specs.Prelude.{◌≡◌, ℕ, ⊤, Bool, true, false, if◌then◌else◌, List, Option, None, Some, codes}
 use Rattle.mail_message.specs.Boxes.{Content}
 use Rattle.mur_model.specs.declared.command.Command.{Command}
@@ -31,11 +32,11 @@ use Rattle.mur_model.specs.Status.{status, status_on}
 use Rattle.mur_model.specs.Store.{box_at, is_spent, IsFree}
 use Rattle.mur_model.specs.Viewing.{at_mailbox, close, expunge, fetch, left_by, search, store, viewed_on}
 
--- the refusal of a command that is read and that no state has yet, or that has not its line (which it waits for: see Waits)
+-- the refusal of a command that is read and that no state has, or that lacks the line which it waits for (see Waits)
 abbrev pub not_yet : Need
 not_yet = Refusal (bad_reply Syntax)
 
--- the refusal of a command that can't be carried out yet
+-- the refusal of a command that nothing carries out
 abbrev pub cannot_yet : Need
 cannot_yet = Refusal (no_reply Cannot)
 

@@ -1,4 +1,4 @@
--- FETCH and UID FETCH (RFC 9051, 6.4.5 and 7.5.2): what is asked of the named messages that are there, in the order of their numbers.
+-- FETCH and UID FETCH (RFC 9051, 6.4.5, 6.4.9 and 7.5.2): what is asked of the named messages that are there, in the order of their numbers.
 use Rattle.std.specs.Prelude.{ℕ, ◌+◌, Bool, true, false, not, ◌&&◌, ◌||◌, if◌then◌else◌, List, [], ◌∷◌, ◌++◌, map, Option, None, Some, codes}
 use Rattle.std.specs.List.{list_any, position_from}
 use Rattle.std.specs.Option.{option_map}

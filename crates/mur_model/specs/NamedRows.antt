@@ -9,7 +9,7 @@ use Rattle.mail_message.specs.declared.set.SetPart.{SetPart}
 use Rattle.mail_message.specs.declared.set.SetPart.TheVariants.{One, Range}
 use Rattle.mur_model.specs.ClientView.{uids}
 
--- among so many messages there is one of this number
+-- among so many messages there is one of this number, which is at least 1 (RFC 9051, 9: nz-number)
 abbrev pub has_number : ℕ → SetEnd → Bool
 has_number count (Number number) = nat_le number count
 has_number count Last = nat_lt 0 count

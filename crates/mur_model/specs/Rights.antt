@@ -1,4 +1,4 @@
--- Who may do what, before mailboxes have access lists: an administrator may do everything, and each user everything at their
+-- Who may do what; no mailbox's access list is asked. An administrator may do everything, and each user everything at their
 -- own mailbox and below it but to make that mailbox itself (RFC 9051, 6.3.4 leaves it to the server).
 use Rattle.std.specs.Prelude.{ℕ, Bool, false, ◌&&◌, ◌||◌, not, List, Option, None, Some}
 use Rattle.std.specs.List.{find}

@@ -28,7 +28,7 @@ abbrev pub stored_line : Bool → ℕ → Option Row → List ReplyLine
 stored_line by_uid number None = []
 stored_line by_uid number (Some row) = Fetch number (flag_parts by_uid row) ∷ []
 
--- a line for each message that was changed, under its number in the view
+-- a line for each named message that is there, also where its flags stayed as they were, under its number in the view
 abbrev pub stored_lines : Bool → List Row → ℕ → List Row → List ReplyLine
 stored_lines by_uid changes number [] = []
 stored_lines by_uid changes number (row ∷ rows) = stored_line by_uid number (row_at changes row.uid) ++ stored_lines by_uid changes (number + 1) rows
@@ -46,7 +46,7 @@ abbrev pub code_for : Bool → List Row → List ℕ → Code
 code_for true now uids = no_code
 code_for false now uids = if some_gone now uids then ExpungeIssued else no_code
 
--- what is told where these rows were changed and the mailbox has those now
+-- what is told where the named messages that are there have these rows, and the mailbox has those now
 abbrev pub store_told : View → FlagStore → List Row → List Row → Turn
 store_told view it changes now =
     with_news view (own_lines it changes view.rows) (news view.rows now it.by_uid (set_of (uids changes)))

@@ -102,7 +102,7 @@ same_partial None None = true
 same_partial (Some one) (Some other) = one.from == other.from && (one.count == other.count)
 same_partial one other = false
 
--- an item stands in a line once, where it was asked for first
+-- the same item, and of a body the same part
 abbrev pub same_item : Item → Item → Bool
 same_item item.Flags item.Flags = true
 same_item item.Uid item.Uid = true
@@ -112,6 +112,7 @@ same_item (item.Body one) (item.Body other) = same_partial one other
 same_item (item.BodyPeek one) (item.BodyPeek other) = same_partial one other
 same_item one other = false
 
+-- an item stands in a line once, where it was asked for first; these are told already
 abbrev pub each_once : List Item → List Item → List Item
 each_once told [] = told
 each_once told (it ∷ items) = each_once (if list_any (same_item it) told then told else told ++ it ∷ []) items

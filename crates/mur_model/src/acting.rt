@@ -18,7 +18,7 @@ use mur_base::{MailName, Memory};
 use std::alloc::Global;
 
 /// Carries out one command on the store and gives its reply (RFC 9051, 6). A mailbox that is made gets the serial as
-/// its UIDVALIDITY; a history is legal only where that was free. A message isn't copied. For want of memory nothing is said of the store.
+/// its UIDVALIDITY; a history is legal only where that was free. A message isn't copied. For want of memory nothing is said of store and session.
 #[tactic(auto, unfolding(crate::specs::Act::act_of))]
 pub fn act(
     alloc: Global,

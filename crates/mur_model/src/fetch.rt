@@ -1,4 +1,4 @@
-// FETCH and UID FETCH (RFC 9051, 6.4.5 and 7.5.2).
+// FETCH and UID FETCH (RFC 9051, 6.4.5, 6.4.9 and 7.5.2).
 ghost use Rattle.std.specs.Prelude.{◌≡◌, ◌+◌, ◌∷◌, [], ◌++◌, if◌then◌else◌, IfOk, OnOk, Some, map};
 ghost use Rattle.std.specs.List.{list_any};
 ghost use Rattle.std.specs.Option.{option_copied, option_map};
@@ -223,8 +223,8 @@ fn flag_uids(
     Ok(uids)
 }
 
-/// What is told of the named messages as they were before, and of the mailbox's rows now. Time is linear in the rows and the messages, and
-/// each body is copied once.
+/// What is told of the named messages as they were before, and of the mailbox's rows now. Time is linear in the rows and the messages, but for
+/// the set of the UIDs whose flags are told; a body is copied once for each item that asks for it, and else not.
 pub fn fetch_told(
     alloc: Global,
     view: &View,

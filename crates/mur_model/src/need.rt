@@ -262,7 +262,7 @@ pub fn work_at_view(alloc: Global, view: &View, work: ViewWork) -> Result<Need, 
     ))
 }
 
-/// The refusal of a command that is read and that no state has yet, or that has not its line.
+/// The refusal of a command that is read and that no state has, that lacks the line which it waits for, or whose line is another.
 fn not_yet() -> Need
     ensures { result ≡ not_yet }
 {

@@ -22,7 +22,7 @@ pub struct Told {
 }
 
 /// The news of a view of a mailbox that has these rows now. Expunged messages are told where numbers may change; the flags of the rows
-/// that are told already stand in no line. Time is linear in both lists of rows.
+/// that are told already stand in no line. Time is linear in both lists of rows, but that each row of the view is looked up among those.
 pub fn news_of(
     alloc: Global,
     rows: &OrderedRows,

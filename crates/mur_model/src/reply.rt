@@ -92,6 +92,7 @@ pub type ReplyLines = Items<ReplyLine>;
 /// The response code of a tagged OK (RFC 9051, 7.1).
 #[derive(Drop)]
 pub enum Code {
+    /// There is none.
     None,
     /// The UIDVALIDITY of a mailbox, and the UID that its new message got.
     AppendUid(u32, u32),
@@ -99,7 +100,9 @@ pub enum Code {
     CopyUid(u32, Uids, Uids),
     /// Some of the messages that were named are no more.
     ExpungeIssued,
+    /// The mailbox is selected to be changed.
     ReadWrite,
+    /// The mailbox is selected to be read.
     ReadOnly,
 }
 

@@ -52,7 +52,7 @@ fn status_by(
     Ok(Need::Mailbox(name, Work::Status(shown, items)))
 }
 
-/// What is told of a mailbox that looks so, under the name as it is shown. It looks at each row once.
+/// What is told of a mailbox that looks so, under the name as it is shown. It looks at each row twice.
 #[tactic(auto, unfolding(crate::specs::Status::status_reply))]
 pub fn status_reply(
     alloc: Global,

@@ -73,7 +73,7 @@ fn stored(
     store_told(alloc, view, it, changes, &now)
 }
 
-/// What is told where these rows were changed and the mailbox has those now.
+/// What is told where the named messages that are there have these rows, and the mailbox has those now.
 pub fn store_told(
     alloc: Global,
     view: &View,
@@ -137,7 +137,7 @@ fn put_own_lines(
     put_stored_lines(alloc, lines, it.by_uid, changes, rows)
 }
 
-/// Puts a line for each message that was changed.
+/// Puts a line for each named message that is there.
 fn put_stored_lines(
     alloc: Global,
     lines: &mut ReplyLines,
