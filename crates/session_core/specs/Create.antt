@@ -1,4 +1,4 @@
--- CREATE as a frontend has it: what it asks of the home, and what it replies to the answer.
+-- CREATE (RFC 9051, 6.3.4) as a frontend has it: what it asks of the home, and what it replies to the answer.
 use Rattle.std.specs.Prelude.{Option, None, Some, codes}
 use Rattle.link_msg.specs.declared.answer.AnswerBody.{AnswerBody}
 use Rattle.link_msg.specs.declared.answer.AnswerBody.TheVariants.{Done}

@@ -1,4 +1,5 @@
--- SELECT and EXAMINE: what is told when the home has answered. A home that hasn't the mailbox makes it a missing one.
+-- SELECT and EXAMINE (RFC 9051, 6.3.2 and 6.3.3): what is asked of the home, and what is told when it has answered.
+-- A home that hasn't the mailbox makes it a missing one.
 use Rattle.std.specs.Prelude.{ℕ, List, Option, None, Some}
 use Rattle.link_msg.specs.declared.answer.AnswerBody.{AnswerBody}
 use Rattle.link_msg.specs.declared.answer.AnswerBody.TheVariants.{Done, NotNow}

@@ -1,4 +1,5 @@
--- STATUS as a frontend has it: what it replies to the home's answer. A home that hasn't the mailbox makes it a missing one.
+-- STATUS (RFC 9051, 6.3.11) as a frontend has it: what it asks of the home, and what it replies to the answer.
+-- A home that hasn't the mailbox makes it a missing one.
 use Rattle.std.specs.Prelude.{ℕ, List, Option, None, Some}
 use Rattle.link_msg.specs.declared.answer.AnswerBody.{AnswerBody}
 use Rattle.link_msg.specs.declared.answer.AnswerBody.TheVariants.{Done, NotNow}

@@ -1,5 +1,5 @@
--- The commands of a selected session: what is told when the home has answered. A mailbox that the home hasn't any more, or that is another of its name,
--- is gone.
+-- The commands of a selected session (RFC 9051, 6.4): what is asked of the home, and what is told when it has answered. A mailbox that the home hasn't
+-- any more, or that is another of its name, is gone.
 use Rattle.std.specs.Prelude.{false, codes, Option, None, Some}
 use Rattle.link_msg.specs.declared.answer.AnswerBody.{AnswerBody}
 use Rattle.link_msg.specs.declared.answer.AnswerBody.TheVariants.{Done, NotNow}

@@ -1,4 +1,4 @@
-// APPEND.
+// APPEND (RFC 9051, 6.3.12): what it asks, and what comes of the answer.
 ghost use Rattle.std.specs.Prelude.{◌≡◌, IfOk};
 ghost use Rattle.session_core.specs.Append.{append_asks, append_reply, reply_to_done, reply_to_uids};
 

@@ -22,6 +22,7 @@ pub enum Awaited {
     Status(Bytes, StatusItems),
     /// The mailbox of this name.
     Select(MailName, Opening),
+    /// A command of a selected session: its view as it was then, and its work.
     Viewed(View, ViewWork),
 }
 

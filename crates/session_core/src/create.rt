@@ -1,4 +1,4 @@
-// CREATE.
+// CREATE (RFC 9051, 6.3.4): what it asks, and what comes of the answer.
 ghost use Rattle.std.specs.Prelude.{◌≡◌, IfOk};
 ghost use Rattle.session_core.specs.Create.{create_asks, create_reply, reply_to_done};
 

@@ -22,7 +22,7 @@ use std::alloc::Global;
 
 impl Session {
     /// Takes the home's answer to what was asked for the command that waits. An answer that doesn't fit changes nothing, and nothing is
-    /// needed behind it.
+    /// needed behind it. For want of memory the session is spent.
     pub fn finish(
         &mut self,
         alloc: Global,

@@ -11,7 +11,7 @@ use std::alloc::Global;
 
 impl Session {
     /// Refuses the command that waits. The session stays as it was, but that a SELECT or an EXAMINE leaves no mailbox selected (RFC 9051,
-    /// 6.3.2).
+    /// 6.3.2). For want of memory the session is spent.
     pub fn relocated(
         &mut self,
         alloc: Global,

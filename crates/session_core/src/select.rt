@@ -1,4 +1,4 @@
-// SELECT and EXAMINE.
+// SELECT and EXAMINE (RFC 9051, 6.3.2 and 6.3.3): what they ask, and what comes of the answer.
 ghost use Rattle.std.specs.Prelude.{◌≡◌, IfOk};
 ghost use Rattle.session_core.specs.Select.{select_asks, select_done, select_turn};
 

@@ -37,7 +37,7 @@ impl Session {
         self.state = Sess::Ended;
     }
 
-    /// The user of a session that has begun.
+    /// A copy of the name of the user of a session that has begun.
     #[tactic(auto, unfolding(crate::specs::Begin::user_of, crate::specs::Begin::HasBegun))]
     pub fn user(&self, alloc: Global) -> Result<UserName, Memory>
         requires { HasBegun self.now }

@@ -1,4 +1,4 @@
-// STATUS.
+// STATUS (RFC 9051, 6.3.11): what it asks, and what comes of the answer.
 ghost use Rattle.std.specs.Prelude.{◌≡◌, IfOk};
 ghost use Rattle.session_core.specs.Status.{reply_to_done, status_asks, status_reply};
 

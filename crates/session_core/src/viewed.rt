@@ -1,4 +1,4 @@
-// The commands of a selected session.
+// The commands of a selected session (RFC 9051, 6.4): what they ask, and what comes of the answer.
 ghost use Rattle.std.specs.Prelude.{◌≡◌, IfOk};
 ghost use Rattle.std.specs.Option.{option_copied};
 ghost use Rattle.mur_model.specs.ClientView.{uids};
@@ -55,6 +55,7 @@ fn uids_in(alloc: Global, view: &View) -> Result<Uids, Memory>
     Ok(list)
 }
 
+/// A copy of some UIDs.
 fn uids_of(alloc: Global, uids: &Uids) -> Result<Uids, Memory>
     ensures { IfOk result (λ list. list ≡ uids.now) }
 {
