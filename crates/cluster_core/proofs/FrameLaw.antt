@@ -430,7 +430,7 @@ unfolding answers_last
 last_turned setting home conn connection tag reply inputs =
     ended_drops setting home conn (record connection { session = session_ended; stage = Ended; answered = connection.answered + 1 }) inputs refl
 
--- a step of a input, and then the others
+-- an input, and then the others
 pub came_on : (setting : Setting) (front home : List ℕ) (backend : Backend) (conn : ℕ) (all : List Input) (held : Option (List ℕ)) (connection : Connection)
     (before : World) (told : Story) (world : World)
     (input : Input) (inputs : List Input) (turned : Turned) → input_comes setting home conn connection input ≡ turned
@@ -481,7 +481,7 @@ reads_stands setting front home backend conn inputs held connection before told 
   };
 }
 
--- the request of a input is the next that has no answer
+-- the request of an input is the next that has no answer
 next_of : (setting : Setting) (front home : List ℕ) (backend : Backend) (conn : ℕ) (inputs rest : List Input) (input : Input) (connection : Connection)
     (before : World) (told : Story) (world : World) (request : Request)
     (was : ReadsOn setting front home backend conn inputs connection before told world) → told.talk.requests conn ≡ requests_in (inputs ++ input ∷ rest)
@@ -501,7 +501,7 @@ Follow setting front home backend conn new held before told = (inputs : List Inp
     → StandsOn setting front home backend conn (inputs ++ new) held (inputs_come setting home conn connection new).connection before told
     (carry_all front world (inputs_come setting home conn connection new).outs)
 
--- a input behind which the connection reads on
+-- an input behind which the connection reads on
 read_on : (setting : Setting) (front home : List ℕ) (backend : Backend) (conn : ℕ) (inputs new : List Input) (input : Input) (held : Option (List ℕ))
     (connection : Connection) (before : World) (told : Story) (world : World)
     (turned : Turned) → input_comes setting home conn connection input ≡ turned → told.talk.requests conn ≡ requests_in (inputs ++ input ∷ new)

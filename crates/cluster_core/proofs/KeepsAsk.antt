@@ -86,7 +86,7 @@ may_take : (setting : Setting) (course : Course) (conn : ℕ) (tag : Tag) (it : 
 unfolding MayTake
 may_take setting course conn tag it name work serial need free = subst (λ n. MayAct course.store serial n) (sym need) free
 
--- the store is as it was where the mailbox is
+-- the store is as it was where the work leaves its mailbox as it was
 same_store : (setting : Setting) (course : Course) (conn : ℕ) (tag : Tag) (it : Command) (name : List ℕ) (work : Work) (serial : ℕ)
     → need_of setting (course.sessions conn) it ≡ Mailbox name work
     → (worked_at course.store name work serial).left ≡ kept → (carried_out setting course conn (a_command tag it) serial).store ≡ course.store
@@ -94,7 +94,7 @@ unfolding store_after
 same_store setting course conn tag it name work serial need left =
     ap (λ (a : Answered). a.store) (carried_as setting course conn tag it name work serial need) ∙ ap (store_after course.store name) left
 
--- what the home's step is
+-- what the home answers to the ask of a connection, and what is then told of it
 pub record IsAnswered (config : Config) (heard : ℕ → Heard) (world : World) (law : KeepsLaw config heard world) (conn : ℕ) (front : List ℕ)
     (connection : Connection) (tag : Tag) (name : List ℕ) (work : Work) (ask : FrontAsk) : Type 0 where
   pub body : AnswerBody

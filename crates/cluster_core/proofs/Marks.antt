@@ -72,7 +72,7 @@ unfolding numbered
 numbered_front items more zero item h e = e
 numbered_front items more (suc number) item h e = get_front items more number item (omega arith) e
 
--- what was told of the answers
+-- what was told is a front of the answers
 pub record IsTold_of (talk : Talk) (told : ℕ → List Answer) : Type 0 where
   pub rest : ℕ → List Answer
   pub parts : (conn : ℕ) → talk.answers conn ≡ told conn ++ rest conn

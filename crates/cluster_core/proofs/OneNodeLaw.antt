@@ -243,7 +243,7 @@ unfolding run_steps
 one_more_step world [] event = refl
 one_more_step world (first ∷ before) event = one_more_step (steps_by world first) before event
 
--- in each step of a course one node works
+-- in each of these steps one node works
 pub one_node_each : (world : World) (steps : List Event) → OneNodeWorksEach world steps
 one_node_each world steps before event later parts =
     subst (λ w. OneNodeWorks (run_steps world before) w) (sym (one_more_step world before event)) (one_node_works (run_steps world before) event)

@@ -29,7 +29,7 @@ pub record AreOnWay (links : Links) (conn : ℕ) (front home : List ℕ) (asks :
   pub asks_are : IsOnWay (ask_in conn) links front home asks
   pub answers_are : IsOnWay (answer_in conn) links home front answers
 
--- the asks and answers of a message of another connection
+-- a message that is no ask and no answer of this connection
 pub record IsOfAnother (conn : ℕ) (message : LinkMsg) : Type 0 where
   pub no_ask : ask_in conn message ≡ []
   pub no_answer : answer_in conn message ≡ []
