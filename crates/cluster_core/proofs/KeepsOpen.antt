@@ -26,7 +26,6 @@ use Rattle.mur_model.proofs.HistoryGrows.{same_talk}
 use Rattle.schedule_text.specs.declared.event.Event.TheVariants.{Open}
 use Rattle.front_core.specs.Reading.{first_reading}
 use Rattle.imap_reply.specs.Inputs.{at_first, before_next, inputs_of}
-use Rattle.mur_model.specs.declared.setting.Setting.{Setting}
 use Rattle.cluster_core.specs.declared.world.Client.{Client}
 use Rattle.cluster_core.specs.declared.world.World.{World}
 use Rattle.cluster_core.specs.Heard.{Heard, nobody, elsewhere, client, hears, opened_at, is_frontend, frames_heard}

@@ -6,8 +6,8 @@ use Rattle.link_msg.specs.declared.ask.FrontAsk.{FrontAsk}
 use Rattle.link_msg.specs.declared.message.LinkMsg.{LinkMsg}
 use Rattle.link_msg.specs.declared.message.LinkMsg.TheVariants.{Up, End, Line, Ask, Answer}
 use Rattle.cluster_core.specs.Links.{Links, on_link, sent, without_first}
-use Rattle.cluster_core.proofs.Wires.{same_link, same_itself}
-use Rattle.cluster_core.proofs.OnWay.{IsOnWay, picked, alike, another_sent, own_sent, another_taken, own_taken, none_first}
+use Rattle.cluster_core.proofs.Wires.{same_itself}
+use Rattle.cluster_core.proofs.OnWay.{IsOnWay, picked, another_sent, own_sent, another_taken, own_taken, none_first}
 
 -- the ask of a message, where it is one of this connection
 unfoldable pub ask_in : ℕ → LinkMsg → List FrontAsk
@@ -139,11 +139,3 @@ none_on_empty links conn front home asks answers empty way = (
   sym (ap (λ s. cond s asks []) (same_itself front home)) ∙ sym (way.asks_are front home) ∙ ap (picked (ask_in conn)) (empty front home),
   sym (ap (λ s. cond s answers []) (same_itself home front)) ∙ sym (way.answers_are home front) ∙ ap (picked (answer_in conn)) (empty home front),
 )
-
--- nothing on the way is nothing on the way between any other nodes
-pub nothing_anywhere : (links : Links) (conn : ℕ) (front home other another : List ℕ) → AreOnWay links conn front home [] []
-    → AreOnWay links conn other another [] []
-nothing_anywhere links conn front home other another way = record {
-  asks_are = λ a b. way.asks_are a b ∙ alike (same_link a b front home) [] ∙ sym (alike (same_link a b other another) []);
-  answers_are = λ a b. way.answers_are a b ∙ alike (same_link a b home front) [] ∙ sym (alike (same_link a b another other) []);
-}
