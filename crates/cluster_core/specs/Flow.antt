@@ -1,5 +1,5 @@
--- A flow: at most so many deliveries, in rounds over the directed pairs of linked nodes. A round takes one message of each
--- queue that isn't empty when its turn comes.
+-- What events do one after another. A flow is at most so many deliveries, in rounds over the directed pairs of linked nodes; a round
+-- takes one message of each queue that isn't empty when its turn comes. Every other event is one step.
 use Rattle.std.specs.Prelude.{ℕ, zero, suc, ◌==◌, Bool, true, false, List, [], ◌∷◌, ◌++◌}
 use Rattle.link_msg.specs.declared.message.LinkMsg.{LinkMsg}
 use Rattle.mur_config.specs.declared.node.Link.{Link}
@@ -43,7 +43,7 @@ rounds (suc count) links flowing =
     let next = round flowing links in
     rounds_by (next.left == flowing.left) next (rounds count links next)
 
--- each round but the last makes a delivery, so there are no more of them than deliveries
+-- each round but the last makes a delivery, so as many rounds as there may be deliveries are enough
 unfoldable pub flow : World → ℕ → Flowing
 flow world count = rounds count world.pairs (record { world = world; made = []; left = count })
 

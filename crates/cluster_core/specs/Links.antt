@@ -5,10 +5,11 @@ use Rattle.std.specs.Cmp.Lexicographic.{slice_cmp}
 use Rattle.link_msg.specs.declared.message.LinkMsg.{LinkMsg}
 use Rattle.mur_base.specs.Map.{value_at, with_entry}
 
--- from each node, to each node
+-- what is on its way from one node, by the node that it goes to
 abbrev pub Ways : Type 0
 Ways = List (List ℕ × List LinkMsg)
 
+-- what is on its way, by the node that it comes from
 abbrev pub Links : Type 0
 Links = List (List ℕ × Ways)
 

@@ -30,6 +30,7 @@ IsWhole begun request = ⊤
 abbrev pub lined : Tag → Wait → List ℕ → Request
 lined tag wait bytes = a_command tag (with_line wait (line_in bytes))
 
+-- what these frames ask for, in order, and what stands behind the last of them
 pub data AskFor (setting : Setting) : List Frame → List Request → Before → Type 0 where
   no_frames : AskFor setting [] [] at_first
   a_request : (frames : List Frame) (requests : List Request) (begun : Bool) (bytes : List ℕ) (request : Request)

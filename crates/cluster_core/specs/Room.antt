@@ -11,7 +11,7 @@ use Rattle.cluster_core.specs.World.{front_at}
 abbrev pub HaveCommands : World → ℕ → Type 0
 HaveCommands world most = (node : List ℕ) (front : Front) → front_at world node ≡ Some front → HasCommands front most
 
--- so they do after the event: each byte of a client ends one command at most
+-- no count passes 64 bits in the event: each byte of a client ends one command at most
 pub record HasRoom (world : World) (event : Event) : Type 0 where
   pub most : ℕ
   pub commands : HaveCommands world most

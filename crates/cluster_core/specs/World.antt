@@ -1,4 +1,4 @@
--- The run of the cluster: what each event does. One event changes one node and its ends of links.
+-- The cluster before its first step, and what an event that is one step does: it changes one node and its ends of links.
 use Rattle.std.specs.Prelude.{ℕ, ◌+◌, List, [], ◌∷◌, ◌++◌, Option, None, Some}
 use Rattle.std.specs.Ordering.{nat_cmp}
 use Rattle.std.specs.Cmp.Lexicographic.{slice_cmp}
