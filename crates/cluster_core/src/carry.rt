@@ -23,6 +23,7 @@ pub fn carry_out(
     Ok(())
 }
 
+// A connection that closes needs nothing here: its frontend gives its client nothing more.
 #[tactic(auto, unfolding(crate::specs::World::carry))]
 fn carry(alloc: Global, world: &mut World, node: &NodeName, out: Out) -> Result<(), Memory>
     ensures { OnOk result (world.new ≡ carry node.now world.old out) }

@@ -29,6 +29,7 @@ pub fn flow(alloc: Global, world: &mut World, count: u64) -> Result<(), Memory>
     Ok(())
 }
 
+// A copy, since each delivery changes the world that the links stand in.
 fn copied_links(alloc: Global, links: &Links) -> Result<Links, Memory>
     ensures { IfOk result (λ copy. copy ≡ links.now) }
 {

@@ -17,7 +17,7 @@ use mur_base::{Bytes, Copied, Memory, NodeName};
 use schedule_text::Event;
 use std::alloc::Global;
 
-/// Carries an event out. For want of memory the world is spent.
+/// Carries an event out; one of links that break or of disks is a step that changes nothing else. For want of memory the world is spent.
 #[tactic(auto, unfolding(crate::specs::Flow::happens, crate::specs::World::takes))]
 pub fn happens(alloc: Global, world: &mut World, event: Event) -> Result<(), Memory>
     requires { HasRoom world.old event }

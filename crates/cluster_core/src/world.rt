@@ -15,6 +15,7 @@ pub struct Client {
 /// A step that counts as the point of a command.
 #[derive(Clone, Copy)]
 pub struct Mark {
+    /// The number of the step, from 1.
     pub step: u64,
     pub ask: AskId,
     pub counts: Counts,
@@ -29,7 +30,9 @@ pub type Links = Map<NodeName, Ways>;
 /// The cluster: its nodes, what is on its way between them, its clients, and what its steps did.
 #[derive(Drop)]
 pub struct World {
+    /// The frontends, by their names.
     pub fronts: Map<NodeName, Front>,
+    /// The backends, by their names.
     pub homes: Map<NodeName, Backend>,
     /// The backends in the configuration's order.
     pub backends: Items<NodeName>,
@@ -37,8 +40,10 @@ pub struct World {
     pub pairs: Items<Link>,
     /// The clients, by the numbers of their connections.
     pub clients: Map<u64, Client>,
+    /// The messages on their way.
     pub links: Links,
     /// The steps that count as points, in order.
     pub marks: Items<Mark>,
+    /// How many steps were taken, and so the number of the last one.
     pub steps: u64,
 }
