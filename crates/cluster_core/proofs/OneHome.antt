@@ -2,7 +2,7 @@
 use Rattle.std.proofs.Common.{◌≡◌, ℕ, ◌+◌, ◌≤◌, ◌&&◌, Bool, true, false, cond, nat_eq, List, [], ◌∷◌, ◌++◌, Option, None}
 use Rattle.std.proofs.Common.{Some, refl, sym, ◌∙◌, ap, arith}
 use Rattle.std.specs.Prelude.{All, count_by}
-use Rattle.std.specs.List.{fold, AllByRecursion}
+use Rattle.std.specs.List.{fold}
 use Rattle.std.specs.Map.{keys_of}
 use Rattle.std.specs.declared.cmp.Ordering.{Ordering}
 use Rattle.std.specs.declared.cmp.Ordering.TheVariants.{Less, Equal, Greater}
@@ -12,7 +12,7 @@ use Rattle.std.specs.BTreeSet.{insert_key}
 use Rattle.std.specs.Cmp.Lexicographic.{pointwise, slice_cmp}
 use Rattle.std.proofs.lemmas.Bool.Decides.{nat_tests}
 use Rattle.std.proofs.lemmas.Cmp.{tied_itself, nat_list_cmp_total}
-use Rattle.std.proofs.lemmas.List.Elements.{All-head, All-tail, All-cons, All-weaker}
+use Rattle.std.proofs.lemmas.List.Elements.{All-head, All-tail, All-cons, All-weaker, recursion_from_All}
 use Rattle.std.proofs.lemmas.Map.Views.{All-after_first, All-insert_key}
 use Rattle.backend_core.specs.declared.backend.Backend.{Backend}
 use Rattle.std.specs.Str.{bytes_eq}
@@ -106,17 +106,13 @@ once_among name [] sorted = omega arith
 once_among name (first ∷ names) sorted =
     once_by name first names (All-after_first (slice_cmp nat_cmp) first names sorted) (bytes_eq first name) refl (once_among name names sorted.1)
 
-by_recursion : (P : List ℕ → Type 0) (names : List (List ℕ)) → All P names → AllByRecursion P names
-by_recursion P [] all = tt
-by_recursion P (name ∷ names) all = (All-head P name names all, by_recursion P names (All-tail P name names all))
-
 insert_by : (key first : List ℕ) (names : List (List ℕ)) → IsStrictlySortedBy (slice_cmp nat_cmp) (first ∷ names)
     → IsStrictlySortedBy (slice_cmp nat_cmp) (insert_key (slice_cmp nat_cmp) names key)
     → (o : Ordering) → slice_cmp nat_cmp key first ≡ o
     → IsStrictlySortedBy (slice_cmp nat_cmp) (match_ordering o (key ∷ first ∷ names) (first ∷ names) (first ∷ insert_key (slice_cmp nat_cmp) names key))
 unfolding IsStrictlySortedBy
 insert_by key first names sorted later Less h = (
-  by_recursion (λ q. slice_cmp nat_cmp key q ≡ Less) (first ∷ names)
+  recursion_from_All (λ q. slice_cmp nat_cmp key q ≡ Less) (first ∷ names)
       (All-cons (λ q. slice_cmp nat_cmp key q ≡ Less) first names h
       (All-weaker (λ q. slice_cmp nat_cmp first q ≡ Less) (λ q. slice_cmp nat_cmp key q ≡ Less) (λ q l. nat_list_cmp_total.trans key first q h l) names
       (All-after_first (slice_cmp nat_cmp) first names sorted))),
@@ -124,7 +120,7 @@ insert_by key first names sorted later Less h = (
 )
 insert_by key first names sorted later Equal h = sorted
 insert_by key first names sorted later Greater h = (
-  by_recursion (λ q. slice_cmp nat_cmp first q ≡ Less) (insert_key (slice_cmp nat_cmp) names key)
+  recursion_from_All (λ q. slice_cmp nat_cmp first q ≡ Less) (insert_key (slice_cmp nat_cmp) names key)
       (All-insert_key (slice_cmp nat_cmp) key (λ q. slice_cmp nat_cmp first q ≡ Less) names (All-after_first (slice_cmp nat_cmp) first names sorted)
       (nat_list_cmp_total.antisymm first key ∙ ap ordering_reverse h)),
   later,

@@ -1,42 +1,17 @@
 -- Tests joined by "and" and "or".
 use Rattle.std.proofs.Common.{◌≡◌, ℕ, List, [], ◌∷◌, Bool, true, false, ◌&&◌, ◌||◌, not, ◌==◌, refl, ap, ◌∙◌, eqb-true}
 use Rattle.std.specs.List.{list_all, list_any}
+use Rattle.std.proofs.lemmas.Bool.{and_parts}
+pub use Rattle.std.proofs.lemmas.Bool.{and_from as and_both, and_left as and_false, and_right as and_false_right}
+pub use Rattle.std.proofs.lemmas.Bool.{or_left, or_right, or_from as or_none, false_from_ne_true as not_then_false}
 use Rattle.grammar.specs.Exact.{among}
 
--- both of two tests, and each of both
-pub and_both : (a b : Bool) → a ≡ true → b ≡ true → a && b ≡ true
-and_both true true h k = refl
-and_both true false h k = k
-and_both false b h k = h
-
+-- each of both
 pub and_left : (a b : Bool) → a && b ≡ true → a ≡ true
-and_left true b h = refl
-and_left false b h = h
+and_left a b h = (and_parts a b h).0
 
 pub and_right : (a b : Bool) → a && b ≡ true → b ≡ true
-and_right true b h = h
-and_right false b h = cc
-
-pub and_false : (a b : Bool) → a ≡ false → a && b ≡ false
-and_false true b h = cc
-and_false false b h = refl
-
-pub and_false_right : (a b : Bool) → b ≡ false → a && b ≡ false
-and_false_right true b h = h
-and_false_right false b h = refl
-
--- one of two tests, and which one
-pub or_left : (a b : Bool) → a ≡ true → a || b ≡ true
-or_left true b h = refl
-or_left false b h = cc
-
-pub or_right : (a b : Bool) → b ≡ true → a || b ≡ true
-or_right true b h = refl
-or_right false b h = h
-
-pub or_none : (a b : Bool) → a ≡ false → b ≡ false → a || b ≡ false
-or_none true b h k = h
-or_none false b h k = k
+and_right a b h = (and_parts a b h).1
 
 pub not_true : (a : Bool) → not a ≡ true → a ≡ false
 not_true true h = cc
@@ -79,7 +54,3 @@ among_all p (x ∷ set) h c k = by_case (c == x) refl k (among_all p set (and_ri
     by_case : (b : Bool) → (c == x) ≡ b → b || among set c ≡ true → (among set c ≡ true → p c ≡ true) → p c ≡ true
     by_case true e k again = ap p (eqb-true c x e) ∙ and_left _ _ h
     by_case false e k again = again k
-
-pub not_then_false : (a : Bool) → ¬ (a ≡ true) → a ≡ false
-not_then_false true h = absurd (h refl)
-not_then_false false h = refl

@@ -1,9 +1,9 @@
 -- Changes that are carried out one after the other.
 use Rattle.std.proofs.Common.{◌≡◌, ℕ, ◌+◌, ◌<◌, ◌≤◌, List, [], ◌∷◌, length, take, get_or, refl, subst}
 use Rattle.std.specs.Prelude.{All}
-use Rattle.std.specs.List.{AllByRecursion, fold}
+use Rattle.std.specs.List.{fold}
 use Rattle.std.proofs.lemmas.List.{take_all}
-use Rattle.std.proofs.lemmas.List.Elements.{All-head, All-tail, All-weaker, All-more}
+use Rattle.std.proofs.lemmas.List.Elements.{All-weaker, All-more, recursion_from_All}
 use Rattle.mail_message.specs.declared.change.Change.{Change}
 use Rattle.mail_message.specs.declared.change.Change.TheVariants.{Put, SetFlags, Gone, NextUid}
 use Rattle.mail_message.specs.Boxes.{Content, messages_after, next_after, content_after, content_after_all}
@@ -23,12 +23,8 @@ places-more old new changes i change kept within is all place =
     All-more (HasPlaceFor new) changes i change within (All-weaker (HasPlaceFor old) (HasPlaceFor new) (kept_for old new kept) (take i changes) all)
     (subst (HasPlaceFor new) is place)
 
-by_recursion : {X : Type 0} (P : X → Type 0) (xs : List X) → All P xs → AllByRecursion P xs
-by_recursion P [] all = tt
-by_recursion P (x ∷ xs) all = (All-head P x xs all, by_recursion P xs (All-tail P x xs all))
-
 pub places-all : (places : Places) (changes : List Change) (i : ℕ) → length changes ≤ i → All (HasPlaceFor places) (take i changes) → HasPlaces places changes
-places-all places changes i end all = by_recursion (HasPlaceFor places) changes (subst (All (HasPlaceFor places)) (take_all i changes end) all)
+places-all places changes i end all = recursion_from_All (HasPlaceFor places) changes (subst (All (HasPlaceFor places)) (take_all i changes end) all)
 
 -- the places that are left serve the changes that are left
 pub places-kept : (old new : Places) (changes : List Change) → KeepsPlaces old new → HasPlaces old changes → HasPlaces new changes

@@ -5,6 +5,6 @@ mod PatternMarks
 mod ReadDigits
 pub mod MapLaws
 pub mod MapOrder
-mod UsersLaw
+pub mod UsersLaw
 pub mod InboxLaw
 pub mod OwnLaw

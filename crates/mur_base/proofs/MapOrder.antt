@@ -1,7 +1,6 @@
 -- A map stays in the order of its keys.
 use Rattle.std.proofs.Common.{◌≡◌, Bool, true, false, List, [], ◌∷◌, refl, sym, ◌∙◌, ap, subst}
 use Rattle.std.specs.Prelude.{All}
-use Rattle.std.specs.List.{AllByRecursion}
 use Rattle.std.specs.List.Sorted.{IsStrictlySortedBy}
 use Rattle.std.specs.declared.cmp.Ordering.{Ordering}
 use Rattle.std.specs.declared.cmp.Ordering.TheVariants.{Less, Equal, Greater}
@@ -9,13 +8,9 @@ use Rattle.std.specs.Ordering.{is_eq, match_ordering, ordering_reverse}
 use Rattle.std.specs.Cmp.{IsTotalOrder}
 use Rattle.std.specs.BTreeMap.{insert_entry}
 use Rattle.std.specs.Map.{keys_of}
-use Rattle.std.proofs.lemmas.List.Elements.{All-head, All-tail, All-weaker, All-cons}
+use Rattle.std.proofs.lemmas.List.Elements.{All-weaker, All-cons, recursion_from_All}
 use Rattle.std.proofs.lemmas.Map.Views.{All-keys-insert_entry, All-after_first}
 use Rattle.mur_base.specs.Map.{with_entry, with_value, IsInOrder}
-
-by_recursion : {K : Type 0} (P : K → Type 0) (ks : List K) → All P ks → AllByRecursion P ks
-by_recursion P [] all = tt
-by_recursion P (k ∷ ks) all = (All-head P k ks all, by_recursion P ks (All-tail P k ks all))
 
 module _ {K : Type 0} (cmp : K → K → Ordering) (order : IsTotalOrder cmp) where
   -- a key below the first is below all
@@ -31,10 +26,10 @@ module _ {K X : Type 0} (cmp : K → K → Ordering) (order : IsTotalOrder cmp) 
       → IsStrictlySortedBy cmp (keys_of (match_ordering o ((k, v) ∷ e ∷ es) ((e.0, v) ∷ es) (e ∷ insert_entry cmp es k v)))
   unfolding IsStrictlySortedBy
   in_order_by e es k v sorted later Less h =
-      (by_recursion (λ q. cmp k q ≡ Less) (keys_of (e ∷ es)) (below_all cmp order k e.0 (keys_of es) h sorted), sorted)
+      (recursion_from_All (λ q. cmp k q ≡ Less) (keys_of (e ∷ es)) (below_all cmp order k e.0 (keys_of es) h sorted), sorted)
   in_order_by e es k v sorted later Equal h = sorted
   in_order_by e es k v sorted later Greater h = (
-    by_recursion (λ q. cmp e.0 q ≡ Less) (keys_of (insert_entry cmp es k v))
+    recursion_from_All (λ q. cmp e.0 q ≡ Less) (keys_of (insert_entry cmp es k v))
         (All-keys-insert_entry cmp k v (λ q. cmp e.0 q ≡ Less) es (All-after_first cmp e.0 (keys_of es) sorted)
         (order.antisymm e.0 k ∙ ap ordering_reverse h)),
     later,

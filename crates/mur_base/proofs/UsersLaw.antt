@@ -3,6 +3,7 @@ use Rattle.std.proofs.Common.{◌≡◌, ◌≢◌, ℕ, Bool, true, false, ◌|
 use Rattle.std.proofs.Common.{◌∷◌, length, None, Some, refl, sym, arith}
 use Rattle.std.specs.List.{All, AllPairs, list_any, list_all}
 use Rattle.std.specs.Str.{bytes_eq}
+use Rattle.std.proofs.lemmas.Bool.{and_parts, or_parts}
 use Rattle.std.proofs.lemmas.Bool.Decides.{nat_tests}
 use Rattle.std.proofs.lemmas.List.Elements.{All-nil, All-cons}
 use Rattle.std.proofs.lemmas.List.Kept.{AllPairs-cons}
@@ -14,33 +15,25 @@ use Rattle.mur_base.specs.declared.user.UsersFault.TheVariants.{NameTwice, BadPa
 use Rattle.mur_base.specs.declared.user.TheConstants.{PASSWORD_LIMIT}
 use Rattle.mur_base.specs.Users.{is_user_named, user_names_differ, is_no_nul, is_password, has_password, users_fault, IsPassword, AreUsers}
 
-both_true : (a b : Bool) → (a && b) ≡ true → (a ≡ true) × (b ≡ true)
-both_true true b h = (refl, h)
-both_true false b h = cc
-
-not_true : (a : Bool) → not a ≡ true → a ≡ false
+pub not_true : (a : Bool) → not a ≡ true → a ≡ false
 not_true true h = cc
 not_true false h = refl
 
-neither : (a b : Bool) → (a || b) ≡ false → (a ≡ false) × (b ≡ false)
-neither true b h = cc
-neither false b h = (refl, h)
-
-other_name : (one other : List ℕ) → bytes_eq other one ≡ false → one ≢ other
+pub other_name : (one other : List ℕ) → bytes_eq other one ≡ false → one ≢ other
 other_name one other differ = λ same. let yes = (bytes_eq-Decides other one).1 (sym same) in cc
 
 none_named : (name : List ℕ) (users : List User) → list_any (is_user_named name) users ≡ false → All (λ (user : User). name ≢ user.name) users
 unfolding is_user_named
 none_named name [] h = All-nil (λ (user : User). name ≢ user.name)
 none_named name (user ∷ users) h =
-    let parts = neither (is_user_named name user) (list_any (is_user_named name) users) h in
+    let parts = or_parts (is_user_named name user) (list_any (is_user_named name) users) h in
     All-cons (λ (user : User). name ≢ user.name) user users (other_name name user.name parts.0) (none_named name users parts.1)
 
 names_apart : (users : List User) → user_names_differ users ≡ true → AllPairs (λ (one other : User). one.name ≢ other.name) users
 unfolding user_names_differ
 names_apart [] h = λ i j d less within. absurd (omega arith)
 names_apart (user ∷ users) h =
-    let parts = both_true (not (list_any (is_user_named user.name) users)) (user_names_differ users) h in
+    let parts = and_parts (not (list_any (is_user_named user.name) users)) (user_names_differ users) h in
     AllPairs-cons (λ (one other : User). one.name ≢ other.name) user users
     (none_named user.name users (not_true (list_any (is_user_named user.name) users) parts.0)) (names_apart users parts.1)
 
@@ -54,8 +47,8 @@ without_nul text h = λ k d within. not_nul _ (AllPass-from_list_all is_no_nul t
 kept_password : (text : List ℕ) → is_password text ≡ true → IsPassword text
 unfolding is_password
 kept_password text h =
-    let whole = both_true (nat_lt 0 (length text) && nat_le (length text) PASSWORD_LIMIT) (list_all is_no_nul text) h in
-    let within = both_true (nat_lt 0 (length text)) (nat_le (length text) PASSWORD_LIMIT) whole.0 in
+    let whole = and_parts (nat_lt 0 (length text) && nat_le (length text) PASSWORD_LIMIT) (list_all is_no_nul text) h in
+    let within = and_parts (nat_lt 0 (length text)) (nat_le (length text) PASSWORD_LIMIT) whole.0 in
     (grind (arith, nat_tests, within.0), grind (arith, nat_tests, within.1), without_nul text whole.1)
 
 kept_passwords : (users : List User) → list_all has_password users ≡ true → All (λ (user : User). IsPassword user.password) users

@@ -2,13 +2,12 @@
 use Rattle.std.proofs.Common.{◌≡◌, ◌≢◌, ℕ, ◌≤◌, Bool, true, false, ◌||◌, ◌&&◌, not, nat_eq, nat_lt, nat_le, is_none, IsSome, List, [], ◌∷◌, length, Option}
 use Rattle.std.proofs.Common.{None, Some, refl, sym, arith}
 use Rattle.std.specs.List.{All, AllPairs, list_any, list_all}
-use Rattle.std.specs.Str.{bytes_eq}
-use Rattle.std.proofs.lemmas.Bool.{eqb-true}
+use Rattle.std.proofs.lemmas.Bool.{and_parts, or_parts, eqb-true}
 use Rattle.std.proofs.lemmas.Bool.Decides.{nat_tests}
 use Rattle.std.proofs.lemmas.List.Elements.{All-nil, All-cons}
 use Rattle.std.proofs.lemmas.List.Kept.{AllPairs-cons}
 use Rattle.std.proofs.lemmas.List.Sums.{AllPass-from_list_all}
-use Rattle.std.proofs.lemmas.Slice.Eq.{bytes_eq-Decides}
+use Rattle.mur_base.proofs.UsersLaw.{not_true, other_name}
 use Rattle.mur_base.specs.Names.{short_name_fault}
 use Rattle.mur_base.specs.declared.limits.TheConstants.{FRONTEND_LIMIT, BACKEND_LIMIT}
 use Rattle.mur_base.specs.declared.name.NameFault.{NameFault}
@@ -19,33 +18,18 @@ use Rattle.mur_config.specs.declared.nodes.NodesFault.TheVariants.{NameTwice, No
 use Rattle.mur_config.specs.Nodes.{is_node_named, node_names_differ, is_of_kind, is_node_of_kind, count_of_kind, is_some_within, has_node_counts, fits_kind}
 use Rattle.mur_config.specs.Nodes.{has_partition, nodes_fault, FitsKind, AreNodes, frontend_of}
 
-both_true : (a b : Bool) → (a && b) ≡ true → (a ≡ true) × (b ≡ true)
-both_true true b h = (refl, h)
-both_true false b h = cc
-
-not_true : (a : Bool) → not a ≡ true → a ≡ false
-not_true true h = cc
-not_true false h = refl
-
-neither : (a b : Bool) → (a || b) ≡ false → (a ≡ false) × (b ≡ false)
-neither true b h = cc
-neither false b h = (refl, h)
-
-other_name : (one other : List ℕ) → bytes_eq other one ≡ false → one ≢ other
-other_name one other differ = λ same. let yes = (bytes_eq-Decides other one).1 (sym same) in cc
-
 none_named : (name : List ℕ) (nodes : List Node) → list_any (is_node_named name) nodes ≡ false → All (λ (node : Node). name ≢ node.name) nodes
 unfolding is_node_named
 none_named name [] h = All-nil (λ (node : Node). name ≢ node.name)
 none_named name (node ∷ nodes) h =
-    let parts = neither (is_node_named name node) (list_any (is_node_named name) nodes) h in
+    let parts = or_parts (is_node_named name node) (list_any (is_node_named name) nodes) h in
     All-cons (λ (node : Node). name ≢ node.name) node nodes (other_name name node.name parts.0) (none_named name nodes parts.1)
 
 names_apart : (nodes : List Node) → node_names_differ nodes ≡ true → AllPairs (λ (one other : Node). one.name ≢ other.name) nodes
 unfolding node_names_differ
 names_apart [] h = λ i j d less within. absurd (omega arith)
 names_apart (node ∷ nodes) h =
-    let parts = both_true (not (list_any (is_node_named node.name) nodes)) (node_names_differ nodes) h in
+    let parts = and_parts (not (list_any (is_node_named node.name) nodes)) (node_names_differ nodes) h in
     AllPairs-cons (λ (one other : Node). one.name ≢ other.name) node nodes
     (none_named node.name nodes (not_true (list_any (is_node_named node.name) nodes) parts.0)) (names_apart nodes parts.1)
 
@@ -70,7 +54,7 @@ kept_partitions nodes h = λ k d within. kept_partition _ _ (AllPass-from_list_a
 within : (limit count : ℕ) → is_some_within limit count ≡ true → (1 ≤ count) × (count ≤ limit)
 unfolding is_some_within
 within limit count h =
-    let parts = both_true (nat_lt 0 count) (nat_le count limit) h in
+    let parts = and_parts (nat_lt 0 count) (nat_le count limit) h in
     (grind (arith, nat_tests, parts.0), grind (arith, nat_tests, parts.1))
 
 kept_by : (nodes : List Node) → node_names_differ nodes ≡ true → has_node_counts nodes ≡ true → list_all has_partition nodes ≡ true → AreNodes nodes
@@ -78,8 +62,8 @@ unfolding has_node_counts
 kept_by nodes names counts partitions =
     let front = is_some_within FRONTEND_LIMIT (count_of_kind Frontend nodes) in
     let back = is_some_within BACKEND_LIMIT (count_of_kind Backend nodes) in
-    let whole = both_true (nat_eq (count_of_kind Master nodes) 1 && front) back counts in
-    let parts = both_true (nat_eq (count_of_kind Master nodes) 1) front whole.0 in
+    let whole = and_parts (nat_eq (count_of_kind Master nodes) 1 && front) back counts in
+    let parts = and_parts (nat_eq (count_of_kind Master nodes) 1) front whole.0 in
     record {
       names = names_apart nodes names;
       master = eqb-true (count_of_kind Master nodes) 1 parts.0;

@@ -1,5 +1,5 @@
 -- Bytes whose run behind a place is not put yet, since it stands for itself.
-use Rattle.std.proofs.Common.{Bool, true, false, ◌&&◌, ◌≡◌, ℕ, ◌+◌, ◌-◌, ◌<◌, ◌≤◌, List, [], ◌∷◌, ◌++◌, length, take, drop, get_or, slice_range}
+use Rattle.std.proofs.Common.{◌≡◌, ℕ, ◌+◌, ◌-◌, ◌<◌, ◌≤◌, List, [], ◌∷◌, ◌++◌, length, take, drop, get_or, slice_range}
 use Rattle.std.proofs.Common.{refl, sym, ◌∙◌, ap, append_assoc, arith}
 use Rattle.std.specs.List.{flat_map}
 use Rattle.std.proofs.lemmas.Grind.{flat_map-append}
@@ -46,7 +46,3 @@ pub plain_more : (bytes : List ℕ) (n : ℕ) → n < length bytes → text_of (
     → spelling_of (get_or bytes n 0) ≡ get_or bytes n 0 ∷ [] → text_of (take (n + 1) bytes) ≡ take (n + 1) bytes
 plain_more bytes n within so_far plain =
     text_more bytes n within ∙ rw (so_far, plain) (sym (take_more bytes n 0 within))
-
-pub both_true : (a b : Bool) → a && b ≡ true → (a ≡ true) × (b ≡ true)
-both_true true b h = (refl, h)
-both_true false b h = cc
