@@ -36,7 +36,7 @@ connection_at front conn = value_at nat_cmp front.connections conn
 unfoldable pub new_connection : Connection
 new_connection = record { reader = first_reading; waiting = []; session = Off; stage = Reading; answered = 0 }
 
--- a client that connects is given the greeting (RFC 9051, 7.1.5)
+-- a client that connects is given the greeting (RFC 9051, 7.1.1)
 unfoldable pub connect_at : Front → ℕ → Option Connection → Stepped
 connect_at front conn (Some there) = still front
 connect_at front conn None = record {
@@ -94,7 +94,7 @@ unfoldable pub deliver : Front → LinkMsg → Stepped
 deliver front (Answer answer) = answer_at front answer (connection_at front (answer.id).conn)
 deliver front message = still front
 
--- the counts of a frontend's commands are at most so many behind all inputs that wait, and that waits itself
+-- how many commands of a connection wait for the answer of a home
 unfoldable pub is_asked : Stage → ℕ
 is_asked Reading = 0
 is_asked (Asked tag awaited) = 1

@@ -7,10 +7,11 @@ use Rattle.front_core.specs.declared.connection.Connection.{Connection}
 use Rattle.front_core.specs.declared.front.Front.{Front}
 use Rattle.front_core.specs.Front.{connection_at, is_asked}
 
--- those that were answered, the one that waits, and one for each frame behind it
+-- those that were answered, the one that waits for a home, and one for each input behind it
 abbrev pub commands_of : Connection → ℕ
 commands_of connection = connection.answered + (is_asked connection.stage + length connection.waiting)
 
+-- no connection has more of them than so many
 abbrev pub HasCommands : Front → ℕ → Type 0
 HasCommands front most = (conn : ℕ) (connection : Connection) → connection_at front conn ≡ Some connection → commands_of connection ≤ most
 
@@ -18,6 +19,7 @@ HasCommands front most = (conn : ℕ) (connection : Connection) → connection_a
 abbrev pub HasRoomAt : Front → ℕ → ℕ → Type 0
 HasRoomAt front conn more = IfSome (connection_at front conn) (λ connection. commands_of connection + more < 2 ^ 64)
 
+-- the connection of an answer may count those that it has; another message counts none
 unfoldable pub HasRoomFor : Front → LinkMsg → Type 0
 HasRoomFor front (Answer answer) = HasRoomAt front (answer.id).conn 0
 HasRoomFor front message = ⊤

@@ -85,7 +85,7 @@ request_in setting home conn connection (a_command tag it) = begun_in home conn 
 request_in setting home conn connection (unknown tag) = answers conn connection connection.session tag (reply_of (bad_reply Syntax))
 request_in setting home conn connection (too_big tag) = answers conn connection connection.session tag (refused Limit)
 
--- an input of a connection that is reading: a fault ends it
+-- an input of a connection that is reading: a fault ends it, with a BYE (RFC 9051, 7.1.5)
 unfoldable pub input_in : Setting → List ℕ → ℕ → Connection → Input → Turned
 input_in setting home conn connection (Asks request) = request_in setting home conn connection request
 input_in setting home conn connection (GoesOn why) = record { connection = connection; outs = Client conn (continuation_line why) ∷ [] }

@@ -18,9 +18,11 @@ use std::alloc::Global;
 /// A frontend: its connections by their numbers.
 #[derive(Drop)]
 pub struct Front {
+    /// The name of this node.
     pub me: NodeName,
     /// The backend that is asked for every mailbox.
     pub home: NodeName,
+    /// The users, and the date of a message that comes without one.
     pub setting: Setting,
     pub connections: Map<u64, Connection>,
 }
@@ -39,7 +41,7 @@ impl Front {
         }
     }
 
-    /// A client connects, and is given the greeting (RFC 9051, 7.1.5). For want of memory the frontend is spent.
+    /// A client connects, and is given the greeting (RFC 9051, 7.1.1). For want of memory the frontend is spent.
     #[tactic(auto, using(std::proofs::lemmas::Grind::common_steps), unfolding(crate::specs::Front::connect, crate::specs::Front::connect_at))]
     pub fn connect(&mut self, alloc: Global, conn: u64) -> Result<Outs, Memory>
         ensures { IfOk result (λ outs. record { front = self.new; outs = outs } ≡ connect self.old conn) }

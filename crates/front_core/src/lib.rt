@@ -1,4 +1,4 @@
-//! A frontend: its connections, what frames and answers make of them, and what it lets out. It knows no other node's state.
+//! A frontend: its connections, what inputs and answers make of them, and what it lets out. It knows no other node's state.
 #![tactic(auto)]
 
 mod answered;

@@ -174,7 +174,7 @@ fn reply_of(alloc: Global, verdict: Verdict) -> Reply
     }
 }
 
-// A command that is answered, and counts as carried out in this step.
+/// A command that is answered, and counts as carried out in this step.
 #[tactic(auto, using(std::proofs::lemmas::Grind::common_steps), unfolding(crate::specs::Taken::answers))]
 fn answers(
     alloc: Global,
