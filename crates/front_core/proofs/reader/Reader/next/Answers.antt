@@ -1,4 +1,4 @@
-use Rattle.std.proofs.Common.{◌≡◌, ℕ, ◌++◌, drop, Option, None, Result, Ok, sym, ◌∙◌, ap}
+use Rattle.std.proofs.Common.{◌≡◌, ℕ, drop, Option, None, Result, Ok, sym, ◌∙◌, ap}
 use Rattle.imap_wire.specs.declared.frame.Frame.{Frame}
 use Rattle.mur_base.specs.declared.memory.Memory.{Memory}
 use Rattle.front_core.specs.Reading.{inputs_of_more, read_more}
