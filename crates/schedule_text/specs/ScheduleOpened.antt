@@ -9,12 +9,12 @@ use Rattle.schedule_text.specs.declared.schedule.fault.Rule.{Rule}
 use Rattle.schedule_text.specs.declared.schedule.fault.Rule.TheVariants.{Connection}
 use Rattle.schedule_text.specs.declared.schedule.read_so_far.ReadSoFar.{ReadSoFar}
 
--- an event opens_connection this connection
+-- an event opens this connection
 unfoldable pub opens_connection : ℕ → Event → Bool
 opens_connection conn (Open node opened) = conn == opened
 opens_connection conn _ = false
 
--- one of the events opens_connection this connection
+-- one of the events opens this connection
 unfoldable pub is_opened : List Event → ℕ → Bool
 is_opened events conn = list_any (opens_connection conn) events
 

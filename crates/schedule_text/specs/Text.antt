@@ -57,9 +57,11 @@ hex_value c =
     else if nat_le letter_a c && nat_le c letter_f then Some (c - letter_a + 10)
     else None
 
+-- a character that begins a spelling
 unfoldable pub between_spellings : ℕ → Character
 between_spellings c = if c == backslash then Inside Escape else if is_printed c then Ends c else Bad
 
+-- a character behind a backslash
 unfoldable pub behind_escape : ℕ → Character
 behind_escape c =
     if c == backslash then Ends backslash
@@ -68,10 +70,12 @@ behind_escape c =
     else if c == letter_x then Inside Hex
     else Bad
 
+-- a character behind '\x', by the value that it has as a digit
 unfoldable pub first_digit : Option ℕ → Character
 first_digit None = Bad
 first_digit (Some d) = Inside (HexDigit d)
 
+-- a character behind '\x' and a digit, by the value that it has as one
 unfoldable pub second_digit : ℕ → Option ℕ → Character
 second_digit high None = Bad
 second_digit high (Some d) = Ends (16 * high + d)

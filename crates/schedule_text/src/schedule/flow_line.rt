@@ -9,7 +9,7 @@ use crate::schedule::words::{number_in, one_word};
 /// The word that such a line begins with.
 pub const FLOW: &[u8] = b"flow";
 
-/// Deliveries of one `flow`, so that the steps of a whole schedule fit 64 bits.
+/// The most deliveries of one `flow`, so that the steps of a whole schedule fit 64 bits.
 pub const FLOW_LIMIT: u64 = 4_294_967_295;
 
 /// The event of a `flow` line, from what stands behind its word.

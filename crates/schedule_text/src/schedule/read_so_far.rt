@@ -15,6 +15,7 @@ pub struct ReadSoFar {
 }
 
 impl ReadSoFar {
+    /// Before the first line. It takes no memory.
     #[tactic(auto, unfolding(crate::specs::ScheduleOpened::is_opened))]
     pub fn new(alloc: Global) -> ReadSoFar
         ensures empty { result.events ≡ [] }
