@@ -1,7 +1,6 @@
 // The configuration of a cluster, and the two that are known so far.
 ghost use Rattle.std.specs.Prelude.{◌≡◌, ◌≤◌, length, IfOk, IsSome, None};
 ghost use Rattle.mur_base.specs.Names.{short_name_fault};
-ghost use Rattle.mur_base.specs.Users.{is_password};
 ghost use Rattle.mur_config.specs.Nodes.{nodes_fault, frontend_of};
 ghost use Rattle.mur_config.specs.Config.{config_of, one_backend, two_backends, known_with, known_users, known_date, IsReadAsConfig};
 

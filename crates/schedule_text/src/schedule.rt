@@ -1,5 +1,5 @@
 // A schedule, read into its events: a recorded run, one event a line.
-ghost use Rattle.std.specs.Prelude.{◌≡◌, ◌<◌, ◌^◌, ◌+◌, length, IfOk, OnOk};
+ghost use Rattle.std.specs.Prelude.{◌≡◌, length, IfOk, OnOk};
 ghost use Rattle.schedule_text.specs.ScheduleRules.{IsReadAs, IsReadAsSchedule};
 ghost use Rattle.schedule_text.specs.ScheduleOpened.{KnowsOpened};
 ghost use Rattle.schedule_text.specs.ScheduleFits.{FitSchedule, HasCountRoom};

@@ -1,10 +1,9 @@
 -- A text that is taken is no longer than its limit.
-use Rattle.std.proofs.Common.{◌≡◌, ◌∙◌, ℕ, ◌≤◌, List, length, Ok, Err, Some, Result, subst, sym, ap, refl, arith, Bool, true, false, nat_lt, cond}
+use Rattle.std.proofs.Common.{◌≡◌, ℕ, ◌≤◌, List, length, Ok, Err, Result, refl, arith, Bool, true, false, nat_lt, cond}
 use Rattle.std.proofs.lemmas.Bool.Decides.{nat_tests}
 use Rattle.mur_base.specs.declared.limits.TheConstants.{SCHEDULE_LIMIT}
 use Rattle.mur_config.specs.declared.config.Config.{Config}
 use Rattle.schedule_text.specs.declared.event.Event.{Event}
-use Rattle.schedule_text.specs.declared.schedule.fault.SchedFault.{SchedFault}
 use Rattle.schedule_text.specs.Schedule.{schedule_of}
 
 -- where a test refuses, nothing is taken

@@ -1,5 +1,4 @@
 // The line `data C TEXT`: bytes come from the client of connection C.
-ghost use Rattle.std.specs.Prelude.{◌≡◌};
 ghost use Rattle.schedule_text.specs.ScheduleRules.{IsReadAs};
 ghost use Rattle.schedule_text.specs.ScheduleOpened.{KnowsOpened};
 ghost use Rattle.schedule_text.specs.ScheduleData.{data_of, text_in};

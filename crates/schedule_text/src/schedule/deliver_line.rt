@@ -1,5 +1,4 @@
 // The line `deliver A B`: the first message from node A to node B is taken.
-ghost use Rattle.std.specs.Prelude.{◌≡◌};
 ghost use Rattle.schedule_text.specs.ScheduleRules.{IsReadAs};
 ghost use Rattle.schedule_text.specs.ScheduleDeliver.{deliver_of, link_in};
 

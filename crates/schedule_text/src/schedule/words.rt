@@ -1,6 +1,5 @@
 // The words of a schedule's line, with one space before each but the first.
 ghost use Rattle.std.specs.Prelude.{◌≡◌, MatchResult, option_map, Ok, Err};
-ghost use Rattle.mur_base.specs.Number.{number_of};
 ghost use Rattle.schedule_text.specs.ScheduleWords.{IsCutAs, shown, cut_at_space, first_word, word_and_rest, is_one_word, one_word, two_words, number_in};
 
 use crate::schedule::fault::Rule;
