@@ -39,13 +39,14 @@ point_line point =
     codes "point " ++ decimal point.step ++ codes " " ++ decimal (point.ask).conn ++ codes "." ++ decimal (point.ask).command ++ codes " "
     ++ what_text point.what ++ codes "\n"
 
--- how far a node is with a mailbox that it has
+-- the word of a phase, and the UIDVALIDITY, the UIDNEXT and how many messages there are
 unfoldable pub counts_text : List ℕ → HomeRow → List ℕ
 counts_text phase row = phase ++ codes " " ++ decimal row.serial ++ codes " " ++ decimal row.next ++ codes " " ++ decimal row.count ++ codes "\n"
 
 unfoldable pub pointer_text : List ℕ → List ℕ
 pointer_text server = codes "pointer " ++ server ++ codes "\n"
 
+-- how far a node is with a mailbox that it has
 unfoldable pub phase_text : HomeRow → Phase → List ℕ
 phase_text row Creating = counts_text (codes "creating") row
 phase_text row open_here = counts_text (codes "open") row

@@ -10,5 +10,4 @@ mod status;
 mod words;
 
 pub use call::{murder, tell};
-pub use output::write_output;
 pub use status::Status;
