@@ -59,6 +59,7 @@ impl Nodes {
         }
     }
 
+    /// The nodes in the configuration's order.
     pub fn as_slice(&self) -> &[Node]
         ensures nodes { result.now ≡ self.now }
         ensures kept { AreNodes self.now }

@@ -23,8 +23,11 @@ pub struct SystemHost<'a, R, O, E> {
     output: &'a O,
     error_output: &'a E,
     pub faults: Faults,
+    /// How many objects are out.
     pub held: u64,
+    /// The calls that asked for an object and weren't refused for memory, in order.
     pub asked: Items<Asked>,
+    /// What is kept of the objects that came back, in order.
     pub returned: Returned<StreamUsed>,
 }
 

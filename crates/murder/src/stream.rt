@@ -15,13 +15,16 @@ use std::io::{Read, Write};
 /// What a source counted when it came back.
 #[derive(Clone, Copy)]
 pub struct ReadCounts {
+    /// Reads that failed.
     pub faults: u64,
+    /// Reads that gave something, and less than there was room for.
     pub shorts: u64,
 }
 
 /// What a sink counted when it came back.
 #[derive(Clone, Copy)]
 pub struct WriteCounts {
+    /// Writes that failed; so did one that took nothing, where there was something.
     pub faults: u64,
 }
 
