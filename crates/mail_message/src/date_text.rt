@@ -1,10 +1,10 @@
 // The date of a message as its client wrote it.
-ghost use Rattle.std.specs.Prelude.{◌≡◌, [], ◌∷◌, length, map};
+ghost use Rattle.std.specs.Prelude.{◌≡◌, length};
 ghost use Rattle.std.specs.List.{list_all};
 ghost use Rattle.std.specs.Char.{is_ascii_digit};
 ghost use Rattle.std.specs.Prelude.{◌≤◌, true};
 ghost use Rattle.mur_base.specs.Ascii.{digit_nine};
-ghost use Rattle.mail_message.specs.Date.{date_of, is_date, is_calendar, is_clock, is_zone, is_day, is_month, is_below, months};
+ghost use Rattle.mail_message.specs.Date.{date_of, is_date, is_calendar, is_clock, is_zone, is_day, is_month, is_below};
 ghost use Rattle.mail_message.specs.Days.{day_of, calendar_day, month_number, two_digits, four_digits, is_on_calendar};
 
 use crate::day::Day;

@@ -1,8 +1,6 @@
 // Days of messages and of search keys.
 ghost use Rattle.std.specs.Prelude.{◌≡◌};
-ghost use Rattle.mail_message.specs.Days.{day_on, is_on_calendar, is_before, day_of, two_digits, four_digits, month_number};
-
-use crate::date_text::DateText;
+ghost use Rattle.mail_message.specs.Days.{day_on, is_on_calendar, is_before};
 
 /// A day (RFC 9051, 9: date). Days are compared by year, month and day alone: whatever stands for the time and the zone of a
 /// message counts for nothing.

@@ -1,7 +1,6 @@
 // The text of a flag.
 ghost use Rattle.std.specs.Prelude.{◌≡◌, Option};
 ghost use Rattle.mail_message.specs.FlagNames.{system_flag_of, IsReadAsFlag, flag_fault};
-ghost use Rattle.mail_message.specs.Keywords.{keyword_fault};
 
 use crate::keyword::Keyword;
 use crate::system_flags::SystemFlag;

@@ -1,6 +1,5 @@
 // Keywords, and sets of them in byte order.
 ghost use Rattle.std.specs.Prelude.{◌≡◌, ◌≤◌, ◌↔◌, [], length, IfOk, OnOk, OnErr, IsTrue};
-ghost use Rattle.std.specs.List.{list_any, list_all};
 ghost use Rattle.mail_message.specs.Keywords.{keyword_fault, is_atom_byte, is_atom, keyword_in};
 ghost use Rattle.mail_message.specs.Keywords.{with_keyword, without_keyword, with_keywords, without_keywords, IsInOrder};
 
