@@ -1,5 +1,5 @@
 // APPEND.
-ghost use Rattle.std.specs.Prelude.{◌≡◌, ◌==◌, ℕ, false, ◌≤◌, ◌+◌, ◌^◌, ◌<◌, length, IfOk, OnOk, OnErr};
+ghost use Rattle.std.specs.Prelude.{◌≡◌, ◌==◌, ℕ, false, ◌+◌, ◌^◌, ◌<◌, length, IfOk, OnOk, OnErr};
 ghost use Rattle.std.specs.List.{list_any};
 ghost use Rattle.mail_message.specs.Boxes.{message_at};
 ghost use Rattle.mail_store.specs.Append.{append_fault, appended, uids_from, puts_from};

@@ -1,5 +1,5 @@
 // STORE.
-ghost use Rattle.std.specs.Prelude.{◌≡◌, ◌==◌, ℕ, false, IfOk, OnOk, OnErr, map};
+ghost use Rattle.std.specs.Prelude.{◌≡◌, ◌==◌, ℕ, false, IfOk, OnOk, OnErr};
 ghost use Rattle.std.specs.List.{list_any};
 ghost use Rattle.mail_message.specs.Boxes.{message_at};
 ghost use Rattle.mail_store.specs.Store.{rows_stored, stored_rows, stored, flag_changes, IsStored};
