@@ -3,7 +3,7 @@ ghost use Rattle.std.specs.Prelude.{◌≡◌};
 ghost use Rattle.mail_message.specs.Sets.{set_holds};
 ghost use Rattle.mail_search.specs.Matching.{key_matches, all_match};
 
-use mail_message::{FlagName, Key, Message, SetPart, SystemFlag};
+use mail_message::{Key, Message, SetPart};
 
 /// Whether a number is in a set: the one meaning of sets of sequence numbers and of UIDs (RFC 9051, 9: sequence-set). A range
 /// stands in either order; where `*` stands in a part it holds nothing, so a number is put in its place first. It takes no memory,
