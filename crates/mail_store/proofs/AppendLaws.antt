@@ -1,4 +1,4 @@
--- UIDNEXT behind the messages of an APPEND, and what it leaves as it was.
+-- UIDNEXT behind the messages of an APPEND, that UIDVALIDITY stays, and where the new UIDs lie.
 use Rattle.std.proofs.Common.{◌≡◌, ℕ, ◌+◌, ◌<◌, ◌≤◌, List, [], ◌∷◌, length, refl, ◌∙◌, arith}
 use Rattle.std.specs.Prelude.{All}
 use Rattle.std.proofs.lemmas.Grind.{common_steps}
@@ -17,10 +17,6 @@ next-appended box uid (message ∷ messages) =
 pub serial-appended : (box : Content) (uid : ℕ) (messages : List Message) → (content_after_all box (puts_from uid messages)).serial ≡ box.serial
 serial-appended box uid [] = refl
 serial-appended box uid (message ∷ messages) = serial-appended (content_after box (Put (record message { uid = uid }))) (uid + 1) messages
-
-pub acl-appended : (box : Content) (uid : ℕ) (messages : List Message) → (content_after_all box (puts_from uid messages)).acl ≡ box.acl
-acl-appended box uid [] = refl
-acl-appended box uid (message ∷ messages) = acl-appended (content_after box (Put (record message { uid = uid }))) (uid + 1) messages
 
 -- the UIDs lie from the first on and below the one behind the last
 pub uids-within : (first : ℕ) (messages : List Message) → All (λ uid. (first ≤ uid) × (uid < first + length messages)) (uids_from first messages)
