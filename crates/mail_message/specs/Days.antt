@@ -33,12 +33,12 @@ two_digits tens ones = 10 * (tens - digit_zero) + (ones - digit_zero)
 unfoldable pub four_digits : List ℕ → ℕ
 four_digits text = 100 * two_digits (slice_index text 0) (slice_index text 1) + two_digits (slice_index text 2) (slice_index text 3)
 
--- the number of a month behind those of the year before it
+-- the number of the month at a place, from 1 on; 0 where there is none
 abbrev pub number_behind : Option ℕ → ℕ
 number_behind None = 0
 number_behind (Some at) = at + 1
 
--- the number of a month, from 1 on
+-- the number of a month, from 1 on; 0 where the text is none
 unfoldable pub month_number : List ℕ → ℕ
 month_number text = number_behind (position (λ month. is_word text month) months)
 

@@ -1,4 +1,4 @@
--- Words that stand in any case of letters.
+-- Words that stand in any case of letters (RFC 9051, 9).
 use Rattle.std.specs.Prelude.{ℕ, Bool, List, map}
 use Rattle.std.specs.Char.{to_ascii_lowercase}
 use Rattle.std.specs.Str.{bytes_eq}

@@ -38,6 +38,7 @@ impl Model for DateText {
 }
 
 impl DateText {
+    /// The text as it was written, 26 bytes.
     pub fn as_bytes(&self) -> &[u8]
         ensures text { result.now ≡ self.now }
         ensures date { date_of result.now ≡ Some self.now }

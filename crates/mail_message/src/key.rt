@@ -23,12 +23,15 @@ pub enum Key {
     Unseen,
     Keyword(FlagName),
     Unkeyword(FlagName),
-    /// The message has more bytes.
+    /// The message's body has more than so many bytes.
     Larger(u64),
-    /// The message has fewer bytes.
+    /// The message's body has fewer than so many bytes.
     Smaller(u64),
+    /// The internal date is earlier than the day; its time and zone count for nothing here, and in the next two.
     Before(Day),
+    /// The internal date is within the day.
     On(Day),
+    /// The internal date is within the day or later.
     Since(Day),
     /// The UID is in the set.
     Uid(SetParts),

@@ -1,4 +1,4 @@
-//! Messages as a mailbox keeps them: flags, dates, a box's content and its changes.
+//! Messages as a mailbox keeps them: flags, dates, a box's content and its changes; sets of numbers, search keys and fetch items.
 #![tactic(auto)]
 
 mod acl;

@@ -90,6 +90,7 @@ impl Slots {
     pub fn len(&self) -> usize
         ensures { result ≡ length (filled self.now) }
     {
+        // There are no more messages than places, so the count fits.
         let places = self.map.len();
         let mut count = 0;
         for (_uid, slot) in self.map.iter() {
