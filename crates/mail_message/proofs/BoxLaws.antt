@@ -26,11 +26,6 @@ places-more old new changes i change kept within is all place =
 pub places-all : (places : Places) (changes : List Change) (i : ℕ) → length changes ≤ i → All (HasPlaceFor places) (take i changes) → HasPlaces places changes
 places-all places changes i end all = recursion_from_All (HasPlaceFor places) changes (subst (All (HasPlaceFor places)) (take_all i changes end) all)
 
--- the places that are left serve the changes that are left
-pub places-kept : (old new : Places) (changes : List Change) → KeepsPlaces old new → HasPlaces old changes → HasPlaces new changes
-places-kept old new [] kept all = tt
-places-kept old new (change ∷ changes) kept all = (kept_for old new kept change all.0, places-kept old new changes kept all.1)
-
 -- UIDNEXT and the messages change side by side
 pub content-parts : (box : Content) (changes : List Change)
     → content_after_all box changes ≡ record box { next = fold next_after box.next changes; messages = fold messages_after box.messages changes }

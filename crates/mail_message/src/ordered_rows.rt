@@ -1,5 +1,5 @@
 // Rows by UID: a list that rises, so that a look-up is a binary search.
-ghost use Rattle.std.specs.Prelude.{◌≡◌, ◌<◌, ◌≤◌, ◌↔◌, [], ◌∷◌, ◌++◌, length, OnOk, OnErr, IsTrue};
+ghost use Rattle.std.specs.Prelude.{◌≡◌, ◌<◌, ◌≤◌, ◌↔◌, [], ◌∷◌, ◌++◌, length, OnOk, OnErr, IsTrue, IfOk};
 ghost use Rattle.std.specs.List.{AllWithin, position_from};
 ghost use Rattle.std.specs.Option.{option_copied};
 ghost use Rattle.mail_message.specs.RowOrder.{AreRising, IsAbove, IsPlace, is_row_of, row_at, if_row_of, place_if_row_of};
@@ -35,6 +35,15 @@ impl OrderedRows {
         OrderedRows {
             rows: Rows::new(alloc),
         }
+    }
+
+    /// No rows, with room for so many.
+    pub fn with_room(alloc: Global, room: usize) -> Result<OrderedRows, Memory>
+        ensures { IfOk result (λ rows. rows ≡ []) }
+    {
+        Ok(OrderedRows {
+            rows: Rows::from_vec(Vec::with_capacity(alloc, room)?),
+        })
     }
 
     /// Rows that rise, which aren't copied.

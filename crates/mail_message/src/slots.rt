@@ -53,7 +53,7 @@ impl Slots {
         ensures size { IfOk result (λ seen. seen.1 ≡ size_of (filled self.now)) }
         ensures rising { OnOk result (IsRising (filled self.now)) }
     {
-        let mut rows = OrderedRows::new(alloc);
+        let mut rows = OrderedRows::with_room(alloc, self.map.len())?;
         let mut size = 0u64;
         for (_uid, slot) in self.map.iter() {
             if let Some(message) = slot {
