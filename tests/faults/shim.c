@@ -40,9 +40,12 @@ __attribute__((destructor)) static void tell(void) {
   fclose(file);
 }
 
+/* (a descriptor is given out again once its file is closed) */
 static void opened(const char *path, int file) {
   const char *wanted = getenv("FAULT_PATH");
-  if (file >= 0 && wanted && strcmp(path, wanted) == 0) counted = file;
+  if (file < 0 || !wanted) return;
+  if (strcmp(path, wanted) == 0) counted = file;
+  else if (file == counted) counted = -1;
 }
 
 #define REAL(name) ((__typeof__(&name))dlsym(RTLD_NEXT, #name))

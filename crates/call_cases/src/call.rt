@@ -21,7 +21,7 @@ pub fn ends(
     Ok(
         is_status(ended, status)
             && has_error(host.error_output(), error)
-            && is_left_so(&host, ended),
+            && is_left_so(&host, front_of(ended)),
     )
 }
 
@@ -30,9 +30,18 @@ pub fn is_status(status: Status, number: &str) -> bool {
     number.parse::<u8>() == Ok(status.code())
 }
 
-fn is_left_so(host: &MemHost, ended: Status) -> bool {
-    let wanted = if ended == Status::Done { OUTPUT } else { b"" };
-    host.output() == wanted && host.held == 0
+/// How many bytes of the text are on the output of a run that ended so, where no call for the output failed.
+fn front_of(ended: Status) -> usize {
+    if ended == Status::Done {
+        OUTPUT.len()
+    } else {
+        0
+    }
+}
+
+/// Whether so many bytes of the text are on the output, and every object is back at the host.
+pub fn is_left_so(host: &MemHost, front: usize) -> bool {
+    OUTPUT.get(..front) == Some(host.output()) && host.held == 0
 }
 
 /// Whether the error output is a line of the program's, or nothing where none is wanted.

@@ -1,10 +1,9 @@
 // Runs whose files come byte by byte and whose output goes byte by byte, each call failing in turn.
 use crate::byte_host::ByteHost;
-use crate::call::{is_status, played};
+use crate::call::{is_left_so, is_status, played};
 use crate::fault::{Fault, Place};
 use crate::held::{Files, OUTPUT};
 use mur_base::Memory;
-use mur_edge::MemHost;
 use std::alloc::Global;
 
 /// Whether each run in which one call of a place fails ends with this status, and with the bytes on the output that went before; and the
@@ -16,7 +15,7 @@ pub fn ends(alloc: Global, place: Place, status: &str) -> Result<bool, Memory> {
             return Ok(false);
         }
     }
-    one_ends(alloc, &Fault::read(alloc, "host")?, "0", OUTPUT.len())
+    one_ends(alloc, &Fault::none(alloc), "0", OUTPUT.len())
 }
 
 /// How many calls of a place there are. The last read of a file finds its end, and an output has no such call.
@@ -42,8 +41,4 @@ fn one_ends(alloc: Global, fault: &Fault, status: &str, front: usize) -> Result<
     let mut bytes = ByteHost { host };
     let ended = played(alloc, &mut bytes, "replay config schedule")?;
     Ok(is_status(ended, status) && is_left_so(&bytes.host, front))
-}
-
-fn is_left_so(host: &MemHost, front: usize) -> bool {
-    OUTPUT.get(..front) == Some(host.output()) && host.held == 0
 }

@@ -1,4 +1,5 @@
 // The calls of a host in memory that fail.
+use case_table::Fault as CaseFault;
 use mur_base::{Items, Memory};
 use mur_edge::Calls;
 use std::alloc::Global;
@@ -9,6 +10,8 @@ pub enum Place {
     Config,
     Schedule,
     Output,
+    /// The error output.
+    Errors,
     /// Those that ask the host for a file or an output.
     Host,
 }
@@ -21,16 +24,25 @@ pub struct Fault {
 }
 
 impl Fault {
-    /// The fault that a case names: a place, and numbers behind it; no call fails without a number.
-    pub fn read(alloc: Global, text: &str) -> Result<Fault, Memory> {
-        let (place, numbers) = match text.split_once(' ') {
-            Some((place, numbers)) => (place, numbers),
-            None => (text, ""),
+    /// No call fails.
+    pub fn none(alloc: Global) -> Fault {
+        Fault {
+            place: Place::Host,
+            calls: Items::new(alloc),
+        }
+    }
+
+    /// The fault that a case names: a place and numbers behind it, or `none`.
+    pub fn read(alloc: Global, text: &str) -> Result<Fault, CaseFault> {
+        if text == "none" {
+            return Ok(Fault::none(alloc));
+        }
+        let Some((place, numbers)) = text.split_once(' ') else {
+            return Err(CaseFault::Unreadable("no fault"));
         };
-        Ok(Fault {
-            place: place_of(place),
-            calls: calls_of(alloc, numbers)?,
-        })
+        let place = place_of(place)?;
+        let calls = calls_of(alloc, numbers)?;
+        Ok(Fault { place, calls })
     }
 
     /// The fault of one call.
@@ -52,22 +64,29 @@ impl Fault {
     }
 }
 
-/// The place of a name; any other text is the host.
-pub fn place_of(name: &str) -> Place {
+/// The place of a name.
+pub fn place_of(name: &str) -> Result<Place, CaseFault> {
     match name {
-        "config" => Place::Config,
-        "schedule" => Place::Schedule,
-        "output" => Place::Output,
-        _ => Place::Host,
+        "config" => Ok(Place::Config),
+        "schedule" => Ok(Place::Schedule),
+        "output" => Ok(Place::Output),
+        "errors" => Ok(Place::Errors),
+        "host" => Ok(Place::Host),
+        _ => Err(CaseFault::Unreadable("no place")),
     }
 }
 
-fn calls_of(alloc: Global, numbers: &str) -> Result<Calls, Memory> {
+fn calls_of(alloc: Global, numbers: &str) -> Result<Calls, CaseFault> {
     let mut calls = Items::new(alloc);
-    for number in numbers.split_whitespace() {
-        if let Ok(number) = number.parse::<u64>() {
-            calls.push(number)?;
-        }
+    for number in numbers.split(' ') {
+        calls.push(number_of(number)?)?;
     }
     Ok(calls)
+}
+
+fn number_of(text: &str) -> Result<u64, CaseFault> {
+    match text.parse::<u64>() {
+        Ok(number) => Ok(number),
+        Err(_) => Err(CaseFault::Unreadable("no number")),
+    }
 }

@@ -1,6 +1,7 @@
 // What a host in memory holds.
 use crate::fault::{Fault, Place};
-use mur_base::{Bytes, Items, Memory};
+use case_table::Fault as CaseFault;
+use mur_base::{Bytes, Memory};
 use mur_config::{CONFIG_LIMIT, ONE_BACKEND_CONFIG};
 use mur_edge::{MemHost, MemSources, mem_host, mem_sink, mem_source};
 use std::alloc::Global;
@@ -42,21 +43,22 @@ impl Files {
     };
 
     /// The files that a case names.
-    pub fn named(name: &str) -> Files {
+    pub fn named(name: &str) -> Result<Files, CaseFault> {
         match name {
-            "a short configuration" => Files {
+            "right" => Ok(Files::RIGHT),
+            "a short configuration" => Ok(Files {
                 config: &ONE_BACKEND_CONFIG[1..],
                 ..Files::RIGHT
-            },
-            "a long configuration" => Files {
+            }),
+            "a long configuration" => Ok(Files {
                 config: LONG,
                 ..Files::RIGHT
-            },
-            "a misspelt schedule" => Files {
+            }),
+            "a misspelt schedule" => Ok(Files {
                 schedule: b"open f1 1\nopne f1 2\n",
                 ..Files::RIGHT
-            },
-            _ => Files::RIGHT,
+            }),
+            _ => Err(CaseFault::Unreadable("no such files")),
         }
     }
 
@@ -66,7 +68,7 @@ impl Files {
             Place::Config => self.config.len(),
             Place::Schedule => self.schedule.len(),
             Place::Output => OUTPUT.len(),
-            Place::Host => 0,
+            Place::Errors | Place::Host => 0,
         }
     }
 
@@ -108,7 +110,7 @@ fn add(
 
 fn host_of(alloc: Global, sources: MemSources, fault: &Fault) -> Result<MemHost, Memory> {
     let out = mem_sink(alloc, fault.calls_at(alloc, Place::Output)?)?;
-    let errors = mem_sink(alloc, Items::new(alloc))?;
+    let errors = mem_sink(alloc, fault.calls_at(alloc, Place::Errors)?)?;
     let failing = fault.calls_at(alloc, Place::Host)?;
     mem_host(alloc, sources, out, errors, failing)
 }

@@ -14,59 +14,37 @@ mod held;
 
 use crate::fault::{Fault, place_of};
 use crate::held::Files;
-use anyhow::{Result, anyhow};
-use mur_base::Memory;
+use anyhow::Result;
+use case_table::{Cases, Fault as CaseFault, fields_of, tell};
 use std::alloc::Global;
-use std::{env, fs};
+use std::env;
+
+/// Calls of the program.
+#[derive(Clone, Copy)]
+struct Calls;
+
+impl Cases for Calls {
+    fn holds(&self, alloc: Global, line: &str) -> Result<bool, CaseFault> {
+        holds(alloc, fields_of(alloc, line)?.as_slice())
+    }
+}
 
 /// Whether a case comes out as it wants.
-fn holds(alloc: Global, fields: &[&str]) -> Result<bool, Memory> {
+fn holds(alloc: Global, fields: &[&str]) -> Result<bool, CaseFault> {
     match fields {
         ["call", words, files, faults, status, error] => {
             let fault = Fault::read(alloc, faults)?;
-            call::ends(alloc, words, Files::named(files), &fault, status, error)
+            let files = Files::named(files)?;
+            Ok(call::ends(alloc, words, files, &fault, status, error)?)
         }
-        ["each", place, status] => each::ends(alloc, place_of(place), status),
-        _ => Ok(false),
+        ["each", place, status] => Ok(each::ends(alloc, place_of(place)?, status)?),
+        _ => Err(CaseFault::Unreadable("no such kind of case")),
     }
-}
-
-/// The fields of a line.
-fn fields_of<'a>(alloc: Global, line: &'a str) -> Result<Vec<&'a str>, Memory> {
-    let mut fields = Vec::new(alloc);
-    for field in line.split(" | ") {
-        fields.push(field)?;
-    }
-    Ok(fields)
-}
-
-fn is_case(line: &str) -> bool {
-    !line.is_empty() && !line.starts_with('#')
-}
-
-fn line_holds(alloc: Global, line: &str) -> Result<bool, Memory> {
-    holds(alloc, fields_of(alloc, line)?.as_slice())
-}
-
-/// How many cases a text has, each of which holds.
-fn passed(alloc: Global, text: &str) -> Result<u64> {
-    let mut passed: u64 = 0;
-    for line in text.lines() {
-        if is_case(line) {
-            if !line_holds(alloc, line)? {
-                return Err(anyhow!("differs: {line}"));
-            }
-            passed = passed.wrapping_add(1);
-        }
-    }
-    Ok(passed)
 }
 
 fn main(rt: HostRuntime) -> Result<()> {
     for file in env::args(&rt)?.skip(1) {
-        let text = fs::read_to_string(&rt, file.as_str())?;
-        let passed = passed(rt.alloc(), text.as_str())?;
-        println!(rt; "{file}: {passed} cases passed")?;
+        tell(&rt, &Calls, file.as_str())?;
     }
     Ok(())
 }

@@ -5,7 +5,7 @@ ghost use Rattle.front_core.specs.Answered.{answer_comes, ends_with, reading_aga
 ghost use Rattle.front_core.specs.Front.{is_asked};
 ghost use Rattle.front_core.specs.Room.{commands_of};
 
-use crate::asks::asks;
+use crate::asks::asks_alone;
 use crate::connection::{Connection, Stage};
 use crate::taken::reply_bytes;
 use crate::waiting::waiting_come;
@@ -44,13 +44,11 @@ pub fn answer_comes(
                     end(alloc, conn, connection, text)
                 }
                 Some(Need::Home(name, asking)) => {
-                    let mut outs = Outs::new(alloc);
                     let stage = mem::replace(&mut connection.stage, Stage::Reading);
                     let Stage::Asked(tag, _) = stage else {
                         unreachable!();
                     };
-                    asks(alloc, home, conn, connection, tag, name, asking, &mut outs)?;
-                    Ok(outs)
+                    asks_alone(alloc, home, conn, connection, tag, name, asking)
                 }
             }
         }

@@ -37,6 +37,25 @@ pub fn asks(
     outs.push(Out::Link(home.copy(alloc)?, LinkMsg::Ask(ask)))
 }
 
+/// Asks the home of a mailbox, and lets out nothing else.
+pub fn asks_alone(
+    alloc: Global,
+    home: &NodeName,
+    conn: u64,
+    connection: &mut Connection,
+    tag: Tag,
+    name: MailName,
+    asking: Asking,
+) -> Result<Outs, Memory>
+    requires room { connection.old.answered + 1 < 2 ^ 64 }
+    requires begun { HasBegun connection.old.session }
+    ensures { IfOk result (λ outs. record { connection = connection.new; outs = outs } ≡ asks home.now conn connection.old tag name asking) }
+{
+    let mut outs = Outs::new(alloc);
+    asks(alloc, home, conn, connection, tag, name, asking, &mut outs)?;
+    Ok(outs)
+}
+
 /// The ask for the next command of a connection.
 fn ask_of(
     alloc: Global,

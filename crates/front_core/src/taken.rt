@@ -1,6 +1,8 @@
 // What an input makes of a connection, and what is let out. One command at a time: inputs that come behind a command which
 // waits for a home wait with it (RFC 9051, 5.5).
-ghost use Rattle.std.specs.Prelude.{◌≡◌, ◌+◌, ◌<◌, ◌^◌, IfOk, OnOk};
+ghost use Rattle.std.specs.Prelude.{◌≡◌, ◌+◌, ◌<◌, ◌^◌, [], ◌∷◌, ◌++◌, IfOk, OnOk};
+ghost use Rattle.link_msg.specs.declared.out.Out.TheVariants.{Client, Close};
+ghost use Rattle.front_core.specs.declared.connection.Stage.TheVariants.{Ended};
 ghost use Rattle.imap_reply.specs.ByeLine.{bye_of, bye_line};
 ghost use Rattle.imap_reply.specs.Continuation.{continuation_line};
 ghost use Rattle.imap_reply.specs.ReplyText.{reply_text};
@@ -57,13 +59,32 @@ pub fn input_in(
 {
     match input {
         Input::Asks(request) => request_in(alloc, setting, home, conn, connection, request, outs),
-        Input::GoesOn(why) => outs.push(Out::Client(conn, continuation_line(alloc, why)?)),
-        Input::Faults(fault) => {
-            connection.stage = Stage::Ended;
-            outs.push(Out::Client(conn, bye_line(alloc, fault)?))?;
-            outs.push(Out::Close(conn))
-        }
+        Input::GoesOn(why) => goes_on(alloc, conn, why, outs),
+        Input::Faults(fault) => faults(alloc, conn, connection, fault, outs),
     }
+}
+
+/// The client is asked to go on.
+fn goes_on(alloc: Global, conn: u64, why: Continuation, outs: &mut Outs) -> Result<(), Memory>
+    ensures { OnOk result (outs.new ≡ outs.old ++ Client conn (continuation_line why) ∷ []) }
+{
+    outs.push(Out::Client(conn, continuation_line(alloc, why)?))
+}
+
+/// A fault ends the connection, with a BYE.
+fn faults(
+    alloc: Global,
+    conn: u64,
+    connection: &mut Connection,
+    fault: FrameFault,
+    outs: &mut Outs,
+) -> Result<(), Memory>
+    ensures connection { OnOk result (connection.new ≡ record connection.old { stage = Ended }) }
+    ensures outs { OnOk result (outs.new ≡ outs.old ++ Client conn (bye_line (bye_of fault)) ∷ Close conn ∷ []) }
+{
+    connection.stage = Stage::Ended;
+    outs.push(Out::Client(conn, bye_line(alloc, fault)?))?;
+    outs.push(Out::Close(conn))
 }
 
 fn continuation_line(alloc: Global, why: Continuation) -> Result<Bytes, Memory>

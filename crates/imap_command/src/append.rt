@@ -22,7 +22,7 @@ fn dated_of(alloc: Global, bytes: &[u8]) -> Result<(Dated, &[u8]), ReadError>
         let (text, rest) = date_time_of(bytes)?;
         let rest = byte_of(b' ', rest)?;
         let (message, rest) = literal_of(alloc, rest)?;
-        Ok(((Some(date_named(text)?), message), rest))
+        Ok(((Some(date_named(text)), message), rest))
     } else {
         let (message, rest) = literal_of(alloc, bytes)?;
         Ok(((None, message), rest))

@@ -87,11 +87,11 @@ impl Kind for Dates {
 
 /// The date that a text is.
 #[tactic(auto, unfolding(mail_message::specs::Date::date_of))]
-pub fn date_named(text: &[u8]) -> Result<DateText, Memory>
+pub fn date_named(text: &[u8]) -> DateText
     requires { is_date text.now ≡ true }
-    ensures { IfOk result (λ date. date ≡ text.now) }
+    ensures { result ≡ text.now }
 {
-    date(text).ok_or(Memory)
+    date(text).unwrap()
 }
 
 /// Reads the text of a date between quotes.

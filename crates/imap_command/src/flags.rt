@@ -16,7 +16,7 @@ use grammar::{
 };
 use mail_message::{FlagFault, FlagName, FlagSet, Keyword, Keywords, SystemFlag, SystemFlags};
 use mur_base::limits::{KEYWORD_LIMIT, MESSAGE_KEYWORD_LIMIT};
-use mur_base::{Bytes, Items, Memory};
+use mur_base::{Bytes, Items, Memory, NameFault};
 use std::alloc::Global;
 
 /// A byte of a keyword.
@@ -120,7 +120,8 @@ fn keyword_named(alloc: Global, text: &[u8]) -> Result<Keyword, Memory>
 {
     match Keyword::read(alloc, text) {
         Ok(keyword) => Ok(keyword),
-        Err(_) => Err(Memory),
+        Err(NameFault::Memory) => Err(Memory),
+        Err(_) => unreachable!(),
     }
 }
 
@@ -159,7 +160,8 @@ fn put_flag(alloc: Global, so_far: FlagSet, name: &FlagName) -> Result<FlagSet, 
     match so_far.with(alloc, name) {
         Ok(flags) => Ok(flags),
         Err(FlagFault::TooMany) => Ok(so_far),
-        Err(_) => Err(Memory),
+        Err(FlagFault::Memory) => Err(Memory),
+        Err(_) => unreachable!(),
     }
 }
 

@@ -46,7 +46,7 @@ const SINGLE_ROWS: [(&[u8], Option<ItemName>); 7] = [
 ];
 
 /// The greatest number64, of 63 bits.
-pub const NUMBER_MOST: u64 = 9_223_372_036_854_775_807;
+pub const NUMBER64_MOST: u64 = 9_223_372_036_854_775_807;
 
 /// Reads which part of a body is asked for, if not the whole.
 fn partial_of(bytes: &[u8]) -> Result<(Option<Partial>, &[u8]), Stop>
@@ -54,9 +54,9 @@ fn partial_of(bytes: &[u8]) -> Result<(Option<Partial>, &[u8]), Stop>
 {
     if begins(&Only(b'<'), bytes) {
         let rest = byte_of(b'<', bytes)?;
-        let (from, rest) = number_of(true, NUMBER_MOST, rest)?;
+        let (from, rest) = number_of(true, NUMBER64_MOST, rest)?;
         let rest = byte_of(b'.', rest)?;
-        let (count, rest) = number_of(false, NUMBER_MOST, rest)?;
+        let (count, rest) = number_of(false, NUMBER64_MOST, rest)?;
         let rest = byte_of(b'>', rest)?;
         Ok((Some(Partial { from, count }), rest))
     } else {

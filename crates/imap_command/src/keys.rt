@@ -10,7 +10,7 @@ ghost use Rattle.imap_command.specs.Sets.{set as set_form};
 
 use crate::dates::{date_of, put_date};
 use crate::flags::{lone_keyword_of, system_name};
-use crate::items::NUMBER_MOST;
+use crate::items::NUMBER64_MOST;
 use crate::sets::{SetStart, put_set, set_of};
 use grammar::{Only, ReadError, Stop, begins, byte_of, number_of, put_decimal, table_of};
 use mail_message::{Day, FlagName, Key, Keys, SetParts};
@@ -109,7 +109,7 @@ fn spaced_size_of(bytes: &[u8]) -> Result<(u64, &[u8]), Stop>
     ensures { Finds (λ x. (x.0, x.1.now)) result ((behind space size_form).part.at bytes.now) }
 {
     let rest = byte_of(b' ', bytes)?;
-    number_of(true, NUMBER_MOST, rest)
+    number_of(true, NUMBER64_MOST, rest)
 }
 
 fn spaced_date_of(bytes: &[u8]) -> Result<(Day, &[u8]), Stop>

@@ -102,9 +102,9 @@ impl Grammar for Commands {
             bytes,
         )?;
         let rest = byte_of(b' ', rest)?;
+        let tag = Bytes::from_slice(alloc, tag)?;
         let (command, rest) = command_of(alloc, rest)?;
-        let tag = Tag::Text(Bytes::from_slice(alloc, tag)?);
-        Ok(((tag, command), rest))
+        Ok(((Tag::Text(tag), command), rest))
     }
 }
 

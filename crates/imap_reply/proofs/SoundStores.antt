@@ -32,7 +32,7 @@ use Rattle.mur_model.specs.Store.{box_at, empty_store}
 use Rattle.imap_reply.specs.SoundRequests.{IsSoundMessage, IsSoundBox, IsSoundStore}
 use Rattle.imap_reply.proofs.TurnLines.{found}
 
-abbrev IsKeyword : List ℕ → Type 0
+abbrev pub IsKeyword : List ℕ → Type 0
 IsKeyword keyword = keyword_fault keyword ≡ None
 
 abbrev pub IsSoundRow : Row → Type 0

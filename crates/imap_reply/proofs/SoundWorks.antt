@@ -46,7 +46,7 @@ use Rattle.mur_model.specs.Expunge.{expunge_on, expunge_at, expunge_name}
 use Rattle.mur_model.specs.Fetch.{fetch_on, fetch_at, fetch_told, fetch_name, fetch_lines, items_told, sees, seen_flags}
 use Rattle.mur_model.specs.Left.{Worked, kept, changed}
 use Rattle.mur_model.specs.News.{news, flag_parts}
-use Rattle.mur_model.specs.Select.{closed_lines, flags_in, keywords_in, permanent_line, select_lines, select_name}
+use Rattle.mur_model.specs.Select.{closed_lines, flags_of, keywords_in, permanent_line, select_lines, select_name}
 use Rattle.mur_model.specs.Select.{select_on, system_flags, unselected}
 use Rattle.mur_model.specs.Search.{found_uids, numbers_told, search_at, search_name, search_on}
 use Rattle.mur_model.specs.Selected.{at_view, gone, rows_of, with_news}
@@ -56,7 +56,7 @@ use Rattle.mur_model.specs.Viewing.{close_at, left_by}
 use Rattle.mur_model.specs.Viewing.{news_at, news_name, viewed_on}
 use Rattle.imap_reply.specs.SoundRequests.{IsSoundMessage, IsSoundBox}
 use Rattle.imap_reply.specs.SoundTexts.{IsSoundFlag, IsSoundLine, IsSoundVerdict}
-use Rattle.imap_reply.proofs.SoundStores.{IsSoundRow, IsSoundLeft, appended_is, changes_are, expunged_is, keywords_are, messages_found, rows_are}
+use Rattle.imap_reply.proofs.SoundStores.{IsKeyword, IsSoundRow, IsSoundLeft, appended_is, changes_are, expunged_is, keywords_are, messages_found, rows_are}
 use Rattle.imap_reply.proofs.SoundStores.{stored_is}
 use Rattle.imap_reply.proofs.TurnLines.{OfLines, each_fetch, each_news, each_own, fetched}
 
@@ -107,30 +107,32 @@ pub unselected_sound : (user : List ℕ) (was_selected : Bool) (why : NoText) �
 unfolding IsSoundVerdict
 unselected_sound user was_selected why = record { lines = closed_sound was_selected; verdict = tt }
 
-flags_sound : (rows : List Row) → All IsSoundRow rows → All IsSoundFlag (flags_in rows)
+flags_sound : (keywords : List (List ℕ)) → All IsKeyword keywords → All IsSoundFlag (flags_of keywords)
 unfolding IsSoundFlag
-flags_sound rows all =
-    All-append IsSoundFlag system_flags (map Keyword (keywords_in rows))
+flags_sound keywords all =
+    All-append IsSoundFlag system_flags (map Keyword keywords)
     (All-from_recursion IsSoundFlag system_flags (tt, (tt, (tt, (tt, (tt, tt))))))
-    (All-map IsSoundFlag Keyword (keywords_in rows) (keywords_are rows all))
+    (All-map IsSoundFlag Keyword keywords all)
 
-permanent_sound : (is_writable : Bool) (rows : List Row) → All IsSoundRow rows → IsSoundLine (permanent_line is_writable rows)
+permanent_sound : (is_writable : Bool) (keywords : List (List ℕ)) → All IsKeyword keywords → IsSoundLine (permanent_line is_writable keywords)
 unfolding IsSoundLine
-permanent_sound true rows all = flags_sound rows all
-permanent_sound false rows all = All-nil IsSoundFlag
+permanent_sound true keywords all = flags_sound keywords all
+permanent_sound false keywords all = All-nil IsSoundFlag
 
 -- the lines of a mailbox that is selected
 abbrev lines_of : Opening → Snapshot → List ReplyLine
 lines_of it seen =
-    Flags (flags_in seen.rows) ∷ Exists (length seen.rows) ∷ Listed no_attribute it.shown ∷ permanent_line it.is_writable seen.rows
-    ∷ UidNext seen.next ∷ UidValidity seen.serial ∷ []
+    Flags (flags_of (keywords_in seen.rows)) ∷ Exists (length seen.rows) ∷ Listed no_attribute it.shown
+    ∷ permanent_line it.is_writable (keywords_in seen.rows) ∷ UidNext seen.next ∷ UidValidity seen.serial ∷ []
 
 opened_sound : (it : Opening) (seen : Snapshot) → IsPlain it.shown → All IsSoundRow seen.rows → All IsSoundLine (select_lines it seen)
 unfolding IsSoundLine
 opened_sound it seen plain all =
     All-append IsSoundLine (closed_lines it.was_selected) (lines_of it seen) (closed_sound it.was_selected)
-    (All-from_recursion IsSoundLine (lines_of it seen)
-    (flags_sound seen.rows all, (tt, (plain, (permanent_sound it.is_writable seen.rows all, (tt, (tt, tt)))))))
+    (All-from_recursion IsSoundLine (lines_of it seen) (
+      flags_sound (keywords_in seen.rows) (keywords_are seen.rows all),
+      (tt, (plain, (permanent_sound it.is_writable (keywords_in seen.rows) (keywords_are seen.rows all), (tt, (tt, tt))))),
+    ))
 
 -- names of commands
 

@@ -1,6 +1,6 @@
 // Names, numbers, lists, queues and maps.
-use crate::fault::Fault;
 use crate::field::{bytes_of, writes};
+use case_table::Fault;
 use mur_base::{
     Bytes, Copied, Items, MailName, Map, Memory, NameFault, Queue, UserName, is_own, mail_name,
     node_name, owns, put_number, read_number, shown, taken, user_name,

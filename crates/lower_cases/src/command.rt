@@ -1,7 +1,9 @@
 // Frames and the commands that they spell, or where they spell none.
-use crate::fault::Fault;
+ghost use Rattle.imap_command.specs.Spells.{IsSpelled};
+
 use crate::field::{bytes_of, number_of, writes};
 use crate::shown::shown;
+use case_table::Fault;
 use imap_command::{Bad, ReadFault, print, read, read_request, reread, too_big};
 use mur_base::{Bytes, Memory};
 use mur_model::{Command, Request, Tag};
@@ -81,38 +83,34 @@ impl Wanted<'_> {
     /// Whether a frame spells just this, also once it is printed and read again.
     fn is_spelled(self, alloc: Global, frame: &str) -> Result<bool, Fault> {
         let frame = bytes_of(alloc, frame)?;
+        match &read(alloc, frame.as_slice()) {
+            Ok((tag, command)) => self.is_told(alloc, tag, command),
+            Err(_) => Ok(false),
+        }
+    }
+
+    fn is_told(self, alloc: Global, tag: &Tag, command: &Command) -> Result<bool, Fault>
+        requires { IsSpelled tag.now command.now }
+    {
         Ok(
-            self.is_read(alloc, frame.as_slice())?
-                && self.is_printed(alloc, frame.as_slice())?
-                && self.is_read_again(alloc, frame.as_slice())?,
+            self.is_this(alloc, tag, command)?
+                && self.is_printed(alloc, tag, command)?
+                && self.is_read_again(alloc, tag, command)?,
         )
     }
 
-    fn is_read(self, alloc: Global, frame: &[u8]) -> Result<bool, Fault> {
-        match &read(alloc, frame) {
-            Ok((tag, command)) => self.is_this(alloc, tag, command),
-            Err(_) => Ok(false),
-        }
+    fn is_printed(self, alloc: Global, tag: &Tag, command: &Command) -> Result<bool, Fault>
+        requires { IsSpelled tag.now command.now }
+    {
+        let printed = print(alloc, tag, command)?;
+        writes(alloc, self.printed, printed.as_slice())
     }
 
-    fn is_printed(self, alloc: Global, frame: &[u8]) -> Result<bool, Fault> {
-        match &read(alloc, frame) {
-            Ok((tag, command)) => {
-                let printed = print(alloc, tag, command)?;
-                writes(alloc, self.printed, printed.as_slice())
-            }
-            Err(_) => Ok(false),
-        }
-    }
-
-    fn is_read_again(self, alloc: Global, frame: &[u8]) -> Result<bool, Fault> {
-        match &read(alloc, frame) {
-            Ok((tag, command)) => {
-                let (tag, command) = &reread(alloc, tag, command)?;
-                self.is_this(alloc, tag, command)
-            }
-            Err(_) => Ok(false),
-        }
+    fn is_read_again(self, alloc: Global, tag: &Tag, command: &Command) -> Result<bool, Fault>
+        requires { IsSpelled tag.now command.now }
+    {
+        let (tag, command) = &reread(alloc, tag, command)?;
+        self.is_this(alloc, tag, command)
     }
 
     fn is_this(self, alloc: Global, tag: &Tag, command: &Command) -> Result<bool, Fault> {

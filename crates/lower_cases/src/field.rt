@@ -1,28 +1,8 @@
-// The fields of a case, and the bytes that a field writes.
-use crate::fault::Fault;
+// The bytes and the numbers that a field of a case writes.
+use case_table::Fault;
 use memchr::memchr;
 use mur_base::{Bytes, Memory, read_number};
 use std::alloc::Global;
-
-/// The fields of a line.
-pub fn fields_of(alloc: Global, line: &str) -> Result<Vec<&str>, Memory> {
-    parts_of(alloc, line, " | ")
-}
-
-/// The texts between the separators of a text.
-pub fn parts_of<'a>(alloc: Global, text: &'a str, separator: &str) -> Result<Vec<&'a str>, Memory> {
-    let mut parts = Vec::new(alloc);
-    let mut rest = text;
-    for _ in 0..text.len() {
-        let Some((part, more)) = rest.split_once(separator) else {
-            break;
-        };
-        parts.push(part)?;
-        rest = more;
-    }
-    parts.push(rest)?;
-    Ok(parts)
-}
 
 /// A byte or a text that stands so many times in a row.
 #[derive(Clone, Copy)]

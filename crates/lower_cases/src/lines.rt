@@ -1,6 +1,6 @@
 // The untagged lines of a reply.
-use crate::fault::Fault;
-use crate::field::{bytes_of, number_of, parts_of, small_of};
+use crate::field::{bytes_of, number_of, small_of};
+use case_table::{Fault, parts_of};
 use mail_message::{FlagName, Uids, flag};
 use mur_base::Items;
 use mur_model::{

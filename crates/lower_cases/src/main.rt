@@ -8,7 +8,6 @@
 
 mod base;
 mod command;
-mod fault;
 mod field;
 mod lines;
 mod pattern;
@@ -19,9 +18,9 @@ mod verdict;
 mod wire;
 
 use anyhow::{Result, anyhow};
-use fault::Fault;
+use case_table::{Cases, Fault, fields_of, tell};
 use std::alloc::Global;
-use std::{env, fs};
+use std::env;
 
 /// What the cases of a file are of.
 #[derive(Clone, Copy)]
@@ -33,10 +32,9 @@ enum Subject {
     Pattern,
 }
 
-impl Subject {
-    /// Whether a case comes out as it wants.
-    fn holds(self, alloc: Global, line: &str) -> Result<bool, Fault> {
-        let fields = field::fields_of(alloc, line)?;
+impl Cases for Subject {
+    fn holds(&self, alloc: Global, line: &str) -> Result<bool, Fault> {
+        let fields = fields_of(alloc, line)?;
         match self {
             Subject::Wire => wire::holds(alloc, fields.as_slice()),
             Subject::Command => command::holds(alloc, fields.as_slice()),
@@ -44,31 +42,6 @@ impl Subject {
             Subject::Base => base::holds(alloc, fields.as_slice()),
             Subject::Pattern => pattern::holds(alloc, fields.as_slice()),
         }
-    }
-
-    /// Compares what the crates make of a case with what it wants.
-    fn compare(self, alloc: Global, line: &str) -> Result<(), Fault> {
-        if self.holds(alloc, line)? {
-            Ok(())
-        } else {
-            Err(Fault::Differs)
-        }
-    }
-
-    /// How many cases a text has, each of which holds.
-    fn passed(self, alloc: Global, text: &str) -> Result<u64> {
-        let mut passed: u64 = 0;
-        for line in text.lines() {
-            if line.is_empty() || line.starts_with('#') {
-                continue;
-            }
-            if let Err(fault) = self.compare(alloc, line) {
-                let why = fault.text();
-                return Err(anyhow!("{why}: {line}"));
-            }
-            passed = passed.wrapping_add(1);
-        }
-        Ok(passed)
     }
 }
 
@@ -84,15 +57,7 @@ fn main(rt: HostRuntime) -> Result<()> {
         let Some(file) = files.next() else {
             return Err(anyhow!("lower_cases WIRE COMMAND REPLY BASE PATTERN"));
         };
-        tell(&rt, subject, file.as_str())?;
+        tell(&rt, &subject, file.as_str())?;
     }
-    Ok(())
-}
-
-/// Prints how many cases of a file passed.
-fn tell(rt: &HostRuntime, subject: Subject, file: &str) -> Result<()> {
-    let text = fs::read_to_string(rt, file)?;
-    let passed = subject.passed(rt.alloc(), text.as_str())?;
-    println!(rt; "{file}: {passed} cases passed")?;
     Ok(())
 }

@@ -1,6 +1,6 @@
 // Patterns of LIST.
-use crate::fault::Fault;
 use crate::field::bytes_of;
+use case_table::Fault;
 use mur_base::limits::NAME_LIMIT;
 use mur_base::matches;
 use std::alloc::Global;

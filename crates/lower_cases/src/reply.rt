@@ -1,8 +1,8 @@
 // Replies and the bytes that are written for them.
-use crate::fault::Fault;
-use crate::field::{bytes_of, parts_of, writes};
+use crate::field::{bytes_of, writes};
 use crate::lines::lines_of;
 use crate::verdict::verdict_of;
+use case_table::{Fault, parts_of};
 use imap_reply::write;
 use mur_base::Bytes;
 use mur_model::{Reply, Tag};

@@ -1,7 +1,7 @@
 // The verdict of a reply.
-use crate::fault::Fault;
-use crate::field::{bytes_of, parts_of, small_of};
+use crate::field::{bytes_of, small_of};
 use crate::lines::numbers_of;
+use case_table::{Fault, parts_of};
 use mail_message::Uids;
 use mur_model::{BadText, Code, NoText, Verdict};
 use std::alloc::Global;

@@ -1,8 +1,8 @@
 // Connections and their frames, byte by byte and cut in two.
 ghost use Rattle.std.specs.Prelude.{◌≡◌, ◌↔◌, IsTrue};
 
-use crate::fault::Fault;
 use crate::field::{bytes_of, small_of};
+use case_table::Fault;
 use imap_wire::{Frame, FrameFault, Framer, frames};
 use mur_base::{Bytes, Items, Memory};
 use std::alloc::Global;

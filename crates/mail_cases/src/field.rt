@@ -1,23 +1,8 @@
-// The fields of a case, and the numbers that they write.
-use crate::fault::Fault;
+// The words and the numbers that a field of a case writes.
+use case_table::Fault;
 use mail_message::Uids;
 use mur_base::{Bytes, Memory, put_number, read_number};
 use std::alloc::Global;
-
-/// The texts between the separators of a line.
-pub fn fields_of(alloc: Global, line: &str) -> Result<Vec<&str>, Memory> {
-    let mut fields = Vec::new(alloc);
-    let mut rest = line;
-    for _ in 0..line.len() {
-        let Some((field, more)) = rest.split_once(" | ") else {
-            break;
-        };
-        fields.push(field)?;
-        rest = more;
-    }
-    fields.push(rest)?;
-    Ok(fields)
-}
 
 /// The words of a text.
 pub fn words_of(alloc: Global, text: &str) -> Result<Vec<&str>, Memory> {

@@ -1,5 +1,5 @@
 // Flags, and what a STORE makes of them.
-use crate::fault::Fault;
+use case_table::Fault;
 use mail_message::{FlagFault, FlagName, FlagSet, Mode, SystemFlag, flag};
 use mur_base::{Bytes, Memory};
 use std::alloc::Global;

@@ -1,10 +1,10 @@
 // Steps of a home of mailboxes.
-use crate::fault::Fault;
 use crate::field::{number_of, uids_of, words_of};
 use crate::flags::{mode_of, with_flag};
 use crate::operation::messages;
 use crate::outs::put_outs;
 use backend_core::{BackInput, Backend};
+use case_table::Fault;
 use link_msg::{FrontAsk, Op, Outs};
 use mail_message::FlagSet;
 use mur_base::{

@@ -1,9 +1,9 @@
 // Search keys, and the messages that they are tried on.
-use crate::fault::Fault;
 use crate::field::{number_of, put_numbers, wide_number_of, words_of};
 use crate::flags::flags_of;
 use crate::parts::filled;
 use crate::sets::set_of;
+use case_table::Fault;
 use mail_message::{Day, FlagName, Key, Keys, Message, Messages, Uids, date, flag};
 use mail_search::{key_matches, search};
 use mur_base::{Boxed, Bytes, Memory};
@@ -22,7 +22,8 @@ pub fn match_message(alloc: Global, fields: &[&str]) -> Result<bool, Fault> {
         return Ok(false);
     };
     let message = sized_message(alloc, uid, flags, date, bytes)?;
-    Ok(matches(alloc, key, &message, number)? == (*want == "yes"))
+    let found = matches(alloc, key, &message, number)?;
+    Ok(*want == if found { "yes" } else { "no" })
 }
 
 fn sized_message(

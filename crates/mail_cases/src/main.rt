@@ -6,7 +6,6 @@
 //! fields of each kind are.
 #![tactic(auto)]
 
-mod fault;
 mod field;
 mod flags;
 mod home;
@@ -18,17 +17,22 @@ mod session;
 mod sets;
 mod told;
 
-use anyhow::{Result, anyhow};
-use fault::Fault;
+use anyhow::Result;
+use case_table::{Cases, Fault, fields_of, tell};
 use std::alloc::Global;
-use std::{env, fs};
+use std::env;
 
-/// Whether a case comes out as it wants.
-fn holds(alloc: Global, line: &str) -> Result<bool, Fault> {
-    let fields = field::fields_of(alloc, line)?;
-    match fields.as_slice().split_first() {
-        Some((kind, rest)) => holds_of(alloc, kind, rest),
-        None => Ok(false),
+/// What the first field of a case tells.
+#[derive(Clone, Copy)]
+struct Kinds;
+
+impl Cases for Kinds {
+    fn holds(&self, alloc: Global, line: &str) -> Result<bool, Fault> {
+        let fields = fields_of(alloc, line)?;
+        match fields.as_slice().split_first() {
+            Some((kind, rest)) => holds_of(alloc, kind, rest),
+            None => Ok(false),
+        }
     }
 }
 
@@ -47,42 +51,9 @@ fn holds_of(alloc: Global, kind: &str, fields: &[&str]) -> Result<bool, Fault> {
     }
 }
 
-/// Compares what the crates make of a case with what it wants.
-fn compare(alloc: Global, line: &str) -> Result<(), Fault> {
-    if holds(alloc, line)? {
-        Ok(())
-    } else {
-        Err(Fault::Differs)
-    }
-}
-
-/// How many cases a text has, each of which holds.
-fn passed(alloc: Global, text: &str) -> Result<u64> {
-    let mut passed: u64 = 0;
-    for line in text.lines() {
-        if line.is_empty() || line.starts_with('#') {
-            continue;
-        }
-        if let Err(fault) = compare(alloc, line) {
-            let why = fault.text();
-            return Err(anyhow!("{why}: {line}"));
-        }
-        passed = passed.wrapping_add(1);
-    }
-    Ok(passed)
-}
-
 fn main(rt: HostRuntime) -> Result<()> {
     for file in env::args(&rt)?.skip(1) {
-        tell(&rt, file.as_str())?;
+        tell(&rt, &Kinds, file.as_str())?;
     }
-    Ok(())
-}
-
-/// Prints how many cases of a file passed.
-fn tell(rt: &HostRuntime, file: &str) -> Result<()> {
-    let text = fs::read_to_string(rt, file)?;
-    let passed = passed(rt.alloc(), text.as_str())?;
-    println!(rt; "{file}: {passed} cases passed")?;
     Ok(())
 }

@@ -1,7 +1,7 @@
 // Operations on one mailbox, and their answers.
-use crate::fault::Fault;
 use crate::field::{number_of, put_numbers, put_separated, uids_of};
 use crate::flags::{flags_of, mode_of, put_flags};
+use case_table::Fault;
 use mail_message::{
     Change, FlagSet, MailBox, Message, Messages, Mode, OrderedRows, Row, Uids, date,
 };

@@ -1,7 +1,7 @@
 // Fetch items, and what they give of a message.
-use crate::fault::Fault;
 use crate::field::wide_number_of;
 use crate::keys::{DATE, message_of};
+use case_table::Fault;
 use mail_fetch::part;
 use mail_message::{Item, Message, Partial};
 use mur_base::{Bytes, Memory};

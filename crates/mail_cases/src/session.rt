@@ -1,7 +1,7 @@
 // One session over one home of mailboxes: what its client is told.
-use crate::fault::Fault;
 use crate::home;
 use backend_core::{BackInput, Backend};
+use case_table::Fault;
 use imap_command::read_request;
 use imap_reply::write;
 use link_msg::{AnswerBody, LinkMsg, Op, Out, Outs};

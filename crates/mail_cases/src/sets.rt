@@ -1,6 +1,6 @@
 // Sets of message numbers.
-use crate::fault::Fault;
 use crate::field::{number_of, put_separated};
+use case_table::Fault;
 use mail_message::{SetEnd, SetPart, SetParts};
 use mail_search::set_holds;
 use mur_base::{Bytes, Memory};

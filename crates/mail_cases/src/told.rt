@@ -1,7 +1,7 @@
 // Cases that want one text: what the crates make of another.
-use crate::fault::Fault;
 use crate::flags::kind_of;
 use crate::sets::put_members;
+use case_table::Fault;
 use mail_message::{date, first_acl};
 use mur_base::{Bytes, MailName, Memory, mail_name};
 use std::alloc::Global;

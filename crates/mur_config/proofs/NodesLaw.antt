@@ -1,5 +1,5 @@
--- Nodes that break no rule have names of their own, the kinds that a cluster needs, and a frontend.
-use Rattle.std.proofs.Common.{◌≡◌, ◌≢◌, ℕ, ◌≤◌, Bool, true, false, ◌||◌, ◌&&◌, not, nat_eq, nat_lt, nat_le, is_none, IsSome, List, [], ◌∷◌, length, Option}
+-- Nodes that break no rule have names of their own, and the kinds that a cluster needs.
+use Rattle.std.proofs.Common.{◌≡◌, ◌≢◌, ℕ, ◌≤◌, Bool, true, false, ◌||◌, ◌&&◌, not, nat_eq, nat_lt, nat_le, is_none, List, [], ◌∷◌, length, Option}
 use Rattle.std.proofs.Common.{None, Some, refl, sym, arith}
 use Rattle.std.specs.List.{All, AllPairs, list_any, list_all}
 use Rattle.std.proofs.lemmas.Bool.{and_parts, or_parts, eqb-true}
@@ -16,7 +16,7 @@ use Rattle.mur_config.specs.declared.node.Kind.TheVariants.{Master, Frontend, Ba
 use Rattle.mur_config.specs.declared.node.Node.{Node}
 use Rattle.mur_config.specs.declared.nodes.NodesFault.TheVariants.{NameTwice, NodeCount, BadPartition}
 use Rattle.mur_config.specs.Nodes.{is_node_named, node_names_differ, is_of_kind, is_node_of_kind, count_of_kind, is_some_within, has_node_counts, fits_kind}
-use Rattle.mur_config.specs.Nodes.{has_partition, nodes_fault, FitsKind, AreNodes, frontend_of}
+use Rattle.mur_config.specs.Nodes.{has_partition, nodes_fault, FitsKind, AreNodes}
 
 none_named : (name : List ℕ) (nodes : List Node) → list_any (is_node_named name) nodes ≡ false → All (λ (node : Node). name ≢ node.name) nodes
 unfolding is_node_named
@@ -83,16 +83,3 @@ nodes_by nodes false counts partitions n c p h = let none : Some NameTwice ≡ N
 
 pub nodes_kept : (nodes : List Node) → nodes_fault nodes ≡ None → AreNodes nodes
 nodes_kept nodes h = nodes_by nodes _ _ _ refl refl refl h
-
-frontend_by : (node : Node) (kind : Kind) (nodes : List Node) → (1 ≤ count_of_kind Frontend nodes → IsSome (frontend_of nodes)) → node.kind ≡ kind
-    → 1 ≤ count_of_kind Frontend (node ∷ nodes) → IsSome (frontend_of (node ∷ nodes))
-unfolding frontend_of count_of_kind is_node_of_kind is_of_kind
-frontend_by node Master nodes ih k h = rw k (ih (rw k at h))
-frontend_by node Frontend nodes ih k h = rw k refl
-frontend_by node Backend nodes ih k h = rw k (ih (rw k at h))
-
--- where there is a frontend, one is the first
-pub first_frontend : (nodes : List Node) → 1 ≤ count_of_kind Frontend nodes → IsSome (frontend_of nodes)
-unfolding count_of_kind
-first_frontend [] h = absurd (omega arith)
-first_frontend (node ∷ nodes) h = frontend_by node node.kind nodes (first_frontend nodes) refl h

@@ -76,16 +76,6 @@ pub record AreNodes (nodes : List Node) : Type 0 where
   pub backends : (1 ≤ count_of_kind Backend nodes) × (count_of_kind Backend nodes ≤ BACKEND_LIMIT)
   pub partitions : All (λ (node : Node). FitsKind node.kind node.partition) nodes
 
-abbrev pub or_frontend : Kind → List ℕ → Option (List ℕ) → Option (List ℕ)
-or_frontend Master name later = later
-or_frontend Frontend name later = Some name
-or_frontend Backend name later = later
-
--- the name of the first frontend, if there is one
-unfoldable pub frontend_of : List Node → Option (List ℕ)
-frontend_of [] = None
-frontend_of (node ∷ nodes) = or_frontend node.kind node.name (frontend_of nodes)
-
 -- the node of a name, if there is one
 unfoldable pub node_named : List ℕ → List Node → Option Node
 node_named name [] = None

@@ -1,7 +1,7 @@
 // The configuration of a cluster, and the two that are known so far.
-ghost use Rattle.std.specs.Prelude.{◌≡◌, ◌≤◌, length, IfOk, IsSome, None};
+ghost use Rattle.std.specs.Prelude.{◌≡◌, ◌≤◌, length, IfOk, None};
 ghost use Rattle.mur_base.specs.Names.{short_name_fault};
-ghost use Rattle.mur_config.specs.Nodes.{nodes_fault, frontend_of};
+ghost use Rattle.mur_config.specs.Nodes.{nodes_fault};
 ghost use Rattle.mur_config.specs.Config.{config_of, one_backend, two_backends, known_with, known_users, known_date, IsReadAsConfig};
 
 use crate::node::{Kind, Node};
@@ -57,10 +57,9 @@ pub const CONFIG_LIMIT: usize = TWO_BACKENDS_CONFIG.len();
 
 /// The configuration that a text spells. It is refused exactly where its bytes are neither those of `ONE_BACKEND_CONFIG`
 /// nor those of `TWO_BACKENDS_CONFIG`.
-#[tactic(auto, unfolding(crate::specs::Config::config_of, crate::specs::Nodes::frontend_of))]
+#[tactic(auto, unfolding(crate::specs::Config::config_of))]
 pub fn read_config(alloc: Global, bytes: &[u8]) -> Result<Config, ConfigFault>
     ensures read { IsReadAsConfig (config_of bytes.now) result }
-    ensures frontend { IfOk result (λ config. IsSome (frontend_of config.nodes)) }
     ensures short { IfOk result (λ config. length bytes.now ≤ CONFIG_LIMIT) }
 {
     if bytes == ONE_BACKEND_CONFIG {

@@ -1,13 +1,13 @@
 // The nodes of a cluster.
-ghost use Rattle.std.specs.Prelude.{◌≡◌, ◌++◌, IsSome, IfSome, IfOk, OnOk};
+ghost use Rattle.std.specs.Prelude.{◌≡◌, ◌++◌, IfSome, IfOk, OnOk};
 ghost use Rattle.std.specs.Option.{option_copied};
 ghost use Rattle.std.specs.List.{list_any, list_all};
 ghost use Rattle.mur_config.specs.Nodes.{nodes_fault, node_names_differ, is_node_named, is_of_kind, is_node_of_kind, count_of_kind, is_some_within};
-ghost use Rattle.mur_config.specs.Nodes.{has_node_counts, fits_kind, has_partition, frontend_of, node_named, links_from, links_of, AreTakenAsNodes, AreNodes};
+ghost use Rattle.mur_config.specs.Nodes.{has_node_counts, fits_kind, has_partition, node_named, links_from, links_of, AreTakenAsNodes, AreNodes};
 
 use crate::node::{Kind, Links, Node};
 use mur_base::limits::{BACKEND_LIMIT, FRONTEND_LIMIT};
-use mur_base::{Items, Memory, NameRule, NodeName, NodeRule};
+use mur_base::{Items, Memory, NameRule, NodeRule};
 use std::alloc::Global;
 use std::marker::Model;
 use thiserror::Error;
@@ -65,20 +65,6 @@ impl Nodes {
         ensures kept { AreNodes self.now }
     {
         self.nodes.as_slice()
-    }
-
-    /// The name of the first frontend.
-    #[tactic(auto, unfolding(crate::specs::Nodes::frontend_of))]
-    pub fn frontend(&self) -> Option<&NodeName>
-        ensures first { option_copied result ≡ frontend_of self.now }
-        ensures there { IsSome (frontend_of self.now) }
-    {
-        for node in self.as_slice() {
-            if node.kind == Kind::Frontend {
-                return Some(&node.name);
-            }
-        }
-        None
     }
 
     /// The node of a name, if there is one.

@@ -53,19 +53,19 @@ keywords_in rows = fold (λ keywords row. with_keywords keywords row.flags.keywo
 abbrev pub system_flags : List FlagName
 system_flags = System Answered ∷ System Flagged ∷ System Deleted ∷ System Seen ∷ System Draft ∷ []
 
--- the flags of a mailbox: the system flags, and the keywords of its messages (RFC 9051, 7.3.5)
-abbrev pub flags_in : List Row → List FlagName
-flags_in rows = system_flags ++ map Keyword (keywords_in rows)
+-- the flags of a mailbox whose messages have these keywords: the system flags, and the keywords (RFC 9051, 7.3.5)
+abbrev pub flags_of : List (List ℕ) → List FlagName
+flags_of keywords = system_flags ++ map Keyword keywords
 
 -- the flags that the client can change for good, and whether it can make keywords (RFC 9051, 7.1: PERMANENTFLAGS)
-abbrev pub permanent_line : Bool → List Row → ReplyLine
-permanent_line true rows = Permanent (flags_in rows) true
-permanent_line false rows = Permanent [] false
+abbrev pub permanent_line : Bool → List (List ℕ) → ReplyLine
+permanent_line true keywords = Permanent (flags_of keywords) true
+permanent_line false keywords = Permanent [] false
 
 abbrev pub select_lines : Opening → Snapshot → List ReplyLine
 select_lines it seen =
-    closed_lines it.was_selected ++ Flags (flags_in seen.rows) ∷ Exists (length seen.rows) ∷ Listed no_attribute it.shown
-    ∷ permanent_line it.is_writable seen.rows ∷ UidNext seen.next ∷ UidValidity seen.serial ∷ []
+    closed_lines it.was_selected ++ Flags (flags_of (keywords_in seen.rows)) ∷ Exists (length seen.rows) ∷ Listed no_attribute it.shown
+    ∷ permanent_line it.is_writable (keywords_in seen.rows) ∷ UidNext seen.next ∷ UidValidity seen.serial ∷ []
 
 abbrev pub access_code : Bool → Code
 access_code true = ReadWrite

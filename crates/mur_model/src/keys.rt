@@ -42,6 +42,24 @@ fn key_at(alloc: Global, count: u32, last: u32, key: &Key) -> Result<Key, Memory
     ensures { IfOk result (λ made. made ≡ key_at count last key.now) }
 {
     match key {
+        Key::All => Ok(Key::All),
+        Key::Answered => Ok(Key::Answered),
+        Key::Deleted => Ok(Key::Deleted),
+        Key::Draft => Ok(Key::Draft),
+        Key::Flagged => Ok(Key::Flagged),
+        Key::Seen => Ok(Key::Seen),
+        Key::Unanswered => Ok(Key::Unanswered),
+        Key::Undeleted => Ok(Key::Undeleted),
+        Key::Undraft => Ok(Key::Undraft),
+        Key::Unflagged => Ok(Key::Unflagged),
+        Key::Unseen => Ok(Key::Unseen),
+        Key::Keyword(flag) => Ok(Key::Keyword(flag.copy(alloc)?)),
+        Key::Unkeyword(flag) => Ok(Key::Unkeyword(flag.copy(alloc)?)),
+        Key::Larger(size) => Ok(Key::Larger(*size)),
+        Key::Smaller(size) => Ok(Key::Smaller(*size)),
+        Key::Before(day) => Ok(Key::Before(*day)),
+        Key::On(day) => Ok(Key::On(*day)),
+        Key::Since(day) => Ok(Key::Since(*day)),
         Key::Numbers(set) => Ok(Key::Numbers(set_at(alloc, count, set)?)),
         Key::Uid(set) => Ok(Key::Uid(set_at(alloc, last, set)?)),
         Key::Not(key) => Ok(Key::Not(Boxed::new(alloc, key_at(alloc, count, last, key.get())?)?)),
@@ -51,7 +69,6 @@ fn key_at(alloc: Global, count: u32, last: u32, key: &Key) -> Result<Key, Memory
             Ok(Key::Or(one, other))
         }
         Key::Group(keys) => Ok(Key::Group(keys_at(alloc, count, last, keys.as_slice())?)),
-        _ => key.copy(alloc),
     }
 }
 

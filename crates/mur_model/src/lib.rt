@@ -35,6 +35,7 @@ pub use append::append_reply;
 pub use command::{Atoms, Command, StatusItem, StatusItems, Tag};
 pub use expunge::expunge_told;
 pub use fetch::{Fetching, fetch_told, sees};
+pub use named_rows::uids_of;
 pub use need::{Need, NewsFor, ViewWork, Work, begin};
 pub use news::{Told, news_of};
 pub use reply::{

@@ -92,6 +92,7 @@ pub fn last_uid(rows: &[Row]) -> u32
 }
 
 /// The UIDs of rows, in their order.
+/// The UIDs of rows, in their order.
 pub fn uids_of(alloc: Global, rows: &[Row]) -> Result<Uids, Memory>
     ensures list { IfOk result (λ list. list ≡ uids rows.now) }
     ensures length { IfOk result (λ list. length list ≡ length rows.now) }

@@ -24,7 +24,7 @@ use crate::setting::Setting;
 use crate::status::status;
 use crate::store_flags::FlagStore;
 use crate::view::View;
-use crate::viewing::{close, expunge, fetch, left_by, search, store};
+use crate::viewing::{close, expunge, fetch, search, store, unselect};
 use mail_message::{Message, Uids};
 use mur_base::{Bytes, Copied, MailName, Memory, UserName};
 use std::alloc::Global;
@@ -218,7 +218,7 @@ fn begin_selected(
         Command::Noop => work_at_view(alloc, view, ViewWork::News(NewsFor::Noop)),
         Command::Idle(Some(line)) => idled_selected(alloc, view, &line),
         Command::Close => close(alloc, view),
-        Command::Unselect => Ok(Need::Turned(left_by(alloc, view, b"UNSELECT")?)),
+        Command::Unselect => unselect(alloc, view),
         Command::Expunge(only) => expunge(alloc, view, &only),
         Command::Store(by_uid, set, mode, is_silent, flags) => {
             store(alloc, view, by_uid, &set, mode, is_silent, flags)

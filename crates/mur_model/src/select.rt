@@ -7,7 +7,7 @@ ghost use Rattle.mur_model.specs.Rights.{has_rights};
 ghost use Rattle.mur_model.specs.Left.{store_after};
 ghost use Rattle.mur_model.specs.Store.{box_at};
 ghost use Rattle.mur_model.specs.Select.{select, select_by, select_on, opening, select_name, select_lines, select_told, closed_lines, unselected, access_code};
-ghost use Rattle.mur_model.specs.Select.{keywords_in, flags_in, permanent_line, system_flags};
+ghost use Rattle.mur_model.specs.Select.{keywords_in, flags_of, permanent_line, system_flags};
 
 use crate::need::{Need, Work};
 use crate::news::number_of;
@@ -139,35 +139,39 @@ pub fn select_told(
 fn select_lines(alloc: Global, it: &Opening, seen: &Snapshot) -> Result<ReplyLines, Memory>
     ensures { IfOk result (λ lines. lines ≡ select_lines it.now seen.now) }
 {
-    let rows = seen.rows.as_slice();
+    let keywords = keywords_in(alloc, seen.rows.as_slice())?;
     let mut lines = closed_lines(alloc, it.was_selected)?;
-    lines.push(ReplyLine::Flags(flags_in(alloc, rows)?))?;
-    lines.push(ReplyLine::Exists(number_of(rows.len())?))?;
+    lines.push(ReplyLine::Flags(flags_of(alloc, &keywords)?))?;
+    lines.push(ReplyLine::Exists(number_of(seen.rows.len())?))?;
     let shown = Bytes::from_slice(alloc, it.shown.as_slice())?;
     lines.push(ReplyLine::Listed(Attribute::None, shown))?;
-    lines.push(permanent_line(alloc, it.is_writable, rows)?)?;
+    lines.push(permanent_line(alloc, it.is_writable, &keywords)?)?;
     lines.push(ReplyLine::UidNext(seen.next))?;
     lines.push(ReplyLine::UidValidity(seen.serial))?;
     Ok(lines)
 }
 
 /// The flags that the client can change for good, and whether it can make keywords (RFC 9051, 7.1: PERMANENTFLAGS).
-fn permanent_line(alloc: Global, is_writable: bool, rows: &[Row]) -> Result<ReplyLine, Memory>
-    ensures { IfOk result (λ line. line ≡ permanent_line is_writable rows.now) }
+fn permanent_line(
+    alloc: Global,
+    is_writable: bool,
+    keywords: &Keywords,
+) -> Result<ReplyLine, Memory>
+    ensures { IfOk result (λ line. line ≡ permanent_line is_writable keywords.now) }
 {
     if is_writable {
-        Ok(ReplyLine::Permanent(flags_in(alloc, rows)?, true))
+        Ok(ReplyLine::Permanent(flags_of(alloc, keywords)?, true))
     } else {
         Ok(ReplyLine::Permanent(FlagNames::new(alloc), false))
     }
 }
 
-/// The flags of a mailbox: the system flags, and the keywords of its messages (RFC 9051, 7.3.5).
-fn flags_in(alloc: Global, rows: &[Row]) -> Result<FlagNames, Memory>
-    ensures { IfOk result (λ flags. flags ≡ flags_in rows.now) }
+/// The flags of a mailbox whose messages have these keywords: the system flags, and the keywords (RFC 9051, 7.3.5).
+fn flags_of(alloc: Global, keywords: &Keywords) -> Result<FlagNames, Memory>
+    ensures { IfOk result (λ flags. flags ≡ flags_of keywords.now) }
 {
     let mut flags = system_flags(alloc)?;
-    put_keywords(alloc, &mut flags, &keywords_in(alloc, rows)?)?;
+    put_keywords(alloc, &mut flags, keywords)?;
     Ok(flags)
 }
 

@@ -1,6 +1,7 @@
 // The commands of a selected session (RFC 9051, 6.4).
-ghost use Rattle.std.specs.Prelude.{◌≡◌, [], IfOk, Some};
+ghost use Rattle.std.specs.Prelude.{◌≡◌, [], IfOk, Some, codes};
 ghost use Rattle.std.specs.List.{list_any};
+ghost use Rattle.mur_model.specs.declared.need.Need.TheVariants.{Turned};
 ghost use Rattle.mur_model.specs.Left.{IsLeft, store_after};
 ghost use Rattle.mur_model.specs.Selected.{at_view};
 ghost use Rattle.mur_model.specs.Store.{box_at};
@@ -62,6 +63,13 @@ pub fn left_by(alloc: Global, view: &View, name: &[u8]) -> Result<Turn, Memory>
         session: Some(Sess::In(view.user.copy(alloc)?)),
         reply: completed(alloc, name)?,
     })
+}
+
+/// What UNSELECT needs: nothing of the mailbox.
+pub fn unselect(alloc: Global, view: &View) -> Result<Need, Memory>
+    ensures { IfOk result (λ need. need ≡ Turned (left_by view.now (codes "UNSELECT"))) }
+{
+    Ok(Need::Turned(left_by(alloc, view, b"UNSELECT")?))
 }
 
 /// What CLOSE needs: what was selected to be read is left at once.

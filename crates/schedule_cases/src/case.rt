@@ -1,5 +1,5 @@
 // A case, and the bytes that a field of it writes.
-use crate::fault::Fault;
+use case_table::Fault;
 use mur_base::{Bytes, Memory};
 use std::alloc::Global;
 

@@ -1,6 +1,6 @@
 // Configurations, and lists of nodes and users.
 use crate::case::Case;
-use crate::fault::Fault;
+use case_table::Fault;
 use mur_base::{Bytes, Items, Memory, User, Users, UsersFault, node_name, user_name};
 use mur_config::{Config, ConfigFault, Kind, Node, Nodes, NodesFault, read_config};
 use std::alloc::Global;
@@ -24,17 +24,13 @@ fn put_read(alloc: Global, text: &[u8], out: &mut Bytes) -> Result<(), Memory> {
     }
 }
 
-/// Puts the nodes, the users, the first frontend and the date of a configuration.
+/// Puts the nodes, the users and the date of a configuration.
 fn put_config(config: &Config, out: &mut Bytes) -> Result<(), Memory> {
     for node in config.nodes.as_slice() {
         put_node(node, out)?;
     }
     for user in config.users.as_slice() {
         put_user(user, out)?;
-    }
-    if let Some(name) = config.nodes.frontend() {
-        out.extend_from_slice(name.as_bytes())?;
-        out.push(b' ')?;
     }
     out.extend_from_slice(config.date.as_bytes())
 }
@@ -62,7 +58,7 @@ fn put_user(user: &User, out: &mut Bytes) -> Result<(), Memory> {
 }
 
 /// The nodes of a list of `NAME=KIND` and `NAME=backend:PARTITION`.
-pub fn nodes_of(alloc: Global, list: &str) -> Result<Items<Node>, Fault> {
+fn nodes_of(alloc: Global, list: &str) -> Result<Items<Node>, Fault> {
     let mut nodes = Items::new(alloc);
     for text in list.split_whitespace() {
         nodes.push(node_of(alloc, text)?)?;
@@ -104,9 +100,17 @@ fn put_taken_nodes(alloc: Global, list: &str, out: &mut Bytes) -> Result<(), Fau
     })?)
 }
 
+/// The nodes of a list of a cluster's.
+pub fn taken_nodes(alloc: Global, list: &str) -> Result<Nodes, Fault> {
+    match Nodes::new(nodes_of(alloc, list)?) {
+        Ok(nodes) => Ok(nodes),
+        Err(_) => Err(Fault::Unreadable("no nodes of a cluster")),
+    }
+}
+
 /// Puts the links of nodes, each as `FROM>TO`.
 fn put_links(alloc: Global, list: &str, out: &mut Bytes) -> Result<(), Fault> {
-    let nodes = Nodes::new(nodes_of(alloc, list)?)?;
+    let nodes = taken_nodes(alloc, list)?;
     Ok(put_links_of(alloc, &nodes, out)?)
 }
 

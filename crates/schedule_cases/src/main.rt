@@ -8,16 +8,15 @@
 
 mod case;
 mod configuration;
-mod fault;
 mod schedule;
 mod text;
 
 use anyhow::{Result, anyhow};
 use case::{Case, case_of};
-use fault::Fault;
+use case_table::{Cases, Fault, tell};
 use mur_base::Bytes;
 use std::alloc::Global;
-use std::{env, fs};
+use std::env;
 
 /// What the cases of a file are of.
 #[derive(Clone, Copy)]
@@ -36,35 +35,16 @@ impl Subject {
             Subject::Schedule => schedule::put_found(alloc, case, out),
         }
     }
+}
 
-    /// Compares what the crates make of a case with what it wants.
-    fn compare(self, alloc: Global, line: &str) -> Result<(), Fault> {
+impl Cases for Subject {
+    fn holds(&self, alloc: Global, line: &str) -> Result<bool, Fault> {
         let Some(case) = case_of(line) else {
             return Err(Fault::Unreadable("no case"));
         };
         let mut found = Bytes::new(alloc);
         self.put_found(alloc, case, &mut found)?;
-        if found.as_slice() == case.want.as_bytes() {
-            Ok(())
-        } else {
-            Err(Fault::Differs)
-        }
-    }
-
-    /// How many cases a file's text has, each of which holds.
-    fn passed(self, alloc: Global, cases: &str) -> Result<u64> {
-        let mut passed: u64 = 0;
-        for line in cases.lines() {
-            if line.is_empty() || line.starts_with('#') {
-                continue;
-            }
-            if let Err(fault) = self.compare(alloc, line) {
-                let why = fault.text();
-                return Err(anyhow!("{why}: {line}"));
-            }
-            passed = passed.wrapping_add(1);
-        }
-        Ok(passed)
+        Ok(found.as_slice() == case.want.as_bytes())
     }
 }
 
@@ -74,15 +54,7 @@ fn main(rt: HostRuntime) -> Result<()> {
         let Some(file) = files.next() else {
             return Err(anyhow!("schedule_cases CONFIGURATION TEXT SCHEDULE"));
         };
-        tell(&rt, subject, file.as_str())?;
+        tell(&rt, &subject, file.as_str())?;
     }
-    Ok(())
-}
-
-/// Prints how many cases of a file passed.
-fn tell(rt: &HostRuntime, subject: Subject, file: &str) -> Result<()> {
-    let cases = fs::read_to_string(rt, file)?;
-    let passed = subject.passed(rt.alloc(), cases.as_str())?;
-    println!(rt; "{file}: {passed} cases passed")?;
     Ok(())
 }

@@ -1,9 +1,9 @@
 // Schedules over a configuration of a master, two frontends and two backends: their events, or their first fault.
 use crate::case::{Case, bytes_of_lines};
-use crate::configuration::nodes_of;
-use crate::fault::Fault;
+use crate::configuration::taken_nodes;
+use case_table::Fault;
 use mur_base::{Bytes, Memory, put_number};
-use mur_config::{Config, Nodes, ONE_BACKEND_CONFIG, read_config};
+use mur_config::{Config, ConfigFault, ONE_BACKEND_CONFIG, read_config};
 use schedule_text::{Event, Events, SchedFault, ScheduleError, put_text, read_schedule};
 use std::alloc::Global;
 
@@ -29,12 +29,20 @@ fn put_read(alloc: Global, schedule: &[u8], out: &mut Bytes) -> Result<(), Fault
 }
 
 fn config_of_cases(alloc: Global) -> Result<Config, Fault> {
-    let Config { users, date, .. } = read_config(alloc, ONE_BACKEND_CONFIG)?;
+    let Config { users, date, .. } = known_config(alloc)?;
     Ok(Config {
-        nodes: Nodes::new(nodes_of(alloc, NODES)?)?,
+        nodes: taken_nodes(alloc, NODES)?,
         users,
         date,
     })
+}
+
+fn known_config(alloc: Global) -> Result<Config, Fault> {
+    match read_config(alloc, ONE_BACKEND_CONFIG) {
+        Ok(config) => Ok(config),
+        Err(ConfigFault::Unknown) => Err(Fault::Unreadable("no known configuration")),
+        Err(ConfigFault::Memory) => Err(Fault::Memory),
+    }
 }
 
 fn put_told(read: &Result<Events, ScheduleError>, out: &mut Bytes) -> Result<(), Memory> {

@@ -1,6 +1,6 @@
 // Bytes as printable text, and texts cut into lines.
 use crate::case::{Case, bytes_of_hex, bytes_of_lines, put_hex, put_lines};
-use crate::fault::Fault;
+use case_table::Fault;
 use mur_base::{Bytes, Memory};
 use schedule_text::{LineCuts, put_name_text, put_text, read_text};
 use std::alloc::Global;

@@ -1,5 +1,5 @@
 // A schedule, read into its events: a recorded run, one event a line.
-ghost use Rattle.std.specs.Prelude.{◌≡◌, length, IfOk, OnOk};
+ghost use Rattle.std.specs.Prelude.{◌≡◌, ◌≤◌, length, IfOk, OnOk};
 ghost use Rattle.schedule_text.specs.ScheduleRules.{IsReadAs, IsReadAsSchedule};
 ghost use Rattle.schedule_text.specs.ScheduleOpened.{KnowsOpened};
 ghost use Rattle.schedule_text.specs.ScheduleFits.{FitSchedule, HasCountRoom};
@@ -36,6 +36,7 @@ pub fn read_schedule(alloc: Global, bytes: &[u8], config: &Config) -> Result<Eve
     ensures read { IsReadAsSchedule (schedule_of config.now bytes.now) result }
     ensures fit { IfOk result (FitSchedule config.now (length bytes.now)) }
     ensures room { IfOk result (λ events. HasCountRoom events) }
+    ensures short { IfOk result (λ events. length bytes.now ≤ SCHEDULE_LIMIT) }
 {
     if bytes.len() > SCHEDULE_LIMIT {
         return Err(ScheduleError::Refused(SchedFault {

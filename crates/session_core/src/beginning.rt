@@ -2,14 +2,18 @@
 ghost use Rattle.std.specs.Prelude.{◌≡◌, IfOk};
 ghost use Rattle.session_core.specs.Begin.{begin, MayNeed};
 ghost use Rattle.mur_model.specs.ClientView.{Known};
+ghost use Rattle.session_core.specs.declared.need.Need.TheVariants.{Home};
+ghost use Rattle.session_core.specs.Asking.{asked_for};
 ghost use Rattle.session_core.specs.Need.{begun_by};
 ghost use Rattle.session_core.specs.Numbers.{Knows, KnowsBehind};
 
 use crate::asking::asked_for;
 use crate::need::{Need, told};
 use crate::session::Session;
-use mur_base::Memory;
-use mur_model::{Command, Need as Needed, Reply, ReplyLines, Sess, Setting, begin as need_of};
+use mur_base::{MailName, Memory};
+use mur_model::{
+    Command, Need as Needed, Reply, ReplyLines, Sess, Setting, Work, begin as need_of,
+};
 use std::alloc::Global;
 
 impl Session {
@@ -35,9 +39,13 @@ fn begun_by(alloc: Global, sess: &mut Sess, needed: Needed) -> Result<Need, Memo
             verdict,
         })),
         Needed::Turned(turn) => Ok(told(sess, turn)),
-        Needed::Mailbox(name, work) => {
-            let asking = asked_for(alloc, &name, work)?;
-            Ok(Need::Home(name, asking))
-        }
+        Needed::Mailbox(name, work) => home_asked(alloc, name, work),
     }
+}
+
+fn home_asked(alloc: Global, name: MailName, work: Work) -> Result<Need, Memory>
+    ensures { IfOk result (λ need. need ≡ Home name (asked_for name work)) }
+{
+    let asking = asked_for(alloc, &name, work)?;
+    Ok(Need::Home(name, asking))
 }

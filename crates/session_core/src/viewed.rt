@@ -1,7 +1,6 @@
 // The commands of a selected session (RFC 9051, 6.4): what they ask, and what comes of the answer.
 ghost use Rattle.std.specs.Prelude.{◌≡◌, IfOk};
 ghost use Rattle.std.specs.Option.{option_copied};
-ghost use Rattle.mur_model.specs.ClientView.{uids};
 ghost use Rattle.session_core.specs.Viewed.{view_op, viewed_asks, viewed_done, viewed_turn};
 
 use crate::asking::{Asking, Awaited};
@@ -10,7 +9,7 @@ use mail_message::{Snapshot, Uids};
 use mur_base::{Copied, Memory};
 use mur_model::{
     Turn, View, ViewWork, expunge_told, fetch_told, gone, left_by, news_told, search_told, sees,
-    store_refused, store_told,
+    store_refused, store_told, uids_of,
 };
 use std::alloc::Global;
 
@@ -33,37 +32,14 @@ fn view_op(alloc: Global, view: &View, work: &ViewWork) -> Result<Op, Memory>
     match work {
         ViewWork::News(_) => Ok(Op::Look),
         ViewWork::Close | ViewWork::Expunge(None) => Ok(Op::Expunge(None)),
-        ViewWork::Expunge(Some(uids)) => Ok(Op::Expunge(Some(uids_of(alloc, uids)?))),
-        ViewWork::Store(it) => Ok(Op::Flags(
-            uids_of(alloc, &it.uids)?,
-            it.mode,
-            it.flags.copy(alloc)?,
-        )),
-        ViewWork::Fetch(it) => Ok(Op::Read(uids_of(alloc, &it.uids)?, sees(view, it))),
-        ViewWork::Search(_) => Ok(Op::Read(uids_in(alloc, view)?, false)),
+        ViewWork::Expunge(Some(uids)) => Ok(Op::Expunge(Some(uids.copy(alloc)?))),
+        ViewWork::Store(it) => {
+            let uids = it.uids.copy(alloc)?;
+            Ok(Op::Flags(uids, it.mode, it.flags.copy(alloc)?))
+        }
+        ViewWork::Fetch(it) => Ok(Op::Read(it.uids.copy(alloc)?, sees(view, it))),
+        ViewWork::Search(_) => Ok(Op::Read(uids_of(alloc, view.rows.as_slice())?, false)),
     }
-}
-
-/// The UIDs of a view.
-fn uids_in(alloc: Global, view: &View) -> Result<Uids, Memory>
-    ensures { IfOk result (λ list. list ≡ uids (view.now).rows) }
-{
-    let mut list = Uids::new(alloc);
-    for row in view.rows.as_slice() {
-        list.push(row.uid)?;
-    }
-    Ok(list)
-}
-
-/// A copy of some UIDs.
-fn uids_of(alloc: Global, uids: &Uids) -> Result<Uids, Memory>
-    ensures { IfOk result (λ list. list ≡ uids.now) }
-{
-    let mut list = Uids::new(alloc);
-    for uid in uids.as_slice() {
-        list.push(*uid)?;
-    }
-    Ok(list)
 }
 
 /// What comes of the answer to a command of a selected session; nothing of one that it can't have.

@@ -1,2 +1,1 @@
-mod FitsLaws
 mod WritingLaws
