@@ -8,7 +8,6 @@ use Rattle.backend_core.specs.declared.held.Held.{Held}
 use Rattle.backend_core.specs.Append.{append_step, append_unless, append_to}
 use Rattle.backend_core.specs.HomeStep.{held_at, with_content}
 use Rattle.backend_core.specs.Refusal.{refusal, refusal_in, is_other}
-use Rattle.link_msg.specs.declared.counts.Counts.TheVariants.{Always, IfAnswered}
 use Rattle.mail_message.specs.Boxes.{Content}
 use Rattle.mail_message.specs.declared.message.Message.{Message}
 use Rattle.mail_store.specs.Append.{appended, append_fault}
@@ -26,7 +25,7 @@ use Rattle.session_core.specs.Append.{append_reply, reply_to_done, reply_to_uids
 use Rattle.session_core.specs.Asking.{asked_for}
 use Rattle.session_core.specs.Finish.{turn_of}
 use Rattle.cluster_core.specs.OneStore.{open_box, open_content}
-use Rattle.cluster_core.proofs.ServedAlike.{IsStoreOf, ServesAlike}
+use Rattle.cluster_core.proofs.ServedAlike.{IsStoreOf, ServesAlike, apart}
 
 pub opened : (held : Held) (content : Content) → held.phase ≡ open_here → open_content (Some (record held { content = content })) ≡ Some content
 unfolding open_box
@@ -81,8 +80,6 @@ abbrev pub AppendsAlike : Store → Backend → List ℕ → Message → Option 
 AppendsAlike store home name message found =
     ServesAlike store home name (append_work message) (append_on message (open_content found)) (append_step home name None (message ∷ []) found)
 
-apart : Always ≡ IfAnswered → ⊥
-apart h = cc
 
 fault_by : (store : Store) (home : Backend) (name : List ℕ) (message : Message) (held : Held) (fault : Option StoreFault) → held_at home name ≡ Some held
     → held.phase ≡ open_here → IsStoreOf store home

@@ -10,7 +10,6 @@ use Rattle.backend_core.specs.declared.backend.Backend.{Backend}
 use Rattle.backend_core.specs.declared.held.Held.{Held}
 use Rattle.backend_core.specs.Create.{create_step, make, created_in, with_new, new_held}
 use Rattle.backend_core.specs.HomeStep.{held_at}
-use Rattle.link_msg.specs.declared.counts.Counts.TheVariants.{Always, IfAnswered}
 use Rattle.mail_message.specs.Boxes.{Content, empty_box}
 use Rattle.mail_message.specs.FirstAcl.{first_acl}
 use Rattle.mur_base.specs.Map.{value_at, with_entry}
@@ -28,7 +27,7 @@ use Rattle.session_core.specs.Asking.{asked_for}
 use Rattle.session_core.specs.Create.{create_reply, reply_to_done}
 use Rattle.session_core.specs.Finish.{turn_of}
 use Rattle.cluster_core.specs.OneStore.{open_box, open_content}
-use Rattle.cluster_core.proofs.ServedAlike.{IsStoreOf, ServesAlike}
+use Rattle.cluster_core.proofs.ServedAlike.{IsStoreOf, ServesAlike, apart}
 
 next_is_free : (store : Store) (home : Backend) (name : List ℕ) → IsStoreOf store home → IsFree store name (home.last_serial + 1)
 next_is_free store home name same = record {
@@ -104,9 +103,6 @@ make_by store home name false e same = record {
   still = made_alike store home name (same.spent ∙ e) same;
   unless = λ h. absurd (apart h);
 }
-  where
-    apart : Always ≡ IfAnswered → ⊥
-    apart h = cc
 
 there_by : (store : Store) (home : Backend) (name : List ℕ) (held : Held) (phase : Phase) → held.phase ≡ phase → phase ≡ open_here → IsStoreOf store home
     → CreatesAlike store home name (Some held)

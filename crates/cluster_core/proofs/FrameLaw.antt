@@ -24,7 +24,7 @@ use Rattle.imap_reply.specs.Inputs.{requests_in}
 use Rattle.imap_reply.proofs.InputLaws.{requests-append}
 use Rattle.cluster_core.proofs.Readings.{FaultsLast}
 use Rattle.link_msg.specs.declared.ask.FrontAsk.{FrontAsk}
-use Rattle.link_msg.specs.declared.counts.Counts.TheVariants.{Always, IfAnswered}
+use Rattle.link_msg.specs.declared.counts.Counts.TheVariants.{Always}
 use Rattle.link_msg.specs.declared.message.LinkMsg.TheVariants.{Ask}
 use Rattle.link_msg.specs.declared.out.Out.{Out}
 use Rattle.link_msg.specs.declared.out.Out.TheVariants.{Client as to_client, Close, Link as to_node, Mark as mark}
@@ -60,7 +60,7 @@ use Rattle.cluster_core.proofs.ConnectionLaw.Stands.{reads, waits, faulted, fini
 use Rattle.cluster_core.proofs.FrontAnswers.{IsTaken, request_taken}
 use Rattle.cluster_core.proofs.FrontAnswers.IsTaken.{here, finishes, asked}
 use Rattle.cluster_core.proofs.RequestsOf.{answered_lengths, next_request, replies_stop}
-use Rattle.cluster_core.proofs.ServedAlike.{IsStoreOf}
+use Rattle.cluster_core.proofs.ServedAlike.{IsStoreOf, apart}
 use Rattle.cluster_core.proofs.Told.{IsTold, having_said, next_course, told_push}
 use Rattle.cluster_core.proofs.Ways.{ask_sent, sent_for_another, ask_of_another}
 
@@ -179,9 +179,6 @@ said_made setting front home backend conn inputs connection before told world re
           (λ h. absurd (apart h))
           (subst (λ s. IsStoreOf s backend) (sym (ap (λ (a : Answered). a.store) out)) was.made.is_told.same) was.made.is_told);
     }
-  where
-    apart : Always ≡ IfAnswered → ⊥
-    apart h = cc
 
 -- a request that the frontend answers by itself
 answered_here : (setting : Setting) (front home : List ℕ) (backend : Backend) (conn : ℕ) (inputs next : List Input) (connection : Connection) (before : World)

@@ -128,7 +128,7 @@ deliver_adds world from to [] = adds_none world world refl refl
 deliver_adds world from to (message ∷ rest) =
     adds_more world (taken world from to) _ (adds_none world _ refl refl) (comes_adds (taken world from to) from to message (front_at world to))
 
-takes_adds : (world : World) (event : Event) → Adds world (takes world event)
+pub takes_adds : (world : World) (event : Event) → Adds world (takes world event)
 unfolding takes
 takes_adds world (Open node conn) = opens_add world node conn (client_at world conn)
 takes_adds world (Data conn bytes) = data_adds world conn bytes (client_at world conn)

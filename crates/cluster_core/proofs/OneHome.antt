@@ -25,7 +25,8 @@ use Rattle.schedule_text.specs.declared.event.Event.{Event}
 use Rattle.cluster_core.specs.declared.cluster.HomeRow.{HomeRow}
 use Rattle.cluster_core.specs.declared.world.World.{World}
 use Rattle.cluster_core.specs.Flow.{run_steps}
-use Rattle.cluster_core.specs.HomeLaw.{is_open, is_writable_home, HasOneHomeEach, KeepsOneHomeEach}
+use Rattle.backend_core.specs.HomeLaws.{is_open}
+use Rattle.cluster_core.specs.HomeLaw.{is_writable_home, HasOneHomeEach, KeepsOneHomeEach}
 use Rattle.cluster_core.specs.Shown.{row_if, rows_of, rows_of_all, names_at, home_rows, held_at}
 use Rattle.cluster_core.specs.World.{start, home_of}
 use Rattle.cluster_core.proofs.HomesLaw.{rows_here}

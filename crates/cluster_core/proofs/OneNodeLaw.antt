@@ -26,8 +26,8 @@ use Rattle.cluster_core.specs.World.{bytes_from, hang_at, hangs, input_of, home_
 use Rattle.cluster_core.proofs.Wires.{same_link, on_link-sent, on_link-taken}
 
 -- what a node's outputs do: messages stand behind those on its links, and nothing else of nodes and links changes
-record Sends (node : List ℕ) (before after : World) : Type 0 where
-  fronts : after.fronts ≡ before.fronts
+pub record Sends (node : List ℕ) (before after : World) : Type 0 where
+  pub fronts : after.fronts ≡ before.fronts
   homes : after.homes ≡ before.homes
   others : (from to : List ℕ) → from ≢ node → on_link after.links from to ≡ on_link before.links from to
   goes : (to : List ℕ) → WasSent (on_link before.links node to) (on_link after.links node to)
@@ -79,7 +79,7 @@ carry_sends node world (to_node other message) = record {
   goes = λ to. record { more = cond (same_link node to node other) (message ∷ []) []; behind = on_link-sent world.links node other node to message };
 }
 
-carry_all_sends : (node : List ℕ) (world : World) (outs : List Out) → Sends node world (carry_all node world outs)
+pub carry_all_sends : (node : List ℕ) (world : World) (outs : List Out) → Sends node world (carry_all node world outs)
 unfolding carry_all
 carry_all_sends node world [] = sends_nothing node world world refl refl refl
 carry_all_sends node world (out ∷ outs) =

@@ -13,7 +13,6 @@ use Rattle.front_core.specs.Room.{HasCommands, HasRoomAt, HasRoomFor}
 use Rattle.front_core.proofs.Counts.{bytes_in_counts, deliver_counts, hang_counts, connect_counts, has_room_at, has_room_for}
 use Rattle.link_msg.specs.declared.message.LinkMsg.{LinkMsg}
 use Rattle.link_msg.specs.declared.out.Out.{Out}
-use Rattle.link_msg.specs.declared.out.Out.TheVariants.{Client as to_client, Close, Link as to_node, Mark as mark}
 use Rattle.mur_base.specs.Map.{value_at, with_entry, with_value}
 use Rattle.mur_base.proofs.MapLaws.{names_apart, same_or_other, value_at-with_entry, value_at-with_entry-other, value_at-with_value, value_at-with_value-other}
 use Rattle.mur_config.specs.declared.config.Config.{Config}
@@ -26,47 +25,18 @@ use Rattle.schedule_text.specs.declared.event.Event.TheVariants.{Open, Data, Han
 use Rattle.schedule_text.specs.Brings.{steps_of, bytes_of}
 use Rattle.cluster_core.specs.declared.world.Client.{Client}
 use Rattle.cluster_core.specs.declared.world.World.{World}
-use Rattle.cluster_core.specs.World.{start, with_node, with_nodes, client_at, front_at, home_at, given_more, carry, carry_all, with_front}
+use Rattle.cluster_core.specs.World.{start, with_node, with_nodes, client_at, front_at, home_at, carry_all, with_front}
 use Rattle.cluster_core.specs.World.{with_client}
 use Rattle.cluster_core.specs.World.{open_at, opens, bytes_at, bytes_from, hang_at, hangs, input_of, home_takes, comes_to_home, comes_to, taken, deliver_first}
 use Rattle.cluster_core.specs.World.{takes, stepped, steps_by}
 use Rattle.cluster_core.specs.Links.{on_link}
 use Rattle.cluster_core.specs.Room.{HaveCommands, HasRoom}
+use Rattle.cluster_core.proofs.InTime.{takes_adds}
+use Rattle.cluster_core.proofs.OneNodeLaw.{carry_all_sends}
 
--- carrying out touches no frontend, and no count of steps
-give_fronts : (world : World) (conn : ℕ) (bytes : List ℕ) (found : Option Client) → (given_more world conn bytes found).fronts ≡ world.fronts
-unfolding given_more
-give_fronts world conn bytes None = refl
-give_fronts world conn bytes (Some client) = refl
-
-carry_fronts : (node : List ℕ) (world : World) (out : Out) → (carry node world out).fronts ≡ world.fronts
-unfolding carry
-carry_fronts node world (to_client conn bytes) = give_fronts world conn bytes (client_at world conn)
-carry_fronts node world (Close conn) = refl
-carry_fronts node world (to_node other message) = refl
-carry_fronts node world (mark ask counts) = refl
-
-pub carry_all_fronts : (node : List ℕ) (world : World) (outs : List Out) → (carry_all node world outs).fronts ≡ world.fronts
-unfolding carry_all
-carry_all_fronts node world [] = refl
-carry_all_fronts node world (out ∷ outs) = carry_all_fronts node (carry node world out) outs ∙ carry_fronts node world out
-
-give_steps : (world : World) (conn : ℕ) (bytes : List ℕ) (found : Option Client) → (given_more world conn bytes found).steps ≡ world.steps
-unfolding given_more
-give_steps world conn bytes None = refl
-give_steps world conn bytes (Some client) = refl
-
-carry_steps : (node : List ℕ) (world : World) (out : Out) → (carry node world out).steps ≡ world.steps
-unfolding carry
-carry_steps node world (to_client conn bytes) = give_steps world conn bytes (client_at world conn)
-carry_steps node world (Close conn) = refl
-carry_steps node world (to_node other message) = refl
-carry_steps node world (mark ask counts) = refl
-
-pub carry_all_steps : (node : List ℕ) (world : World) (outs : List Out) → (carry_all node world outs).steps ≡ world.steps
-unfolding carry_all
-carry_all_steps node world [] = refl
-carry_all_steps node world (out ∷ outs) = carry_all_steps node (carry node world out) outs ∙ carry_steps node world out
+-- carrying out touches no frontend
+carry_all_fronts : (node : List ℕ) (world : World) (outs : List Out) → (carry_all node world outs).fronts ≡ world.fronts
+carry_all_fronts node world outs = (carry_all_sends node world outs).fronts
 
 pub more_commands : (world : World) (m n : ℕ) → m ≤ n → HaveCommands world m → HaveCommands world n
 more_commands world m n h have q front is conn connection at = omega (arith, h, have q front is conn connection at)
@@ -179,68 +149,9 @@ takes_commands world event n have = more_commands world n (n + 0) (omega arith) 
 pub step_commands : (world : World) (event : Event) (n : ℕ) → HaveCommands world n → HaveCommands (steps_by world event) (n + bytes_of event)
 step_commands world event n have = takes_commands (stepped world) event n have
 
-open_at_steps : (world : World) (node : List ℕ) (conn : ℕ) (found : Option Front) → (open_at world node conn found).steps ≡ world.steps
-unfolding open_at
-open_at_steps world node conn None = refl
-open_at_steps world node conn (Some front) = carry_all_steps node _ _
-
-opens_steps : (world : World) (node : List ℕ) (conn : ℕ) (found : Option Client) → (opens world node conn found).steps ≡ world.steps
-unfolding opens
-opens_steps world node conn (Some client) = refl
-opens_steps world node conn None = open_at_steps world node conn (front_at world node)
-
-bytes_at_steps : (world : World) (conn : ℕ) (bytes node : List ℕ) (found : Option Front) → (bytes_at world conn bytes node found).steps ≡ world.steps
-unfolding bytes_at
-bytes_at_steps world conn bytes node None = refl
-bytes_at_steps world conn bytes node (Some front) = carry_all_steps node _ _
-
-bytes_from_steps : (world : World) (conn : ℕ) (bytes : List ℕ) (found : Option Client) → (bytes_from world conn bytes found).steps ≡ world.steps
-unfolding bytes_from
-bytes_from_steps world conn bytes None = refl
-bytes_from_steps world conn bytes (Some client) = bytes_at_steps world conn bytes client.at (front_at world client.at)
-
-hang_at_steps : (world : World) (conn : ℕ) (node : List ℕ) (found : Option Front) → (hang_at world conn node found).steps ≡ world.steps
-unfolding hang_at
-hang_at_steps world conn node None = refl
-hang_at_steps world conn node (Some front) = refl
-
-hangs_steps : (world : World) (conn : ℕ) (found : Option Client) → (hangs world conn found).steps ≡ world.steps
-unfolding hangs
-hangs_steps world conn None = refl
-hangs_steps world conn (Some client) = hang_at_steps world conn client.at (front_at world client.at)
-
-home_takes_steps : (world : World) (node : List ℕ) (home : Backend) (input : Option BackInput) → (home_takes world node home input).steps ≡ world.steps
-unfolding home_takes
-home_takes_steps world node home None = refl
-home_takes_steps world node home (Some input) = carry_all_steps node _ _
-
-to_home_steps : (world : World) (from to : List ℕ) (message : LinkMsg) (found : Option Backend)
-    → (comes_to_home world from to message found).steps ≡ world.steps
-unfolding comes_to_home
-to_home_steps world from to message None = refl
-to_home_steps world from to message (Some home) = home_takes_steps world to home (input_of from message)
-
-comes_steps : (world : World) (from to : List ℕ) (message : LinkMsg) (found : Option Front) → (comes_to world from to message found).steps ≡ world.steps
-unfolding comes_to
-comes_steps world from to message None = to_home_steps world from to message (home_at world to)
-comes_steps world from to message (Some front) = carry_all_steps to _ _
-
-first_steps : (world : World) (from to : List ℕ) (queue : List LinkMsg) → (deliver_first world from to queue).steps ≡ world.steps
-unfolding deliver_first
-first_steps world from to [] = refl
-first_steps world from to (message ∷ rest) = comes_steps (taken world from to) from to message (front_at world to)
-
-takes_steps : (world : World) (event : Event) → (takes world event).steps ≡ world.steps
-unfolding takes
-takes_steps world (Open node conn) = opens_steps world node conn _
-takes_steps world (Data conn bytes) = bytes_from_steps world conn bytes _
-takes_steps world (Hang conn) = hangs_steps world conn _
-takes_steps world (Deliver from to) = first_steps world from to _
-takes_steps world event = refl
-
 -- an event that is one step counts one
 pub step_steps : (world : World) (event : Event) → (steps_by world event).steps ≡ world.steps + 1
-step_steps world event = takes_steps (stepped world) event
+step_steps world event = (takes_adds (stepped world) event).same_step
 
 -- no connection at first
 new_commands : (me home : List ℕ) (setting : Setting) → HasCommands (new_front me home setting) 0

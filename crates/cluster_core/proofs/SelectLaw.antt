@@ -5,7 +5,6 @@ use Rattle.backend_core.specs.declared.held.Held.{Held}
 use Rattle.backend_core.specs.HomeStep.{held_at, answers}
 use Rattle.backend_core.specs.Look.{look_step, look_at}
 use Rattle.backend_core.specs.Response.{done}
-use Rattle.link_msg.specs.declared.counts.Counts.TheVariants.{Always, IfAnswered}
 use Rattle.link_msg.specs.declared.outcome.Outcome.TheVariants.{None as nothing}
 use Rattle.mail_message.specs.Boxes.{snapshot_of}
 use Rattle.mur_base.specs.declared.home.Phase.TheVariants.{Open as open_here}
@@ -19,15 +18,13 @@ use Rattle.session_core.specs.Asking.{asked_for}
 use Rattle.session_core.specs.Finish.{turn_of}
 use Rattle.session_core.specs.Select.{select_done, select_turn}
 use Rattle.cluster_core.specs.OneStore.{open_content}
-use Rattle.cluster_core.proofs.ServedAlike.{IsStoreOf, ServesAlike}
+use Rattle.cluster_core.proofs.ServedAlike.{IsStoreOf, ServesAlike, apart}
 use Rattle.cluster_core.proofs.StatusLaw.{looked, opened}
 
 abbrev pub SelectsAlike : Store → Backend → List ℕ → Opening → Option Held → Type 0
 SelectsAlike store home name it found =
     ServesAlike store home name (select_work it) (select_on it name (open_content found)) (look_step home None found)
 
-apart : Always ≡ IfAnswered → ⊥
-apart h = cc
 
 seen : (store : Store) (home : Backend) (name : List ℕ) (it : Opening) (held : Held) → IsStoreOf store home
     → ServesAlike store home name (select_work it) (select_on it name (Some held.content)) (answers home (done nothing (snapshot_of held.content)))

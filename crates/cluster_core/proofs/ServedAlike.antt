@@ -5,7 +5,7 @@ use Rattle.backend_core.specs.declared.backend.Backend.{Backend}
 use Rattle.backend_core.specs.declared.held.Held.{Held}
 use Rattle.backend_core.specs.HomeStep.{HomeStep, held_at}
 use Rattle.link_msg.specs.declared.answer.AnswerBody.{AnswerBody}
-use Rattle.link_msg.specs.declared.counts.Counts.TheVariants.{IfAnswered}
+use Rattle.link_msg.specs.declared.counts.Counts.TheVariants.{Always, IfAnswered}
 use Rattle.mur_base.specs.declared.home.Phase.TheVariants.{Open as open_here}
 use Rattle.mur_model.specs.declared.need.Work.{Work}
 use Rattle.mur_model.specs.declared.store.Pair.{Pair}
@@ -16,6 +16,9 @@ use Rattle.mur_model.specs.Store.{box_at, is_spent}
 use Rattle.session_core.specs.Asking.{asked_for}
 use Rattle.session_core.specs.Finish.{turn_of}
 use Rattle.cluster_core.specs.OneStore.{open_content}
+
+pub apart : Always ≡ IfAnswered → ⊥
+apart h = cc
 
 -- the home has the mailboxes of the store, all of them open, and its last UIDVALIDITY is the greatest that was given
 pub record IsStoreOf (store : Store) (home : Backend) : Type 0 where

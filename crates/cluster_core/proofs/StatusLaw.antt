@@ -5,7 +5,6 @@ use Rattle.backend_core.specs.declared.held.Held.{Held}
 use Rattle.backend_core.specs.HomeStep.{held_at, answers}
 use Rattle.backend_core.specs.Look.{look_step, look_at, look_unless}
 use Rattle.backend_core.specs.Response.{done}
-use Rattle.link_msg.specs.declared.counts.Counts.TheVariants.{Always, IfAnswered}
 use Rattle.link_msg.specs.declared.outcome.Outcome.TheVariants.{None as nothing}
 use Rattle.mail_message.specs.Boxes.{snapshot_of}
 use Rattle.mur_base.specs.declared.home.Phase.TheVariants.{Open as open_here}
@@ -20,7 +19,7 @@ use Rattle.session_core.specs.Finish.{turn_of}
 use Rattle.session_core.specs.Status.{status_reply, reply_to_done}
 use Rattle.cluster_core.specs.OneStore.{open_box, open_content}
 use Rattle.cluster_core.proofs.AppendLaw.{not_refused}
-use Rattle.cluster_core.proofs.ServedAlike.{IsStoreOf, ServesAlike}
+use Rattle.cluster_core.proofs.ServedAlike.{IsStoreOf, ServesAlike, apart}
 
 -- the look at a mailbox that is open, by a session without one selected
 pub looked : (home : Backend) (held : Held) → held.phase ≡ open_here
@@ -36,8 +35,6 @@ abbrev pub LooksAlike : Store → Backend → List ℕ → List ℕ → List Sta
 LooksAlike store home name shown items found =
     ServesAlike store home name (status_work shown items) (status_on shown items (open_content found)) (look_step home None found)
 
-apart : Always ≡ IfAnswered → ⊥
-apart h = cc
 
 seen : (store : Store) (home : Backend) (name shown : List ℕ) (items : List StatusItem) (held : Held) → IsStoreOf store home
     → ServesAlike store home name (status_work shown items) (status_on shown items (Some held.content))

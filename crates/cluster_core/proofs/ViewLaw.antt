@@ -12,7 +12,7 @@ use Rattle.backend_core.specs.Read.{read_step, read_to, read_in}
 use Rattle.backend_core.specs.Refusal.{refusal, refusal_in, is_other}
 use Rattle.backend_core.specs.Response.{done, not_now, no_snapshot}
 use Rattle.backend_core.specs.Served.{served, served_unless}
-use Rattle.link_msg.specs.declared.counts.Counts.TheVariants.{Always, IfAnswered}
+use Rattle.link_msg.specs.declared.counts.Counts.TheVariants.{IfAnswered}
 use Rattle.link_msg.specs.declared.outcome.Outcome.TheVariants.{None as nothing, Gone as gone_there}
 use Rattle.mail_message.specs.Boxes.{Content, snapshot_of}
 use Rattle.mail_store.specs.Expunge.{expunged}
@@ -41,11 +41,9 @@ use Rattle.session_core.specs.Finish.{turn_of}
 use Rattle.session_core.specs.Viewed.{viewed_done, viewed_turn}
 use Rattle.cluster_core.specs.OneStore.{open_content}
 use Rattle.cluster_core.proofs.AppendLaw.{kept_alike, changed_alike}
-use Rattle.cluster_core.proofs.ServedAlike.{IsStoreOf, ServesAlike}
+use Rattle.cluster_core.proofs.ServedAlike.{IsStoreOf, ServesAlike, apart}
 use Rattle.cluster_core.proofs.StatusLaw.{opened}
 
-apart : Always ≡ IfAnswered → ⊥
-apart h = cc
 
 -- ---- what is answered, and what is left
 

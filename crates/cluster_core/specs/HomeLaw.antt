@@ -1,8 +1,7 @@
 -- At most one writable home, and the causes of refusals.
 use Rattle.std.specs.Prelude.{◌≡◌, ℕ, ◌≤◌, Bool, true, false, ◌&&◌, List, ◌++◌, count_by, All, ⊤}
 use Rattle.std.specs.Str.{bytes_eq}
-use Rattle.mur_base.specs.declared.home.Phase.{Phase}
-use Rattle.mur_base.specs.declared.home.Phase.TheVariants.{Open as open_here}
+use Rattle.backend_core.specs.HomeLaws.{is_open}
 use Rattle.mur_base.specs.declared.point.Point.{Point}
 use Rattle.mur_base.specs.declared.point.What.{What}
 use Rattle.mur_base.specs.declared.point.What.TheVariants.{Reserved as reserved, Unreached as unreached}
@@ -14,10 +13,6 @@ use Rattle.cluster_core.specs.Flow.{run_steps, unrolled}
 use Rattle.cluster_core.specs.History.{history_of}
 use Rattle.cluster_core.specs.Shown.{home_rows}
 use Rattle.cluster_core.specs.World.{start}
-
-unfoldable pub is_open : Phase → Bool
-is_open open_here = true
-is_open _ = false
 
 -- a writable home of a name is a node that has the name Open
 abbrev pub is_writable_home : List ℕ → HomeRow → Bool

@@ -16,6 +16,8 @@ mod parts;
 mod session;
 mod sets;
 mod told;
+mod told_line;
+mod twin;
 
 use anyhow::Result;
 use case_table::{Cases, Fault, fields_of, tell};

@@ -1,12 +1,12 @@
 // One session over one home of mailboxes: what its client is told.
 use crate::home;
+use crate::told_line::{put_text, request_of};
+use crate::twin::Twin;
 use backend_core::{BackInput, Backend};
 use case_table::Fault;
-use imap_command::read_request;
-use imap_reply::write;
 use link_msg::{AnswerBody, LinkMsg, Op, Out, Outs};
 use mail_message::date;
-use mur_base::{Bytes, Items, MailName, Memory, User, Users, What, node_name, user_name};
+use mur_base::{Bytes, Items, MailName, User, Users, What, node_name, user_name};
 use mur_model::{Command, Reply, Request, Setting, Tag};
 use session_core::{Asking, Awaited, Need, Session};
 use std::alloc::Global;
@@ -19,13 +19,15 @@ enum Fate {
     NotReached,
 }
 
-/// A client's session, until the client is told that it has ended, and the home that it asks.
+/// A client's session, until the client is told that it has ended, and the home that it asks; beside them the store of the model, which
+/// has to reply the same as long as the home answers the session and nobody else.
 #[derive(Drop)]
 struct Stage {
     setting: Setting,
     home: Backend,
     session: Session,
     has_left: bool,
+    twin: Option<Twin>,
 }
 
 /// Whether steps of a session of bob's and of its home, one after the other, give what stands behind them. A step behind which nothing
@@ -43,6 +45,7 @@ fn empty_stage(alloc: Global) -> Result<Stage, Fault> {
         home: home::empty(alloc)?,
         session: Session::new(),
         has_left: false,
+        twin: Some(Twin::new(alloc)),
     })
 }
 
@@ -92,10 +95,46 @@ impl Stage {
 
     fn put_given(&mut self, alloc: Global, given: &str, out: &mut Bytes) -> Result<(), Fault> {
         match given.split_once(' ') {
-            Some(("home", words)) => home::put_given(alloc, &mut self.home, words, out),
-            Some(("moved", line)) => self.put_told(alloc, line, Fate::BeingMoved, out),
-            Some(("unreached", line)) => self.put_told(alloc, line, Fate::NotReached, out),
-            _ => self.put_told(alloc, given, Fate::Answered, out),
+            Some(("home", words)) => {
+                self.twin = None;
+                home::put_given(alloc, &mut self.home, words, out)
+            }
+            Some(("moved", line)) => self.put_refused(alloc, line, Fate::BeingMoved, out),
+            Some(("unreached", line)) => self.put_refused(alloc, line, Fate::NotReached, out),
+            _ => self.put_both(alloc, given, out),
+        }
+    }
+
+    fn put_refused(
+        &mut self,
+        alloc: Global,
+        line: &str,
+        fate: Fate,
+        out: &mut Bytes,
+    ) -> Result<(), Fault> {
+        self.twin = None;
+        self.put_told(alloc, line, fate, out)
+    }
+
+    /// Puts what the client is told for a line, as the store of the model tells it too.
+    fn put_both(&mut self, alloc: Global, line: &str, out: &mut Bytes) -> Result<(), Fault> {
+        let mut twins = Bytes::new(alloc);
+        self.put_twins(alloc, line, &mut twins)?;
+        self.put_told(alloc, line, Fate::Answered, out)?;
+        if self.twin.is_some() && out.as_slice() != twins.as_slice() {
+            return Err(Fault::Differs);
+        }
+        Ok(())
+    }
+
+    fn put_twins(&mut self, alloc: Global, line: &str, out: &mut Bytes) -> Result<(), Fault> {
+        if self.has_left {
+            return Ok(());
+        }
+        let serial = self.home.last_serial.saturating_add(1);
+        match &mut self.twin {
+            Some(twin) => twin.put_told(alloc, &self.setting, line, serial, out),
+            None => Ok(()),
         }
     }
 
@@ -196,13 +235,6 @@ impl Stage {
     }
 }
 
-/// The request that a line spells.
-fn request_of(alloc: Global, line: &str) -> Result<Request, Memory> {
-    let mut frame = Bytes::from_slice(alloc, line.as_bytes())?;
-    frame.extend_from_slice(b"\r\n")?;
-    read_request(alloc, frame.as_slice())
-}
-
 /// What the home answers to an ask.
 fn answer_of(
     alloc: Global,
@@ -241,22 +273,4 @@ fn body_said(message: LinkMsg) -> Option<AnswerBody> {
         LinkMsg::Answer(answer) => Some(answer.body),
         _ => None,
     }
-}
-
-/// Puts a reply with a `/` for each CRLF.
-fn put_text(alloc: Global, tag: &Tag, reply: &Reply, out: &mut Bytes) -> Result<(), Memory> {
-    let mut lines = Bytes::new(alloc);
-    write(tag, reply, &mut lines)?;
-    put_slashed(lines.as_slice(), out)
-}
-
-fn put_slashed(lines: &[u8], out: &mut Bytes) -> Result<(), Memory> {
-    for byte in lines {
-        match *byte {
-            b'\r' => (),
-            b'\n' => out.push(b'/')?,
-            other => out.push(other)?,
-        }
-    }
-    Ok(())
 }

@@ -3,7 +3,7 @@ ghost use Rattle.std.specs.Prelude.{OnOk};
 ghost use Rattle.std.specs.List.{flat_map};
 ghost use Rattle.mur_edge.specs.Counts.{HasHostCause};
 ghost use Rattle.mur_edge.specs.Sink.{Took, TookFront};
-ghost use Rattle.top_call.specs.Output.{client_lines, point_line, box_line, lines_of};
+ghost use Rattle.top_call.specs.Output.{client_lines, lines_of};
 ghost use Rattle.top_call.specs.Writing.{DidPut};
 
 mod lines;
@@ -47,8 +47,8 @@ fn write_lines<S: Sink>(
     ensures cause { HasHostCause (S.facts sink.old).faults (S.facts sink.new).faults result }
 {
     write_clients(&world.clients, part, sink)?;
-    write_points(points, part, sink)?;
-    write_boxes(rows, part, sink)?;
+    write_each(points.as_slice(), part, sink)?;
+    write_each(rows.as_slice(), part, sink)?;
     let end = End {
         steps: world.steps,
         points: points.len() as u64,
@@ -71,22 +71,16 @@ fn write_clients<S: Sink>(
     Ok(())
 }
 
-fn write_points<S: Sink>(points: &Points, part: &mut Bytes, sink: &mut S) -> Result<(), HostFault>
-    ensures did { DidPut (S.facts sink.old).taken (S.facts sink.new).taken part.old part.new (flat_map point_line points.now) result }
+fn write_each<L: Line, S: Sink>(
+    lines: &[L],
+    part: &mut Bytes,
+    sink: &mut S,
+) -> Result<(), HostFault>
+    ensures did { DidPut (S.facts sink.old).taken (S.facts sink.new).taken part.old part.new (flat_map L.text lines.now) result }
     ensures cause { HasHostCause (S.facts sink.old).faults (S.facts sink.new).faults result }
 {
-    for point in points.as_slice() {
-        write_line(point, part, sink)?;
-    }
-    Ok(())
-}
-
-fn write_boxes<S: Sink>(rows: &HomeRows, part: &mut Bytes, sink: &mut S) -> Result<(), HostFault>
-    ensures did { DidPut (S.facts sink.old).taken (S.facts sink.new).taken part.old part.new (flat_map box_line rows.now) result }
-    ensures cause { HasHostCause (S.facts sink.old).faults (S.facts sink.new).faults result }
-{
-    for row in rows.as_slice() {
-        write_line(row, part, sink)?;
+    for line in lines {
+        write_line(line, part, sink)?;
     }
     Ok(())
 }

@@ -2,6 +2,7 @@
 ghost use Rattle.std.specs.Prelude.{◌≡◌, IfOk};
 ghost use Rattle.cluster_core.specs.Headline.{IsOneServer};
 ghost use Rattle.schedule_text.specs.ScheduleFits.{HasCountRoom};
+ghost use Rattle.top_call.specs.Output.{lines_of, output_of};
 ghost use Rattle.top_call.specs.Replay.{DidReadConfig, DidReadSchedule, EndsWriting, DidReplay, run_text};
 ghost use Rattle.top_call.specs.Status.{CountsStatus, CountsFile};
 ghost use Rattle.top_call.specs.declared.status.Status.TheVariants.{Schedule};
@@ -11,7 +12,7 @@ use crate::file::read_file;
 use crate::output::write_output;
 use crate::status::Status;
 use crate::words::Names;
-use cluster_core::run;
+use cluster_core::{Cluster, HomeRows, Points, World, run};
 use mur_base::limits::SCHEDULE_LIMIT;
 use mur_config::{CONFIG_LIMIT, Config, ConfigFault, read_config};
 use mur_edge::{Host, HostFault, Used};
@@ -85,26 +86,50 @@ fn refused(fault: SchedFault) -> Status
 }
 
 // Runs the events and writes the text of the run.
-#[tactic(auto, unfolding(crate::specs::Output::output_of))]
 fn write_run<H: Host>(alloc: Global, host: &mut H, config: Config, events: Events) -> Status
     requires room { HasCountRoom events }
     ensures one_server { IsOneServer config events }
     ensures did { EndsWriting (run_text config events) (H.facts host.old) (H.facts host.new) result }
     ensures counts { CountsStatus result (H.facts host.old).faults (H.facts host.new).faults }
 {
-    let Ok(cluster) = run(alloc, &config, events) else {
+    match run(alloc, &config, events) {
+        Ok(cluster) => write_cluster(alloc, host, &cluster),
+        Err(_) => Status::Memory,
+    }
+}
+
+// Writes what clients were given, the history and the mailboxes of a cluster.
+#[tactic(auto, unfolding(crate::specs::Output::output_of))]
+fn write_cluster<H: Host>(alloc: Global, host: &mut H, cluster: &Cluster) -> Status
+    ensures did { EndsWriting (output_of cluster.now) (H.facts host.old) (H.facts host.new) result }
+    ensures counts { CountsStatus result (H.facts host.old).faults (H.facts host.new).faults }
+{
+    let Ok(points) = cluster.history(alloc) else {
         return Status::Memory;
     };
-    drop(config);
-    let (Ok(points), Ok(rows)) = (cluster.history(alloc), cluster.homes(alloc)) else {
+    let Ok(rows) = cluster.homes(alloc) else {
         return Status::Memory;
     };
+    write_text(alloc, host, cluster.world(), &points, &rows)
+}
+
+// Writes the text of a run whose history and mailboxes are these.
+fn write_text<H: Host>(
+    alloc: Global,
+    host: &mut H,
+    world: &World,
+    points: &Points,
+    rows: &HomeRows,
+) -> Status
+    ensures did { EndsWriting (lines_of world.now points.now rows.now) (H.facts host.old) (H.facts host.new) result }
+    ensures counts { CountsStatus result (H.facts host.old).faults (H.facts host.new).faults }
+{
     let mut out = match host.out() {
         Ok(out) => out,
         Err(HostFault::Failed) => return Status::Write,
         Err(HostFault::Memory) => return Status::Memory,
     };
-    let written = write_output(alloc, cluster.world(), &points, &rows, &mut out);
+    let written = write_output(alloc, world, points, rows, &mut out);
     host.back(Used::Out(out));
     match written {
         Ok(()) => Status::Done,
