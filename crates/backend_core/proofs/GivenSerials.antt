@@ -1,6 +1,6 @@
--- The last UIDVALIDITY that a home gave never falls, and rises by one where a mailbox is made; no mailbox has a greater one.
+-- The last UIDVALIDITY that a home gave never falls, and rises by one where a mailbox is made, which then has it; no mailbox has a greater one.
 use Rattle.std.proofs.Math.Logic.{⊎_elim}
-use Rattle.std.proofs.Common.{◌≡◌, ◌≢◌, ℕ, ◌+◌, ◌≤◌, List, Some, sym, ◌∙◌, ap, subst, arith}
+use Rattle.std.proofs.Common.{◌≡◌, ◌≢◌, ℕ, ◌+◌, ◌≤◌, List, None, Some, sym, ◌∙◌, ap, subst, arith}
 use Rattle.std.specs.Ordering.{nat_cmp}
 use Rattle.std.specs.Cmp.Lexicographic.{slice_cmp}
 use Rattle.mur_base.proofs.MapLaws.{names_apart, same_or_other, value_at-with_entry, value_at-with_value}
@@ -54,4 +54,24 @@ serials_are_given home ask given = λ name held there.
     (λ (ne : name ≢ ask.name).
     let before = given name held (sym (others_stay home ask name ne) ∙ there) in
     let rises = serial_rises home ask in omega (arith, rises.not_falls))
+    (same_or_other (slice_cmp nat_cmp) names_apart name ask.name)
+
+-- a mailbox that was made has the UIDVALIDITY behind the last
+made_by : (home : Backend) (name : List ℕ) (after : Backend) (held : Held) → held_at home name ≡ None → held_at after name ≡ Some held
+    → Leaves home name after → held.content.serial ≡ home.last_serial + 1
+made_by home name after held free there (stays is) =
+    let both : None ≡ Some held = sym free ∙ ap (λ (h : Backend). held_at h name) (sym is) ∙ there in cc
+made_by home name after held free there (makes none left is) =
+    let found = value_at-with_entry (slice_cmp nat_cmp) names_apart home.held name (new_held (home.last_serial + 1) name) in
+    let one : new_held (home.last_serial + 1) name ≡ held = cc (found, ap (λ (h : Backend). held_at h name) (sym is) ∙ there) in
+    sym (ap (λ (h : Held). h.content.serial) one)
+made_by home name after held free there (turns old content was opened follows is) = let both : None ≡ Some old = sym free ∙ was in cc
+
+pub new_serial : (home : Backend) (ask : FrontAsk) (name : List ℕ) (held : Held) → held_at home name ≡ None
+    → held_at (home_step home ask).home name ≡ Some held → held.content.serial ≡ home.last_serial + 1
+new_serial home ask name held free there =
+    ⊎_elim
+    (λ (e : name ≡ ask.name). made_by home ask.name (home_step home ask).home held (subst (λ n. held_at home n ≡ None) e free)
+    (subst (λ n. held_at (home_step home ask).home n ≡ Some held) e there) (leaves home ask))
+    (λ (ne : name ≢ ask.name). let both : None ≡ Some held = sym free ∙ sym (others_stay home ask name ne) ∙ there in cc)
     (same_or_other (slice_cmp nat_cmp) names_apart name ask.name)

@@ -1,5 +1,5 @@
 // What every ask leaves of a home, as laws of its definition.
-ghost use Rattle.std.specs.Prelude.{◌≡◌, ◌≢◌, ◌+◌, ◌≤◌, ℕ, List, Some, false};
+ghost use Rattle.std.specs.Prelude.{◌≡◌, ◌≢◌, ◌+◌, ◌≤◌, ℕ, List, None, Some, false};
 ghost use Rattle.mail_message.specs.declared.message.Message.{Message};
 ghost use Rattle.link_msg.specs.declared.ask.FrontAsk.{FrontAsk};
 ghost use Rattle.mail_message.specs.declared.message.Snapshot.{Snapshot};
@@ -38,11 +38,14 @@ pub fn no_uid_is_given_twice()
         → AreNewUids uids held (held_at (home_step home ask).home ask.name) }
 {}
 
-/// The last UIDVALIDITY never falls, and no mailbox has one that wasn't given: a new mailbox's is greater than each here.
+/// The last UIDVALIDITY never falls, no mailbox has one that wasn't given, and a new one has the UIDVALIDITY behind the last:
+/// greater than each that was given before (RFC 9051, 2.3.1.1).
 pub fn uidvalidity_is_not_given_again()
     ensures not_falls { (home : Backend) (ask : FrontAsk) → home.last_serial ≤ (home_step home ask).home.last_serial }
     ensures by_one { (home : Backend) (ask : FrontAsk) → (home_step home ask).home.last_serial ≤ home.last_serial + 1 }
     ensures given { (home : Backend) (ask : FrontAsk) → HasGivenSerials home → HasGivenSerials (home_step home ask).home }
+    ensures new { (home : Backend) (ask : FrontAsk) (name : List ℕ) (held : Held) → held_at home name ≡ None
+        → held_at (home_step home ask).home name ≡ Some held → held.content.serial ≡ home.last_serial + 1 }
 {}
 
 /// Every other name keeps what the home has of it, and the names stay in order.
