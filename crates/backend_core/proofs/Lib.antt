@@ -6,4 +6,5 @@ pub mod GivenSerials
 pub mod NewUids
 pub mod NotServed
 pub mod Others
+pub mod RisingUids
 pub mod StoreTold

@@ -1,6 +1,7 @@
--- The UIDs that an APPEND gives lie from UIDNEXT before it on and below UIDNEXT behind it.
+-- The UIDs that an APPEND gives rise strictly, from UIDNEXT before it on and below UIDNEXT behind it.
 use Rattle.std.proofs.Common.{◌≡◌, ℕ, ◌+◌, ◌<◌, ◌≤◌, Bool, true, false, List, length, Option, None, Some, refl, sym, ◌∙◌, ap, subst}
 use Rattle.std.specs.Prelude.{All}
+use Rattle.std.specs.List.Sorted.{IsStrictlySortedBy}
 use Rattle.std.specs.Ordering.{nat_cmp}
 use Rattle.std.specs.Cmp.Lexicographic.{slice_cmp}
 use Rattle.mur_base.proofs.MapLaws.{names_apart, value_at-with_value}
@@ -23,6 +24,7 @@ use Rattle.backend_core.specs.HomeLaws.{AreNewUids}
 use Rattle.backend_core.specs.Refusal.{refusal, refusal_in, is_other}
 use Rattle.backend_core.specs.Append.{append_step, append_unless, append_to}
 use Rattle.backend_core.specs.Step.{home_step, op_step}
+use Rattle.backend_core.proofs.RisingUids.{rising-uids}
 
 -- a step that answers with UIDs gives new ones
 unfoldable GivesNew : List ℕ → Held → HomeStep → Type 0
@@ -31,10 +33,12 @@ GivesNew name held step = (uids : List ℕ) (seen : Snapshot) → step.body ≡ 
 new_by : (uids : List ℕ) (held later : Held) (found : Option Held) (messages : List Message) → found ≡ Some later
     → later.content.next ≡ held.content.next + length messages → uids_from held.content.next messages ≡ uids → AreNewUids uids held found
 new_by uids held later found messages is next given =
-    subst (AreNewUids uids held) (sym is)
-    (subst (λ (n : ℕ). All (λ uid. (held.content.next ≤ uid) × (uid < n)) uids) (sym next)
-    (subst (λ (us : List ℕ). All (λ uid. (held.content.next ≤ uid) × (uid < held.content.next + length messages)) us) given
-    (uids-within held.content.next messages)))
+    subst (AreNewUids uids held) (sym is) (
+      subst (λ (n : ℕ). All (λ uid. (held.content.next ≤ uid) × (uid < n)) uids) (sym next)
+          (subst (λ (us : List ℕ). All (λ uid. (held.content.next ≤ uid) × (uid < held.content.next + length messages)) us) given
+          (uids-within held.content.next messages)),
+      subst (IsStrictlySortedBy nat_cmp) given (rising-uids held.content.next messages),
+    )
 
 to_new : (home : Backend) (name : List ℕ) (held : Held) (messages : List Message) (fault : Option StoreFault) → held_at home name ≡ Some held
     → GivesNew name held (changes home name held (append_to held.content messages fault))

@@ -1,5 +1,6 @@
 -- What a home keeps through every ask.
 use Rattle.std.specs.Prelude.{◌≡◌, ℕ, ◌<◌, ◌≤◌, Bool, true, false, List, Option, None, Some, All}
+use Rattle.std.specs.List.Sorted.{IsStrictlySortedBy}
 use Rattle.std.specs.Ordering.{nat_cmp}
 use Rattle.std.specs.Cmp.Lexicographic.{slice_cmp}
 use Rattle.mur_base.specs.Map.{IsInOrder}
@@ -32,10 +33,10 @@ abbrev pub GoesOn : Held → Option Held → Type 0
 GoesOn held None = ⊥
 GoesOn held (Some later) = Follows held.content later.content
 
--- UIDs from UIDNEXT on, below the later UIDNEXT
+-- UIDs that rise strictly, from UIDNEXT on and below the later UIDNEXT
 abbrev pub AreNewUids : List ℕ → Held → Option Held → Type 0
 AreNewUids uids held None = ⊥
-AreNewUids uids held (Some later) = All (λ uid. (held.content.next ≤ uid) × (uid < later.content.next)) uids
+AreNewUids uids held (Some later) = All (λ uid. (held.content.next ≤ uid) × (uid < later.content.next)) uids × IsStrictlySortedBy nat_cmp uids
 
 -- no mailbox here has a UIDVALIDITY that wasn't given yet
 abbrev pub HasGivenSerials : Backend → Type 0

@@ -30,8 +30,8 @@ pub fn uidnext_never_falls()
         → GoesOn held (held_at (home_step home ask).home name) }
 {}
 
-/// The UIDs that an APPEND is answered with lie from UIDNEXT before it on and below UIDNEXT behind it. So no UID of a
-/// mailbox is given twice (RFC 9051, 2.3.1.1).
+/// The UIDs that an APPEND is answered with rise strictly, from UIDNEXT before it on and below UIDNEXT behind it. So no UID
+/// of a mailbox is given twice (RFC 9051, 2.3.1.1).
 pub fn no_uid_is_given_twice()
     ensures { (home : Backend) (ask : FrontAsk) (messages : List Message) (held : Held) (uids : List ℕ) (seen : Snapshot)
         → ask.op ≡ Append messages → held_at home ask.name ≡ Some held → (home_step home ask).body ≡ Some (Done (Uids uids) seen)
