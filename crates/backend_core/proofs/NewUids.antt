@@ -22,7 +22,8 @@ use Rattle.backend_core.specs.declared.response.Response.{Response}
 use Rattle.backend_core.specs.HomeStep.{HomeStep, held_at, answers, changes}
 use Rattle.backend_core.specs.HomeLaws.{AreNewUids}
 use Rattle.backend_core.specs.Refusal.{refusal, refusal_in, is_other}
-use Rattle.backend_core.specs.Append.{append_step, append_unless, append_to}
+use Rattle.backend_core.specs.Append.{append_step, append_to}
+use Rattle.backend_core.specs.Served.{served, served_unless}
 use Rattle.backend_core.specs.Step.{home_step, op_step}
 use Rattle.backend_core.proofs.RisingUids.{rising-uids}
 
@@ -58,14 +59,15 @@ no_uids name held home (Pointer server) other response is = λ uids seen says. c
 no_uids name held home phase other response is = λ uids seen says. cc (is, says)
 
 unless_new : (home : Backend) (name : List ℕ) (held : Held) (messages : List Message) (response : Option Response) → held_at home name ≡ Some held
-    → ((r : Response) → response ≡ Some r → GivesNew name held (answers home r)) → GivesNew name held (append_unless home name held messages response)
-unfolding append_unless
+    → ((r : Response) → response ≡ Some r → GivesNew name held (answers home r))
+    → GivesNew name held (served_unless home name held (append_to held.content messages (append_fault held.content messages)) response)
+unfolding served_unless
 unless_new home name held messages (Some response) found refused = refused response refl
 unless_new home name held messages None found refused = to_new home name held messages (append_fault held.content messages) found
 
 append_new : (home : Backend) (name : List ℕ) (selected : Option ℕ) (messages : List Message) (held : Held) → held_at home name ≡ Some held
     → GivesNew name held (append_step home name selected messages (Some held))
-unfolding append_step refusal
+unfolding append_step served refusal
 append_new home name selected messages held found =
     unless_new home name held messages (refusal selected held) found (λ r is. no_uids name held home held.phase (is_other selected held.content) r is)
 

@@ -1,24 +1,20 @@
 -- What an ask is to a home: a CREATE, an operation on the messages of a mailbox, or one that leaves the home as it was.
-use Rattle.std.proofs.Common.{◌≡◌, ℕ, List, Option, None, Some, refl}
-use Rattle.mail_message.specs.declared.message.Message.{Message}
+use Rattle.std.proofs.Common.{◌≡◌, refl}
 use Rattle.mail_message.specs.Boxes.{Content}
 use Rattle.mail_store.specs.Append.{append_fault}
 use Rattle.link_msg.specs.declared.ask.FrontAsk.{FrontAsk}
 use Rattle.link_msg.specs.declared.op.Op.{Op}
 use Rattle.link_msg.specs.declared.op.Op.TheVariants.{Look, Read, Flags, Expunge, Append, Create}
 use Rattle.backend_core.specs.declared.backend.Backend.{Backend}
-use Rattle.backend_core.specs.declared.held.Held.{Held}
-use Rattle.backend_core.specs.declared.response.Response.{Response}
 use Rattle.backend_core.specs.HomeStep.{HomeStep, BoxStep, held_at}
 use Rattle.backend_core.specs.HomeLaws.{Follows}
-use Rattle.backend_core.specs.Refusal.{refusal}
-use Rattle.backend_core.specs.Append.{append_step, append_unless, append_to}
+use Rattle.backend_core.specs.Append.{append_step, append_to}
 use Rattle.backend_core.specs.Create.{create_step}
 use Rattle.backend_core.specs.Expunge.{expunge_step, expunge_to}
 use Rattle.backend_core.specs.Flags.{flags_step, flags_to}
 use Rattle.backend_core.specs.Look.{look_step}
 use Rattle.backend_core.specs.Read.{read_step, read_to}
-use Rattle.backend_core.specs.Served.{served, served_unless}
+use Rattle.backend_core.specs.Served.{served}
 use Rattle.backend_core.specs.Step.{home_step, op_step}
 use Rattle.backend_core.proofs.Follows.{append_follows, expunge_follows, flags_follow, read_follows}
 
@@ -28,25 +24,11 @@ pub data Serves (home : Backend) (ask : FrontAsk) (op : Op) (step : HomeStep) : 
       → step ≡ served home ask.name ask.selected operation (held_at home ask.name) → Serves home ask op step
   tells : step.home ≡ home → Serves home ask op step
 
-append_unless_served : (home : Backend) (name : List ℕ) (held : Held) (messages : List Message) (response : Option Response)
-    → append_unless home name held messages response
-    ≡ served_unless home name held (append_to held.content messages (append_fault held.content messages)) response
-unfolding append_unless served_unless
-append_unless_served home name held messages (Some response) = refl
-append_unless_served home name held messages None = refl
-
-append_served : (home : Backend) (name : List ℕ) (selected : Option ℕ) (messages : List Message) (found : Option Held)
-    → append_step home name selected messages found ≡ served home name selected (λ content. append_to content messages (append_fault content messages)) found
-unfolding append_step served
-append_served home name selected messages None = refl
-append_served home name selected messages (Some held) = append_unless_served home name held messages (refusal selected held)
-
 op_serves : (home : Backend) (ask : FrontAsk) (op : Op) → Serves home ask op (op_step home ask op)
-unfolding op_step look_step read_step flags_step expunge_step
+unfolding op_step append_step look_step read_step flags_step expunge_step
 op_serves home ask Create = creates refl refl
 op_serves home ask (Append messages) =
-    works (λ content. append_to content messages (append_fault content messages)) (append_follows messages)
-    (append_served home ask.name ask.selected messages (held_at home ask.name))
+    works (λ content. append_to content messages (append_fault content messages)) (append_follows messages) refl
 op_serves home ask (Read uids sees) = works (λ content. read_to content uids sees) (read_follows uids sees) refl
 op_serves home ask (Flags uids mode flags) = works (λ content. flags_to content uids mode flags) (flags_follow uids mode flags) refl
 op_serves home ask (Expunge only) = works (λ content. expunge_to content only) (expunge_follows only) refl

@@ -7,10 +7,9 @@ use Rattle.mail_store.specs.Append.{append_fault, appended, uids_from}
 use Rattle.link_msg.specs.declared.outcome.Outcome.TheVariants.{Uids, Limit}
 use Rattle.backend_core.specs.declared.backend.Backend.{Backend}
 use Rattle.backend_core.specs.declared.held.Held.{Held}
-use Rattle.backend_core.specs.declared.response.Response.{Response}
-use Rattle.backend_core.specs.HomeStep.{HomeStep, BoxStep, answers, changes}
-use Rattle.backend_core.specs.Refusal.{refusal}
-use Rattle.backend_core.specs.Response.{bare, done, not_now}
+use Rattle.backend_core.specs.HomeStep.{HomeStep, BoxStep}
+use Rattle.backend_core.specs.Response.{bare, done}
+use Rattle.backend_core.specs.Served.{served}
 
 -- the messages stand behind the others, unless a limit would be passed
 unfoldable pub append_to : Content → List Message → Option StoreFault → BoxStep
@@ -20,11 +19,6 @@ append_to content messages None = record {
   response = done (Uids (uids_from content.next messages)) (bare (appended content messages));
 }
 
-unfoldable pub append_unless : Backend → List ℕ → Held → List Message → Option Response → HomeStep
-append_unless home name held messages (Some response) = answers home response
-append_unless home name held messages None =
-    changes home name held (append_to held.content messages (append_fault held.content messages))
-
 unfoldable pub append_step : Backend → List ℕ → Option ℕ → List Message → Option Held → HomeStep
-append_step home name selected messages None = answers home not_now
-append_step home name selected messages (Some held) = append_unless home name held messages (refusal selected held)
+append_step home name selected messages found =
+    served home name selected (λ content. append_to content messages (append_fault content messages)) found

@@ -15,7 +15,7 @@ use std::alloc::Global;
 
 /// Puts messages behind those of a mailbox, where it is Open here. For want of memory the home is spent. A message takes
 /// time logarithmic in the mailbox, and no body is copied.
-#[tactic(auto, unfolding(crate::specs::Append::append_step, crate::specs::Append::append_unless))]
+#[tactic(auto, unfolding(crate::specs::Append::append_step, crate::specs::Served::served, crate::specs::Served::served_unless))]
 pub fn append(
     alloc: Global,
     home: &mut Backend,
