@@ -19,10 +19,10 @@ pub fn expunge(
     home: &mut Backend,
     name: &MailName,
     selected: Option<u32>,
-    only: Option<Uids>,
+    only: &Option<Uids>,
 ) -> Result<Response, Memory>
     ensures { IfOk result (λ response.
-        answers home.new response ≡ expunge_step home.old name.now selected only (held_at home.old name.now)) }
+        answers home.new response ≡ expunge_step home.old name.now selected only.now (held_at home.old name.now)) }
 {
     match home.held.get_mut(name) {
         None => Ok(Response::not_now()),
@@ -33,8 +33,8 @@ pub fn expunge(
     }
 }
 
-fn expunge_to(alloc: Global, content: &mut MailBox, only: Option<Uids>) -> Result<Response, Memory>
-    ensures { IfOk result (λ response. record { content = content.new; response = response } ≡ expunge_to content.old only) }
+fn expunge_to(alloc: Global, content: &mut MailBox, only: &Option<Uids>) -> Result<Response, Memory>
+    ensures { IfOk result (λ response. record { content = content.new; response = response } ≡ expunge_to content.old only.now) }
 {
     let uids = match only {
         None => mail_store::expunge(alloc, content, None)?,

@@ -1,7 +1,8 @@
 // What a home does with an ask.
 ghost use Rattle.std.specs.Prelude.{◌≡◌, IfOk};
 ghost use Rattle.backend_core.specs.Step.{home_step};
-ghost use Rattle.backend_core.specs.HomeStep.{responds};
+ghost use Rattle.backend_core.specs.declared.backend.Backend.{Backend};
+ghost use Rattle.backend_core.specs.HomeStep.{HomeStep, answers, responds};
 
 use crate::append::append;
 use crate::backend::Backend;
@@ -28,14 +29,22 @@ pub fn serve(alloc: Global, home: &mut Backend, ask: FrontAsk) -> Result<Option<
         op,
     } = ask;
     match op {
-        Op::Create => Ok(Some(create(alloc, home, name)?)),
-        Op::Append(messages) => Ok(Some(append(alloc, home, &name, selected, messages)?)),
-        Op::Look => Ok(Some(look(alloc, selected, home.held.get(&name))?)),
-        Op::Read(uids, sees) => Ok(Some(read(alloc, home, &name, selected, &uids, sees)?)),
-        Op::Flags(uids, mode, flags) => Ok(Some(set_flags(
-            alloc, home, &name, selected, &uids, mode, &flags,
-        )?)),
-        Op::Expunge(only) => Ok(Some(expunge(alloc, home, &name, selected, only)?)),
+        Op::Create => answered(create(alloc, home, name)),
+        Op::Append(messages) => answered(append(alloc, home, &name, selected, messages)),
+        Op::Look => answered(look(alloc, selected, home.held.get(&name))),
+        Op::Read(uids, sees) => answered(read(alloc, home, &name, selected, &uids, sees)),
+        Op::Flags(uids, mode, flags) => {
+            answered(set_flags(alloc, home, &name, selected, &uids, mode, &flags))
+        }
+        Op::Expunge(only) => answered(expunge(alloc, home, &name, selected, &only)),
         _ => Ok(None),
     }
+}
+
+/// The answer of an operation that always has one.
+fn answered(response: Result<Response, Memory>) -> Result<Option<Response>, Memory>
+    ensures { (home : Backend) (step : HomeStep) → IfOk response (λ response. answers home response ≡ step)
+        → IfOk result (λ response. responds home response ≡ step) }
+{
+    Ok(Some(response?))
 }
