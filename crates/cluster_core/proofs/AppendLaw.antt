@@ -5,7 +5,8 @@ use Rattle.std.specs.Cmp.Lexicographic.{slice_cmp}
 use Rattle.std.proofs.Math.Logic.{⊎_elim}
 use Rattle.backend_core.specs.declared.backend.Backend.{Backend}
 use Rattle.backend_core.specs.declared.held.Held.{Held}
-use Rattle.backend_core.specs.Append.{append_step, append_unless, append_to}
+use Rattle.backend_core.specs.Append.{append_step, append_to}
+use Rattle.backend_core.specs.Served.{served, served_unless}
 use Rattle.backend_core.specs.HomeStep.{held_at, with_content}
 use Rattle.backend_core.specs.Refusal.{refusal, refusal_in, is_other}
 use Rattle.mail_message.specs.Boxes.{Content}
@@ -80,7 +81,6 @@ abbrev pub AppendsAlike : Store → Backend → List ℕ → Message → Option 
 AppendsAlike store home name message found =
     ServesAlike store home name (append_work message) (append_on message (open_content found)) (append_step home name None (message ∷ []) found)
 
-
 fault_by : (store : Store) (home : Backend) (name : List ℕ) (message : Message) (held : Held) (fault : Option StoreFault) → held_at home name ≡ Some held
     → held.phase ≡ open_here → IsStoreOf store home
     → ServesAlike store home name (append_work message) (append_to_box message held.content fault)
@@ -116,18 +116,19 @@ not_refused held e = rw e refl
 there_by : (store : Store) (home : Backend) (name : List ℕ) (message : Message) (held : Held) → held_at home name ≡ Some held → held.phase ≡ open_here
     → IsStoreOf store home
     → AppendsAlike store home name message (Some held)
-unfolding append_step append_unless append_on
+unfolding append_step served served_unless append_on
 there_by store home name message held at e same =
-    subst (λ r. ServesAlike store home name (append_work message) (append_on message (open_content (Some held)))
-    (append_unless home name held (message ∷ []) r)) (sym (not_refused held e))
-    (subst (λ b. ServesAlike store home name (append_work message) (append_on message b) (append_unless home name held (message ∷ []) None))
+    let step = append_to held.content (message ∷ []) (append_fault held.content (message ∷ [])) in
+    subst (λ r. ServesAlike store home name (append_work message) (append_on message (open_content (Some held))) (served_unless home name held step r))
+    (sym (not_refused held e))
+    (subst (λ b. ServesAlike store home name (append_work message) (append_on message b) (served_unless home name held step None))
     (sym (opened held held.content e))
     (fault_by store home name message held (append_fault held.content (message ∷ [])) at e same))
 
 pub appends_alike : (store : Store) (home : Backend) (name : List ℕ) (message : Message) (found : Option Held) → held_at home name ≡ found
     → IsStoreOf store home
     → AppendsAlike store home name message found
-unfolding append_step append_on store_after asked_for turn_of append_reply MayWork
+unfolding append_step served append_on store_after asked_for turn_of append_reply MayWork
 appends_alike store home name message None at same = record {
   free = tt;
   body = _;
