@@ -25,7 +25,6 @@ abbrev pub SelectsAlike : Store → Backend → List ℕ → Opening → Option 
 SelectsAlike store home name it found =
     ServesAlike store home name (select_work it) (select_on it name (open_content found)) (look_step home None found)
 
-
 seen : (store : Store) (home : Backend) (name : List ℕ) (it : Opening) (held : Held) → IsStoreOf store home
     → ServesAlike store home name (select_work it) (select_on it name (Some held.content)) (answers home (done nothing (snapshot_of held.content)))
 unfolding select_on store_after asked_for turn_of select_turn select_done MayWork

@@ -35,7 +35,6 @@ abbrev pub LooksAlike : Store → Backend → List ℕ → List ℕ → List Sta
 LooksAlike store home name shown items found =
     ServesAlike store home name (status_work shown items) (status_on shown items (open_content found)) (look_step home None found)
 
-
 seen : (store : Store) (home : Backend) (name shown : List ℕ) (items : List StatusItem) (held : Held) → IsStoreOf store home
     → ServesAlike store home name (status_work shown items) (status_on shown items (Some held.content))
     (answers home (done nothing (snapshot_of held.content)))

@@ -44,7 +44,6 @@ use Rattle.cluster_core.proofs.AppendLaw.{kept_alike, changed_alike}
 use Rattle.cluster_core.proofs.ServedAlike.{IsStoreOf, ServesAlike, apart}
 use Rattle.cluster_core.proofs.StatusLaw.{opened}
 
-
 -- ---- what is answered, and what is left
 
 -- an answer that comes of work at the mailbox of a view
