@@ -26,14 +26,14 @@ fn holds_bad(alloc: Global, frame: &str, at: u64, tag: &str) -> Result<bool, Fau
     let frame = bytes_of(alloc, frame)?;
     let tag = bytes_of(alloc, tag)?;
     Ok(
-        is_told(alloc, frame.as_slice(), at, tag.as_slice())
+        is_told(&read(alloc, frame.as_slice()), at, tag.as_slice())
             && are_refused(alloc, frame.as_slice(), tag.as_slice())?,
     )
 }
 
-/// Whether a frame is read as no command, with this place and this tag, which is empty for none.
-fn is_told(alloc: Global, frame: &[u8], at: u64, tag: &[u8]) -> bool {
-    match &read(alloc, frame) {
+/// Whether no command was read, up to this place and under this tag, which is empty for none.
+fn is_told(read: &Result<(Tag, Command), ReadFault>, at: u64, tag: &[u8]) -> bool {
+    match read {
         Err(ReadFault::Bad(bad)) => bad.at as u64 == at && is_tag_told(bad, tag),
         _ => false,
     }
@@ -48,12 +48,12 @@ fn is_tag_told(bad: &Bad, tag: &[u8]) -> bool {
 
 /// Whether a frame is refused under a tag, as no command and as too big a one.
 fn are_refused(alloc: Global, frame: &[u8], tag: &[u8]) -> Result<bool, Memory> {
-    Ok(is_refused(&read_request(alloc, frame)?, tag) && is_refused(&too_big(alloc, frame)?, tag))
+    Ok(is_refused(read_request(alloc, frame)?, tag) && is_refused(too_big(alloc, frame)?, tag))
 }
 
 /// Whether a request is refused under a tag.
-fn is_refused(request: &Request, tag: &[u8]) -> bool {
-    match request {
+fn is_refused(request: Request, tag: &[u8]) -> bool {
+    match &request {
         Request::Unknown(under) | Request::TooBig(under) => is_tag(under, tag),
         Request::Command(_, _) => false,
     }
@@ -109,8 +109,11 @@ impl Wanted<'_> {
     fn is_read_again(self, alloc: Global, tag: &Tag, command: &Command) -> Result<bool, Fault>
         requires { IsSpelled tag.now command.now }
     {
-        let (tag, command) = &reread(alloc, tag, command)?;
-        self.is_this(alloc, tag, command)
+        self.is_one(alloc, &reread(alloc, tag, command)?)
+    }
+
+    fn is_one(self, alloc: Global, one: &(Tag, Command)) -> Result<bool, Fault> {
+        self.is_this(alloc, &one.0, &one.1)
     }
 
     fn is_this(self, alloc: Global, tag: &Tag, command: &Command) -> Result<bool, Fault> {

@@ -8,7 +8,8 @@ use case_table::Fault;
 use link_msg::{FrontAsk, Op, Outs};
 use mail_message::FlagSet;
 use mur_base::{
-    AskId, Bytes, Location, MailName, Memory, NameFault, Phase, mail_name, node_name, user_name,
+    AskId, Bytes, Location, MailName, Memory, NameFault, NodeName, Phase, UserName, mail_name,
+    node_name, user_name,
 };
 use std::alloc::Global;
 
@@ -164,39 +165,45 @@ fn asked(
     name: &str,
     rest: &[&str],
 ) -> Result<BackInput, Fault> {
-    let ask = match rest {
-        [] => ask_in(alloc, name, None, word, rest)?,
-        [selected, rest @ ..] => ask_in(alloc, name, serial_of(selected)?, word, rest)?,
-    };
-    Ok(BackInput::FromFront(node_name(alloc, node.as_bytes())?, ask))
-}
-
-fn ask_in(
-    alloc: Global,
-    name: &str,
-    selected: Option<u32>,
-    word: &str,
-    rest: &[&str],
-) -> Result<FrontAsk, Fault> {
+    let asker = asker(alloc, node)?;
     let name = mail_name(alloc, name.as_bytes())?;
-    Ok(ask_of(alloc, name, selected, op_of(alloc, word, rest)?)?)
+    match rest {
+        [] => Ok(asker.asks(name, None, op_of(alloc, word, rest)?)),
+        [selected, rest @ ..] => {
+            let selected = serial_of(selected)?;
+            Ok(asker.asks(name, selected, op_of(alloc, word, rest)?))
+        }
+    }
 }
 
-/// What bob asks of a mailbox.
-pub fn ask_of(
-    alloc: Global,
-    name: MailName,
-    selected: Option<u32>,
-    op: Op,
-) -> Result<FrontAsk, NameFault> {
-    let user = user_name(alloc, b"bob")?;
-    Ok(FrontAsk {
-        id: ID,
-        user,
-        name,
-        selected,
-        op,
+/// A user at a node.
+#[derive(Drop)]
+pub struct Asker {
+    node: NodeName,
+    user: UserName,
+}
+
+/// Bob, at a node.
+pub fn asker(alloc: Global, node: &str) -> Result<Asker, NameFault> {
+    Ok(Asker {
+        node: node_name(alloc, node.as_bytes())?,
+        user: user_name(alloc, b"bob")?,
     })
+}
+
+impl Asker {
+    /// What the user asks of a mailbox.
+    pub fn asks(self, name: MailName, selected: Option<u32>, op: Op) -> BackInput {
+        let Asker { node, user } = self;
+        let ask = FrontAsk {
+            id: ID,
+            user,
+            name,
+            selected,
+            op,
+        };
+        BackInput::FromFront(node, ask)
+    }
 }
 
 /// What is asked of a mailbox or of its messages.

@@ -1,10 +1,10 @@
 // One session over one home of mailboxes: what its client is told.
-use crate::home;
+use crate::home::{self, Asker};
 use crate::told_line::{put_text, request_of};
 use crate::twin::Twin;
 use backend_core::{BackInput, Backend};
 use case_table::Fault;
-use link_msg::{AnswerBody, LinkMsg, Op, Out, Outs};
+use link_msg::{AnswerBody, LinkMsg, Out, Outs};
 use mail_message::date;
 use mur_base::{Bytes, Items, MailName, User, Users, What, node_name, user_name};
 use mur_model::{Command, Reply, Request, Setting, Tag};
@@ -187,8 +187,9 @@ impl Stage {
         command: Command,
         fate: Fate,
     ) -> Result<Option<Need>, Fault> {
+        let asker = home::asker(alloc, "f1")?;
         match self.session.begin(alloc, &self.setting, command)? {
-            Need::Home(name, asking) => self.need_behind(alloc, name, asking, fate),
+            Need::Home(name, asking) => self.need_behind(alloc, asker, name, asking, fate),
             need => Ok(Some(need)),
         }
     }
@@ -197,12 +198,13 @@ impl Stage {
     fn need_behind(
         &mut self,
         alloc: Global,
+        asker: Asker,
         name: MailName,
         asking: Asking,
         fate: Fate,
     ) -> Result<Option<Need>, Fault> {
         match fate {
-            Fate::Answered => self.answered(alloc, name, asking),
+            Fate::Answered => self.answered(alloc, asker, name, asking),
             Fate::BeingMoved => self.moved(alloc, &asking.awaited),
             Fate::NotReached => self.unreached(alloc, &asking.awaited),
         }
@@ -222,6 +224,7 @@ impl Stage {
     fn answered(
         &mut self,
         alloc: Global,
+        asker: Asker,
         name: MailName,
         asking: Asking,
     ) -> Result<Option<Need>, Fault> {
@@ -230,21 +233,22 @@ impl Stage {
             selected,
             awaited,
         } = asking;
-        let body = answer_of(alloc, &mut self.home, name, selected, op)?;
-        Ok(self.session.finish(alloc, &awaited, body)?)
+        let body = answer_to(alloc, &mut self.home, asker.asks(name, selected, op));
+        self.finished(alloc, &awaited, body)
+    }
+
+    fn finished(
+        &mut self,
+        alloc: Global,
+        awaited: &Awaited,
+        body: Result<AnswerBody, Fault>,
+    ) -> Result<Option<Need>, Fault> {
+        Ok(self.session.finish(alloc, awaited, body?)?)
     }
 }
 
-/// What the home answers to an ask.
-fn answer_of(
-    alloc: Global,
-    home: &mut Backend,
-    name: MailName,
-    selected: Option<u32>,
-    op: Op,
-) -> Result<AnswerBody, Fault> {
-    let ask = home::ask_of(alloc, name, selected, op)?;
-    let input = BackInput::FromFront(node_name(alloc, b"f1")?, ask);
+/// What the home answers.
+fn answer_to(alloc: Global, home: &mut Backend, input: BackInput) -> Result<AnswerBody, Fault> {
     match body_in(home::outs_of(alloc, home, input)?) {
         Some(body) => Ok(body),
         None => Err(Fault::Unreadable("no answer")),

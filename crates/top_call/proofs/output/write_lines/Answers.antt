@@ -44,22 +44,22 @@ returns-in_err-write_clients-clause-did g c =
     failed _ _ _ _ _ _ _ _ c.from_residual.ensures.0
     (breaks itself _ _ _ _ _ _ _ _ _ refl (start _ _ c.args.world.now c.args.points.now c.args.rows.now) c.in_err-write_clients.ensures.did)
 
-pub returns-in_err-write_points-clause-did : goal.returns-in_err-write_points-clause-did
-returns-in_err-write_points-clause-did g c =
+pub returns-in_err-write_each-clause-did : goal.returns-in_err-write_each-clause-did
+returns-in_err-write_each-clause-did g c =
     let clients = goes_on itself _ _ _ _ _ _ _ _ _ _ refl (start _ _ c.args.world.now c.args.points.now c.args.rows.now) c.in_ok-write_clients.ensures.did in
-    failed _ _ _ _ _ _ _ _ c.from_residual-in_err-write_points.ensures.0 (breaks itself _ _ _ _ _ _ _ _ _ refl clients c.in_err-write_points.ensures.did)
+    failed _ _ _ _ _ _ _ _ c.from_residual-in_err-write_each.ensures.0 (breaks itself _ _ _ _ _ _ _ _ _ refl clients (rw c.as_slice.ensures at c.in_err-write_each.ensures.did))
 
-pub returns-in_err-write_boxes-clause-did : goal.returns-in_err-write_boxes-clause-did
-returns-in_err-write_boxes-clause-did g c =
+pub returns-in_err-write_each-2-clause-did : goal.returns-in_err-write_each-2-clause-did
+returns-in_err-write_each-2-clause-did g c =
     let clients = goes_on itself _ _ _ _ _ _ _ _ _ _ refl (start _ _ c.args.world.now c.args.points.now c.args.rows.now) c.in_ok-write_clients.ensures.did in
-    let points = goes_on itself _ _ _ _ _ _ _ _ _ _ refl clients c.in_ok-write_points.ensures.did in
-    failed _ _ _ _ _ _ _ _ c.from_residual-in_err-write_boxes.ensures.0 (breaks itself _ _ _ _ _ _ _ _ _ refl points c.in_err-write_boxes.ensures.did)
+    let points = goes_on itself _ _ _ _ _ _ _ _ _ _ refl clients (rw c.as_slice.ensures at c.in_ok-write_each.ensures.did) in
+    failed _ _ _ _ _ _ _ _ c.from_residual-in_err-write_each-2.ensures.0 (breaks itself _ _ _ _ _ _ _ _ _ refl points (rw c.as_slice-2.ensures at c.in_err-write_each-2.ensures.did))
 
 pub returns-in_err-write_line-clause-did : goal.returns-in_err-write_line-clause-did
 returns-in_err-write_line-clause-did g c =
     let clients = goes_on itself _ _ _ _ _ _ _ _ _ _ refl (start _ _ c.args.world.now c.args.points.now c.args.rows.now) c.in_ok-write_clients.ensures.did in
-    let points = goes_on itself _ _ _ _ _ _ _ _ _ _ refl clients c.in_ok-write_points.ensures.did in
-    let boxes = goes_on itself _ _ _ _ _ _ _ _ _ _ refl points c.in_ok-write_boxes.ensures.did in
+    let points = goes_on itself _ _ _ _ _ _ _ _ _ _ refl clients (rw c.as_slice.ensures at c.in_ok-write_each.ensures.did) in
+    let boxes = goes_on itself _ _ _ _ _ _ _ _ _ _ refl points (rw c.as_slice-2.ensures at c.in_ok-write_each-2.ensures.did) in
     failed _ _ _ _ _ _ _ _ c.from_residual-in_err-write_line.ensures.0
     (breaks itself _ _ _ _ _ _ _ _ _ (end_is c.len.result (length c.args.points.now) c.args.world.now.steps c.len.ensures) boxes
     c.in_err-write_line.ensures.did)
@@ -67,8 +67,8 @@ returns-in_err-write_line-clause-did g c =
 pub returns-clause-did : goal.returns-clause-did
 returns-clause-did g c =
     let clients = goes_on itself _ _ _ _ _ _ _ _ _ _ refl (start _ _ c.args.world.now c.args.points.now c.args.rows.now) c.in_ok-write_clients.ensures.did in
-    let points = goes_on itself _ _ _ _ _ _ _ _ _ _ refl clients c.in_ok-write_points.ensures.did in
-    let boxes = goes_on itself _ _ _ _ _ _ _ _ _ _ refl points c.in_ok-write_boxes.ensures.did in
+    let points = goes_on itself _ _ _ _ _ _ _ _ _ _ refl clients (rw c.as_slice.ensures at c.in_ok-write_each.ensures.did) in
+    let boxes = goes_on itself _ _ _ _ _ _ _ _ _ _ refl points (rw c.as_slice-2.ensures at c.in_ok-write_each-2.ensures.did) in
     let last = goes_on itself _ _ _ _ _ _ _ _ _ _
     (end_is c.len.result (length c.args.points.now) c.args.world.now.steps c.len.ensures) boxes c.in_ok-write_line.ensures.did in
     done _ _ _ _ _ _ _ (ends itself _ _ _ _ _ _ refl last)
