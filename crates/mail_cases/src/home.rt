@@ -165,7 +165,7 @@ fn asked(
     name: &str,
     rest: &[&str],
 ) -> Result<BackInput, Fault> {
-    let asker = asker(alloc, node)?;
+    let asker = bob_at(alloc, node)?;
     let name = mail_name(alloc, name.as_bytes())?;
     match rest {
         [] => Ok(asker.asks(name, None, op_of(alloc, word, rest)?)),
@@ -184,7 +184,7 @@ pub struct Asker {
 }
 
 /// Bob, at a node.
-pub fn asker(alloc: Global, node: &str) -> Result<Asker, NameFault> {
+pub fn bob_at(alloc: Global, node: &str) -> Result<Asker, NameFault> {
     Ok(Asker {
         node: node_name(alloc, node.as_bytes())?,
         user: user_name(alloc, b"bob")?,

@@ -187,7 +187,7 @@ impl Stage {
         command: Command,
         fate: Fate,
     ) -> Result<Option<Need>, Fault> {
-        let asker = home::asker(alloc, "f1")?;
+        let asker = home::bob_at(alloc, "f1")?;
         match self.session.begin(alloc, &self.setting, command)? {
             Need::Home(name, asking) => self.need_behind(alloc, asker, name, asking, fate),
             need => Ok(Some(need)),
