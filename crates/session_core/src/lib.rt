@@ -5,13 +5,19 @@
 mod append;
 mod asking;
 mod beginning;
+mod close;
 mod create;
+mod expunge;
+mod fetch;
 mod finishing;
 mod need;
+mod news;
 mod relocation;
+mod search;
 mod select;
 mod session;
 mod status;
+mod store;
 mod viewed;
 
 pub use asking::{Asking, Awaited};

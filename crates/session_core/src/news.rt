@@ -1,0 +1,36 @@
+// NOOP and IDLE of a session that has a mailbox selected: the news (RFC 9051, 6.1.2 and 6.3.13).
+ghost use Rattle.std.specs.Prelude.{◌≡◌, IfOk};
+ghost use Rattle.link_msg.specs.declared.op.Op.TheVariants.{Look};
+ghost use Rattle.mur_model.specs.declared.need.ViewWork.TheVariants.{News};
+ghost use Rattle.session_core.specs.Viewed.{viewed_done};
+
+use link_msg::{Op, Outcome};
+use mail_message::Snapshot;
+use mur_base::Memory;
+use mur_model::{NewsFor, Turn, View, gone, news_told};
+use std::alloc::Global;
+
+/// What is asked: a look.
+pub fn news_op() -> Op
+    ensures { result ≡ Look }
+{
+    Op::Look
+}
+
+/// What comes of an outcome; nothing of one that a look can't have.
+#[tactic(auto, unfolding(crate::specs::Viewed::viewed_done))]
+pub fn news_done(
+    alloc: Global,
+    view: &View,
+    why: NewsFor,
+    outcome: &Outcome,
+    seen: &Snapshot,
+) -> Result<Option<Turn>, Memory>
+    ensures { IfOk result (λ turn. turn ≡ viewed_done view.now (News why) outcome.now seen.now) }
+{
+    match outcome {
+        Outcome::None => Ok(Some(news_told(alloc, view, why, &seen.rows)?)),
+        Outcome::Gone => Ok(Some(gone(alloc)?)),
+        _ => Ok(None),
+    }
+}
