@@ -1,10 +1,12 @@
 -- What the home does with work at a mailbox is what the one store does with it. Each command has its law in a file of its own.
-use Rattle.std.proofs.Common.{ℕ, ◌+◌, List, refl, sym, subst}
+use Rattle.std.proofs.Common.{◌≡◌, ℕ, ◌+◌, Bool, true, false, List, Some, refl, sym, subst}
 use Rattle.backend_core.specs.declared.backend.Backend.{Backend}
 use Rattle.backend_core.specs.HomeStep.{held_at}
 use Rattle.backend_core.specs.Step.{home_step, op_step}
 use Rattle.link_msg.specs.declared.ask.FrontAsk.{FrontAsk}
+use Rattle.link_msg.specs.declared.op.Op.{Op}
 use Rattle.mur_base.specs.declared.point.AskId.{AskId}
+use Rattle.mur_model.specs.declared.fetch.Fetching.{Fetching}
 use Rattle.mur_model.specs.declared.need.ViewWork.{ViewWork}
 use Rattle.mur_model.specs.declared.need.ViewWork.TheVariants.{News, Close, Expunge, Store as store_work, Fetch, Search}
 use Rattle.mur_model.specs.declared.need.Work.{Work}
@@ -12,16 +14,18 @@ use Rattle.mur_model.specs.declared.need.Work.TheVariants.{Make, Append as appen
 use Rattle.mur_model.specs.declared.store.Store.{Store}
 use Rattle.mur_model.specs.declared.view.View.{View}
 use Rattle.mur_model.specs.Act.{worked_at, work_on}
+use Rattle.mur_model.specs.FetchRows.{asks_rows}
 use Rattle.mur_model.specs.Store.{is_spent}
+use Rattle.mur_model.specs.Viewing.{viewed_on}
 use Rattle.session_core.specs.Asking.{asked_for}
-use Rattle.session_core.specs.Viewed.{view_op}
+use Rattle.session_core.specs.Viewed.{fetch_op, view_op}
 use Rattle.cluster_core.specs.OneStore.{open_content}
 use Rattle.cluster_core.proofs.AppendLaw.{appends_alike}
 use Rattle.cluster_core.proofs.CreateLaw.{creates_alike}
 use Rattle.cluster_core.proofs.SelectLaw.{selects_alike}
 use Rattle.cluster_core.proofs.ServedAlike.{IsStoreOf, ServesAlike}
 use Rattle.cluster_core.proofs.StatusLaw.{looks_alike}
-use Rattle.cluster_core.proofs.ViewLaw.{news_views, close_views, expunge_views, store_views, fetch_views, search_views}
+use Rattle.cluster_core.proofs.ViewLaw.{news_views, close_views, expunge_views, store_views, read_views, rows_views, search_views}
 
 -- what a session asks for work at a mailbox
 abbrev pub plain_ask : AskId → List ℕ → List ℕ → Work → FrontAsk
@@ -34,6 +38,15 @@ OpensAlike store home id user name work =
     ServesAlike store home name work (work_on name work (home.last_serial + 1) (is_spent store.given) (open_content (held_at home name)))
     (home_step home (plain_ask id user name work))
 
+-- a FETCH, by whether the rows of the mailbox tell all of it
+fetches : (store : Store) (home : Backend) (id : AskId) (user name : List ℕ) (view : View) (it : Fetching) (op : Op) (rows : Bool)
+    → asks_rows it ≡ rows → IsStoreOf store home
+    → ServesAlike store home name (viewed_work view (Fetch it)) (viewed_on view (Fetch it) (open_content (held_at home name)))
+    (op_step home (record { id = id; user = user; name = name; selected = Some view.serial; op = op }) (fetch_op view it rows))
+unfolding op_step fetch_op
+fetches store home id user name view it op true are same = rows_views store home name view it (held_at home name) are refl same
+fetches store home id user name view it op false are same = read_views store home name view it (held_at home name) refl same
+
 views : (store : Store) (home : Backend) (id : AskId) (user name : List ℕ) (view : View) (it : ViewWork) → IsStoreOf store home
     → OpensAlike store home id user name (viewed_work view it)
 unfolding home_step op_step asked_for view_op work_on
@@ -41,7 +54,7 @@ views store home id user name view (News why) same = news_views store home name 
 views store home id user name view Close same = close_views store home name view (held_at home name) refl same
 views store home id user name view (Expunge only) same = expunge_views store home name view only (held_at home name) refl same
 views store home id user name view (store_work it) same = store_views store home name view it (held_at home name) refl same
-views store home id user name view (Fetch it) same = fetch_views store home name view it (held_at home name) refl same
+views store home id user name view (Fetch it) same = fetches store home id user name view it _ (asks_rows it) refl same
 views store home id user name view (Search it) same = search_views store home name view it (held_at home name) refl same
 
 opens_alike : (store : Store) (home : Backend) (id : AskId) (user name : List ℕ) (work : Work) → IsStoreOf store home

@@ -1,6 +1,7 @@
 -- A command of a selected session at the home of its mailbox is one at the store: the mailbox is gone at both, or both do the same with it.
-use Rattle.std.proofs.Common.{◌≡◌, ℕ, Bool, true, false, not, nat_eq, if◌then◌else◌, List, Option, None, Some, refl, sym, subst, arith}
+use Rattle.std.proofs.Common.{◌≡◌, ℕ, Bool, true, false, not, ◌&&◌, nat_eq, if◌then◌else◌, List, Option, None, Some, refl, sym, subst, arith}
 use Rattle.std.proofs.lemmas.Bool.Decides.{nat_tests}
+use Rattle.std.specs.List.{list_any}
 use Rattle.backend_core.specs.declared.backend.Backend.{Backend}
 use Rattle.backend_core.specs.declared.held.Held.{Held}
 use Rattle.backend_core.specs.declared.response.Response.{Response}
@@ -24,21 +25,23 @@ use Rattle.mur_model.specs.declared.need.ViewWork.{ViewWork}
 use Rattle.mur_model.specs.declared.need.ViewWork.TheVariants.{News, Close, Expunge, Store as store_work, Fetch, Search}
 use Rattle.mur_model.specs.declared.need.Work.TheVariants.{Viewed as viewed_work}
 use Rattle.mur_model.specs.declared.search.Searching.{Searching}
+use Rattle.mur_model.specs.declared.session.Turn.{Turn}
 use Rattle.mur_model.specs.declared.store.Store.{Store}
 use Rattle.mur_model.specs.declared.store_flags.FlagStore.{FlagStore}
 use Rattle.mur_model.specs.declared.view.View.{View}
 use Rattle.mur_model.specs.Act.{MayWork}
 use Rattle.mur_model.specs.ClientView.{uids}
-use Rattle.mur_model.specs.Expunge.{expunge_on, expunge_at}
-use Rattle.mur_model.specs.Fetch.{fetch_on, fetch_at, sees}
+use Rattle.mur_model.specs.Fetch.{fetch_at, is_body, sees}
+use Rattle.mur_model.specs.FetchRows.{asks_rows, rows_told}
 use Rattle.mur_model.specs.Left.{Worked, store_after, kept}
-use Rattle.mur_model.specs.Search.{search_on, search_at}
-use Rattle.mur_model.specs.Selected.{at_view, gone}
-use Rattle.mur_model.specs.StoreFlags.{store_on, store_at, stored_at}
-use Rattle.mur_model.specs.Viewing.{viewed_on, news_at, close_at}
+use Rattle.mur_model.specs.Noop.{news_told}
+use Rattle.mur_model.specs.Selected.{gone, rows_of}
+use Rattle.mur_model.specs.StoreFlags.{stored_at}
+use Rattle.mur_model.specs.Viewing.{found_gone, viewed_on, work_there}
+use Rattle.mur_model.proofs.FetchRowsLaw.{rows_tell, rows_unseen}
 use Rattle.session_core.specs.Asking.{asked_for}
 use Rattle.session_core.specs.Finish.{turn_of}
-use Rattle.session_core.specs.Viewed.{viewed_done, viewed_turn}
+use Rattle.session_core.specs.Viewed.{viewed_done, viewed_told, viewed_turn}
 use Rattle.cluster_core.specs.OneStore.{open_content}
 use Rattle.cluster_core.proofs.AppendLaw.{kept_alike, changed_alike}
 use Rattle.cluster_core.proofs.ServedAlike.{IsStoreOf, ServesAlike, apart}
@@ -66,31 +69,23 @@ serves_as store home name view it worked behind response same = record {
   unless = same.unless;
 }
 
-abbrev left_gone : Worked
-left_gone = record { left = kept; turn = gone }
-
 -- the home hasn't the mailbox
 missing : (store : Store) (home : Backend) (name : List ℕ) (view : View) (it : ViewWork) → IsStoreOf store home
-    → ServesAlike store home name (viewed_work view it) left_gone (answers home not_now)
+    → ServesAlike store home name (viewed_work view it) found_gone (answers home not_now)
 unfolding viewed_turn store_after
 missing store home name view it same =
-    serves_as store home name view it left_gone home not_now (record { shown = refl; still = same; unless = λ _. refl })
+    serves_as store home name view it found_gone home not_now (record { shown = refl; still = same; unless = λ _. refl })
 
 tells_gone : (view : View) (it : ViewWork) → viewed_turn view it (done gone_there no_snapshot).body ≡ Some gone
-unfolding viewed_turn viewed_done
-tells_gone view (News why) = refl
-tells_gone view Close = refl
-tells_gone view (Expunge only) = refl
-tells_gone view (store_work it) = refl
-tells_gone view (Fetch it) = refl
-tells_gone view (Search it) = refl
+unfolding viewed_turn viewed_told
+tells_gone view it = refl
 
 -- the home has another mailbox of the name
 another : (store : Store) (home : Backend) (name : List ℕ) (view : View) (it : ViewWork) → IsStoreOf store home
-    → ServesAlike store home name (viewed_work view it) left_gone (answers home (done gone_there no_snapshot))
+    → ServesAlike store home name (viewed_work view it) found_gone (answers home (done gone_there no_snapshot))
 unfolding store_after
 another store home name view it same =
-    serves_as store home name view it left_gone home (done gone_there no_snapshot)
+    serves_as store home name view it found_gone home (done gone_there no_snapshot)
     (record { shown = tells_gone view it; still = same; unless = λ _. refl })
 
 -- ---- by the UIDVALIDITY
@@ -104,60 +99,60 @@ refused_by : (held : Held) (serial : ℕ) (is : Bool) → held.phase ≡ open_he
 unfolding refusal is_other
 refused_by held serial is e s = rw e (rw s refl)
 
-worked_by : (view : View) (work : Content → Worked) (box : Content) (is : Bool) → nat_eq box.serial view.serial ≡ is
-    → at_view view work (Some box) ≡ (if is then work box else left_gone)
-unfolding at_view
-worked_by view work box is s = rw s refl
+worked_by : (view : View) (it : ViewWork) (box : Content) (is : Bool) → nat_eq box.serial view.serial ≡ is
+    → viewed_on view it (Some box) ≡ (if is then work_there view it box else found_gone)
+unfolding viewed_on
+worked_by view it box is s = rw s refl
 
 -- a step by what is answered instead, and work at the mailbox of the view
-at_serial : (store : Store) (home : Backend) (name : List ℕ) (view : View) (it : ViewWork) (work : Content → Worked) (held : Held)
+at_serial : (store : Store) (home : Backend) (name : List ℕ) (view : View) (it : ViewWork) (held : Held)
     (step : Option Response → HomeStep) (is : Bool)
     → ((response : Response) → step (Some response) ≡ answers home response)
-    → ServesAlike store home name (viewed_work view it) (work held.content) (step None) → IsStoreOf store home
-    → ServesAlike store home name (viewed_work view it) (if is then work held.content else left_gone) (step (refusal_in open_here (not is)))
+    → ServesAlike store home name (viewed_work view it) (work_there view it held.content) (step None) → IsStoreOf store home
+    → ServesAlike store home name (viewed_work view it) (if is then work_there view it held.content else found_gone) (step (refusal_in open_here (not is)))
 unfolding refusal_in
-at_serial store home name view it work held step true refuses does same = does
-at_serial store home name view it work held step false refuses does same =
-    subst (λ s. ServesAlike store home name (viewed_work view it) left_gone s) (sym (refuses (done gone_there no_snapshot)))
+at_serial store home name view it held step true refuses does same = does
+at_serial store home name view it held step false refuses does same =
+    subst (λ s. ServesAlike store home name (viewed_work view it) found_gone s) (sym (refuses (done gone_there no_snapshot)))
     (another store home name view it same)
 
 -- the mailbox is open
-at_open : (store : Store) (home : Backend) (name : List ℕ) (view : View) (it : ViewWork) (work : Content → Worked) (held : Held)
+at_open : (store : Store) (home : Backend) (name : List ℕ) (view : View) (it : ViewWork) (held : Held)
     (step : Option Response → HomeStep) → held.phase ≡ open_here
     → ((response : Response) → step (Some response) ≡ answers home response)
-    → ServesAlike store home name (viewed_work view it) (work held.content) (step None) → IsStoreOf store home
-    → ServesAlike store home name (viewed_work view it) (at_view view work (open_content (Some held))) (step (refusal (Some view.serial) held))
-at_open store home name view it work held step e refuses does same =
+    → ServesAlike store home name (viewed_work view it) (work_there view it held.content) (step None) → IsStoreOf store home
+    → ServesAlike store home name (viewed_work view it) (viewed_on view it (open_content (Some held))) (step (refusal (Some view.serial) held))
+at_open store home name view it held step e refuses does same =
     let is : Bool = nat_eq held.content.serial view.serial in
-    subst (λ b. ServesAlike store home name (viewed_work view it) (at_view view work b) (step (refusal (Some view.serial) held))) (sym (opened held e))
+    subst (λ b. ServesAlike store home name (viewed_work view it) (viewed_on view it b) (step (refusal (Some view.serial) held))) (sym (opened held e))
     (subst (λ w. ServesAlike store home name (viewed_work view it) w (step (refusal (Some view.serial) held)))
-    (sym (worked_by view work held.content is refl))
-    (subst (λ r. ServesAlike store home name (viewed_work view it) (if is then work held.content else left_gone) (step r))
+    (sym (worked_by view it held.content is refl))
+    (subst (λ r. ServesAlike store home name (viewed_work view it) (if is then work_there view it held.content else found_gone) (step r))
     (sym (refused_by held view.serial is e (turned held.content.serial view.serial is refl)))
-    (at_serial store home name view it work held step is refuses does same)))
+    (at_serial store home name view it held step is refuses does same)))
 
 -- ---- an operation on its messages
 
-abbrev DoesAlike : Store → Backend → List ℕ → View → ViewWork → (Content → Worked) → (Content → BoxStep) → Type 0
-DoesAlike store home name view it work operation =
+abbrev DoesAlike : Store → Backend → List ℕ → View → ViewWork → (Content → BoxStep) → Type 0
+DoesAlike store home name view it operation =
     (held : Held) → held_at home name ≡ Some held → held.phase ≡ open_here
-    → AnswersAlike store home name view it (work held.content) (with_content home name held (operation held.content).content)
+    → AnswersAlike store home name view it (work_there view it held.content) (with_content home name held (operation held.content).content)
     (operation held.content).response
 
-operates : (store : Store) (home : Backend) (name : List ℕ) (view : View) (it : ViewWork) (work : Content → Worked) (operation : Content → BoxStep)
-    (found : Option Held) → held_at home name ≡ found → DoesAlike store home name view it work operation → IsStoreOf store home
-    → ServesAlike store home name (viewed_work view it) (at_view view work (open_content found)) (served home name (Some view.serial) operation found)
-unfolding served at_view served_unless
-operates store home name view it work operation None at does same = missing store home name view it same
-operates store home name view it work operation (Some held) at does same =
+operates : (store : Store) (home : Backend) (name : List ℕ) (view : View) (it : ViewWork) (operation : Content → BoxStep)
+    (found : Option Held) → held_at home name ≡ found → DoesAlike store home name view it operation → IsStoreOf store home
+    → ServesAlike store home name (viewed_work view it) (viewed_on view it (open_content found)) (served home name (Some view.serial) operation found)
+unfolding served viewed_on served_unless
+operates store home name view it operation None at does same = missing store home name view it same
+operates store home name view it operation (Some held) at does same =
     let e : held.phase ≡ open_here = same.all_open name held at in
-    at_open store home name view it work held (λ r. served_unless home name held (operation held.content) r) e (λ _. refl)
-    (serves_as store home name view it (work held.content) (with_content home name held (operation held.content).content) (operation held.content).response
-    (does held at e)) same
+    at_open store home name view it held (λ r. served_unless home name held (operation held.content) r) e (λ _. refl)
+    (serves_as store home name view it (work_there view it held.content) (with_content home name held (operation held.content).content)
+    (operation held.content).response (does held at e)) same
 
 expunges : (store : Store) (home : Backend) (name : List ℕ) (view : View) (only : Option (List ℕ)) → IsStoreOf store home
-    → DoesAlike store home name view (Expunge only) (expunge_at view only) (λ content. expunge_to content only)
-unfolding viewed_turn viewed_done store_after
+    → DoesAlike store home name view (Expunge only) (λ content. expunge_to content only)
+unfolding viewed_turn viewed_told viewed_done store_after work_there
 expunges store home name view only same held at e = record {
   shown = refl;
   still = changed_alike store home name held (expunged held.content only) at e same;
@@ -165,8 +160,8 @@ expunges store home name view only same held at e = record {
 }
 
 closes : (store : Store) (home : Backend) (name : List ℕ) (view : View) → IsStoreOf store home
-    → DoesAlike store home name view Close (close_at view) (λ content. expunge_to content None)
-unfolding viewed_turn viewed_done store_after
+    → DoesAlike store home name view Close (λ content. expunge_to content None)
+unfolding viewed_turn viewed_told viewed_done store_after work_there
 closes store home name view same held at e = record {
   shown = refl;
   still = changed_alike store home name held (expunged held.content None) at e same;
@@ -178,7 +173,7 @@ stores_by : (store : Store) (home : Backend) (name : List ℕ) (view : View) (it
     → AnswersAlike store home name view (store_work it) (stored_at view it held.content is_full)
     (with_content home name held (flags_unless held.content it.uids it.mode it.flags is_full).content)
     (flags_unless held.content it.uids it.mode it.flags is_full).response
-unfolding viewed_turn viewed_done store_after flags_unless
+unfolding viewed_turn viewed_told viewed_done store_after flags_unless
 stores_by store home name view it held true at e same = record {
   shown = refl;
   still = kept_alike store home name held at same;
@@ -194,7 +189,7 @@ reads_by : (store : Store) (home : Backend) (name : List ℕ) (view : View) (it 
     → held_at home name ≡ Some held → held.phase ≡ open_here → IsStoreOf store home
     → AnswersAlike store home name view (Fetch it) (fetch_at view it held.content)
     (with_content home name held (read_to held.content it.uids is).content) (read_to held.content it.uids is).response
-unfolding viewed_turn viewed_done store_after read_in
+unfolding viewed_turn viewed_told viewed_done store_after read_in
 reads_by store home name view it held true s at e same = rw s (record {
   shown = refl;
   still = changed_alike store home name held (read_in held.content it.uids true) at e same;
@@ -207,8 +202,8 @@ reads_by store home name view it held false s at e same = rw s (record {
 })
 
 searches : (store : Store) (home : Backend) (name : List ℕ) (view : View) (it : Searching) → IsStoreOf store home
-    → DoesAlike store home name view (Search it) (search_at view it) (λ content. read_to content (uids view.rows) false)
-unfolding viewed_turn viewed_done store_after read_in
+    → DoesAlike store home name view (Search it) (λ content. read_to content (uids view.rows) false)
+unfolding viewed_turn viewed_told viewed_done store_after read_in work_there
 searches store home name view it same held at e = record {
   shown = refl;
   still = kept_alike store home name held at same;
@@ -217,21 +212,46 @@ searches store home name view it same held at e = record {
 
 -- ---- a look
 
-looks : (store : Store) (home : Backend) (name : List ℕ) (view : View) (why : NewsFor) (held : Held) → IsStoreOf store home
-    → ServesAlike store home name (viewed_work view (News why)) (news_at view why held.content) (answers home (done nothing (snapshot_of held.content)))
-unfolding viewed_turn viewed_done store_after
-looks store home name view why held same =
-    serves_as store home name view (News why) (news_at view why held.content) home (done nothing (snapshot_of held.content))
-    (record { shown = refl; still = same; unless = λ _. refl })
+-- what is told of the rows of a mailbox that stays as it is
+looks : (store : Store) (home : Backend) (name : List ℕ) (view : View) (it : ViewWork) (held : Held) (turn : Turn)
+    → work_there view it held.content ≡ record { left = kept; turn = turn }
+    → viewed_done view it nothing (snapshot_of held.content) ≡ Some turn → IsStoreOf store home
+    → ServesAlike store home name (viewed_work view it) (work_there view it held.content) (answers home (done nothing (snapshot_of held.content)))
+unfolding viewed_turn viewed_told store_after
+looks store home name view it held turn is shown same =
+    subst (λ w. ServesAlike store home name (viewed_work view it) w (answers home (done nothing (snapshot_of held.content)))) (sym is)
+    (serves_as store home name view it (record { left = kept; turn = turn }) home (done nothing (snapshot_of held.content))
+    (record { shown = shown; still = same; unless = λ _. refl }))
 
-news_alike : (store : Store) (home : Backend) (name : List ℕ) (view : View) (why : NewsFor) (found : Option Held) → held_at home name ≡ found
-    → IsStoreOf store home
-    → ServesAlike store home name (viewed_work view (News why)) (at_view view (news_at view why) (open_content found)) (look_step home (Some view.serial) found)
-unfolding look_step look_at look_unless at_view
-news_alike store home name view why None at same = missing store home name view (News why) same
-news_alike store home name view why (Some held) at same =
-    at_open store home name view (News why) (news_at view why) held (λ r. answers home (look_unless held.content r)) (same.all_open name held at) (λ _. refl)
-    (looks store home name view why held same) same
+abbrev LooksAlike : View → ViewWork → Type 0
+LooksAlike view it =
+    (box : Content) → (turn : Turn) × (work_there view it box ≡ record { left = kept; turn = turn }) × (viewed_done view it nothing (snapshot_of box) ≡ Some turn)
+
+looks_alike : (store : Store) (home : Backend) (name : List ℕ) (view : View) (it : ViewWork) (found : Option Held) → held_at home name ≡ found
+    → LooksAlike view it → IsStoreOf store home
+    → ServesAlike store home name (viewed_work view it) (viewed_on view it (open_content found)) (look_step home (Some view.serial) found)
+unfolding look_step look_at look_unless viewed_on
+looks_alike store home name view it None at alike same = missing store home name view it same
+looks_alike store home name view it (Some held) at alike same =
+    let shown = alike held.content in
+    at_open store home name view it held (λ r. answers home (look_unless held.content r)) (same.all_open name held at) (λ _. refl)
+    (looks store home name view it held shown.0 shown.1.0 shown.1.1 same) same
+
+news_look : (view : View) (why : NewsFor) → LooksAlike view (News why)
+unfolding work_there viewed_done
+news_look view why box = (news_told view why (rows_of box), (refl, refl))
+
+-- a fetch of what the rows tell
+rows_look : (view : View) (it : Fetching) → asks_rows it ≡ true → LooksAlike view (Fetch it)
+unfolding work_there viewed_done
+rows_look view it are box = (rows_told view it (rows_of box), (fetched, refl))
+  where
+    unseen : (writable : Bool) → (writable && list_any is_body it.items) ≡ false
+    unseen true = rows_unseen it.items are
+    unseen false = refl
+
+    fetched : fetch_at view it box ≡ record { left = kept; turn = rows_told view it (rows_of box) }
+    fetched = rw (unseen view.is_writable, rows_tell view it box are) refl
 
 -- ---- each command
 
@@ -241,43 +261,47 @@ ViewsAlike store home name view it found step = ServesAlike store home name (vie
 pub news_views : (store : Store) (home : Backend) (name : List ℕ) (view : View) (why : NewsFor) (found : Option Held) → held_at home name ≡ found
     → IsStoreOf store home
     → ViewsAlike store home name view (News why) found (look_step home (Some view.serial) found)
-unfolding viewed_on
-news_views store home name view why found at same = news_alike store home name view why found at same
+news_views store home name view why found at same = looks_alike store home name view (News why) found at (news_look view why) same
 
 pub close_views : (store : Store) (home : Backend) (name : List ℕ) (view : View) (found : Option Held) → held_at home name ≡ found → IsStoreOf store home
     → ViewsAlike store home name view Close found (expunge_step home name (Some view.serial) None found)
-unfolding viewed_on expunge_step
+unfolding expunge_step
 close_views store home name view found at same =
-    operates store home name view Close (close_at view) (λ content. expunge_to content None) found at (closes store home name view same) same
+    operates store home name view Close (λ content. expunge_to content None) found at (closes store home name view same) same
 
 pub expunge_views : (store : Store) (home : Backend) (name : List ℕ) (view : View) (only : Option (List ℕ)) (found : Option Held)
     → held_at home name ≡ found → IsStoreOf store home
     → ViewsAlike store home name view (Expunge only) found (expunge_step home name (Some view.serial) only found)
-unfolding viewed_on expunge_on expunge_step
+unfolding expunge_step
 expunge_views store home name view only found at same =
-    operates store home name view (Expunge only) (expunge_at view only) (λ content. expunge_to content only) found at
+    operates store home name view (Expunge only) (λ content. expunge_to content only) found at
     (expunges store home name view only same) same
 
 pub store_views : (store : Store) (home : Backend) (name : List ℕ) (view : View) (it : FlagStore) (found : Option Held)
     → held_at home name ≡ found → IsStoreOf store home
     → ViewsAlike store home name view (store_work it) found (flags_step home name (Some view.serial) it.uids it.mode it.flags found)
-unfolding viewed_on store_on flags_step
+unfolding flags_step work_there
 store_views store home name view it found at same =
-    operates store home name view (store_work it) (store_at view it) (λ content. flags_to content it.uids it.mode it.flags) found at
+    operates store home name view (store_work it) (λ content. flags_to content it.uids it.mode it.flags) found at
     (λ held there e. stores_by store home name view it held (has_too_many_flags (rows_stored held.content it.uids it.mode it.flags)) there e same) same
 
-pub fetch_views : (store : Store) (home : Backend) (name : List ℕ) (view : View) (it : Fetching) (found : Option Held)
+pub read_views : (store : Store) (home : Backend) (name : List ℕ) (view : View) (it : Fetching) (found : Option Held)
     → held_at home name ≡ found → IsStoreOf store home
     → ViewsAlike store home name view (Fetch it) found (read_step home name (Some view.serial) it.uids (sees view it) found)
-unfolding viewed_on fetch_on read_step
-fetch_views store home name view it found at same =
-    operates store home name view (Fetch it) (fetch_at view it) (λ content. read_to content it.uids (sees view it)) found at
+unfolding read_step work_there
+read_views store home name view it found at same =
+    operates store home name view (Fetch it) (λ content. read_to content it.uids (sees view it)) found at
     (λ held there e. reads_by store home name view it held (sees view it) refl there e same) same
+
+pub rows_views : (store : Store) (home : Backend) (name : List ℕ) (view : View) (it : Fetching) (found : Option Held) → asks_rows it ≡ true
+    → held_at home name ≡ found → IsStoreOf store home
+    → ViewsAlike store home name view (Fetch it) found (look_step home (Some view.serial) found)
+rows_views store home name view it found are at same = looks_alike store home name view (Fetch it) found at (rows_look view it are) same
 
 pub search_views : (store : Store) (home : Backend) (name : List ℕ) (view : View) (it : Searching) (found : Option Held)
     → held_at home name ≡ found → IsStoreOf store home
     → ViewsAlike store home name view (Search it) found (read_step home name (Some view.serial) (uids view.rows) false found)
-unfolding viewed_on search_on read_step
+unfolding read_step
 search_views store home name view it found at same =
-    operates store home name view (Search it) (search_at view it) (λ content. read_to content (uids view.rows) false) found at
+    operates store home name view (Search it) (λ content. read_to content (uids view.rows) false) found at
     (searches store home name view it same) same

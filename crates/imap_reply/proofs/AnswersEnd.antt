@@ -1,20 +1,14 @@
 -- An answer ends its connection exactly where the session behind it has ended.
-use Rattle.std.proofs.Common.{◌≡◌, ℕ, ◌==◌, Bool, true, false, ◌∙◌, if◌then◌else◌, List, [], ◌∷◌, ◌++◌, length, refl, sym, subst, codes}
+use Rattle.std.proofs.Common.{◌≡◌, ℕ, ◌==◌, Bool, true, false, ◌∙◌, if◌then◌else◌, List, [], ◌∷◌, ◌++◌, refl, sym, subst, codes}
 use Rattle.std.proofs.Common.{Option, None, Some}
 use Rattle.std.specs.Prelude.{All, ⊤}
-use Rattle.std.specs.Str.{bytes_eq}
 use Rattle.std.proofs.lemmas.List.Elements.{All-nil, All-cons, All-append}
 use Rattle.std.proofs.lemmas.List.Folds.{list_any_none}
-use Rattle.mur_base.specs.Inbox.{taken_name}
-use Rattle.mur_base.specs.Names.{mail_name_fault}
-use Rattle.mur_base.specs.declared.name.NameFault.{NameFault}
-use Rattle.mur_base.specs.declared.user.User.{User}
 use Rattle.mail_message.specs.Boxes.{Content, messages_at, snapshot_of}
 use Rattle.mail_message.specs.declared.message.Message.{Message}
 use Rattle.mail_message.specs.declared.message.Row.{Row}
 use Rattle.mail_message.specs.declared.message.Snapshot.{Snapshot}
 use Rattle.mail_message.specs.declared.mode.Mode.TheVariants.{Add}
-use Rattle.mail_message.specs.declared.set.SetPart.{SetPart}
 use Rattle.mail_store.specs.Append.{append_fault}
 use Rattle.mail_store.specs.Expunge.{expunged}
 use Rattle.mail_store.specs.Store.{stored, rows_stored, has_too_many_flags}
@@ -26,55 +20,48 @@ use Rattle.mur_model.specs.declared.fetch.Fetching.{Fetching}
 use Rattle.mur_model.specs.declared.need.Need.{Need}
 use Rattle.mur_model.specs.declared.need.Need.TheVariants.{Refusal, Turned, Mailbox}
 use Rattle.mur_model.specs.declared.need.NewsFor.{NewsFor}
-use Rattle.mur_model.specs.declared.need.NewsFor.TheVariants as news_for
 use Rattle.mur_model.specs.declared.need.ViewWork.{ViewWork}
 use Rattle.mur_model.specs.declared.need.ViewWork.TheVariants as view_work
 use Rattle.mur_model.specs.declared.need.Work.{Work}
 use Rattle.mur_model.specs.declared.need.Work.TheVariants.{Make, Append as append_work, Status as status_work, Select as select_work, Viewed as viewed_work}
 use Rattle.mur_model.specs.declared.news.Told.{Told}
-use Rattle.mur_model.specs.declared.reply.BadText.TheVariants.{State, Syntax}
 use Rattle.mur_model.specs.declared.reply.NoText.{NoText}
-use Rattle.mur_model.specs.declared.reply.NoText.TheVariants.{NonExistent, NoPerm}
+use Rattle.mur_model.specs.declared.reply.NoText.TheVariants.{NonExistent}
 use Rattle.mur_model.specs.declared.reply.ReplyLine.{ReplyLine}
 use Rattle.mur_model.specs.declared.reply.ReplyLine.TheVariants.{Search}
 use Rattle.mur_model.specs.declared.reply.Verdict.{Verdict}
-use Rattle.mur_model.specs.declared.reply.Verdict.TheVariants.{No as no_reply, Bad as bad_reply}
+use Rattle.mur_model.specs.declared.reply.Verdict.TheVariants.{No as no_reply}
 use Rattle.mur_model.specs.declared.request.Request.{Request}
 use Rattle.mur_model.specs.declared.request.Request.TheVariants.{Command as a_command, Unknown as unknown, TooBig as too_big}
 use Rattle.mur_model.specs.declared.search.Searching.{Searching}
 use Rattle.mur_model.specs.declared.select.Opening.{Opening}
 use Rattle.mur_model.specs.declared.session.Sess.{Sess}
-use Rattle.mur_model.specs.declared.session.Sess.TheVariants.{Off, In, Selected as selected, Ended}
 use Rattle.mur_model.specs.declared.session.Turn.{Turn}
 use Rattle.mur_model.specs.declared.setting.Setting.{Setting}
 use Rattle.mur_model.specs.declared.store.Store.{Store}
 use Rattle.mur_model.specs.declared.store_flags.FlagStore.{FlagStore}
 use Rattle.mur_model.specs.declared.view.View.{View}
 use Rattle.mur_model.specs.Act.{act_by, act_of, work_on, worked_at, session_after}
-use Rattle.mur_model.specs.Act.{need_of, need_off, need_in, need_begun, need_selected, need_unselected, wants_selected}
+use Rattle.mur_model.specs.Act.{need_of}
 use Rattle.mur_model.specs.Answer.{answer_of}
-use Rattle.mur_model.specs.Append.{new_message, append, append_as, append_by, append_on, append_to, append_reply}
+use Rattle.mur_model.specs.Append.{append, append_on, append_to, append_reply}
 use Rattle.mur_model.specs.ClientView.{uids}
-use Rattle.mur_model.specs.Create.{create, create_meant, create_as, create_by, create_on, make, without_separator, is_inbox}
-use Rattle.mur_model.specs.Expunge.{expunge_on, expunge_at, expunge_told}
-use Rattle.mur_model.specs.Fetch.{fetch_on, fetch_at, fetch_told, fetch_lines, sees, seen_flags}
+use Rattle.mur_model.specs.Close.{left_by}
+use Rattle.mur_model.specs.Create.{create_on, make}
+use Rattle.mur_model.specs.Expunge.{expunge_told}
+use Rattle.mur_model.specs.Fetch.{fetch_at, fetch_told, fetch_lines, sees, seen_flags}
 use Rattle.mur_model.specs.Left.{Worked, replied, kept, changed}
-use Rattle.mur_model.specs.Keys.{have_all_numbers, keys_at}
-use Rattle.mur_model.specs.Login.{login, login_as, login_by, login_failed}
-use Rattle.mur_model.specs.NamedRows.{last_uid}
-use Rattle.mur_model.specs.Plain.{acts_as, authenticate, authenticate_as, authenticate_by, authenticate_with, cut_at_nul, decoded}
 use Rattle.mur_model.specs.News.{news}
-use Rattle.mur_model.specs.AtOnce.{is_done}
+use Rattle.mur_model.specs.Noop.{news_told}
 use Rattle.mur_model.specs.Reply.{completed, reply_of}
-use Rattle.mur_model.specs.Rights.{user_named, has_rights, may_create}
-use Rattle.mur_model.specs.Select.{select, select_as, select_by, select_on, select_told, opening, unselected}
-use Rattle.mur_model.specs.Search.{search_at, search_on, search_told}
-use Rattle.mur_model.specs.Selected.{at_view, gone, rows_of, with_news}
-use Rattle.mur_model.specs.Status.{status, status_as, status_by, status_on, status_reply}
+use Rattle.mur_model.specs.Select.{select, select_on, select_told, unselected}
+use Rattle.mur_model.specs.Search.{search_told}
+use Rattle.mur_model.specs.Selected.{gone, rows_of, with_news}
+use Rattle.mur_model.specs.Status.{status, status_on, status_reply}
 use Rattle.mur_model.specs.Store.{box_at, is_spent}
-use Rattle.mur_model.specs.StoreFlags.{store_on, store_at, stored_at, store_told, store_refused, own_lines}
-use Rattle.mur_model.specs.Viewing.{at_mailbox, close_at, expunge_named, fetch_named, left_by, names_messages, news_at, news_told, no_such_number}
-use Rattle.mur_model.specs.Viewing.{read_only, store_named, viewed_on}
+use Rattle.mur_model.specs.StoreFlags.{stored_at, store_told, store_refused, own_lines}
+use Rattle.mur_model.specs.Viewing.{found_gone, viewed_on, work_there}
+use Rattle.mur_model.proofs.EachNeed.{OfAnswers, OfNeeds, each_need}
 use Rattle.imap_reply.specs.SessionEnds.{has_ended, ends_session, TurnEnds}
 use Rattle.imap_reply.specs.Transcript.{is_bye, ends}
 use Rattle.imap_reply.proofs.TurnLines.{OfLines, each_news, each_own, each_fetch}
@@ -196,13 +183,6 @@ pub gone_ends : TurnEnds gone
 unfolding is_bye ends
 gone_ends = refl
 
-viewed_ends : (view : View) (work : Content → Worked) (box : Option Content) → ((there : Content) → TurnEnds (work there).turn)
-    → TurnEnds (at_view view work box).turn
-unfolding at_view
-viewed_ends view work None each = gone_ends
-viewed_ends view work (Some box) each =
-    either_ends (box.serial == view.serial) (work box) (record { left = kept; turn = gone }) (each box) gone_ends
-
 stored_ends : (view : View) (it : FlagStore) (box : Content) (many : Bool) → TurnEnds (stored_at view it box many).turn
 stored_ends view it box true = refusal_ends view it (rows_of box)
 stored_ends view it box false =
@@ -216,18 +196,20 @@ fetched_ends view it box =
     (record { left = kept; turn = fetch_told view it before (rows_of box) })
     (fetch_ends view it before (rows_of after)) (fetch_ends view it before (rows_of box))
 
+there_ends : (view : View) (work : ViewWork) (box : Content) → TurnEnds (work_there view work box).turn
+unfolding work_there
+there_ends view (view_work.News why) box = news_told_ends view why (rows_of box)
+there_ends view view_work.Close box = left_ends view (codes "CLOSE")
+there_ends view (view_work.Expunge only) box = expunge_ends view only (rows_of (expunged box only))
+there_ends view (view_work.Store it) box = stored_ends view it box (has_too_many_flags (rows_stored box it.uids it.mode it.flags))
+there_ends view (view_work.Fetch it) box = fetched_ends view it box
+there_ends view (view_work.Search it) box = search_ends view it (messages_at box.messages (uids view.rows)) (rows_of box)
+
 view_ends : (view : View) (work : ViewWork) (box : Option Content) → TurnEnds (viewed_on view work box).turn
-unfolding viewed_on expunge_on store_on fetch_on search_on
-view_ends view (view_work.News why) box = viewed_ends view (news_at view why) box (λ there. news_told_ends view why (rows_of there))
-view_ends view view_work.Close box = viewed_ends view (close_at view) box (λ there. left_ends view (codes "CLOSE"))
-view_ends view (view_work.Expunge only) box =
-    viewed_ends view (expunge_at view only) box (λ there. expunge_ends view only (rows_of (expunged there only)))
-view_ends view (view_work.Store it) box =
-    viewed_ends view (store_at view it) box
-    (λ there. stored_ends view it there (has_too_many_flags (rows_stored there it.uids it.mode it.flags)))
-view_ends view (view_work.Fetch it) box = viewed_ends view (fetch_at view it) box (fetched_ends view it)
-view_ends view (view_work.Search it) box =
-    viewed_ends view (search_at view it) box (λ there. search_ends view it (messages_at there.messages (uids view.rows)) (rows_of there))
+unfolding viewed_on
+view_ends view work None = gone_ends
+view_ends view work (Some box) =
+    either_ends (box.serial == view.serial) (work_there view work box) found_gone (there_ends view work box) gone_ends
 
 pub work_ends : (name : List ℕ) (work : Work) (serial : ℕ) (spent : Bool) (box : Option Content) → TurnEnds (work_on name work serial spent box).turn
 unfolding work_on
@@ -247,163 +229,38 @@ abbrev pub NeedEnds : Need → Type 0
 NeedEnds (Turned turn) = TurnEnds turn
 NeedEnds need = ⊤
 
-either_needs : (test : Bool) (one other : Need) → NeedEnds one → NeedEnds other → NeedEnds (if test then one else other)
-either_needs true one other is is_other = is
-either_needs false one other is is_other = is_other
+answers_end : OfAnswers NeedEnds
+unfolding is_bye ends
+answers_end = record {
+  refused = λ why. tt;
+  bad = λ why. tt;
+  completed = λ name plain. refl;
+  begun = λ name user plain. refl;
+  capability = refl;
+  logout = refl;
+}
 
-login_by_ends : (command user : List ℕ) (known : Bool) → NeedEnds (login_by command user known)
-unfolding login_by ends
-login_by_ends command user true = refl
-login_by_ends command user false = tt
-
-login_as_ends : (command : List ℕ) (user : Option User) (password : List ℕ) → NeedEnds (login_as command user password)
-unfolding login_as
-login_as_ends command None password = tt
-login_as_ends command (Some user) password = login_by_ends command user.name (bytes_eq user.password password)
-
-login_ends : (users : List User) (command user password : List ℕ) → NeedEnds (login users command user password)
-unfolding login
-login_ends users command user password = login_as_ends command (user_named users user) password
-
-plain_by_ends : (users : List User) (authzid : List ℕ) (rest : Option (List ℕ × List ℕ)) → NeedEnds (authenticate_by users authzid rest)
-unfolding authenticate_by
-plain_by_ends users authzid None = tt
-plain_by_ends users authzid (Some (user, password)) =
-    either_needs (acts_as authzid user) (login users (codes "AUTHENTICATE") user password) login_failed
-    (login_ends users (codes "AUTHENTICATE") user password) tt
-
-plain_as_ends : (users : List User) (parts : Option (List ℕ × List ℕ)) → NeedEnds (authenticate_as users parts)
-unfolding authenticate_as
-plain_as_ends users None = tt
-plain_as_ends users (Some (authzid, rest)) = plain_by_ends users authzid (cut_at_nul rest)
-
-plain_with_ends : (users : List User) (message : Option (List ℕ)) → NeedEnds (authenticate_with users message)
-unfolding authenticate_with
-plain_with_ends users None = tt
-plain_with_ends users (Some message) = plain_as_ends users (cut_at_nul message)
-
-plain_ends_so : (users : List User) (response : List ℕ) → NeedEnds (authenticate users response)
-unfolding authenticate
-plain_ends_so users response =
-    either_needs (bytes_eq response (codes "*")) (Refusal (bad_reply Syntax)) (authenticate_with users (decoded response)) tt
-    (plain_with_ends users (decoded response))
-
-make_ends : (name : List ℕ) (may : Bool) → NeedEnds (create_by name may)
-unfolding create_by
-make_ends name true = tt
-make_ends name false = tt
-
-create_ends : (setting : Setting) (user name : List ℕ) (inbox : Bool) (fault : Option NameFault) → NeedEnds (create_as setting user name inbox fault)
-unfolding create_as
-create_ends setting user name true fault = tt
-create_ends setting user name false (Some fault) = tt
-create_ends setting user name false None = make_ends name (may_create setting.users user name)
-
-append_by_ends : (name : List ℕ) (message : Message) (may : Bool) → NeedEnds (append_by name message may)
-unfolding append_by
-append_by_ends name message true = tt
-append_by_ends name message false = tt
-
-append_ends : (setting : Setting) (user name : List ℕ) (message : Message) (fault : Option NameFault) → NeedEnds (append_as setting user name message fault)
-unfolding append_as
-append_ends setting user name message (Some fault) = tt
-append_ends setting user name message None = append_by_ends name message (has_rights setting.users user name)
-
-status_by_ends : (user name : List ℕ) (items : List StatusItem) (may : Bool) → NeedEnds (status_by user name items may)
-unfolding status_by
-status_by_ends user name items true = tt
-status_by_ends user name items false = tt
-
-status_ends : (setting : Setting) (user name : List ℕ) (items : List StatusItem) (fault : Option NameFault) → NeedEnds (status_as setting user name items fault)
-unfolding status_as
-status_ends setting user name items (Some fault) = tt
-status_ends setting user name items None = status_by_ends user name items (has_rights setting.users user name)
-
-select_by_ends : (name : List ℕ) (it : Opening) (may : Bool) → NeedEnds (select_by name it may)
-unfolding select_by
-select_by_ends name it true = tt
-select_by_ends name it false = unselected_ends it.user it.was_selected NoPerm
-
-select_as_ends : (setting : Setting) (user name : List ℕ) (is_writable was_selected : Bool) (fault : Option NameFault)
-    → NeedEnds (select_as setting user name is_writable was_selected fault)
-unfolding select_as
-select_as_ends setting user name is_writable was_selected (Some fault) = unselected_ends user was_selected NonExistent
-select_as_ends setting user name is_writable was_selected None =
-    select_by_ends name (opening user name is_writable was_selected) (has_rights setting.users user name)
-
-off_ends : (setting : Setting) (it : Command) → NeedEnds (need_off setting it)
-unfolding need_off ends is_bye
-off_ends setting command.Capability = refl
-off_ends setting command.Noop = refl
-off_ends setting command.Logout = refl
-off_ends setting (command.Login user password) = login_ends setting.users (codes "LOGIN") user password
-off_ends setting (command.Authenticate (Some response)) = plain_ends_so setting.users response
-off_ends setting (command.Authenticate None) = tt
-off_ends setting it = tt
-
-begun_ends : (setting : Setting) (user : List ℕ) (is_selected : Bool) (it : Command) → NeedEnds (need_begun setting user is_selected it)
-unfolding need_begun create create_meant append status select ends is_bye
-begun_ends setting user is_selected command.Capability = refl
-begun_ends setting user is_selected command.Logout = refl
-begun_ends setting user is_selected (command.Enable names) = refl
-begun_ends setting user is_selected (command.Create text) =
-    let meant = without_separator text in
-    create_ends setting user (taken_name user meant) (is_inbox meant) (mail_name_fault (taken_name user meant))
-begun_ends setting user is_selected (command.Append text flags date body) =
-    append_ends setting user (taken_name user text) (new_message setting flags date body) (mail_name_fault (taken_name user text))
-begun_ends setting user is_selected (command.Status text items) =
-    status_ends setting user (taken_name user text) items (mail_name_fault (taken_name user text))
-begun_ends setting user is_selected (command.Select text) =
-    select_as_ends setting user (taken_name user text) true is_selected (mail_name_fault (taken_name user text))
-begun_ends setting user is_selected (command.Examine text) =
-    select_as_ends setting user (taken_name user text) false is_selected (mail_name_fault (taken_name user text))
-begun_ends setting user is_selected it = tt
-
-unselected_needs : (setting : Setting) (user : List ℕ) (it : Command) → NeedEnds (need_unselected setting user it)
-unselected_needs setting user it =
-    either_needs (wants_selected it) (Refusal (bad_reply State)) (need_begun setting user false it) tt (begun_ends setting user false it)
-
-in_ends : (setting : Setting) (user : List ℕ) (it : Command) → NeedEnds (need_in setting user it)
-unfolding need_in ends
-in_ends setting user command.Noop = refl
-in_ends setting user (command.Idle (Some line)) =
-    either_needs (is_done line) (Turned (replied (completed (codes "IDLE")))) (Refusal (bad_reply Syntax)) refl tt
-in_ends setting user (command.Idle None) = unselected_needs setting user (command.Idle None)
-in_ends setting user it = unselected_needs setting user it
-
-expunge_needs : (view : View) (only : Option (List SetPart)) → NeedEnds (expunge_named view only)
-expunge_needs view None = tt
-expunge_needs view (Some set) = tt
-
-view_needs : (setting : Setting) (view : View) (it : Command) → NeedEnds (need_selected setting view it)
-unfolding need_selected
-view_needs setting view command.Noop = tt
-view_needs setting view (command.Idle (Some line)) =
-    either_needs (is_done line) (at_mailbox view (view_work.News news_for.Idle)) (Refusal (bad_reply Syntax)) tt tt
-view_needs setting view (command.Idle None) = begun_ends setting view.user true (command.Idle None)
-view_needs setting view command.Close =
-    either_needs view.is_writable (at_mailbox view view_work.Close) (Turned (left_by view (codes "CLOSE"))) tt (left_ends view (codes "CLOSE"))
-view_needs setting view command.Unselect = left_ends view (codes "UNSELECT")
-view_needs setting view (command.Expunge only) =
-    either_needs view.is_writable (expunge_named view only) read_only (expunge_needs view only) tt
-view_needs setting view (command.Store by_uid set mode is_silent flags) =
-    either_needs (names_messages view by_uid set)
-    (if view.is_writable then store_named view by_uid set mode is_silent flags else read_only) no_such_number
-    (either_needs view.is_writable (store_named view by_uid set mode is_silent flags) read_only tt tt) tt
-view_needs setting view (command.Fetch by_uid set items) =
-    either_needs (names_messages view by_uid set) (fetch_named view by_uid set items) no_such_number tt tt
-view_needs setting view (command.Search by_uid keys) =
-    let placed = keys_at (length view.rows) (last_uid view.rows) keys in
-    either_needs (have_all_numbers (length view.rows) keys) (at_mailbox view (view_work.Search (record { by_uid = by_uid; keys = placed })))
-    no_such_number tt tt
-view_needs setting view it = begun_ends setting view.user true it
+needs_end : (setting : Setting) → OfNeeds setting IsAny NeedEnds
+unfolding is_bye ends
+needs_end setting = record {
+  answers = answers_end;
+  enable = refl;
+  unselected = unselected_ends;
+  left = λ view name plain. left_ends view name;
+  make = λ name. tt;
+  append = λ name text flags date body asked. tt;
+  status = λ user name items named. tt;
+  select = λ user name is_writable was_selected named. tt;
+  news = λ view why. tt;
+  close = λ view. tt;
+  expunge = λ view only. tt;
+  store = λ view by_uid set mode is_silent flags asked. tt;
+  fetch = λ view it. tt;
+  search = λ view it. tt;
+}
 
 pub need_ends : (setting : Setting) (session : Sess) (it : Command) → NeedEnds (need_of setting session it)
-unfolding need_of
-need_ends setting Off it = off_ends setting it
-need_ends setting (In user) it = in_ends setting user it
-need_ends setting (selected view) it = view_needs setting view it
-need_ends setting Ended it = tt
+need_ends setting session it = each_need (needs_end setting) session it tt
 
 pub turned_ends : (setting : Setting) (session : Sess) (it : Command) (turn : Turn) → need_of setting session it ≡ Turned turn → TurnEnds turn
 turned_ends setting session it turn is = subst NeedEnds is (need_ends setting session it)

@@ -42,18 +42,19 @@ use Rattle.mur_model.specs.Act.{work_on}
 use Rattle.mur_model.specs.Append.{append_on, append_to, append_reply}
 use Rattle.mur_model.specs.ClientView.{uids}
 use Rattle.mur_model.specs.Create.{create_on, make}
-use Rattle.mur_model.specs.Expunge.{expunge_on, expunge_at, expunge_name}
-use Rattle.mur_model.specs.Fetch.{fetch_on, fetch_at, fetch_told, fetch_name, fetch_lines, items_told, sees, seen_flags}
+use Rattle.mur_model.specs.Expunge.{expunge_at, expunge_name}
+use Rattle.mur_model.specs.Fetch.{fetch_at, fetch_told, fetch_name, fetch_lines, items_told, sees, seen_flags}
 use Rattle.mur_model.specs.Left.{Worked, kept, changed}
 use Rattle.mur_model.specs.News.{news, flag_parts}
 use Rattle.mur_model.specs.Select.{closed_lines, flags_of, keywords_in, permanent_line, select_lines, select_name}
 use Rattle.mur_model.specs.Select.{select_on, system_flags, unselected}
-use Rattle.mur_model.specs.Search.{found_uids, numbers_told, search_at, search_name, search_on}
-use Rattle.mur_model.specs.Selected.{at_view, gone, rows_of, with_news}
+use Rattle.mur_model.specs.Search.{found_uids, numbers_told, search_at, search_name}
+use Rattle.mur_model.specs.Selected.{rows_of, with_news}
 use Rattle.mur_model.specs.Status.{status_on, status_reply}
-use Rattle.mur_model.specs.StoreFlags.{store_on, store_at, stored_at, store_name, own_lines}
-use Rattle.mur_model.specs.Viewing.{close_at, left_by}
-use Rattle.mur_model.specs.Viewing.{news_at, news_name, viewed_on}
+use Rattle.mur_model.specs.StoreFlags.{stored_at, store_name, own_lines}
+use Rattle.mur_model.specs.Close.{close_at, left_by}
+use Rattle.mur_model.specs.Noop.{news_at, news_name}
+use Rattle.mur_model.specs.Viewing.{found_gone, viewed_on, work_there}
 use Rattle.imap_reply.specs.SoundRequests.{IsSoundMessage, IsSoundBox}
 use Rattle.imap_reply.specs.SoundTexts.{IsSoundFlag, IsSoundLine, IsSoundVerdict}
 use Rattle.imap_reply.proofs.SoundStores.{IsKeyword, IsSoundRow, IsSoundLeft, appended_is, changes_are, expunged_is, keywords_are, messages_found, rows_are}
@@ -206,16 +207,9 @@ either_sound : (test : Bool) (one other : Worked) → SoundWorked one → SoundW
 either_sound true one other is is_other = is
 either_sound false one other is is_other = is_other
 
-gone_sound : SoundWorked (record { left = kept; turn = gone })
+gone_sound : SoundWorked found_gone
 unfolding IsSoundLine IsSoundVerdict
 gone_sound = record { left = tt; reply = record { lines = All-cons IsSoundLine (Bye Gone) [] tt (All-nil IsSoundLine); verdict = tt } }
-
-viewed_sound : (view : View) (work : Content → Worked) (box : Option Content) → IfSome box IsSoundBox
-    → ((there : Content) → IsSoundBox there → SoundWorked (work there)) → SoundWorked (at_view view work box)
-unfolding at_view
-viewed_sound view work None all each = gone_sound
-viewed_sound view work (Some box) all each =
-    either_sound (box.serial == view.serial) (work box) (record { left = kept; turn = gone }) (each box all) gone_sound
 
 news_plain : (why : NewsFor) → IsPlain (news_name why)
 unfolding news_name
@@ -295,16 +289,21 @@ search_sound view it box all =
           (All-cons IsSoundLine (Search it.by_uid numbers) [] tt (All-nil IsSoundLine)) (rows_are box all) (search_plain it.by_uid);
     }
 
+there_sound : (view : View) (work : ViewWork) (box : Content) → SoundViewWork work → IsSoundBox box → SoundWorked (work_there view work box)
+unfolding work_there
+there_sound view (view_work.News why) box sound all = news_work_sound view why box all
+there_sound view view_work.Close box sound all = close_sound view box all
+there_sound view (view_work.Expunge only) box sound all = expunge_sound view only box all
+there_sound view (view_work.Store it) box sound all =
+    stored_sound view it box (has_too_many_flags (rows_stored box it.uids it.mode it.flags)) sound all
+there_sound view (view_work.Fetch it) box sound all = fetch_sound view it box all
+there_sound view (view_work.Search it) box sound all = search_sound view it box all
+
 view_sound : (view : View) (work : ViewWork) (box : Option Content) → SoundViewWork work → IfSome box IsSoundBox → SoundWorked (viewed_on view work box)
-unfolding viewed_on expunge_on store_on fetch_on search_on
-view_sound view (view_work.News why) box sound all = viewed_sound view (news_at view why) box all (news_work_sound view why)
-view_sound view view_work.Close box sound all = viewed_sound view (close_at view) box all (close_sound view)
-view_sound view (view_work.Expunge only) box sound all = viewed_sound view (expunge_at view only) box all (expunge_sound view only)
-view_sound view (view_work.Store it) box sound all =
-    viewed_sound view (store_at view it) box all
-    (λ there is. stored_sound view it there (has_too_many_flags (rows_stored there it.uids it.mode it.flags)) sound is)
-view_sound view (view_work.Fetch it) box sound all = viewed_sound view (fetch_at view it) box all (fetch_sound view it)
-view_sound view (view_work.Search it) box sound all = viewed_sound view (search_at view it) box all (search_sound view it)
+unfolding viewed_on
+view_sound view work None sound all = gone_sound
+view_sound view work (Some box) sound all =
+    either_sound (box.serial == view.serial) (work_there view work box) found_gone (there_sound view work box sound all) gone_sound
 
 pub work_sound : (name : List ℕ) (work : Work) (serial : ℕ) (spent : Bool) (box : Option Content) → SoundWork work → IfSome box IsSoundBox
     → SoundWorked (work_on name work serial spent box)

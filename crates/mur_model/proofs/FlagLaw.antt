@@ -22,7 +22,7 @@ system_is one other same =
 same_self : (b : Bool) → beq b b ≡ true
 same_self b = (booleans_Decides b b).1 refl
 
-flags_self : (flags : Flags) → is_same_flags flags flags ≡ true
+pub flags_self : (flags : Flags) → is_same_flags flags flags ≡ true
 unfolding is_same_flags
 flags_self flags =
     let it = flags.system in

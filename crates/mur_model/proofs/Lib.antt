@@ -8,3 +8,5 @@ mod StoreLaw
 mod FlagLaw
 mod ViewedLaw
 mod KeysLaw
+pub mod EachNeed
+pub mod FetchRowsLaw

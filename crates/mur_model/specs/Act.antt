@@ -22,15 +22,21 @@ use Rattle.mur_model.specs.declared.need.NewsFor.TheVariants as news_for
 use Rattle.mur_model.specs.declared.view.View.{View}
 use Rattle.mur_model.specs.Append.{new_message, append, append_on}
 use Rattle.mur_model.specs.AtOnce.{capability, enable, is_done, logout}
+use Rattle.mur_model.specs.Close.{close, left_by}
 use Rattle.mur_model.specs.Create.{create, create_on}
+use Rattle.mur_model.specs.Expunge.{expunge}
+use Rattle.mur_model.specs.Fetch.{fetch}
 use Rattle.mur_model.specs.Left.{Worked, replied, store_after}
 use Rattle.mur_model.specs.Login.{login}
+use Rattle.mur_model.specs.Need.{at_mailbox}
 use Rattle.mur_model.specs.Plain.{authenticate}
 use Rattle.mur_model.specs.Reply.{reply_of, completed}
+use Rattle.mur_model.specs.Search.{search}
 use Rattle.mur_model.specs.Select.{select, select_on}
 use Rattle.mur_model.specs.Status.{status, status_on}
 use Rattle.mur_model.specs.Store.{box_at, is_spent, IsFree}
-use Rattle.mur_model.specs.Viewing.{at_mailbox, close, expunge, fetch, left_by, search, store, viewed_on}
+use Rattle.mur_model.specs.StoreFlags.{store}
+use Rattle.mur_model.specs.Viewing.{viewed_on}
 
 -- the refusal of a command that is read and that no state has, or that lacks the line which it waits for (see Waits)
 abbrev pub not_yet : Need

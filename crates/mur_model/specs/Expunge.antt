@@ -1,15 +1,27 @@
 -- EXPUNGE and UID EXPUNGE (RFC 9051, 6.4.3 and 6.4.9): the messages with \Deleted go, of all or of those that are named, and are told.
-use Rattle.std.specs.Prelude.{ℕ, true, List, [], Option, None, Some, codes}
+use Rattle.std.specs.Prelude.{ℕ, true, if◌then◌else◌, List, [], Option, None, Some, codes}
 use Rattle.mail_message.specs.Boxes.{Content}
 use Rattle.mail_message.specs.declared.message.Row.{Row}
+use Rattle.mail_message.specs.declared.set.SetPart.{SetPart}
 use Rattle.mail_store.specs.Expunge.{expunged}
+use Rattle.mur_model.specs.declared.need.Need.{Need}
+use Rattle.mur_model.specs.declared.need.ViewWork.TheVariants as work
 use Rattle.mur_model.specs.declared.reply.Code.TheVariants.{None as no_code}
 use Rattle.mur_model.specs.declared.reply.Verdict.TheVariants.{Ok as ok_reply}
 use Rattle.mur_model.specs.declared.session.Turn.{Turn}
 use Rattle.mur_model.specs.declared.view.View.{View}
 use Rattle.mur_model.specs.Left.{Worked, changed}
+use Rattle.mur_model.specs.NamedRows.{named_uids}
+use Rattle.mur_model.specs.Need.{at_mailbox, read_only}
 use Rattle.mur_model.specs.News.{news}
-use Rattle.mur_model.specs.Selected.{at_view, rows_of, with_news}
+use Rattle.mur_model.specs.Selected.{rows_of, with_news}
+
+abbrev pub expunge_named : View → Option (List SetPart) → Need
+expunge_named view None = at_mailbox view (work.Expunge None)
+expunge_named view (Some set) = at_mailbox view (work.Expunge (Some (named_uids true set view.rows)))
+
+abbrev pub expunge : View → Option (List SetPart) → Need
+expunge view only = if view.is_writable then expunge_named view only else read_only
 
 abbrev pub expunge_name : Option (List ℕ) → List ℕ
 expunge_name None = codes "EXPUNGE"
@@ -21,7 +33,3 @@ expunge_told view only now = with_news view [] (news view.rows now true []) (ok_
 
 abbrev pub expunge_at : View → Option (List ℕ) → Content → Worked
 expunge_at view only box = record { left = changed (expunged box only); turn = expunge_told view only (rows_of (expunged box only)) }
-
--- an EXPUNGE of all messages, or of those with some UIDs
-unfoldable pub expunge_on : View → Option (List ℕ) → Option Content → Worked
-expunge_on view only box = at_view view (expunge_at view only) box

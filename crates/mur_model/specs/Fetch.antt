@@ -1,5 +1,5 @@
 -- FETCH and UID FETCH (RFC 9051, 6.4.5, 6.4.9 and 7.5.2): what is asked of the named messages that are there, in the order of their numbers.
-use Rattle.std.specs.Prelude.{ℕ, ◌+◌, Bool, true, false, not, ◌&&◌, ◌||◌, if◌then◌else◌, List, [], ◌∷◌, ◌++◌, map, Option, None, Some, codes}
+use Rattle.std.specs.Prelude.{ℕ, ◌+◌, ◌==◌, Bool, true, false, not, ◌&&◌, ◌||◌, if◌then◌else◌, List, [], ◌∷◌, ◌++◌, map, Option, None, Some, codes}
 use Rattle.std.specs.List.{list_any, position_from}
 use Rattle.std.specs.Option.{option_map}
 use Rattle.mail_fetch.specs.Parts.{part_text}
@@ -9,23 +9,57 @@ use Rattle.mail_message.specs.RowOrder.{is_row_of, row_at}
 use Rattle.mail_message.specs.declared.flag_name.FlagName.TheVariants.{System}
 use Rattle.mail_message.specs.declared.item.Item.{Item}
 use Rattle.mail_message.specs.declared.item.Item.TheVariants as item
+use Rattle.mail_message.specs.declared.item.Partial.{Partial}
 use Rattle.mail_message.specs.declared.message.Message.{Message}
 use Rattle.mail_message.specs.declared.message.Row.{Row}
 use Rattle.mail_message.specs.declared.mode.Mode.TheVariants.{Add}
+use Rattle.mail_message.specs.declared.set.SetPart.{SetPart}
 use Rattle.mail_message.specs.declared.system_flags.SystemFlag.TheVariants.{Seen}
 use Rattle.mail_store.specs.Named.{set_of}
 use Rattle.mail_store.specs.Store.{stored}
 use Rattle.mur_model.specs.declared.fetch.Fetching.{Fetching}
+use Rattle.mur_model.specs.declared.need.Need.{Need}
+use Rattle.mur_model.specs.declared.need.ViewWork.TheVariants as work
 use Rattle.mur_model.specs.declared.reply.ReplyLine.{ReplyLine}
 use Rattle.mur_model.specs.declared.reply.ReplyLine.TheVariants.{Fetch}
 use Rattle.mur_model.specs.declared.reply.Verdict.TheVariants.{Ok as ok_reply}
 use Rattle.mur_model.specs.declared.session.Turn.{Turn}
 use Rattle.mur_model.specs.declared.view.View.{View}
 use Rattle.mur_model.specs.Left.{Worked, kept, changed}
+use Rattle.mur_model.specs.NamedRows.{named_uids, names_messages}
+use Rattle.mur_model.specs.Need.{at_mailbox, no_such_number}
 use Rattle.mur_model.specs.News.{news}
 use Rattle.mur_model.specs.SameFlags.{is_same_flags}
-use Rattle.mur_model.specs.Selected.{at_view, rows_of, with_news}
+use Rattle.mur_model.specs.Selected.{rows_of, with_news}
 use Rattle.mur_model.specs.StoreFlags.{code_for}
+
+-- the same part of a body, or all of it both times
+abbrev pub same_partial : Option Partial → Option Partial → Bool
+same_partial None None = true
+same_partial (Some one) (Some other) = one.from == other.from && (one.count == other.count)
+same_partial one other = false
+
+-- the same item, and of a body the same part
+abbrev pub same_item : Item → Item → Bool
+same_item item.Flags item.Flags = true
+same_item item.Uid item.Uid = true
+same_item item.InternalDate item.InternalDate = true
+same_item item.Size item.Size = true
+same_item (item.Body one) (item.Body other) = same_partial one other
+same_item (item.BodyPeek one) (item.BodyPeek other) = same_partial one other
+same_item one other = false
+
+-- an item stands in a line once, where it was asked for first; these are told already
+abbrev pub each_once : List Item → List Item → List Item
+each_once told [] = told
+each_once told (it ∷ items) = each_once (if list_any (same_item it) told then told else told ++ it ∷ []) items
+
+abbrev pub fetch_named : View → Bool → List SetPart → List Item → Need
+fetch_named view by_uid set items =
+    at_mailbox view (work.Fetch (record { by_uid = by_uid; uids = named_uids by_uid set view.rows; items = each_once [] items }))
+
+abbrev pub fetch : View → Bool → List SetPart → List Item → Need
+fetch view by_uid set items = if names_messages view by_uid set then fetch_named view by_uid set items else no_such_number
 
 abbrev pub fetch_name : Bool → List ℕ
 fetch_name false = codes "FETCH"
@@ -97,7 +131,3 @@ fetch_at view it box =
     if sees view it
     then record { left = changed (stored box it.uids Add seen_flags); turn = fetch_told view it before (rows_of (stored box it.uids Add seen_flags)) }
     else record { left = kept; turn = fetch_told view it before (rows_of box) }
-
--- a FETCH of the messages with some UIDs
-unfoldable pub fetch_on : View → Fetching → Option Content → Worked
-fetch_on view it box = at_view view (fetch_at view it) box

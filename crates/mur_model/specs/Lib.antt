@@ -16,11 +16,15 @@ pub mod SameFlags
 pub mod News
 pub mod ClientView
 pub mod Selected
+pub mod Need
+pub mod NamedRows
+pub mod Noop
+pub mod Close
 pub mod Expunge
 pub mod StoreFlags
-pub mod NamedRows
 pub mod Select
 pub mod Keys
 pub mod Search
 pub mod Fetch
+pub mod FetchRows
 pub mod Viewing

@@ -1,5 +1,5 @@
 -- The messages that a command of a selected session names (RFC 9051, 9: sequence-set; 6.4.9): rows of its view, by their numbers or by their UIDs.
-use Rattle.std.specs.Prelude.{ℕ, ◌+◌, ◌-◌, Bool, true, false, ◌&&◌, nat_le, nat_lt, List, [], ◌∷◌, length, map, slice_get, Option, None, Some}
+use Rattle.std.specs.Prelude.{ℕ, ◌+◌, ◌-◌, Bool, true, false, ◌&&◌, ◌||◌, nat_le, nat_lt, List, [], ◌∷◌, length, map, slice_get, Option, None, Some}
 use Rattle.std.specs.List.{filter, list_all, zip}
 use Rattle.mail_message.specs.Sets.{set_at, set_holds}
 use Rattle.mail_message.specs.declared.message.Row.{Row}
@@ -7,6 +7,7 @@ use Rattle.mail_message.specs.declared.set.SetEnd.{SetEnd}
 use Rattle.mail_message.specs.declared.set.SetEnd.TheVariants.{Number, Last}
 use Rattle.mail_message.specs.declared.set.SetPart.{SetPart}
 use Rattle.mail_message.specs.declared.set.SetPart.TheVariants.{One, Range}
+use Rattle.mur_model.specs.declared.view.View.{View}
 use Rattle.mur_model.specs.ClientView.{uids}
 
 -- among so many messages there is one of this number, which is at least 1 (RFC 9051, 9: nz-number)
@@ -21,6 +22,10 @@ has_numbers count (Range one other) = has_number count one && has_number count o
 -- each number of the set is a message's
 abbrev pub has_all_numbers : ℕ → List SetPart → Bool
 has_all_numbers count set = list_all (has_numbers count) set
+
+-- a set names messages of a view; one of UIDs may name none
+abbrev pub names_messages : View → Bool → List SetPart → Bool
+names_messages view by_uid set = by_uid || has_all_numbers (length view.rows) set
 
 abbrev pub uid_or_none : Option Row → ℕ
 uid_or_none None = 0

@@ -1,9 +1,12 @@
 -- SEARCH and UID SEARCH (RFC 9051, 6.4.4 and 6.4.9): those messages of the view that are there and that all keys match.
-use Rattle.std.specs.Prelude.{ℕ, Bool, true, false, List, [], ◌∷◌, map, Option, None, Some, codes}
+use Rattle.std.specs.Prelude.{ℕ, Bool, true, false, if◌then◌else◌, List, [], ◌∷◌, length, map, Option, None, Some, codes}
 use Rattle.mail_message.specs.Boxes.{Content, messages_at}
+use Rattle.mail_message.specs.declared.key.Key.{Key}
 use Rattle.mail_message.specs.declared.message.Message.{Message}
 use Rattle.mail_message.specs.declared.message.Row.{Row}
 use Rattle.mail_search.specs.Search.{found}
+use Rattle.mur_model.specs.declared.need.Need.{Need}
+use Rattle.mur_model.specs.declared.need.ViewWork.TheVariants as work
 use Rattle.mur_model.specs.declared.reply.ReplyLine.{ReplyLine}
 use Rattle.mur_model.specs.declared.reply.ReplyLine.TheVariants.{Search}
 use Rattle.mur_model.specs.declared.reply.Verdict.TheVariants.{Ok as ok_reply}
@@ -12,10 +15,20 @@ use Rattle.mur_model.specs.declared.session.Turn.{Turn}
 use Rattle.mur_model.specs.declared.view.View.{View}
 use Rattle.mur_model.specs.ClientView.{uids}
 use Rattle.mur_model.specs.Fetch.{number_in}
+use Rattle.mur_model.specs.Keys.{have_all_numbers, keys_at}
 use Rattle.mur_model.specs.Left.{Worked, kept}
+use Rattle.mur_model.specs.NamedRows.{last_uid}
+use Rattle.mur_model.specs.Need.{at_mailbox, no_such_number}
 use Rattle.mur_model.specs.News.{news}
-use Rattle.mur_model.specs.Selected.{at_view, rows_of, with_news}
+use Rattle.mur_model.specs.Selected.{rows_of, with_news}
 use Rattle.mur_model.specs.StoreFlags.{code_for}
+
+-- each sequence number in the keys of a SEARCH is a message's, in a UID SEARCH too; `*` is the last one
+abbrev pub search : View → Bool → List Key → Need
+search view by_uid keys =
+    if have_all_numbers (length view.rows) keys
+    then at_mailbox view (work.Search (record { by_uid = by_uid; keys = keys_at (length view.rows) (last_uid view.rows) keys }))
+    else no_such_number
 
 abbrev pub search_name : Bool → List ℕ
 search_name false = codes "SEARCH"
@@ -50,7 +63,3 @@ search_told view it messages now =
 
 abbrev pub search_at : View → Searching → Content → Worked
 search_at view it box = record { left = kept; turn = search_told view it (messages_at box.messages (uids view.rows)) (rows_of box) }
-
--- a SEARCH among the messages of a view
-unfoldable pub search_on : View → Searching → Option Content → Worked
-search_on view it box = at_view view (search_at view it) box

@@ -2,10 +2,15 @@
 use Rattle.std.specs.Prelude.{ℕ, ◌+◌, Bool, true, false, not, if◌then◌else◌, List, [], ◌∷◌, ◌++◌, Option, None, Some, codes}
 use Rattle.std.specs.List.{list_any}
 use Rattle.mail_message.specs.Boxes.{Content}
+use Rattle.mail_message.specs.FlagSets.{Flags}
 use Rattle.mail_message.specs.RowOrder.{row_at}
 use Rattle.mail_message.specs.declared.message.Row.{Row}
+use Rattle.mail_message.specs.declared.mode.Mode.{Mode}
+use Rattle.mail_message.specs.declared.set.SetPart.{SetPart}
 use Rattle.mail_store.specs.Named.{set_of}
 use Rattle.mail_store.specs.Store.{stored, rows_stored, has_too_many_flags}
+use Rattle.mur_model.specs.declared.need.Need.{Need}
+use Rattle.mur_model.specs.declared.need.ViewWork.TheVariants as work
 use Rattle.mur_model.specs.declared.reply.Code.{Code}
 use Rattle.mur_model.specs.declared.reply.Code.TheVariants.{None as no_code, ExpungeIssued}
 use Rattle.mur_model.specs.declared.reply.NoText.TheVariants.{Limit}
@@ -17,8 +22,20 @@ use Rattle.mur_model.specs.declared.session.Turn.{Turn}
 use Rattle.mur_model.specs.declared.view.View.{View}
 use Rattle.mur_model.specs.ClientView.{uids}
 use Rattle.mur_model.specs.Left.{Worked, kept, changed}
+use Rattle.mur_model.specs.NamedRows.{named_uids, names_messages}
+use Rattle.mur_model.specs.Need.{at_mailbox, no_such_number, read_only}
 use Rattle.mur_model.specs.News.{news, has_row, flag_parts}
-use Rattle.mur_model.specs.Selected.{at_view, rows_of, with_news}
+use Rattle.mur_model.specs.Selected.{rows_of, with_news}
+
+abbrev pub store_named : View → Bool → List SetPart → Mode → Bool → Flags → Need
+store_named view by_uid set mode is_silent flags =
+    at_mailbox view (work.Store (record { by_uid = by_uid; uids = named_uids by_uid set view.rows; mode = mode; is_silent = is_silent; flags = flags }))
+
+abbrev pub store : View → Bool → List SetPart → Mode → Bool → Flags → Need
+store view by_uid set mode is_silent flags =
+    if names_messages view by_uid set
+    then if view.is_writable then store_named view by_uid set mode is_silent flags else read_only
+    else no_such_number
 
 abbrev pub store_name : Bool → List ℕ
 store_name false = codes "STORE"
@@ -65,7 +82,3 @@ stored_at view it box false =
 
 abbrev pub store_at : View → FlagStore → Content → Worked
 store_at view it box = stored_at view it box (has_too_many_flags (rows_stored box it.uids it.mode it.flags))
-
--- a STORE of the messages with some UIDs
-unfoldable pub store_on : View → FlagStore → Option Content → Worked
-store_on view it box = at_view view (store_at view it) box

@@ -1,38 +1,52 @@
 // EXPUNGE and UID EXPUNGE (RFC 9051, 6.4.3 and 6.4.9).
-ghost use Rattle.std.specs.Prelude.{◌≡◌, IfOk, Some};
+ghost use Rattle.std.specs.Prelude.{◌≡◌, IfOk};
 ghost use Rattle.std.specs.Option.{option_copied};
-ghost use Rattle.mur_model.specs.Expunge.{expunge_on, expunge_told, expunge_name};
+ghost use Rattle.mur_model.specs.Expunge.{expunge, expunge_at, expunge_told, expunge_name};
 ghost use Rattle.mur_model.specs.Left.{IsLeft};
 
+use crate::named_rows::named_uids;
+use crate::need::{Need, ViewWork, read_only, work_at_view};
 use crate::news::news_of;
 use crate::reply::{Code, ReplyLines, Verdict};
-use crate::selected::{gone, with_news};
+use crate::selected::with_news;
 use crate::session::Turn;
 use crate::view::View;
-use mail_message::{MailBox, OrderedRows};
-use mail_store::expunge;
+use mail_message::{MailBox, OrderedRows, SetParts};
+use mail_store::expunge as take_deleted;
 use mur_base::{Bytes, Memory};
 use std::alloc::Global;
 use std::collections::BTreeSet;
 
-/// Takes the messages with `\Deleted` away from the mailbox of a view, of all or of those with some UIDs, if it is still the
-/// mailbox that was selected. For want of memory nothing is said of the mailbox. Time is linear in the view and the mailbox's messages.
-#[tactic(auto, unfolding(crate::specs::Expunge::expunge_on, crate::specs::Selected::at_view, crate::specs::Left::box_after))]
-pub fn expunge_on(
+/// What EXPUNGE needs, of all messages or of those of a set of UIDs.
+pub fn expunge(alloc: Global, view: &View, only: &Option<SetParts>) -> Result<Need, Memory>
+    ensures { IfOk result (λ need. need ≡ expunge view.now only.now) }
+{
+    if !view.is_writable {
+        return Ok(read_only());
+    }
+    match only {
+        None => work_at_view(alloc, view, ViewWork::Expunge(None)),
+        Some(set) => {
+            let uids = named_uids(alloc, true, set, &view.rows)?;
+            work_at_view(alloc, view, ViewWork::Expunge(Some(uids)))
+        }
+    }
+}
+
+/// Takes the messages with `\Deleted` away from the mailbox of a view, of all or of those with some UIDs. For want of memory nothing is
+/// said of the mailbox. Time is linear in the view and the mailbox's messages.
+#[tactic(auto, unfolding(crate::specs::Left::box_after))]
+pub fn expunge_at(
     alloc: Global,
     view: &View,
     mailbox: &mut MailBox,
     only: Option<&[u32]>,
 ) -> Result<Turn, Memory>
-    ensures { IfOk result (λ turn. IsLeft mailbox.old (expunge_on view.now (option_copied only.entry) (Some mailbox.old)) mailbox.new turn) }
+    ensures { IfOk result (λ turn. IsLeft mailbox.old (expunge_at view.now (option_copied only.entry) mailbox.old) mailbox.new turn) }
 {
-    if mailbox.serial() == view.serial {
-        let _ = expunge(alloc, mailbox, only)?;
-        let now = mailbox.look(alloc)?.rows;
-        expunge_told(alloc, view, only, &now)
-    } else {
-        gone(alloc)
-    }
+    let _ = take_deleted(alloc, mailbox, only)?;
+    let now = mailbox.look(alloc)?.rows;
+    expunge_told(alloc, view, only, &now)
 }
 
 /// What is told where a mailbox has these rows behind an EXPUNGE.

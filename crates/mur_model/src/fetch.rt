@@ -6,21 +6,23 @@ ghost use Rattle.mail_fetch.specs.Parts.{part_text};
 ghost use Rattle.mail_message.specs.Boxes.{relabelled};
 ghost use Rattle.mail_message.specs.declared.mode.Mode.TheVariants.{Add};
 ghost use Rattle.mail_store.specs.Store.{stored};
-ghost use Rattle.mur_model.specs.Fetch.{fetch_on, fetch_at, fetch_told, fetch_name, fetch_lines, fetch_line, items_told, is_body, is_uid};
-ghost use Rattle.mur_model.specs.Fetch.{is_flags, sees, seen_flags};
+ghost use Rattle.mur_model.specs.Fetch.{fetch, fetch_at, fetch_told, fetch_name, fetch_lines, fetch_line, items_told, is_body, is_uid};
+ghost use Rattle.mur_model.specs.Fetch.{each_once, is_flags, same_item, same_partial, sees, seen_flags};
 ghost use Rattle.mur_model.specs.Fetch.{tells_flags, flag_uids};
 ghost use Rattle.mur_model.specs.Left.{IsLeft};
 
+use crate::named_rows::{named_uids, names_messages};
+use crate::need::{Need, ViewWork, no_such_number, work_at_view};
 use crate::news::{is_same_flags, news_of, number_of};
 use crate::reply::{Parts, ReplyLine, ReplyLines, Verdict};
-use crate::selected::{gone, with_news};
+use crate::selected::with_news;
 use crate::session::Turn;
 use crate::store_flags::code_for;
 use crate::view::View;
 use mail_fetch::{flags_part, part};
 use mail_message::{
-    FetchItems, FlagName, FlagSet, Item, MailBox, Message, Messages, Mode, OrderedRows, Row,
-    SystemFlag, Uids,
+    FetchItems, FlagName, FlagSet, Item, MailBox, Message, Messages, Mode, OrderedRows, Partial,
+    Row, SetParts, SystemFlag, Uids,
 };
 use mail_store::{set_flags, set_of};
 use mur_base::{Bytes, Memory};
@@ -32,6 +34,70 @@ pub struct Fetching {
     pub by_uid: bool,
     pub uids: Uids,
     pub items: FetchItems,
+}
+
+fn is_same_partial(one: Option<Partial>, other: Option<Partial>) -> bool
+    ensures { result ≡ same_partial one other }
+{
+    match (one, other) {
+        (None, None) => true,
+        (Some(one), Some(other)) => one.from == other.from && one.count == other.count,
+        _ => false,
+    }
+}
+
+fn is_same_item(one: Item, other: Item) -> bool
+    ensures { result ≡ same_item one other }
+{
+    match (one, other) {
+        (Item::Flags, Item::Flags)
+        | (Item::Uid, Item::Uid)
+        | (Item::InternalDate, Item::InternalDate)
+        | (Item::Size, Item::Size) => true,
+        (Item::Body(one), Item::Body(other)) => is_same_partial(one, other),
+        (Item::BodyPeek(one), Item::BodyPeek(other)) => is_same_partial(one, other),
+        _ => false,
+    }
+}
+
+fn has_item(told: &[Item], item: Item) -> bool
+    ensures { result ≡ list_any (same_item item) told.now }
+{
+    told.iter().any(|other| is_same_item(item, *other))
+}
+
+/// The items, each where it was asked for first.
+fn each_once(alloc: Global, items: &FetchItems) -> Result<FetchItems, Memory>
+    ensures { IfOk result (λ once. once ≡ each_once [] items.now) }
+{
+    let mut once = FetchItems::new(alloc);
+    for item in items.as_slice() {
+        if !has_item(once.as_slice(), *item) {
+            once.push(*item)?;
+        }
+    }
+    Ok(once)
+}
+
+/// What FETCH needs.
+pub fn fetch(
+    alloc: Global,
+    view: &View,
+    by_uid: bool,
+    set: &SetParts,
+    items: &FetchItems,
+) -> Result<Need, Memory>
+    ensures { IfOk result (λ need. need ≡ fetch view.now by_uid set.now items.now) }
+{
+    if !names_messages(view, by_uid, set) {
+        return Ok(no_such_number());
+    }
+    let it = Fetching {
+        by_uid,
+        uids: named_uids(alloc, by_uid, set, &view.rows)?,
+        items: each_once(alloc, items)?,
+    };
+    work_at_view(alloc, view, ViewWork::Fetch(it))
 }
 
 /// Whether the messages get `\Seen`: a body is asked for, in a mailbox that was selected to be changed (RFC 9051, 6.4.5).
@@ -53,7 +119,7 @@ fn asks_uid(items: &[Item]) -> bool
     items.iter().any(|item| is_uid(*item))
 }
 
-fn asks_flags(items: &[Item]) -> bool
+pub fn asks_flags(items: &[Item]) -> bool
     ensures { result ≡ list_any is_flags items.now }
 {
     items.iter().any(|item| is_flags(*item))
@@ -79,7 +145,7 @@ fn is_flags(item: Item) -> bool
 
 /// The items that are told of a message: the UID first where it was named by UID, the flags last where the fetch changed them, unless they
 /// were asked for.
-fn items_told(alloc: Global, it: &Fetching, changes: bool) -> Result<FetchItems, Memory>
+pub fn items_told(alloc: Global, it: &Fetching, changes: bool) -> Result<FetchItems, Memory>
     ensures { IfOk result (λ items. items ≡ items_told it.now changes) }
 {
     let asked = it.items.as_slice();
@@ -246,32 +312,15 @@ pub fn fetch_told(
     with_news(alloc, view, lines, news, verdict)
 }
 
-fn fetch_name(by_uid: bool) -> &'static [u8]
+pub fn fetch_name(by_uid: bool) -> &'static [u8]
     ensures { result.now ≡ fetch_name by_uid }
 {
     if by_uid { b"UID FETCH" } else { b"FETCH" }
 }
 
-/// Reads the named messages of the mailbox of a view, if it is still the mailbox that was selected. For want of memory nothing is said of
-/// the mailbox.
-#[tactic(auto, unfolding(crate::specs::Fetch::fetch_on, crate::specs::Selected::at_view, crate::specs::Left::box_after))]
-pub fn fetch_on(
-    alloc: Global,
-    view: &View,
-    mailbox: &mut MailBox,
-    it: &Fetching,
-) -> Result<Turn, Memory>
-    ensures { IfOk result (λ turn. IsLeft mailbox.old (fetch_on view.now it.now (Some mailbox.old)) mailbox.new turn) }
-{
-    if mailbox.serial() == view.serial {
-        fetch_at(alloc, view, mailbox, it)
-    } else {
-        gone(alloc)
-    }
-}
-
+/// Reads the named messages of the mailbox of a view. For want of memory nothing is said of the mailbox.
 #[tactic(auto, unfolding(crate::specs::Left::box_after))]
-fn fetch_at(
+pub fn fetch_at(
     alloc: Global,
     view: &View,
     mailbox: &mut MailBox,

@@ -5,15 +5,18 @@
 mod acting;
 mod append;
 mod at_once;
+mod close;
 mod command;
 mod create;
 mod expunge;
 mod fetch;
+mod fetch_rows;
 mod keys;
 mod login;
 mod named_rows;
 mod need;
 mod news;
+mod noop;
 mod plain;
 mod reply;
 mod request;
@@ -32,12 +35,15 @@ mod wait;
 
 pub use acting::act;
 pub use append::append_reply;
+pub use close::left_by;
 pub use command::{Atoms, Command, StatusItem, StatusItems, Tag};
 pub use expunge::expunge_told;
 pub use fetch::{Fetching, fetch_told, sees};
+pub use fetch_rows::{asks_rows, rows_told};
 pub use named_rows::uids_of;
 pub use need::{Need, NewsFor, ViewWork, Work, begin};
 pub use news::{Told, news_of};
+pub use noop::news_told;
 pub use reply::{
     Attribute, BadText, Bye, Code, FlagNames, NoText, Parts, Reply, ReplyLine, ReplyLines,
     StatusCount, StatusCounts, Verdict, completed, refused,
@@ -52,5 +58,4 @@ pub use status::status_reply;
 pub use store::{Pair, Store};
 pub use store_flags::{FlagStore, store_refused, store_told};
 pub use view::View;
-pub use viewing::{left_by, news_told};
 pub use wait::{Wait, begun_behind, wait_of, waits_begun, with_line};

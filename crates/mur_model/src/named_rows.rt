@@ -3,9 +3,10 @@ ghost use Rattle.std.specs.Prelude.{◌≡◌, length, IfOk};
 ghost use Rattle.std.specs.List.{zip};
 ghost use Rattle.mail_message.specs.Sets.{set_at};
 ghost use Rattle.mur_model.specs.ClientView.{uids};
-ghost use Rattle.mur_model.specs.NamedRows.{has_number, has_numbers, has_all_numbers, last_uid, named_uids, numbers_from, picked, uids_by};
+ghost use Rattle.mur_model.specs.NamedRows.{has_number, has_numbers, has_all_numbers, last_uid, named_uids, names_messages, numbers_from, picked, uids_by};
 
 use crate::news::number_of;
+use crate::view::View;
 use mail_message::{OrderedRows, Row, SetEnd, SetPart, SetParts, Uids};
 use mail_search::marks_of_set;
 use mur_base::Memory;
@@ -34,6 +35,13 @@ fn has_number(count: usize, end: SetEnd) -> bool
         SetEnd::Number(number) => number as usize <= count,
         SetEnd::Last => 0 < count,
     }
+}
+
+/// Whether a set names messages of a view: one of UIDs may name none.
+pub fn names_messages(view: &View, by_uid: bool, set: &SetParts) -> bool
+    ensures { result ≡ names_messages view.now by_uid set.now }
+{
+    by_uid || has_all_numbers(view.rows.len(), set)
 }
 
 /// The UIDs of the messages that a set names, in rising order, by their numbers or by their UIDs. The set is brought into order once;
@@ -91,7 +99,6 @@ pub fn last_uid(rows: &[Row]) -> u32
     }
 }
 
-/// The UIDs of rows, in their order.
 /// The UIDs of rows, in their order.
 pub fn uids_of(alloc: Global, rows: &[Row]) -> Result<Uids, Memory>
     ensures list { IfOk result (λ list. list ≡ uids rows.now) }

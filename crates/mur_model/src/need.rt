@@ -7,24 +7,25 @@ ghost use Rattle.mur_model.specs.Left.{replied};
 ghost use Rattle.mur_model.specs.Reply.{completed};
 ghost use Rattle.mur_model.specs.Act.{need_off, need_in, need_begun, need_selected, need_of, need_unselected, not_yet};
 ghost use Rattle.mur_model.specs.Act.{idled, nothing_new, wants_selected};
-ghost use Rattle.mur_model.specs.Viewing.{at_mailbox};
+ghost use Rattle.mur_model.specs.Need.{at_mailbox, no_such_number, read_only};
 
 use crate::append::{append, new_message};
 use crate::at_once::{capability, enable, is_done, logout};
+use crate::close::{close, unselect};
 use crate::command::{Command, StatusItems};
 use crate::create::create;
-use crate::fetch::Fetching;
+use crate::expunge::expunge;
+use crate::fetch::{Fetching, fetch};
 use crate::login::login;
 use crate::plain::authenticate;
 use crate::reply::{BadText, NoText, Verdict, completed};
-use crate::search::Searching;
+use crate::search::{Searching, search};
 use crate::select::{Opening, select};
 use crate::session::{Sess, Turn};
 use crate::setting::Setting;
 use crate::status::status;
-use crate::store_flags::FlagStore;
+use crate::store_flags::{FlagStore, store};
 use crate::view::View;
-use crate::viewing::{close, expunge, fetch, search, store, unselect};
 use mail_message::{Message, Uids};
 use mur_base::{Bytes, Copied, MailName, Memory, UserName};
 use std::alloc::Global;
@@ -267,4 +268,18 @@ fn not_yet() -> Need
     ensures { result ≡ not_yet }
 {
     Need::Refusal(Verdict::Bad(BadText::Syntax))
+}
+
+/// The refusal of a change where the mailbox was selected to be read.
+pub fn read_only() -> Need
+    ensures { result ≡ read_only }
+{
+    Need::Refusal(Verdict::No(NoText::Cannot))
+}
+
+/// The refusal of a number that no message has.
+pub fn no_such_number() -> Need
+    ensures { result ≡ no_such_number }
+{
+    Need::Refusal(Verdict::Bad(BadText::Message))
 }

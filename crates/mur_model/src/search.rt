@@ -1,19 +1,21 @@
 // SEARCH and UID SEARCH (RFC 9051, 6.4.4 and 6.4.9).
-ghost use Rattle.std.specs.Prelude.{◌≡◌, length, map, IfOk, Some};
+ghost use Rattle.std.specs.Prelude.{◌≡◌, length, map, IfOk};
 ghost use Rattle.mur_model.specs.Left.{IsLeft};
 ghost use Rattle.mur_model.specs.ClientView.{uids};
-ghost use Rattle.mur_model.specs.Search.{number_at, numbers_told, search_line, search_name, search_told, search_on};
+ghost use Rattle.mur_model.specs.Search.{number_at, numbers_told, search_line, search, search_name, search_told, search_at};
 ghost use Rattle.mur_model.specs.StoreFlags.{code_for};
 
-use crate::named_rows::uids_of;
+use crate::keys::{have_all_numbers, keys_at};
+use crate::named_rows::{last_uid, uids_of};
+use crate::need::{Need, ViewWork, no_such_number, work_at_view};
 use crate::news::{news_of, number_of};
 use crate::reply::{Code, ReplyLine, ReplyLines, Verdict};
-use crate::selected::{gone, with_news};
+use crate::selected::with_news;
 use crate::session::Turn;
 use crate::store_flags::code_for;
 use crate::view::View;
 use mail_message::{Keys, MailBox, Message, Messages, OrderedRows, Uids};
-use mail_search::search;
+use mail_search::search as found;
 use mur_base::{Bytes, Memory};
 use std::alloc::Global;
 use std::collections::BTreeSet;
@@ -23,6 +25,19 @@ use std::collections::BTreeSet;
 pub struct Searching {
     pub by_uid: bool,
     pub keys: Keys,
+}
+
+/// What SEARCH needs.
+pub fn search(alloc: Global, view: &View, by_uid: bool, keys: &Keys) -> Result<Need, Memory>
+    ensures { IfOk result (λ need. need ≡ search view.now by_uid keys.now) }
+{
+    let count = view.rows.len();
+    if !have_all_numbers(count, keys.as_slice()) {
+        return Ok(no_such_number());
+    }
+    let last = last_uid(view.rows.as_slice());
+    let keys = keys_at(alloc, number_of(count)?, last, keys.as_slice())?;
+    work_at_view(alloc, view, ViewWork::Search(Searching { by_uid, keys }))
 }
 
 /// The number of a message in a view that has it; looked for near a place first, as `OrderedRows::place` does.
@@ -79,8 +94,8 @@ fn search_line(
     ensures { IfOk result (λ line. line ≡ search_line it.now rows.now messages.now) }
 {
     let numbers = numbers_of(alloc, rows, messages.as_slice())?;
-    let found = search(alloc, &it.keys, messages, &numbers)?;
-    let told = numbers_told(alloc, it.by_uid, rows, found)?;
+    let uids = found(alloc, &it.keys, messages, &numbers)?;
+    let told = numbers_told(alloc, it.by_uid, rows, uids)?;
     Ok(ReplyLine::Search(it.by_uid, told))
 }
 
@@ -121,22 +136,18 @@ fn search_name(by_uid: bool) -> &'static [u8]
     if by_uid { b"UID SEARCH" } else { b"SEARCH" }
 }
 
-/// Searches the mailbox of a view, if it is still the mailbox that was selected; the mailbox stays as it is.
-#[tactic(auto, unfolding(crate::specs::Search::search_on, crate::specs::Selected::at_view, crate::specs::Left::box_after))]
-pub fn search_on(
+/// Searches the mailbox of a view, which stays as it is.
+#[tactic(auto, unfolding(crate::specs::Left::box_after))]
+pub fn search_at(
     alloc: Global,
     view: &View,
     mailbox: &mut MailBox,
     it: &Searching,
 ) -> Result<Turn, Memory>
-    ensures { IfOk result (λ turn. IsLeft mailbox.old (search_on view.now it.now (Some mailbox.old)) mailbox.new turn) }
+    ensures { IfOk result (λ turn. IsLeft mailbox.old (search_at view.now it.now mailbox.old) mailbox.new turn) }
 {
-    if mailbox.serial() == view.serial {
-        let named = uids_of(alloc, view.rows.as_slice())?;
-        let messages = mailbox.read(alloc, named.as_slice())?;
-        let now = mailbox.look(alloc)?.rows;
-        search_told(alloc, view, it, &messages, &now)
-    } else {
-        gone(alloc)
-    }
+    let named = uids_of(alloc, view.rows.as_slice())?;
+    let messages = mailbox.read(alloc, named.as_slice())?;
+    let now = mailbox.look(alloc)?.rows;
+    search_told(alloc, view, it, &messages, &now)
 }

@@ -1,18 +1,19 @@
 // STORE and UID STORE (RFC 9051, 6.4.6 and 6.4.9).
-ghost use Rattle.std.specs.Prelude.{◌≡◌, ◌≢◌, ◌++◌, IfOk, OnOk, Some};
+ghost use Rattle.std.specs.Prelude.{◌≡◌, ◌≢◌, ◌++◌, IfOk, OnOk};
 ghost use Rattle.std.specs.Option.{option_copied};
 ghost use Rattle.mur_model.specs.Left.{IsLeft};
 ghost use Rattle.mur_model.specs.Selected.{rows_of};
-ghost use Rattle.mur_model.specs.StoreFlags.{store_on, store_at, store_told, store_refused};
+ghost use Rattle.mur_model.specs.StoreFlags.{store, store_at, store_told, store_refused};
 ghost use Rattle.mur_model.specs.StoreFlags.{store_name, stored_line, stored_lines, own_lines, some_gone, code_for};
 
-use crate::named_rows::uids_of;
+use crate::named_rows::{named_uids, names_messages, uids_of};
+use crate::need::{Need, ViewWork, no_such_number, read_only, work_at_view};
 use crate::news::{flag_parts, news_of};
 use crate::reply::{Code, NoText, ReplyLine, ReplyLines, Verdict};
-use crate::selected::{gone, with_news};
+use crate::selected::with_news;
 use crate::session::Turn;
 use crate::view::View;
-use mail_message::{FlagSet, MailBox, Mode, OrderedRows, Row, Uids};
+use mail_message::{FlagSet, MailBox, Mode, OrderedRows, Row, SetParts, Uids};
 use mail_store::{StoreFault, set_flags, set_of};
 use mur_base::{Bytes, Memory};
 use std::alloc::Global;
@@ -28,25 +29,37 @@ pub struct FlagStore {
     pub flags: FlagSet,
 }
 
-/// Changes the flags of the named messages in the mailbox of a view, if it is still the mailbox that was selected; those that aren't
-/// there are passed over. For want of memory nothing is said of the mailbox. Time is linear in the view and the mailbox's messages.
-#[tactic(auto, unfolding(crate::specs::StoreFlags::store_on, crate::specs::Selected::at_view, crate::specs::Left::box_after))]
-pub fn store_on(
+/// What STORE needs.
+pub fn store(
     alloc: Global,
     view: &View,
-    mailbox: &mut MailBox,
-    it: &FlagStore,
-) -> Result<Turn, Memory>
-    ensures { IfOk result (λ turn. IsLeft mailbox.old (store_on view.now it.now (Some mailbox.old)) mailbox.new turn) }
+    by_uid: bool,
+    set: &SetParts,
+    mode: Mode,
+    is_silent: bool,
+    flags: FlagSet,
+) -> Result<Need, Memory>
+    ensures { IfOk result (λ need. need ≡ store view.now by_uid set.now mode is_silent flags) }
 {
-    if mailbox.serial() == view.serial {
-        store_at(alloc, view, mailbox, it)
-    } else {
-        gone(alloc)
+    if !names_messages(view, by_uid, set) {
+        return Ok(no_such_number());
     }
+    if !view.is_writable {
+        return Ok(read_only());
+    }
+    let it = FlagStore {
+        by_uid,
+        uids: named_uids(alloc, by_uid, set, &view.rows)?,
+        mode,
+        is_silent,
+        flags,
+    };
+    work_at_view(alloc, view, ViewWork::Store(it))
 }
 
-fn store_at(
+/// Changes the flags of the named messages in the mailbox of a view; those that aren't there are passed over. For want of memory nothing is
+/// said of the mailbox. Time is linear in the view and the mailbox's messages.
+pub fn store_at(
     alloc: Global,
     view: &View,
     mailbox: &mut MailBox,

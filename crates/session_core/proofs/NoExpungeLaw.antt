@@ -5,7 +5,8 @@ use Rattle.std.specs.Option.{IfSome}
 use Rattle.link_msg.specs.declared.answer.AnswerBody.{AnswerBody}
 use Rattle.link_msg.specs.declared.answer.AnswerBody.TheVariants.{Done, NotNow}
 use Rattle.link_msg.specs.declared.outcome.Outcome.{Outcome}
-use Rattle.link_msg.specs.declared.outcome.Outcome.TheVariants.{Messages, Rows, Limit as full}
+use Rattle.link_msg.specs.declared.outcome.Outcome.TheVariants.{None as nothing, Messages, Rows, Limit as full, Gone}
+use Rattle.mail_message.specs.declared.item.Item.{Item}
 use Rattle.mail_message.specs.declared.message.Message.{Message}
 use Rattle.mail_message.specs.declared.message.Row.{Row}
 use Rattle.mail_message.specs.declared.message.Snapshot.{Snapshot}
@@ -22,7 +23,8 @@ use Rattle.mur_model.specs.declared.session.Sess.TheVariants.{Off, In, Selected,
 use Rattle.mur_model.specs.declared.session.Turn.{Turn}
 use Rattle.mur_model.specs.declared.store_flags.FlagStore.{FlagStore}
 use Rattle.mur_model.specs.declared.view.View.{View}
-use Rattle.mur_model.specs.Fetch.{fetch_line, fetch_lines, number_in}
+use Rattle.mur_model.specs.Fetch.{fetch_line, fetch_lines, items_told, number_in}
+use Rattle.mur_model.specs.FetchRows.{row_line, row_lines}
 use Rattle.mur_model.specs.News.{changed_line, changed_lines, exists_lines, flag_parts, is_among, news, rows_behind}
 use Rattle.mur_model.specs.SameFlags.{is_same_flags}
 use Rattle.mur_model.specs.Search.{search_line}
@@ -33,7 +35,7 @@ use Rattle.session_core.specs.declared.need.Need.{Need}
 use Rattle.session_core.specs.Finish.{Finished, finished_by, turn_of}
 use Rattle.session_core.specs.Need.{told}
 use Rattle.session_core.specs.Numbers.{HasNoExpunge, IsByNumbers, TellsNoExpunge}
-use Rattle.session_core.specs.Viewed.{viewed_done, viewed_turn}
+use Rattle.session_core.specs.Viewed.{viewed_done, viewed_told, viewed_turn}
 
 both_none : (lines more : List ReplyLine) → HasNoExpunge lines → HasNoExpunge more → HasNoExpunge (lines ++ more)
 unfolding HasNoExpunge
@@ -92,6 +94,19 @@ fetch_none it rows now (message ∷ before) =
     both_none (fetch_line it message (number_in rows message.uid) (row_at now message.uid)) (fetch_lines it rows now before)
     (fetched_none it message (number_in rows message.uid) (row_at now message.uid)) (fetch_none it rows now before)
 
+row_none : (items : List Item) (number : Option ℕ) (row : Option Row) → HasNoExpunge (row_line items number row)
+unfolding HasNoExpunge
+row_none items None row = tt
+row_none items (Some number) None = tt
+row_none items (Some number) (Some row) = tt
+
+rows_none : (items : List Item) (rows now : List Row) (uids : List ℕ) → HasNoExpunge (row_lines items rows now uids)
+unfolding HasNoExpunge
+rows_none items rows now [] = tt
+rows_none items rows now (uid ∷ uids) =
+    both_none (row_line items (number_in rows uid) (row_at now uid)) (row_lines items rows now uids)
+    (row_none items (number_in rows uid) (row_at now uid)) (rows_none items rows now uids)
+
 line_none : (by_uid : Bool) (number : ℕ) (row : Option Row) → HasNoExpunge (stored_line by_uid number row)
 unfolding HasNoExpunge
 line_none by_uid number None = tt
@@ -131,6 +146,9 @@ unfolding viewed_done IsByNumbers HasNoExpunge
 done_none view (Store it) (Rows changes) seen by =
     behind_none view.rows seen.rows it.by_uid _ (own_lines it changes view.rows) by (own_none it changes view.rows)
 done_none view (Store it) full seen by = behind_none view.rows seen.rows it.by_uid [] [] by nothing_none
+done_none view (Fetch it) nothing seen by =
+    behind_none view.rows seen.rows it.by_uid _ (row_lines (items_told it false) view.rows seen.rows it.uids) by
+    (rows_none (items_told it false) view.rows seen.rows it.uids)
 done_none view (Fetch it) (Messages before) seen by =
     behind_none view.rows seen.rows it.by_uid _ (fetch_lines it view.rows seen.rows before) by (fetch_none it view.rows seen.rows before)
 done_none view (Search it) (Messages found) seen by =
@@ -140,9 +158,15 @@ done_none view (Fetch it) outcome seen by = tt
 done_none view (Search it) outcome seen by = tt
 done_none view work outcome seen by = absurd by
 
+gone_or_none : (view : View) (work : ViewWork) (outcome : Outcome) (seen : Snapshot) → IsByNumbers (Viewed view work)
+    → IfSome (viewed_told view work outcome seen) TurnHasNone
+unfolding viewed_told HasNoExpunge
+gone_or_none view work Gone seen by = tt
+gone_or_none view work outcome seen by = done_none view work outcome seen by
+
 view_none : (view : View) (work : ViewWork) (body : AnswerBody) → IsByNumbers (Viewed view work) → IfSome (viewed_turn view work body) TurnHasNone
 unfolding viewed_turn HasNoExpunge
-view_none view work (Done outcome seen) by = done_none view work outcome seen by
+view_none view work (Done outcome seen) by = gone_or_none view work outcome seen by
 view_none view work NotNow by = tt
 view_none view work body by = tt
 

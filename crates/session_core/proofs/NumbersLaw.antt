@@ -10,6 +10,7 @@ use Rattle.link_msg.specs.declared.answer.AnswerBody.{AnswerBody}
 use Rattle.link_msg.specs.declared.answer.AnswerBody.TheVariants.{Done, NotNow}
 use Rattle.link_msg.specs.declared.outcome.Outcome.{Outcome}
 use Rattle.link_msg.specs.declared.outcome.Outcome.TheVariants.{None as nothing, Messages, Rows, Uids, Exists, Limit as full, Gone}
+use Rattle.mail_message.specs.declared.item.Item.{Item}
 use Rattle.mail_message.specs.declared.message.Message.{Message}
 use Rattle.mail_message.specs.declared.message.Row.{Row}
 use Rattle.mail_message.specs.declared.message.Snapshot.{Snapshot}
@@ -34,7 +35,8 @@ use Rattle.mur_model.specs.declared.store_flags.FlagStore.{FlagStore}
 use Rattle.mur_model.specs.declared.view.View.{View}
 use Rattle.mur_model.specs.Act.{need_of, session_after}
 use Rattle.mur_model.specs.ClientView.{Agrees, Known, known_after, known_after_all, uids}
-use Rattle.mur_model.specs.Fetch.{fetch_line, fetch_lines, number_in}
+use Rattle.mur_model.specs.Fetch.{fetch_line, fetch_lines, items_told, number_in}
+use Rattle.mur_model.specs.FetchRows.{row_line, row_lines}
 use Rattle.mur_model.specs.Left.{replied}
 use Rattle.mur_model.specs.News.{news}
 use Rattle.mur_model.specs.Search.{search_line}
@@ -54,7 +56,7 @@ use Rattle.session_core.specs.Need.{Behind, begun_by, told}
 use Rattle.session_core.specs.Numbers.{Knows, KnowsBehind, IsOf, known_before}
 use Rattle.session_core.specs.Select as select
 use Rattle.session_core.specs.Status as status
-use Rattle.session_core.specs.Viewed.{viewed_done, viewed_turn}
+use Rattle.session_core.specs.Viewed.{viewed_done, viewed_told, viewed_turn}
 
 both_still : (lines more : List ReplyLine) → AreStill lines → AreStill more → AreStill (lines ++ more)
 both_still lines more one other known = after_both known lines more ∙ ap (λ k. known_after_all k more) (one known) ∙ other known
@@ -88,6 +90,18 @@ unless_still false lines still known = still known
 
 own_still : (it : FlagStore) (changes rows : List Row) → AreStill (own_lines it changes rows)
 own_still it changes rows = unless_still it.is_silent (stored_lines it.by_uid changes 1 rows) (stored_still it.by_uid changes 1 rows)
+
+row_still : (items : List Item) (number : Option ℕ) (row : Option Row) → AreStill (row_line items number row)
+unfolding known_after
+row_still items None row known = refl
+row_still items (Some number) None known = refl
+row_still items (Some number) (Some row) known = refl
+
+rows_still : (items : List Item) (rows now : List Row) (uids : List ℕ) → AreStill (row_lines items rows now uids)
+rows_still items rows now [] known = refl
+rows_still items rows now (uid ∷ uids) known =
+    both_still (row_line items (number_in rows uid) (row_at now uid)) (row_lines items rows now uids)
+    (row_still items (number_in rows uid) (row_at now uid)) (rows_still items rows now uids) known
 
 -- what the client knows behind a reply, and the session behind it
 abbrev Leaves : Known → Sess → Reply → Option Sess → Type 0
@@ -128,17 +142,25 @@ viewed_leaves known session view (Expunge only) (Uids uids) seen agrees = news_l
 viewed_leaves known session view (Store it) (Rows changes) seen agrees =
     news_leave known view (own_lines it changes view.rows) seen.rows it.by_uid _ (own_still it changes view.rows) agrees
 viewed_leaves known session view (Store it) full seen agrees = news_leave known view [] seen.rows it.by_uid [] none_still agrees
+viewed_leaves known session view (Fetch it) nothing seen agrees =
+    news_leave known view (row_lines (items_told it false) view.rows seen.rows it.uids) seen.rows it.by_uid _
+    (rows_still (items_told it false) view.rows seen.rows it.uids) agrees
 viewed_leaves known session view (Fetch it) (Messages before) seen agrees =
     news_leave known view (fetch_lines it view.rows seen.rows before) seen.rows it.by_uid _ (fetch_still it view.rows seen.rows before) agrees
 viewed_leaves known session view (Search it) (Messages found) seen agrees =
     news_leave known view (search_line it view.rows found ∷ []) seen.rows it.by_uid [] (search_still it view.rows found) agrees
-viewed_leaves known session view work Gone seen agrees = tt
 viewed_leaves known session view work outcome seen agrees = tt
+
+told_leaves : (known : Known) (session : Sess) (view : View) (work : ViewWork) (outcome : Outcome) (seen : Snapshot) → Agrees known (uids view.rows)
+    → IfSome (viewed_told view work outcome seen) (TurnLeaves known session)
+unfolding viewed_told Knows
+told_leaves known session view work Gone seen agrees = tt
+told_leaves known session view work outcome seen agrees = viewed_leaves known session view work outcome seen agrees
 
 view_leaves : (known : Known) (session : Sess) (view : View) (work : ViewWork) (body : AnswerBody) → Agrees known (uids view.rows)
     → IfSome (viewed_turn view work body) (TurnLeaves known session)
 unfolding viewed_turn Knows
-view_leaves known session view work (Done outcome seen) agrees = viewed_leaves known session view work outcome seen agrees
+view_leaves known session view work (Done outcome seen) agrees = told_leaves known session view work outcome seen agrees
 view_leaves known session view work NotNow agrees = tt
 view_leaves known session view work body agrees = tt
 

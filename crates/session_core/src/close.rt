@@ -7,7 +7,7 @@ ghost use Rattle.session_core.specs.Viewed.{viewed_done};
 
 use link_msg::{Op, Outcome};
 use mur_base::Memory;
-use mur_model::{Turn, View, gone, left_by};
+use mur_model::{Turn, View, left_by};
 use std::alloc::Global;
 
 /// What is asked: that the messages with `\Deleted` go.
@@ -24,7 +24,6 @@ pub fn close_done(alloc: Global, view: &View, outcome: &Outcome) -> Result<Optio
 {
     match outcome {
         Outcome::Uids(_) => Ok(Some(left_by(alloc, view, b"CLOSE")?)),
-        Outcome::Gone => Ok(Some(gone(alloc)?)),
         _ => Ok(None),
     }
 }

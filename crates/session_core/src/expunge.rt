@@ -8,7 +8,7 @@ ghost use Rattle.session_core.specs.Viewed.{viewed_done};
 use link_msg::{Op, Outcome};
 use mail_message::{Snapshot, Uids};
 use mur_base::{Copied, Memory};
-use mur_model::{Turn, View, expunge_told, gone};
+use mur_model::{Turn, View, expunge_told};
 use std::alloc::Global;
 
 /// What is asked: that the messages with `\Deleted` go, all of them or those with some UIDs.
@@ -34,7 +34,6 @@ pub fn expunge_done(
 {
     match outcome {
         Outcome::Uids(_) => Ok(Some(expunge_told(alloc, view, only_of(only), &seen.rows)?)),
-        Outcome::Gone => Ok(Some(gone(alloc)?)),
         _ => Ok(None),
     }
 }

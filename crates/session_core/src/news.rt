@@ -7,7 +7,7 @@ ghost use Rattle.session_core.specs.Viewed.{viewed_done};
 use link_msg::{Op, Outcome};
 use mail_message::Snapshot;
 use mur_base::Memory;
-use mur_model::{NewsFor, Turn, View, gone, news_told};
+use mur_model::{NewsFor, Turn, View, news_told};
 use std::alloc::Global;
 
 /// What is asked: a look.
@@ -30,7 +30,6 @@ pub fn news_done(
 {
     match outcome {
         Outcome::None => Ok(Some(news_told(alloc, view, why, &seen.rows)?)),
-        Outcome::Gone => Ok(Some(gone(alloc)?)),
         _ => Ok(None),
     }
 }

@@ -8,7 +8,7 @@ ghost use Rattle.session_core.specs.Viewed.{viewed_done};
 use link_msg::{Op, Outcome};
 use mail_message::Snapshot;
 use mur_base::Memory;
-use mur_model::{Searching, Turn, View, gone, search_told, uids_of};
+use mur_model::{Searching, Turn, View, search_told, uids_of};
 use std::alloc::Global;
 
 /// What is asked: the messages of the view, which stay as they are.
@@ -31,7 +31,6 @@ pub fn search_done(
 {
     match outcome {
         Outcome::Messages(found) => Ok(Some(search_told(alloc, view, it, found, &seen.rows)?)),
-        Outcome::Gone => Ok(Some(gone(alloc)?)),
         _ => Ok(None),
     }
 }

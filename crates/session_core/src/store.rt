@@ -7,7 +7,7 @@ ghost use Rattle.session_core.specs.Viewed.{viewed_done};
 use link_msg::{Op, Outcome};
 use mail_message::Snapshot;
 use mur_base::{Copied, Memory};
-use mur_model::{FlagStore, Turn, View, gone, store_refused, store_told};
+use mur_model::{FlagStore, Turn, View, store_refused, store_told};
 use std::alloc::Global;
 
 /// What is asked: other flags of the named messages.
@@ -32,7 +32,6 @@ pub fn store_done(
     match outcome {
         Outcome::Rows(changes) => Ok(Some(store_told(alloc, view, it, changes, &seen.rows)?)),
         Outcome::Limit => Ok(Some(store_refused(alloc, view, it, &seen.rows)?)),
-        Outcome::Gone => Ok(Some(gone(alloc)?)),
         _ => Ok(None),
     }
 }

@@ -1,6 +1,6 @@
 // The commands of a selected session (RFC 9051, 6.4): what they ask, and what comes of the answer.
 ghost use Rattle.std.specs.Prelude.{◌≡◌, IfOk};
-ghost use Rattle.session_core.specs.Viewed.{view_op, viewed_asks, viewed_done, viewed_turn};
+ghost use Rattle.session_core.specs.Viewed.{view_op, viewed_asks, viewed_done, viewed_told, viewed_turn};
 
 use crate::asking::{Asking, Awaited};
 use crate::close::{close_done, close_op};
@@ -52,9 +52,26 @@ pub fn viewed_turn(
     ensures { IfOk result (λ turn. turn ≡ viewed_turn view.now work.now body) }
 {
     match body {
-        AnswerBody::Done(outcome, seen) => viewed_done(alloc, view, work, &outcome, &seen),
+        AnswerBody::Done(outcome, seen) => viewed_told(alloc, view, work, &outcome, &seen),
         AnswerBody::NotNow => Ok(Some(gone(alloc)?)),
         _ => Ok(None),
+    }
+}
+
+/// What comes of an outcome; the mailbox is gone where the home has none of its name with this UIDVALIDITY.
+#[tactic(auto, unfolding(crate::specs::Viewed::viewed_told))]
+fn viewed_told(
+    alloc: Global,
+    view: &View,
+    work: &ViewWork,
+    outcome: &Outcome,
+    seen: &Snapshot,
+) -> Result<Option<Turn>, Memory>
+    ensures { IfOk result (λ turn. turn ≡ viewed_told view.now work.now outcome.now seen.now) }
+{
+    match outcome {
+        Outcome::Gone => Ok(Some(gone(alloc)?)),
+        _ => viewed_done(alloc, view, work, outcome, seen),
     }
 }
 

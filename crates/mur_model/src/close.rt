@@ -1,0 +1,51 @@
+// CLOSE and UNSELECT (RFC 9051, 6.4.1 and 6.4.2).
+ghost use Rattle.std.specs.Prelude.{◌≡◌, IfOk, codes};
+ghost use Rattle.mur_model.specs.declared.need.Need.TheVariants.{Turned};
+ghost use Rattle.mur_model.specs.Close.{close, close_at, left_by};
+ghost use Rattle.mur_model.specs.Left.{IsLeft};
+
+use crate::need::{Need, ViewWork, work_at_view};
+use crate::reply::completed;
+use crate::session::{Sess, Turn};
+use crate::view::View;
+use mail_message::MailBox;
+use mail_store::expunge;
+use mur_base::{Copied, Memory};
+use std::alloc::Global;
+
+/// No mailbox is selected any more, behind the command of this name.
+pub fn left_by(alloc: Global, view: &View, name: &[u8]) -> Result<Turn, Memory>
+    ensures { IfOk result (λ turn. turn ≡ left_by view.now name.now) }
+{
+    Ok(Turn {
+        session: Some(Sess::In(view.user.copy(alloc)?)),
+        reply: completed(alloc, name)?,
+    })
+}
+
+/// What UNSELECT needs: nothing of the mailbox.
+pub fn unselect(alloc: Global, view: &View) -> Result<Need, Memory>
+    ensures { IfOk result (λ need. need ≡ Turned (left_by view.now (codes "UNSELECT"))) }
+{
+    Ok(Need::Turned(left_by(alloc, view, b"UNSELECT")?))
+}
+
+/// What CLOSE needs: what was selected to be read is left at once.
+pub fn close(alloc: Global, view: &View) -> Result<Need, Memory>
+    ensures { IfOk result (λ need. need ≡ close view.now) }
+{
+    if view.is_writable {
+        work_at_view(alloc, view, ViewWork::Close)
+    } else {
+        Ok(Need::Turned(left_by(alloc, view, b"CLOSE")?))
+    }
+}
+
+/// Takes the messages with `\Deleted` away from the mailbox of a view, and leaves it.
+#[tactic(auto, unfolding(crate::specs::Left::box_after))]
+pub fn close_at(alloc: Global, view: &View, mailbox: &mut MailBox) -> Result<Turn, Memory>
+    ensures { IfOk result (λ turn. IsLeft mailbox.old (close_at view.now mailbox.old) mailbox.new turn) }
+{
+    let _ = expunge(alloc, mailbox, None)?;
+    left_by(alloc, view, b"CLOSE")
+}

@@ -1,0 +1,54 @@
+// NOOP, and IDLE whose line has come, in a session that has a mailbox selected (RFC 9051, 6.1.2 and 6.3.13).
+ghost use Rattle.std.specs.Prelude.{◌≡◌, IfOk};
+ghost use Rattle.mur_model.specs.Left.{IsLeft};
+ghost use Rattle.mur_model.specs.Noop.{news_at, news_name, news_told};
+
+use crate::need::NewsFor;
+use crate::news::news_of;
+use crate::reply::{Code, ReplyLines, Verdict};
+use crate::selected::with_news;
+use crate::session::Turn;
+use crate::view::View;
+use mail_message::{MailBox, OrderedRows};
+use mur_base::{Bytes, Memory};
+use std::alloc::Global;
+use std::collections::BTreeSet;
+
+/// The name of the command that news are told for.
+#[tactic(auto, unfolding(crate::specs::Noop::news_name))]
+fn news_name(why: NewsFor) -> &'static [u8]
+    ensures { result.now ≡ news_name why }
+{
+    match why {
+        NewsFor::Noop => b"NOOP",
+        NewsFor::Idle => b"IDLE",
+    }
+}
+
+/// The news that are told of a mailbox that has these rows.
+pub fn news_told(
+    alloc: Global,
+    view: &View,
+    why: NewsFor,
+    now: &OrderedRows,
+) -> Result<Turn, Memory>
+    ensures { IfOk result (λ turn. turn ≡ news_told view.now why now.now) }
+{
+    let news = news_of(alloc, &view.rows, now, true, &BTreeSet::new(alloc))?;
+    let verdict = Verdict::Ok(Code::None, Bytes::from_slice(alloc, news_name(why))?);
+    with_news(alloc, view, ReplyLines::new(alloc), news, verdict)
+}
+
+/// Tells the news of the mailbox of a view.
+#[tactic(auto, unfolding(crate::specs::Left::box_after))]
+pub fn news_at(
+    alloc: Global,
+    view: &View,
+    why: NewsFor,
+    mailbox: &mut MailBox,
+) -> Result<Turn, Memory>
+    ensures { IfOk result (λ turn. IsLeft mailbox.old (news_at view.now why mailbox.old) mailbox.new turn) }
+{
+    let now = mailbox.look(alloc)?.rows;
+    news_told(alloc, view, why, &now)
+}
