@@ -151,16 +151,16 @@ viewed_leaves known session view (Search it) (Messages found) seen agrees =
     news_leave known view (search_line it view.rows found ∷ []) seen.rows it.by_uid [] (search_still it view.rows found) agrees
 viewed_leaves known session view work outcome seen agrees = tt
 
-told_leaves : (known : Known) (session : Sess) (view : View) (work : ViewWork) (outcome : Outcome) (seen : Snapshot) → Agrees known (uids view.rows)
+outcome_leaves : (known : Known) (session : Sess) (view : View) (work : ViewWork) (outcome : Outcome) (seen : Snapshot) → Agrees known (uids view.rows)
     → IfSome (viewed_told view work outcome seen) (TurnLeaves known session)
 unfolding viewed_told Knows
-told_leaves known session view work Gone seen agrees = tt
-told_leaves known session view work outcome seen agrees = viewed_leaves known session view work outcome seen agrees
+outcome_leaves known session view work Gone seen agrees = tt
+outcome_leaves known session view work outcome seen agrees = viewed_leaves known session view work outcome seen agrees
 
 view_leaves : (known : Known) (session : Sess) (view : View) (work : ViewWork) (body : AnswerBody) → Agrees known (uids view.rows)
     → IfSome (viewed_turn view work body) (TurnLeaves known session)
 unfolding viewed_turn Knows
-view_leaves known session view work (Done outcome seen) agrees = told_leaves known session view work outcome seen agrees
+view_leaves known session view work (Done outcome seen) agrees = outcome_leaves known session view work outcome seen agrees
 view_leaves known session view work NotNow agrees = tt
 view_leaves known session view work body agrees = tt
 
