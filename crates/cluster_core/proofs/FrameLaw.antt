@@ -394,7 +394,6 @@ asked_waits setting home conn connection (input ∷ inputs) tag awaited e =
 asked_turned : (setting : Setting) (home : List ℕ) (conn : ℕ) (connection : Connection) (tag : Tag) (name : List ℕ) (work : Work) (inputs : List Input)
     → inputs_come setting home conn (asks home conn connection tag name (asked_for name work)).connection inputs
     ≡ record { connection = record connection { waiting = connection.waiting ++ inputs; stage = Asked tag (asked_for name work).awaited }; outs = [] }
-unfolding asks
 asked_turned setting home conn connection tag name work inputs =
     asked_waits setting home conn (record connection { stage = Asked tag (asked_for name work).awaited }) inputs tag (asked_for name work).awaited refl
 
@@ -406,7 +405,7 @@ asked_kept : (setting : Setting) (front home : List ℕ) (backend : Backend) (co
     → StandsOn setting front home backend conn (inputs ++ Asks request ∷ waiting) held
     (record connection { waiting = waiting; stage = Asked tag (asked_for name work).awaited }) before told
     (carry_all front (carry_all front world (asks home conn connection tag name (asked_for name work)).outs) [])
-unfolding asks carry_all
+unfolding carry_all
 asked_kept setting front home backend conn inputs waiting held connection before told world request tag it name work was is need last =
     asked_here setting front home backend conn inputs waiting held connection before told world request tag it name work was is need last
 

@@ -90,7 +90,7 @@ turn_taken setting home conn session tag it (Some session_ended) reply e is_end 
 
 need_taken : (setting : Setting) (home : List ℕ) (conn : ℕ) (session : Sess) (tag : Tag) (it : Command) (need : Need) → need_of setting session it ≡ need
     → has_ended session ≡ false → IsTaken setting home conn session (a_command tag it)
-unfolding answer_of act_of act_by MayTake MayAct begun_by need_in answers asks ends
+unfolding answer_of act_of act_by MayTake MayAct begun_by need_in answers ends
 need_taken setting home conn session tag it (Refusal verdict) e lasts =
     here tag (reply_of verdict) session
     (λ store. rw e refl)

@@ -198,12 +198,12 @@ is_end_of (Some session_ended) e = refl
 
 pub ended_turned : (setting : Setting) (home : List ℕ) (conn : ℕ) (connection : Connection) (tag : Tag) (reply : Reply) (later : Option Sess)
     → ends_session later ≡ true → turned_so setting home conn connection tag reply later ≡ ends_with conn connection (reply_text tag reply)
-unfolding finished_by told need_behind
+unfolding finished_by told
 ended_turned setting home conn connection tag reply later e = ap (turned_so setting home conn connection tag reply) (is_end_of later e)
 
 pub read_turned : (setting : Setting) (home : List ℕ) (conn : ℕ) (connection : Connection) (tag : Tag) (reply : Reply) (later : Option Sess)
     → ends_session later ≡ false → turned_so setting home conn connection tag reply later ≡ read_turn setting home conn connection (reply_text tag reply) later
-unfolding finished_by told need_behind
+unfolding finished_by told
 read_turned setting home conn connection tag reply None e = refl
 read_turned setting home conn connection tag reply (Some Off) e = refl
 read_turned setting home conn connection tag reply (Some (In user)) e = refl

@@ -225,7 +225,8 @@ looks store home name view it held turn is shown same =
 
 abbrev LooksAlike : View → ViewWork → Type 0
 LooksAlike view it =
-    (box : Content) → (turn : Turn) × (work_there view it box ≡ record { left = kept; turn = turn }) × (viewed_done view it nothing (snapshot_of box) ≡ Some turn)
+    (box : Content)
+    → (turn : Turn) × (work_there view it box ≡ record { left = kept; turn = turn }) × (viewed_done view it nothing (snapshot_of box) ≡ Some turn)
 
 looks_alike : (store : Store) (home : Backend) (name : List ℕ) (view : View) (it : ViewWork) (found : Option Held) → held_at home name ≡ found
     → LooksAlike view it → IsStoreOf store home

@@ -23,7 +23,7 @@ use Rattle.session_core.specs.Finish.{finish}
 
 module _ (setting : Setting) (home : List ℕ) (conn : ℕ) where
   need_counts : (c : Connection) (tag : Tag) (need : Need) → commands_of (need_in home conn c tag need).connection ≤ commands_of c + 1
-  unfolding need_in answers answers_last asks is_asked
+  unfolding need_in answers answers_last
   need_counts c tag (Reply reply) = omega arith
   need_counts c tag (Leave reply) = omega arith
   need_counts c tag (Home name asking) = omega arith
@@ -37,7 +37,7 @@ module _ (setting : Setting) (home : List ℕ) (conn : ℕ) where
   request_counts c (too_big tag) = omega arith
 
   pub input_in_counts : (c : Connection) (input : Input) → commands_of (input_in setting home conn c input).connection ≤ commands_of c + 1
-  unfolding input_in is_asked
+  unfolding input_in
   input_in_counts c (Asks request) = request_counts c request
   input_in_counts c (GoesOn why) = omega arith
   input_in_counts c (Faults fault) = omega arith
@@ -61,7 +61,6 @@ module _ (setting : Setting) (home : List ℕ) (conn : ℕ) where
 
   behind_counts : (c : Connection) (tag : Tag) (awaited : Awaited) (need : Option Need) → c.stage ≡ Asked tag awaited
       → commands_of (need_behind setting home conn c tag need).connection ≤ commands_of c
-  unfolding need_behind asks is_asked
   behind_counts c tag awaited None is = omega arith
   behind_counts c tag awaited (Some (Reply reply)) is = omega (arith, inputs_count (reading_again c) c.waiting, ap is_asked is)
   behind_counts c tag awaited (Some (Leave reply)) is = omega (arith, ap is_asked is)

@@ -105,7 +105,7 @@ deliver_counts front (Ask ask) most has = has
 
 hang_at_counts : (front : Front) (conn most : ℕ) (found : Option Connection) → connection_at front conn ≡ found
     → HasCommands front most → HasCommands (hang_at front conn found) most
-unfolding hang_at is_asked
+unfolding hang_at
 hang_at_counts front conn most None there has = has
 hang_at_counts front conn most (Some connection) there has = unchanged_counts front conn connection (hung_up connection) most there has (omega arith)
 
@@ -114,7 +114,7 @@ unfolding hang
 hang_counts front conn most has = hang_at_counts front conn most (connection_at front conn) refl has
 
 new_counts : commands_of new_connection ≡ 0
-unfolding new_connection is_asked
+unfolding new_connection
 new_counts = refl
 
 entered_counts : (front : Front) (conn most : ℕ) → HasCommands front most

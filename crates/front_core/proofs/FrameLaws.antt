@@ -26,7 +26,7 @@ module _ (setting : Setting) (home : List ℕ) (conn : ℕ) (reader : Read) wher
   module _ (waiting : List Input) where
     need_apart : (c : Connection) (tag : Tag) (need : Need)
         → need_in home conn (record c { reader = reader; waiting = waiting }) tag need ≡ holding reader waiting (need_in home conn c tag need)
-    unfolding need_in answers answers_last asks
+    unfolding need_in answers answers_last
     need_apart c tag (Reply reply) = refl
     need_apart c tag (Leave reply) = refl
     need_apart c tag (Home name asking) = refl

@@ -35,7 +35,7 @@ reads_on setting home conn connection text =
     behind_outs (Client conn text ∷ []) (inputs_come setting home conn (reading_again connection) connection.waiting)
 
 -- by what the session needs behind the answer: where it has ended nothing follows its reply (RFC 9051, 7.1.5)
-unfoldable pub need_behind : Setting → List ℕ → ℕ → Connection → Tag → Option Need → Turned
+abbrev pub need_behind : Setting → List ℕ → ℕ → Connection → Tag → Option Need → Turned
 need_behind setting home conn connection tag None = unchanged connection
 need_behind setting home conn connection tag (Some (needs.Reply reply)) = reads_on setting home conn connection (reply_text tag reply)
 need_behind setting home conn connection tag (Some (needs.Leave reply)) = ends_with conn connection (reply_text tag reply)

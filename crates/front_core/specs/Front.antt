@@ -95,7 +95,7 @@ deliver front (Answer answer) = answer_at front answer (connection_at front (ans
 deliver front message = still front
 
 -- how many commands of a connection wait for the answer of a home
-unfoldable pub is_asked : Stage → ℕ
+abbrev pub is_asked : Stage → ℕ
 is_asked Reading = 0
 is_asked (Asked tag awaited) = 1
 is_asked Ended = 0

@@ -65,7 +65,7 @@ abbrev pub ask_with : ℕ → Connection → List ℕ → Asking → FrontAsk
 ask_with conn connection name asking = ask_of conn connection name asking.selected asking.op
 
 -- a command that waits for the home of its mailbox
-unfoldable pub asks : List ℕ → ℕ → Connection → Tag → List ℕ → Asking → Turned
+abbrev pub asks : List ℕ → ℕ → Connection → Tag → List ℕ → Asking → Turned
 asks home conn connection tag name asking = record {
   connection = record connection { stage = Asked tag asking.awaited };
   outs = Link home (Ask (ask_with conn connection name asking)) ∷ [];

@@ -18,7 +18,7 @@ use std::mem;
 
 /// Takes an answer, where it is one to the command that waits: the client is given its reply, and the inputs that waited
 /// come, unless the session has ended. For want of memory the connection is spent.
-#[tactic(auto, unfolding(crate::specs::Answered::answer_comes, crate::specs::Answered::answer_by, crate::specs::Taken::asks, crate::specs::Answered::need_behind, crate::specs::Front::is_asked, session_core::specs::Begin::MayNeed))]
+#[tactic(auto, unfolding(crate::specs::Answered::answer_comes, crate::specs::Answered::answer_by, session_core::specs::Begin::MayNeed))]
 pub fn answer_comes(
     alloc: Global,
     setting: &Setting,
@@ -81,7 +81,7 @@ fn end(alloc: Global, conn: u64, connection: &mut Connection, reply: Bytes) -> R
 }
 
 /// The client is given its reply, and the inputs that waited come.
-#[tactic(auto, using(std::proofs::lemmas::Grind::common_steps), unfolding(crate::specs::Front::is_asked))]
+#[tactic(auto, using(std::proofs::lemmas::Grind::common_steps))]
 fn reads_on(
     alloc: Global,
     setting: &Setting,

@@ -11,7 +11,6 @@ use session_core::Asking;
 use std::alloc::Global;
 
 /// Asks the home of a mailbox, under the number that the command will have. For want of memory the connection is spent.
-#[tactic(auto, unfolding(crate::specs::Taken::asks))]
 pub fn asks(
     alloc: Global,
     home: &NodeName,

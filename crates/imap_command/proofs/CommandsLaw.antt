@@ -59,7 +59,7 @@ law_none : Law ends_atom ends_line nothing
 law_none = law_weaker ends_atom ends_line nothing line_ends_atom (λ c h. h) (law_nothing ends_line)
 
 pub uid_branch : (k : UidVerb) → Branch ends_atom ends_line uid_verb_of k (uid_arguments k)
-unfolding printed_as uid_arguments uid_verb_of
+unfolding printed_as uid_arguments
 uid_branch uid.Copy = branch uid_verb_of uid.Copy (λ x. command.Copy true x.0 x.1) arguments_text copy law_copy (λ x. (refl, refl))
 uid_branch uid.Expunge =
     branch uid_verb_of uid.Expunge (λ parts. command.Expunge (Some parts)) arguments_text (behind 32 set) law_spaced_set (λ parts. (refl, refl))
@@ -77,7 +77,6 @@ is_uid_command uid.Search bytes it j = ap verb_of j.goes_on.1
 is_uid_command uid.Store bytes it j = ap verb_of j.goes_on.1
 
 law_uid : Law ends_atom ends_line uid_command
-unfolding uid_name_text
 law_uid =
     arguments_behind (dispatch uid_verb_form uid_verb_of uid_arguments) refl
     (law_dispatch uid_verb_form uid_verb_of uid_arguments (law_table uid.Copy uid_verbs uid_name_text refl refl (32 ∷ 13 ∷ []) refl refl) uid_branch)

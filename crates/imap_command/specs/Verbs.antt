@@ -58,7 +58,7 @@ abbrev pub uid_verbs : List (Row UidVerb)
 uid_verbs =
     (codes "COPY", uid.Copy) ∷ (codes "EXPUNGE", uid.Expunge) ∷ (codes "FETCH", uid.Fetch) ∷ (codes "SEARCH", uid.Search) ∷ (codes "STORE", uid.Store) ∷ []
 
-unfoldable pub uid_name_text : UidVerb → List ℕ
+abbrev pub uid_name_text : UidVerb → List ℕ
 uid_name_text uid.Copy = codes "COPY"
 uid_name_text uid.Expunge = codes "EXPUNGE"
 uid_name_text uid.Fetch = codes "FETCH"
@@ -69,7 +69,7 @@ abbrev pub uid_verb_form : Form UidVerb
 uid_verb_form = table uid.Copy uid_verbs uid_name_text
 
 -- the word behind UID of a command that has one
-unfoldable pub uid_verb_of : Command → UidVerb
+abbrev pub uid_verb_of : Command → UidVerb
 uid_verb_of (command.Expunge set) = uid.Expunge
 uid_verb_of (command.Fetch by_uid set items) = uid.Fetch
 uid_verb_of (command.Search by_uid keys) = uid.Search

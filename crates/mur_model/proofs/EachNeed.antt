@@ -192,7 +192,8 @@ each_select : {setting : Setting} {Asked : Command → Type 0} {Of : Need → Ty
 unfolding select_as
 each_select of user name is_writable was_selected (Some fault) named = of.unselected user was_selected NonExistent
 each_select {setting} of user name is_writable was_selected None named =
-    each_select_by of name (opening user name is_writable was_selected) (has_rights setting.users user name) (of.select user name is_writable was_selected named)
+    let it = opening user name is_writable was_selected in
+    each_select_by of name it (has_rights setting.users user name) (of.select user name is_writable was_selected named)
 
 each_begun : {setting : Setting} {Asked : Command → Type 0} {Of : Need → Type 0} (of : OfNeeds setting Asked Of) (user : List ℕ) (is_selected : Bool)
     (it : Command) → Asked it → Of (need_begun setting user is_selected it)

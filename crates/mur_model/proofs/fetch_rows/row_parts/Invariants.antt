@@ -4,4 +4,5 @@ use Rattle.mur_model.specs.FetchRows.{row_part}
 use Rattle.mur_model.proofs.fetch_rows.row_parts.Given as goal
 
 abbrev pub invariant-loop-item : goal.invariant-loop-item
-invariant-loop-item l = l.parts ++ map (λ (asked : Item). row_part asked l.row) (drop l.item-index l.items) ≡ map (λ (asked : Item). row_part asked l.row) l.items
+invariant-loop-item l = l.parts ++ map (λ (asked : Item). row_part asked l.row) (drop l.item-index l.items)
+    ≡ map (λ (asked : Item). row_part asked l.row) l.items

@@ -47,13 +47,15 @@ returns-in_err-write_clients-clause-did g c =
 pub returns-in_err-write_each-clause-did : goal.returns-in_err-write_each-clause-did
 returns-in_err-write_each-clause-did g c =
     let clients = goes_on itself _ _ _ _ _ _ _ _ _ _ refl (start _ _ c.args.world.now c.args.points.now c.args.rows.now) c.in_ok-write_clients.ensures.did in
-    failed _ _ _ _ _ _ _ _ c.from_residual-in_err-write_each.ensures.0 (breaks itself _ _ _ _ _ _ _ _ _ refl clients (rw c.as_slice.ensures at c.in_err-write_each.ensures.did))
+    failed _ _ _ _ _ _ _ _ c.from_residual-in_err-write_each.ensures.0
+    (breaks itself _ _ _ _ _ _ _ _ _ refl clients (rw c.as_slice.ensures at c.in_err-write_each.ensures.did))
 
 pub returns-in_err-write_each-2-clause-did : goal.returns-in_err-write_each-2-clause-did
 returns-in_err-write_each-2-clause-did g c =
     let clients = goes_on itself _ _ _ _ _ _ _ _ _ _ refl (start _ _ c.args.world.now c.args.points.now c.args.rows.now) c.in_ok-write_clients.ensures.did in
     let points = goes_on itself _ _ _ _ _ _ _ _ _ _ refl clients (rw c.as_slice.ensures at c.in_ok-write_each.ensures.did) in
-    failed _ _ _ _ _ _ _ _ c.from_residual-in_err-write_each-2.ensures.0 (breaks itself _ _ _ _ _ _ _ _ _ refl points (rw c.as_slice-2.ensures at c.in_err-write_each-2.ensures.did))
+    failed _ _ _ _ _ _ _ _ c.from_residual-in_err-write_each-2.ensures.0
+    (breaks itself _ _ _ _ _ _ _ _ _ refl points (rw c.as_slice-2.ensures at c.in_err-write_each-2.ensures.did))
 
 pub returns-in_err-write_line-clause-did : goal.returns-in_err-write_line-clause-did
 returns-in_err-write_line-clause-did g c =
