@@ -149,9 +149,9 @@ pub data IsLeft (setting : Setting) (front home : List ℕ) (conn : ℕ) (reques
     (told said : List Answer) (session : Sess) : Type 0 where
   nothing : (rest : List Answer) → said ≡ told ++ rest → length rest ≤ 1 → AreOnWay links conn front home [] []
       → IsLeft setting front home conn requests connection links told said session
-  its_ask : (tag : Tag) (it : Command) (name : List ℕ) (work : Work) → said ≡ told → numbered requests (length told + 1) ≡ Some (a_command tag it)
-      → need_of setting session it ≡ Mailbox name work → connection.session ≡ session
-      → AreOnWay links conn front home (ask_with conn connection name (asked_for name work) ∷ []) []
+  its_ask : (asker : Connection) (tag : Tag) (it : Command) (name : List ℕ) (work : Work) → asker.answered ≡ connection.answered → said ≡ told
+      → numbered requests (length told + 1) ≡ Some (a_command tag it) → need_of setting session it ≡ Mailbox name work
+      → AreOnWay links conn front home (ask_with conn asker name (asked_for name work) ∷ []) []
       → IsLeft setting front home conn requests connection links told said session
   its_answer : (rest : List Answer) (answer : BackAnswer) → said ≡ told ++ rest → length rest ≤ 1 → AreOnWay links conn front home [] (answer ∷ [])
       → IsLeft setting front home conn requests connection links told said session

@@ -239,15 +239,15 @@ ask_closed config heard after world law from to ask rest conn bytes node front c
 ask_closed config heard after world law from to ask rest conn bytes node front connection first same own e at gone (its_answer more answer said few way) =
     absurd (no_ask_first world.links conn node (home_of config) from to ask rest _ first own way)
 ask_closed config heard after world law from to ask rest conn bytes node front connection first same own e at gone
-    (its_ask tag it name work said next need s way) =
-    let took = ask_taken world.links conn node (home_of config) from to ask rest (ask_with conn connection name (asked_for name work)) [] first own way in
-    let lengths : connection.answered ≡ length (law.story.talk.answers conn) = gone.count ∙ sym (ap length said) in
+    (its_ask asker tag it name work counted said next need way) =
+    let took = ask_taken world.links conn node (home_of config) from to ask rest (ask_with conn asker name (asked_for name work)) [] first own way in
+    let lengths : asker.answered ≡ length (law.story.talk.answers conn) = counted ∙ gone.count ∙ sym (ap length said) in
     let asked : numbered (law.story.talk.requests conn) (length (law.story.talk.answers conn) + 1) ≡ Some (a_command tag it) =
     ap (λ r. numbered r (length (law.story.talk.answers conn) + 1)) (law.requests conn ∙ ap (λ h. requests_of (setting_of config) (frames_heard h)) e)
     ∙ ap (λ n. numbered (requests_in (inputs_in (setting_of config) bytes)) (n + 1)) (ap length said) ∙ next in
-    let done : IsAnswered config heard world law conn node connection tag name work ask =
-    answers_ask config heard world law conn node connection tag it name work ask (sym took.2) lengths asked need in
-    asked_home config heard after world law from to ask rest conn node connection tag name work done took.0 took.1 first same own
+    let done : IsAnswered config heard world law conn node asker tag name work ask =
+    answers_ask config heard world law conn node asker tag it name work ask (sym took.2) lengths asked need in
+    asked_home config heard after world law from to ask rest conn node asker tag name work done took.0 took.1 first same own
     (subst (λ h. ConnectionIs (setting_of config) (home_of config) conn (answered_world world node (home_of config) done.backend ask done.body done.counts)
     (story_after law conn done) h) (sym (same conn ∙ e))
     (is_closed bytes node front connection (record { at = at.at; has = at.has })
@@ -256,8 +256,8 @@ ask_closed config heard after world law from to ask rest conn bytes node front c
       count = gone.count;
       client = gone.client;
       left = its_answer ((record { tag = tag; reply = done.turn.reply }) ∷ []) _
-          (said_after config heard world law conn node connection tag name work ask done (law.story.told conn) said) (omega arith)
-          (way_after world.links conn node (home_of config) from to ask connection done.body took.0 took.1 (sym (ap (λ (a : FrontAsk). a.id) took.2)) took.3);
+          (said_after config heard world law conn node asker tag name work ask done (law.story.told conn) said) (omega arith)
+          (way_after world.links conn node (home_of config) from to ask asker done.body took.0 took.1 (sym (ap (λ (a : FrontAsk). a.id) took.2)) took.3);
     })))
 
 pub ask_by : (config : Config) (heard after : ℕ → Heard) (world : World) (law : KeepsLaw config heard world) (from to : List ℕ) (ask : FrontAsk)

@@ -65,12 +65,12 @@ left_by setting node home conn all held connection links told said session (read
     nothing [] (same ∙ sym (append-nil told)) (omega arith) way
 left_by setting node home conn all held connection links told said session
     (waits passed request tag it name work stage parts lasts answered is need last (there same s way)) =
-    its_ask tag it name work same
+    its_ask connection tag it name work refl same
     (subst (λ r. numbered r (length told + 1) ≡ Some (a_command tag it))
     (sym (ap requests_in parts ∙ requests-append passed (Asks request ∷ connection.waiting)
     ∙ ap (λ r. requests_in passed ++ r ∷ requests_in connection.waiting) is))
     (next_request (requests_in passed) (requests_in connection.waiting) (a_command tag it) (length told) (answered_lengths passed told answered)))
-    (ap (λ x. need_of setting x it) (sym s) ∙ need) s way
+    (ap (λ x. need_of setting x it) (sym s) ∙ need) way
 left_by setting node home conn all held connection links told said session
     (waits passed request tag it name work stage parts lasts answered is need last (back body turn same shown later turned way)) =
     its_answer _ _ same (omega arith) way
@@ -86,7 +86,8 @@ left_again : (setting : Setting) (node home : List ℕ) (conn : ℕ) (requests :
     → IsLeft setting node home conn requests connection links told said session
     → IsLeft setting node home conn requests (hung_up connection) links told said session
 left_again setting node home conn requests connection links told said session (nothing rest a b way) = nothing rest a b way
-left_again setting node home conn requests connection links told said session (its_ask tag it name work a b c d way) = its_ask tag it name work a b c d way
+left_again setting node home conn requests connection links told said session (its_ask asker tag it name work a b c d way) =
+    its_ask asker tag it name work a b c d way
 left_again setting node home conn requests connection links told said session (its_answer rest answer a b way) = its_answer rest answer a b way
 
 hangs_at : (world : World) (conn : ℕ) (node : List ℕ) (front : Front) (connection : Connection) (given : List ℕ)

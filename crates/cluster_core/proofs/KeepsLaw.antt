@@ -126,8 +126,8 @@ pub left_on : (setting : Setting) (front home : List ℕ) (conn : ℕ) (requests
     → WaysOn links next conn → IsLeft setting front home conn requests connection links told said session
     → IsLeft setting front home conn requests connection next told said session
 left_on setting front home conn requests connection links next told said session on (nothing rest a b way) = nothing rest a b (on front home _ _ way)
-left_on setting front home conn requests connection links next told said session on (its_ask tag it name work a b c d way) =
-    its_ask tag it name work a b c d (on front home _ _ way)
+left_on setting front home conn requests connection links next told said session on (its_ask asker tag it name work a b c d way) =
+    its_ask asker tag it name work a b c d (on front home _ _ way)
 left_on setting front home conn requests connection links next told said session on (its_answer rest answer a b way) =
     its_answer rest answer a b (on front home _ _ way)
 

@@ -180,7 +180,7 @@ answer_closed : (config : Config) (heard after : ℕ → Heard) (world : World) 
 answer_closed config heard after world law from to answer rest conn bytes node front connection first same own e at gone (nothing more said few way) =
     absurd (no_answer_first world.links conn node (home_of config) from to answer rest [] first own way)
 answer_closed config heard after world law from to answer rest conn bytes node front connection first same own e at gone
-    (its_ask tag it name work said next need s way) =
+    (its_ask asker tag it name work counted said next need way) =
     absurd (no_answer_first world.links conn node (home_of config) from to answer rest _ first own way)
 answer_closed config heard after world law from to answer rest conn bytes node front connection first same own e at gone (its_answer more mine said few way) =
     let took = answer_taken world.links conn node (home_of config) from to answer rest [] mine first own way in

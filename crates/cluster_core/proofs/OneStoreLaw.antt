@@ -65,7 +65,7 @@ told_standing setting front home conn all held connection links told said sessio
 told_left : (setting : Setting) (front home : List ℕ) (conn : ℕ) (requests : _) (connection : Connection) (links : _) (told said : List Answer) (session : _)
     → IsLeft setting front home conn requests connection links told said session → IsToldSo told said
 told_left setting front home conn requests connection links told said session (nothing rest a b way) = record { rest = rest; parts = a; few = b }
-told_left setting front home conn requests connection links told said session (its_ask tag it name work a b c d way) = all_told told said a
+told_left setting front home conn requests connection links told said session (its_ask asker tag it name work a b c d way) = all_told told said b
 told_left setting front home conn requests connection links told said session (its_answer rest answer a b way) = record { rest = rest; parts = a; few = b }
 
 -- what can be said of a connection, whatever was heard of it

@@ -28,7 +28,7 @@ pub fn happens(alloc: Global, world: &mut World, event: Event) -> Result<(), Mem
         Event::Open(node, conn) => open(alloc, world, node, conn),
         Event::Data(conn, bytes) => data(alloc, world, conn, &bytes),
         Event::Hang(conn) => {
-            hang(world, conn);
+            hang(alloc, world, conn);
             Ok(())
         }
         Event::Deliver(from, to) => deliver(alloc, world, &from, &to),
@@ -101,14 +101,14 @@ fn data_at(
 
 /// The client of a connection closes it.
 #[tactic(auto, unfolding(crate::specs::World::takes, crate::specs::World::hangs, crate::specs::World::hang_at))]
-fn hang(world: &mut World, conn: u64)
+fn hang(alloc: Global, world: &mut World, conn: u64)
     requires { world.old.steps + 1 < 2 ^ 64 }
     ensures { world.new ≡ steps_by world.old (Hang conn) }
 {
     world.steps += 1;
     if let Some(client) = world.clients.get(&conn) {
         if let Some(front) = world.fronts.get_mut(&client.at) {
-            front.hang(conn);
+            front.hang(alloc, conn);
         }
     }
 }

@@ -8,7 +8,7 @@ use Rattle.link_msg.specs.declared.message.LinkMsg.TheVariants.{Answer}
 use Rattle.link_msg.specs.declared.out.Out.{Out}
 use Rattle.link_msg.specs.declared.out.Out.TheVariants.{Client}
 use Rattle.mur_base.specs.Map.{value_at, with_entry, with_value}
-use Rattle.mur_model.specs.declared.session.Sess.TheVariants.{Off}
+use Rattle.mur_model.specs.declared.session.Sess.TheVariants.{Off, Ended as session_ended}
 use Rattle.mur_model.specs.declared.setting.Setting.{Setting}
 use Rattle.front_core.specs.declared.connection.Connection.{Connection}
 use Rattle.front_core.specs.declared.connection.Stage.{Stage}
@@ -73,9 +73,9 @@ bytes_at front conn bytes (Some connection) = bytes_by front conn bytes connecti
 unfoldable pub bytes_in : Front → ℕ → List ℕ → Stepped
 bytes_in front conn bytes = bytes_at front conn bytes (connection_at front conn)
 
--- the client of a connection closes it
+-- the client of a connection closes it, and nothing is kept of it but how many commands were answered
 abbrev pub hung_up : Connection → Connection
-hung_up connection = record connection { waiting = []; stage = Ended }
+hung_up connection = record { reader = first_reading; waiting = []; session = session_ended; stage = Ended; answered = connection.answered }
 
 unfoldable pub hang_at : Front → ℕ → Option Connection → Front
 hang_at front conn None = front

@@ -8,6 +8,7 @@ use imap_reply::Input;
 use mur_base::Queue;
 use mur_model::Tag;
 use session_core::{Awaited, Session};
+use std::alloc::Global;
 
 /// What a connection is at.
 #[derive(Drop)]
@@ -49,11 +50,13 @@ impl Connection {
         matches!(self.stage, Stage::Ended)
     }
 
-    /// Ends the connection, whose client closes it. It takes no memory.
-    pub fn hang_up(&mut self)
+    /// Ends the connection, whose client closes it. It takes no memory, and keeps none but that of the connection itself.
+    pub fn hang_up(&mut self, alloc: Global)
         ensures { self.new ≡ hung_up self.old }
     {
+        self.reader = Reader::new(alloc);
         self.waiting.clear();
+        self.session.end();
         self.stage = Stage::Ended;
     }
 }

@@ -80,13 +80,13 @@ impl Front {
         }
     }
 
-    /// The client of a connection closes it. It takes no memory.
+    /// The client of a connection closes it. It takes no memory, and what the connection held is let go.
     #[tactic(auto, unfolding(crate::specs::Front::hang, crate::specs::Front::hang_at))]
-    pub fn hang(&mut self, conn: u64)
+    pub fn hang(&mut self, alloc: Global, conn: u64)
         ensures { self.new ≡ hang self.old conn }
     {
         if let Some(connection) = self.connections.get_mut(&conn) {
-            connection.hang_up();
+            connection.hang_up(alloc);
         }
     }
 
