@@ -54,7 +54,7 @@ views store home id user name view (News why) same = news_views store home name 
 views store home id user name view Close same = close_views store home name view (held_at home name) refl same
 views store home id user name view (Expunge only) same = expunge_views store home name view only (held_at home name) refl same
 views store home id user name view (store_work it) same = store_views store home name view it (held_at home name) refl same
-views store home id user name view (Fetch it) same = fetches store home id user name view it _ (asks_rows it) refl same
+views store home id user name view (Fetch it) same = fetches store home id user name view it (fetch_op view it (asks_rows it)) (asks_rows it) refl same
 views store home id user name view (Search it) same = search_views store home name view it (held_at home name) refl same
 
 opens_alike : (store : Store) (home : Backend) (id : AskId) (user name : List ℕ) (work : Work) → IsStoreOf store home

@@ -236,16 +236,16 @@ looks_alike store home name view it None at alike same = missing store home name
 looks_alike store home name view it (Some held) at alike same =
     let shown = alike held.content in
     at_open store home name view it held (λ r. answers home (look_unless held.content r)) (same.all_open name held at) (λ _. refl)
-    (looks store home name view it held shown.0 shown.1.0 shown.1.1 same) same
+    (looks store home name view it held shown.0 shown.1 shown.2 same) same
 
 news_look : (view : View) (why : NewsFor) → LooksAlike view (News why)
 unfolding work_there viewed_done
-news_look view why box = (news_told view why (rows_of box), (refl, refl))
+news_look view why box = (news_told view why (rows_of box), refl, refl)
 
 -- a fetch of what the rows tell
 rows_look : (view : View) (it : Fetching) → asks_rows it ≡ true → LooksAlike view (Fetch it)
 unfolding work_there viewed_done
-rows_look view it are box = (rows_told view it (rows_of box), (fetched, refl))
+rows_look view it are box = (rows_told view it (rows_of box), fetched, refl)
   where
     unseen : (writable : Bool) → (writable && list_any is_body it.items) ≡ false
     unseen true = rows_unseen it.items are
