@@ -1,16 +1,45 @@
-// The words and the numbers that a field of a case writes.
+// The bytes and the numbers that a field of a case writes.
 use case_table::Fault;
 use mail_message::Uids;
-use mur_base::{Bytes, Memory, put_number, read_number};
+use mur_base::{Bytes, read_number};
 use std::alloc::Global;
 
-/// The words of a text.
-pub fn words_of(alloc: Global, text: &str) -> Result<Vec<&str>, Memory> {
-    let mut words = Vec::new(alloc);
-    for word in text.split_whitespace() {
-        words.push(word)?;
+/// Puts the bytes that a text writes: between two `~` stands `CRLF`, `TAB`, or `Nx` for N times `x`, and each other byte is itself.
+pub fn put_octets(text: &str, out: &mut Bytes) -> Result<(), Fault> {
+    for (place, piece) in text.split('~').enumerate() {
+        match piece {
+            _ if place % 2 == 0 => out.extend_from_slice(piece.as_bytes())?,
+            "CRLF" => out.extend_from_slice(b"\r\n")?,
+            "TAB" => out.push(b'\t')?,
+            _ => put_run(piece, out)?,
+        }
     }
-    Ok(words)
+    Ok(())
+}
+
+fn put_run(text: &str, out: &mut Bytes) -> Result<(), Fault> {
+    for _ in 0..wide_number_of(text.strip_suffix('x').unwrap_or(""))? {
+        out.push(b'x')?;
+    }
+    Ok(())
+}
+
+/// The bytes that a text writes.
+pub fn octets_of(alloc: Global, text: &str) -> Result<Bytes, Fault> {
+    let mut octets = Bytes::new(alloc);
+    put_octets(text, &mut octets)?;
+    Ok(octets)
+}
+
+/// Whether a text writes just these bytes, or only what they begin with where it ends with `..`.
+pub fn is_written(alloc: Global, text: &str, told: &[u8]) -> Result<bool, Fault> {
+    let front = text.strip_suffix("..").unwrap_or(text);
+    let octets = octets_of(alloc, front)?;
+    Ok(if front.len() < text.len() {
+        told.starts_with(octets.as_slice())
+    } else {
+        told == octets.as_slice()
+    })
 }
 
 /// The number that a field writes.
@@ -36,20 +65,4 @@ pub fn uids_of(alloc: Global, field: &str) -> Result<Uids, Fault> {
         uids.push(number_of(word)?)?;
     }
     Ok(uids)
-}
-
-/// Puts a number at the end of a text, behind a space where it isn't the first.
-pub fn put_separated(out: &mut Bytes, number: u32) -> Result<(), Memory> {
-    if !out.is_empty() {
-        out.push(b' ')?;
-    }
-    put_number(u64::from(number), out)
-}
-
-/// Puts numbers at the end of a text, a space between them.
-pub fn put_numbers(out: &mut Bytes, numbers: &[u32]) -> Result<(), Memory> {
-    for number in numbers {
-        put_separated(out, *number)?;
-    }
-    Ok(())
 }

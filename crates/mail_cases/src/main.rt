@@ -1,6 +1,7 @@
-//! Reads worked cases of flags, dates, sets, mailboxes, homes of mailboxes, sessions, search keys and fetch items from text files,
-//! and compares what `mail_message`, `mail_store`, `backend_core`, `session_core`, `mail_search` and `mail_fetch` make of each with
-//! what the case wants: `mail_cases TABLE ..`. It prints how many cases of each table passed, or ends with status 1 at the first one that differs.
+//! Reads worked cases of dates, flags, sets, access lists, search keys, fetch items, mailboxes, homes of mailboxes and sessions from
+//! text files, and compares what `mail_message`, `mail_store`, `mail_search`, `mail_fetch`, `backend_core` and `session_core` make of
+//! each with what the case wants: `mail_cases TABLE ..`. It prints how many cases of each table passed, or ends with status 1 at the
+//! first one that differs.
 //!
 //! A case is a line of fields with ` | ` between them, of which the first is its kind. Lines that begin with `#` say what the
 //! fields of each kind are.
@@ -9,47 +10,38 @@
 mod field;
 mod flags;
 mod home;
+mod item;
 mod keys;
+mod line;
+mod mailbox;
+mod message;
 mod operation;
 mod outs;
-mod parts;
 mod session;
 mod sets;
+mod steps;
+mod text;
 mod told;
-mod told_line;
-mod twin;
 
 use anyhow::Result;
 use case_table::{Cases, Fault, fields_of, tell};
 use std::alloc::Global;
 use std::env;
 
-/// What the first field of a case tells.
-#[derive(Clone, Copy)]
+/// Cases whose first field tells what they are of.
+#[derive(Drop)]
 struct Kinds;
 
 impl Cases for Kinds {
     fn holds(&self, alloc: Global, line: &str) -> Result<bool, Fault> {
         let fields = fields_of(alloc, line)?;
-        match fields.as_slice().split_first() {
-            Some((kind, rest)) => holds_of(alloc, kind, rest),
-            None => Ok(false),
+        match fields.as_slice() {
+            ["box", steps @ ..] => mailbox::hold(alloc, steps),
+            ["home", steps @ ..] => home::hold(alloc, steps),
+            ["session", steps @ ..] => session::hold(alloc, steps),
+            [given @ .., want] => told::is_told(alloc, given, want),
+            [] => Ok(false),
         }
-    }
-}
-
-/// Whether the case of a kind comes out as it wants.
-fn holds_of(alloc: Global, kind: &str, fields: &[&str]) -> Result<bool, Fault> {
-    match kind {
-        "flags" => flags::are_after(alloc, fields),
-        "key" => keys::match_message(alloc, fields),
-        "search" => keys::find(alloc, fields),
-        "part" => parts::give(alloc, fields),
-        "long" => parts::give_long(alloc, fields),
-        "box" => operation::hold(alloc, fields),
-        "home" => home::hold(alloc, fields),
-        "session" => session::hold(alloc, fields),
-        _ => told::holds(alloc, kind, fields),
     }
 }
 
