@@ -24,8 +24,8 @@ def unescaped(text):
         elif kind == "x":
             out.append(int(data[at + 2:at + 4], 16)); at += 4
         else:
-            end = data.index(b":", at)
-            out += data[end + 1:end + 2] * int(data[at + 2:end]); at = end + 2
+            colon, end = data.index(b":", at), data.index(b"]", at)
+            out += data[colon + 1:end] * int(data[at + 2:colon]); at = end + 1
     return bytes(out)
 
 

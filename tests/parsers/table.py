@@ -33,8 +33,11 @@ def part_of(text):
     return [name, value]
 
 
-ATTRIBUTES = {"none": [], "no select": ["\\Noselect"], "nonexistent": ["\\NonExistent"]}
-ENDS = {"logout": "bye", "gone": "mailbox is gone", "lost": "server lost", "line": "line too long", "literal": "literal too long"}
+ATTRIBUTES = {"None": [], "NoSelect": ["\\Noselect"], "NonExistent": ["\\NonExistent"]}
+ENDS = {
+    "Logout": "bye", "Gone": "mailbox is gone", "Lost": "server lost", "LineTooLong": "line too long",
+    "LiteralTooLong": "literal too long",
+}
 
 
 def status_of(kind, rest):
@@ -42,7 +45,7 @@ def status_of(kind, rest):
     if kind == "closed":
         return "OK", "CLOSED", [], "closed"
     if kind == "bye":
-        return "BYE", "UNAVAILABLE" if rest[0] == "lost" else "", [], ENDS[rest[0]]
+        return "BYE", "UNAVAILABLE" if rest[0] == "Lost" else "", [], ENDS[rest[0]]
     if kind in ("permanent", "new permanent"):
         return "OK", "PERMANENTFLAGS", [rest + (["\\*"] if kind != "permanent" else [])], "flags"
     if kind in ("next", "validity"):
@@ -84,13 +87,13 @@ def line_of(words, tag):
 
 
 REFUSALS = {
-    "login": ("AUTHENTICATIONFAILED", "login failed"), "exists": ("ALREADYEXISTS", "mailbox exists"),
-    "missing": ("NONEXISTENT", "no such mailbox"), "try create": ("TRYCREATE", "no such mailbox"),
-    "rights": ("NOPERM", "not permitted"), "cannot": ("CANNOT", "cannot be done"), "limit": ("LIMIT", "too large or too many"),
-    "moved": ("UNAVAILABLE", "mailbox is being moved"), "not reached": ("UNAVAILABLE", "server not reached"),
+    "AuthenticationFailed": ("AUTHENTICATIONFAILED", "login failed"), "AlreadyExists": ("ALREADYEXISTS", "mailbox exists"),
+    "NonExistent": ("NONEXISTENT", "no such mailbox"), "TryCreate": ("TRYCREATE", "no such mailbox"),
+    "NoPerm": ("NOPERM", "not permitted"), "Cannot": ("CANNOT", "cannot be done"), "Limit": ("LIMIT", "too large or too many"),
+    "BeingMoved": ("UNAVAILABLE", "mailbox is being moved"), "NotReached": ("UNAVAILABLE", "server not reached"),
 }
-FAULTS = {"syntax": "syntax error", "state": "not in this state", "message": "no such message"}
-NAMES = {"ok": "", "expunge issued": "EXPUNGEISSUED", "read write": "READ-WRITE", "read only": "READ-ONLY"}
+FAULTS = {"Syntax": "syntax error", "State": "not in this state", "Message": "no such message"}
+NAMES = {"expunge issued": "EXPUNGEISSUED", "read write": "READ-WRITE", "read only": "READ-ONLY"}
 
 
 def verdict_of(words, tag):
@@ -101,7 +104,10 @@ def verdict_of(words, tag):
         return [["status", tag, "NO", code, [], info]]
     if words[0] == "bad":
         return [["status", tag, "BAD", "", [], FAULTS[words[1]]]]
-    code, info = words[:-1], words[-1] + " completed"
+    assert words[0] == "ok", words
+    info, code = words[1] + " completed", words[2:]
+    if not code:
+        return [["status", tag, "OK", "", [], info]]
     if code[0] == "append":
         return [["status", tag, "OK", "APPENDUID", code[1:], info]]
     if code[0] == "copy":
@@ -116,7 +122,8 @@ def table():
         line = line.rstrip("\n")
         if not line or line.startswith("#"):
             continue
-        tag, lines, verdict, text = line.split(" | ")
+        given, text = line.split(" => before ")
+        tag, lines, verdict = given.split(" | ")
         tag = text_of(tag)
         meant = [line_of(one.split("/"), tag) for one in lines.split(" ; ") if one] + verdict_of(verdict.split("/"), tag)
         yield line, tag, unescaped(text), meant

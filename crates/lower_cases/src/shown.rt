@@ -1,18 +1,15 @@
-// A command as texts: its name, and a text for each argument.
-use crate::shown_keys::put_keys;
-use mail_message::{
-    DateText, FetchItems, FlagSet, Item, Keys, Mode, Partial, SetEnd, SetPart, SetParts,
-};
-use mur_base::{Bytes, Memory, put_number};
-use mur_model::{Atoms, Command, StatusItem, StatusItems};
+// A command, not as it is spelled: its name, and its arguments behind it.
+use crate::field::{put_field, put_value};
+use crate::keys::put_keys;
+use mail_message::{DateText, FlagSet};
+use mur_base::{Bytes, Memory};
+use mur_model::Command;
 use std::alloc::Global;
 
-/// The name and the arguments of a command.
-pub fn shown(alloc: Global, command: &Command) -> Result<Vec<Bytes>, Memory> {
-    let mut texts = Vec::new(alloc);
-    add(alloc, name_of(command), &mut texts)?;
-    add_strings(alloc, command, &mut texts)?;
-    Ok(texts)
+/// Puts the name and the arguments of a command.
+pub fn put_command(alloc: Global, command: &Command, out: &mut Bytes) -> Result<(), Memory> {
+    put_field(name_of(command), out)?;
+    put_strings(alloc, command, out)
 }
 
 fn name_of(command: &Command) -> &'static [u8] {
@@ -52,8 +49,8 @@ fn name_of(command: &Command) -> &'static [u8] {
     }
 }
 
-/// Adds the arguments of a command whose arguments are strings.
-fn add_strings(alloc: Global, command: &Command, texts: &mut Vec<Bytes>) -> Result<(), Memory> {
+/// Puts the arguments of a command whose arguments are strings.
+fn put_strings(alloc: Global, command: &Command, out: &mut Bytes) -> Result<(), Memory> {
     match command {
         Command::Authenticate(Some(text))
         | Command::LeftOut(text)
@@ -62,112 +59,66 @@ fn add_strings(alloc: Global, command: &Command, texts: &mut Vec<Bytes>) -> Resu
         | Command::Select(text)
         | Command::Examine(text)
         | Command::GetAcl(text)
-        | Command::MyRights(text) => add(alloc, text.as_slice(), texts),
+        | Command::MyRights(text) => put_field(text.as_slice(), out),
         Command::Login(one, other)
         | Command::List(one, other)
         | Command::DeleteAcl(one, other)
         | Command::Xfer(one, other, None) => {
-            add(alloc, one.as_slice(), texts)?;
-            add(alloc, other.as_slice(), texts)
+            put_field(one.as_slice(), out)?;
+            put_field(other.as_slice(), out)
         }
         Command::Xfer(mailbox, server, Some(partition)) => {
-            add(alloc, mailbox.as_slice(), texts)?;
-            add(alloc, server.as_slice(), texts)?;
-            add(alloc, partition.as_slice(), texts)
+            put_field(mailbox.as_slice(), out)?;
+            put_field(server.as_slice(), out)?;
+            put_field(partition.as_slice(), out)
         }
         Command::SetAcl(mailbox, id, mode, rights) => {
-            add(alloc, mailbox.as_slice(), texts)?;
-            add(alloc, id.as_slice(), texts)?;
-            add(alloc, mode_text(*mode), texts)?;
-            add(alloc, rights.as_slice(), texts)
+            put_field(mailbox.as_slice(), out)?;
+            put_field(id.as_slice(), out)?;
+            put_value(alloc, mode, out)?;
+            put_field(rights.as_slice(), out)
         }
-        _ => add_lists(alloc, command, texts),
+        _ => put_lists(alloc, command, out),
     }
 }
 
-/// Adds the arguments of a command with a list, a set, items or flags.
-fn add_lists(alloc: Global, command: &Command, texts: &mut Vec<Bytes>) -> Result<(), Memory> {
+/// Puts the arguments of a command with a list, a set, items or flags.
+fn put_lists(alloc: Global, command: &Command, out: &mut Bytes) -> Result<(), Memory> {
     match command {
-        Command::Enable(names) => add_names(alloc, names, texts),
+        Command::Enable(names) => {
+            for name in names.as_slice() {
+                put_field(name.as_slice(), out)?;
+            }
+            Ok(())
+        }
         Command::Append(mailbox, flags, date, message) => {
-            add(alloc, mailbox.as_slice(), texts)?;
-            add_flags(alloc, flags, texts)?;
-            add(alloc, date_text(date), texts)?;
-            add(alloc, message.as_slice(), texts)
+            put_field(mailbox.as_slice(), out)?;
+            put_flags(flags, out)?;
+            put_field(date_text(date), out)?;
+            put_field(message.as_slice(), out)
         }
         Command::Status(mailbox, items) => {
-            add(alloc, mailbox.as_slice(), texts)?;
-            add_status(alloc, items, texts)
+            put_field(mailbox.as_slice(), out)?;
+            put_value(alloc, &items.as_slice(), out)
         }
-        Command::Expunge(Some(set)) => add_set(alloc, set, texts),
+        Command::Expunge(Some(set)) => put_value(alloc, &set.as_slice(), out),
         Command::Copy(_, set, mailbox) => {
-            add_set(alloc, set, texts)?;
-            add(alloc, mailbox.as_slice(), texts)
+            put_value(alloc, &set.as_slice(), out)?;
+            put_field(mailbox.as_slice(), out)
         }
-        Command::Search(_, keys) => add_keys(alloc, keys, texts),
+        Command::Search(_, keys) => put_keys(alloc, keys.as_slice(), out),
         Command::Fetch(_, set, items) => {
-            add_set(alloc, set, texts)?;
-            add_items(alloc, items, texts)
+            put_value(alloc, &set.as_slice(), out)?;
+            put_value(alloc, &items.as_slice(), out)
         }
         Command::Store(_, set, mode, is_silent, flags) => {
-            add_set(alloc, set, texts)?;
-            add(alloc, mode_text(*mode), texts)?;
-            add(alloc, silence_text(*is_silent), texts)?;
-            add_flags(alloc, flags, texts)
+            put_value(alloc, &set.as_slice(), out)?;
+            put_value(alloc, mode, out)?;
+            put_field(if *is_silent { b"silent" } else { b"told" }, out)?;
+            put_flags(flags, out)
         }
         _ => Ok(()),
     }
-}
-
-fn add(alloc: Global, text: &[u8], texts: &mut Vec<Bytes>) -> Result<(), Memory> {
-    texts.push(Bytes::from_slice(alloc, text)?)?;
-    Ok(())
-}
-
-fn add_names(alloc: Global, names: &Atoms, texts: &mut Vec<Bytes>) -> Result<(), Memory> {
-    for name in names.as_slice() {
-        add(alloc, name.as_slice(), texts)?;
-    }
-    Ok(())
-}
-
-fn add_set(alloc: Global, set: &SetParts, texts: &mut Vec<Bytes>) -> Result<(), Memory> {
-    let mut text = Bytes::new(alloc);
-    put_set(set, &mut text)?;
-    texts.push(text)?;
-    Ok(())
-}
-
-fn add_keys(alloc: Global, keys: &Keys, texts: &mut Vec<Bytes>) -> Result<(), Memory> {
-    let mut text = Bytes::new(alloc);
-    put_keys(keys.as_slice(), &mut text)?;
-    texts.push(text)?;
-    Ok(())
-}
-
-fn add_status(alloc: Global, items: &StatusItems, texts: &mut Vec<Bytes>) -> Result<(), Memory> {
-    let mut text = Bytes::new(alloc);
-    for item in items.as_slice() {
-        text.extend_from_slice(status_text(*item))?;
-    }
-    texts.push(text)?;
-    Ok(())
-}
-
-fn add_items(alloc: Global, items: &FetchItems, texts: &mut Vec<Bytes>) -> Result<(), Memory> {
-    let mut text = Bytes::new(alloc);
-    for item in items.as_slice() {
-        put_item(*item, &mut text)?;
-    }
-    texts.push(text)?;
-    Ok(())
-}
-
-fn add_flags(alloc: Global, flags: &FlagSet, texts: &mut Vec<Bytes>) -> Result<(), Memory> {
-    let mut text = Bytes::new(alloc);
-    put_flags(flags, &mut text)?;
-    texts.push(text)?;
-    Ok(())
 }
 
 /// The date, or nothing where none is given.
@@ -178,82 +129,9 @@ fn date_text(date: &Option<DateText>) -> &[u8] {
     }
 }
 
-fn silence_text(is_silent: bool) -> &'static [u8] {
-    if is_silent { b"silent" } else { b"told" }
-}
-
-fn mode_text(mode: Mode) -> &'static [u8] {
-    match mode {
-        Mode::Replace => b"replace",
-        Mode::Add => b"add",
-        Mode::Remove => b"remove",
-    }
-}
-
-fn put_end(end: SetEnd, out: &mut Bytes) -> Result<(), Memory> {
-    match end {
-        SetEnd::Number(number) => put_number(u64::from(number), out),
-        SetEnd::Last => out.extend_from_slice(b"last"),
-    }
-}
-
-/// Puts the parts of a set, a space before each.
-pub fn put_set(set: &SetParts, out: &mut Bytes) -> Result<(), Memory> {
-    for part in set.as_slice() {
-        out.push(b' ')?;
-        match *part {
-            SetPart::One(one) => put_end(one, out)?,
-            SetPart::Range(one, other) => {
-                put_end(one, out)?;
-                out.push(b'-')?;
-                put_end(other, out)?;
-            }
-        }
-    }
-    Ok(())
-}
-
-fn status_text(item: StatusItem) -> &'static [u8] {
-    match item {
-        StatusItem::Messages => b" messages",
-        StatusItem::UidNext => b" next",
-        StatusItem::UidValidity => b" validity",
-        StatusItem::Unseen => b" unseen",
-        StatusItem::Deleted => b" deleted",
-        StatusItem::Size => b" size",
-    }
-}
-
-/// Puts an item of a FETCH, a space before it.
-fn put_item(item: Item, out: &mut Bytes) -> Result<(), Memory> {
-    match item {
-        Item::Flags => out.extend_from_slice(b" flags"),
-        Item::Uid => out.extend_from_slice(b" uid"),
-        Item::InternalDate => out.extend_from_slice(b" date"),
-        Item::Size => out.extend_from_slice(b" size"),
-        Item::Body(part) => {
-            out.extend_from_slice(b" body")?;
-            put_part(part, out)
-        }
-        Item::BodyPeek(part) => {
-            out.extend_from_slice(b" peek")?;
-            put_part(part, out)
-        }
-    }
-}
-
-fn put_part(part: Option<Partial>, out: &mut Bytes) -> Result<(), Memory> {
-    if let Some(part) = part {
-        out.push(b'@')?;
-        put_number(part.from, out)?;
-        out.push(b'+')?;
-        put_number(part.count, out)?;
-    }
-    Ok(())
-}
-
-/// Puts the letters of the system flags, and the keywords, a space before each.
+/// Puts the letters of the system flags, and the keywords with a space before each.
 fn put_flags(flags: &FlagSet, out: &mut Bytes) -> Result<(), Memory> {
+    put_field(b"", out)?;
     let system = flags.system();
     for (is_set, letter) in [
         (system.answered, b'a'),
