@@ -2,7 +2,7 @@
 use crate::field::number_of;
 use crate::operation::op_of;
 use crate::outs::put_outs;
-use crate::steps::{self, Steps};
+use crate::steps::Steps;
 use backend_core::{BackInput, Backend};
 use case_table::Fault;
 use link_msg::{FrontAsk, Op, Outs};
@@ -14,11 +14,6 @@ const ID: AskId = AskId {
     conn: 7,
     command: 2,
 };
-
-/// Whether steps of one home give what stands behind them.
-pub fn hold(alloc: Global, steps: &[&str]) -> Result<bool, Fault> {
-    steps::hold(alloc, &mut empty(alloc)?, steps)
-}
 
 /// A home without mailboxes.
 pub fn empty(alloc: Global) -> Result<Backend, Fault> {

@@ -1,13 +1,13 @@
 // Search keys, and the messages that they find.
 use crate::field::number_of;
-use crate::line::request_of;
+use crate::line::command_of;
 use crate::message::message_of;
 use crate::text::put_numbers;
 use case_table::Fault;
 use mail_message::{Key, Keys, Messages, Uids};
 use mail_search::{key_matches, search};
 use mur_base::{Boxed, Bytes};
-use mur_model::{Command, Request, Tag};
+use mur_model::Command;
 use std::alloc::Global;
 
 /// Messages, and the number of each.
@@ -20,7 +20,7 @@ struct Listed {
 /// Puts the UIDs of the messages that keys find, each of them five fields: its number, and the message.
 pub fn put_found(alloc: Global, keys: &str, fields: &[&str], out: &mut Bytes) -> Result<(), Fault> {
     let listed = listed_of(alloc, fields)?;
-    put_found_in(alloc, &request_for(alloc, keys), &listed, out)
+    put_found_in(alloc, &keys_of(alloc, keys), &listed, out)
 }
 
 fn listed_of(alloc: Global, fields: &[&str]) -> Result<Listed, Fault> {
@@ -47,11 +47,14 @@ impl Listed {
 /// Puts what a search finds, which has to be what the keys match one by one.
 fn put_found_in(
     alloc: Global,
-    request: &Result<Request, Fault>,
+    keys: &Result<Keys, Fault>,
     listed: &Listed,
     out: &mut Bytes,
 ) -> Result<(), Fault> {
-    let keys = keys_in(request)?;
+    let keys = match keys {
+        Ok(keys) => keys,
+        Err(fault) => return Err(*fault),
+    };
     let (numbers, messages) = (&listed.numbers, &listed.messages);
     if numbers.len() != messages.len() {
         return Err(Fault::Unreadable("a message without a number"));
@@ -69,17 +72,8 @@ fn put_found_in(
     Ok(put_numbers(out, found.as_slice())?)
 }
 
-/// The keys of a SEARCH, where it was read. So no function ends early while it owns a request, which would be dear to prove.
-pub fn keys_in(request: &Result<Request, Fault>) -> Result<&Keys, Fault> {
-    match request {
-        Ok(Request::Command(_, Command::Search(_, keys))) => Ok(keys),
-        Ok(_) => Err(Fault::Unreadable("no keys")),
-        Err(fault) => Err(*fault),
-    }
-}
-
-/// A SEARCH for the keys that a text writes: as a client spells them, or none, or one that no client can spell.
-pub fn request_for(alloc: Global, text: &str) -> Result<Request, Fault> {
+/// The keys that a text writes, as a client spells them; or no key, or one that no client can spell.
+pub fn keys_of(alloc: Global, text: &str) -> Result<Keys, Fault> {
     let mut keys = Keys::new(alloc);
     match text {
         "" => (),
@@ -90,7 +84,15 @@ pub fn request_for(alloc: Global, text: &str) -> Result<Request, Fault> {
         }
         "LARGER 18446744073709551615" => keys.push(Key::Larger(u64::MAX))?,
         "SMALLER 18446744073709551615" => keys.push(Key::Smaller(u64::MAX))?,
-        _ => return request_of(alloc, &["a", "SEARCH", text]),
+        _ => return spelled(alloc, text),
     }
-    Ok(Request::Command(Tag::Star, Command::Search(false, keys)))
+    Ok(keys)
+}
+
+fn spelled(alloc: Global, text: &str) -> Result<Keys, Fault> {
+    let (_tag, command) = command_of(alloc, &["a", "SEARCH", text])?;
+    match command {
+        Command::Search(_by_uid, keys) => Ok(keys),
+        _ => Err(Fault::Unreadable("no keys")),
+    }
 }

@@ -8,16 +8,11 @@ use std::alloc::Global;
 
 /// The command that the words of a line spell, and its tag.
 pub fn command_of(alloc: Global, line: &[&str]) -> Result<(Tag, Command), Fault> {
-    match request_of(alloc, line)? {
+    let frame = frame_of(alloc, line)?;
+    match read_request(alloc, frame.as_slice())? {
         Request::Command(tag, command) => Ok((tag, command)),
         _ => Err(Fault::Unreadable("no command")),
     }
-}
-
-/// What the words of a line ask for.
-pub fn request_of(alloc: Global, line: &[&str]) -> Result<Request, Fault> {
-    let frame = frame_of(alloc, line)?;
-    Ok(read_request(alloc, frame.as_slice())?)
 }
 
 fn frame_of(alloc: Global, line: &[&str]) -> Result<Bytes, Fault> {

@@ -2,7 +2,7 @@
 use crate::field::number_of;
 use crate::operation::op_of;
 use crate::outs::{put_outcome, put_snapshot};
-use crate::steps::{self, Steps};
+use crate::steps::Steps;
 use crate::text::put_fault;
 use case_table::Fault;
 use link_msg::{Op, Outcome};
@@ -11,26 +11,22 @@ use mail_store::{StoreFault, append_all, expunge, set_flags};
 use mur_base::{Bytes, Copied};
 use std::alloc::Global;
 
-/// Whether operations on one mailbox give what stands behind them.
-pub fn hold(alloc: Global, steps: &[&str]) -> Result<bool, Fault> {
-    steps::hold(
-        alloc,
-        &mut MailBox::make(alloc, 1, Bytes::new(alloc)),
-        steps,
-    )
+/// A mailbox without messages.
+pub fn empty(alloc: Global) -> MailBox {
+    MailBox::make(alloc, 1, Bytes::new(alloc))
 }
 
 impl Steps for MailBox {
     fn put(&mut self, alloc: Global, words: &[&str], out: &mut Bytes) -> Result<(), Fault> {
         match words {
             ["next", uid] => Ok(self.apply(Change::NextUid(number_of(uid)?))?),
-            words => put_by(alloc, self, &op_of(alloc, words), out),
+            words => put_answer(alloc, self, &op_of(alloc, words), out),
         }
     }
 }
 
-/// Puts what comes of an operation that was read.
-fn put_by(
+/// Puts what an operation answers, where it was read.
+fn put_answer(
     alloc: Global,
     mailbox: &mut MailBox,
     op: &Result<Op, Fault>,

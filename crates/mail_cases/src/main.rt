@@ -27,6 +27,7 @@ use anyhow::Result;
 use case_table::{Cases, Fault, fields_of, tell};
 use std::alloc::Global;
 use std::env;
+use steps::hold;
 
 /// Cases whose first field tells what they are of.
 #[derive(Drop)]
@@ -36,9 +37,9 @@ impl Cases for Kinds {
     fn holds(&self, alloc: Global, line: &str) -> Result<bool, Fault> {
         let fields = fields_of(alloc, line)?;
         match fields.as_slice() {
-            ["box", steps @ ..] => mailbox::hold(alloc, steps),
-            ["home", steps @ ..] => home::hold(alloc, steps),
-            ["session", steps @ ..] => session::hold(alloc, steps),
+            ["box", steps @ ..] => hold(alloc, Ok(mailbox::empty(alloc)), steps),
+            ["home", steps @ ..] => hold(alloc, home::empty(alloc), steps),
+            ["session", steps @ ..] => hold(alloc, session::empty(alloc), steps),
             [given @ .., want] => told::is_told(alloc, given, want),
             [] => Ok(false),
         }

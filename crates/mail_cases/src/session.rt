@@ -1,7 +1,7 @@
 // One session over one home of mailboxes: what its client is told.
 use crate::home;
 use crate::line::command_of;
-use crate::steps::{self, Steps};
+use crate::steps::Steps;
 use backend_core::{BackInput, Backend};
 use case_table::Fault;
 use imap_reply::write;
@@ -12,18 +12,23 @@ use mur_model::{Command, Sess, Setting, Store, Tag, act};
 use session_core::{Asking, Awaited, Need, Session};
 use std::alloc::Global;
 
-/// What becomes of a command that asks the home.
+/// How a line comes to its reply.
 #[derive(Drop)]
-enum Fate {
+enum Course {
+    /// The session's home answers what it asks.
     Answered,
+    /// The mailbox of which the session asks is being moved.
     BeingMoved,
+    /// The home of which the session asks isn't reached.
     NotReached,
+    /// The store of the model replies.
+    Modelled,
 }
 
 /// A client's session and the home that it asks, until the client is told that it has ended; beside them the store of the model and its
 /// session, which has to reply the same as long as the home answers the session and nobody else.
 #[derive(Drop)]
-struct Stage {
+pub struct Stage {
     setting: Setting,
     home: Backend,
     session: Session,
@@ -33,12 +38,8 @@ struct Stage {
     is_alone: bool,
 }
 
-/// Whether steps of a session and of its home give what stands behind them.
-pub fn hold(alloc: Global, steps: &[&str]) -> Result<bool, Fault> {
-    steps::hold(alloc, &mut empty_stage(alloc)?, steps)
-}
-
-fn empty_stage(alloc: Global) -> Result<Stage, Fault> {
+/// A session in which nobody has logged in, over a home without mailboxes.
+pub fn empty(alloc: Global) -> Result<Stage, Fault> {
     let setting = setting(alloc)?;
     Ok(Stage {
         setting,
@@ -78,11 +79,11 @@ impl Steps for Stage {
             _ if self.has_left => Ok(()),
             ["moved", line @ ..] => {
                 self.is_alone = false;
-                self.put_told(alloc, line, &Fate::BeingMoved, out)
+                self.put_told(alloc, line, &Course::BeingMoved, out)
             }
             ["unreached", line @ ..] => {
                 self.is_alone = false;
-                self.put_told(alloc, line, &Fate::NotReached, out)
+                self.put_told(alloc, line, &Course::NotReached, out)
             }
             line => self.put_both(alloc, line, out),
         }
@@ -92,21 +93,60 @@ impl Steps for Stage {
 impl Stage {
     /// Puts what the client is told for a line, as the store of the model tells it too.
     fn put_both(&mut self, alloc: Global, line: &[&str], out: &mut Bytes) -> Result<(), Fault> {
-        let mut twins = Bytes::new(alloc);
+        let mut modelled = Bytes::new(alloc);
         if self.is_alone {
-            self.put_twins(alloc, line, &mut twins)?;
+            self.put_told(alloc, line, &Course::Modelled, &mut modelled)?;
         }
-        self.put_told(alloc, line, &Fate::Answered, out)?;
-        if self.is_alone && out.as_slice() != twins.as_slice() {
+        self.put_told(alloc, line, &Course::Answered, out)?;
+        if self.is_alone && out.as_slice() != modelled.as_slice() {
             return Err(Fault::Differs);
         }
         Ok(())
     }
 
-    /// Puts what the store of the model tells for a line. A mailbox that is made gets the UIDVALIDITY that the home gives next.
-    fn put_twins(&mut self, alloc: Global, line: &[&str], out: &mut Bytes) -> Result<(), Fault> {
-        let serial = self.home.last_serial.saturating_add(1);
+    /// Puts what the client is told for a line.
+    fn put_told(
+        &mut self,
+        alloc: Global,
+        line: &[&str],
+        course: &Course,
+        out: &mut Bytes,
+    ) -> Result<(), Fault> {
         let (tag, command) = command_of(alloc, line)?;
+        let need = self.need_of(alloc, command, course)?;
+        self.put_reply(&tag, need, out)
+    }
+
+    /// Puts the reply that is needed. Whether the session has ended with it is noted.
+    fn put_reply(&mut self, tag: &Tag, need: Need, out: &mut Bytes) -> Result<(), Fault> {
+        let reply = match need {
+            Need::Reply(reply) => reply,
+            Need::Leave(reply) => {
+                self.has_left = true;
+                reply
+            }
+            Need::Home(_, _) => return Err(Fault::Unreadable("another ask")),
+        };
+        Ok(write(tag, &reply, out)?)
+    }
+
+    /// What the session needs for a command, and behind what becomes of its ask where a home has to be asked.
+    fn need_of(&mut self, alloc: Global, command: Command, course: &Course) -> Result<Need, Fault> {
+        if let Course::Modelled = course {
+            return self.modelled(alloc, command);
+        }
+        match self.session.begin(alloc, &self.setting, command)? {
+            Need::Home(name, asking) => match course {
+                Course::Answered => self.answered(alloc, name, asking),
+                _ => self.refused(alloc, &asking.awaited, course),
+            },
+            need => Ok(need),
+        }
+    }
+
+    /// The reply of the store of the model. A mailbox that is made gets the UIDVALIDITY that the home gives next.
+    fn modelled(&mut self, alloc: Global, command: Command) -> Result<Need, Fault> {
+        let serial = self.home.last_serial.saturating_add(1);
         let reply = act(
             alloc,
             &self.setting,
@@ -115,49 +155,7 @@ impl Stage {
             command,
             serial,
         )?;
-        Ok(write(&tag, &reply, out)?)
-    }
-
-    /// Puts what the client is told for a line.
-    fn put_told(
-        &mut self,
-        alloc: Global,
-        line: &[&str],
-        fate: &Fate,
-        out: &mut Bytes,
-    ) -> Result<(), Fault> {
-        let (tag, command) = command_of(alloc, line)?;
-        let need = self.need_of(alloc, command, fate);
-        self.put_reply(&tag, &need, out)
-    }
-
-    /// Puts the reply that is needed. Whether the session has ended with it is noted.
-    fn put_reply(
-        &mut self,
-        tag: &Tag,
-        need: &Result<Need, Fault>,
-        out: &mut Bytes,
-    ) -> Result<(), Fault> {
-        match need {
-            Ok(Need::Reply(reply)) => Ok(write(tag, reply, out)?),
-            Ok(Need::Leave(reply)) => {
-                self.has_left = true;
-                Ok(write(tag, reply, out)?)
-            }
-            Ok(Need::Home(_, _)) => Err(Fault::Unreadable("another ask")),
-            Err(fault) => Err(*fault),
-        }
-    }
-
-    /// What the session needs for a command, and behind what becomes of its ask where a home has to be asked.
-    fn need_of(&mut self, alloc: Global, command: Command, fate: &Fate) -> Result<Need, Fault> {
-        match self.session.begin(alloc, &self.setting, command)? {
-            Need::Home(name, asking) => match fate {
-                Fate::Answered => self.answered(alloc, name, asking),
-                _ => self.refused(alloc, &asking.awaited, fate),
-            },
-            need => Ok(need),
-        }
+        Ok(Need::Reply(reply))
     }
 
     fn answered(&mut self, alloc: Global, name: MailName, asking: Asking) -> Result<Need, Fault> {
@@ -184,9 +182,14 @@ impl Stage {
     }
 
     #[tactic(auto, unfolding(session_core::specs::Relocated::IsRelocation))]
-    fn refused(&mut self, alloc: Global, awaited: &Awaited, fate: &Fate) -> Result<Need, Fault> {
-        match fate {
-            Fate::NotReached => {
+    fn refused(
+        &mut self,
+        alloc: Global,
+        awaited: &Awaited,
+        course: &Course,
+    ) -> Result<Need, Fault> {
+        match course {
+            Course::NotReached => {
                 let why = What::Unreached(node_name(alloc, b"b1")?);
                 Ok(self.session.relocated(alloc, awaited, &why)?)
             }

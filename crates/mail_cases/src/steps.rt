@@ -11,9 +11,14 @@ pub trait Steps {
 }
 
 /// Whether steps, one after the other, give what stands behind each. One behind which nothing stands is carried out alone.
-pub fn hold<S: Steps>(alloc: Global, state: &mut S, steps: &[&str]) -> Result<bool, Fault> {
+pub fn hold<S: Steps + Drop>(
+    alloc: Global,
+    state: Result<S, Fault>,
+    steps: &[&str],
+) -> Result<bool, Fault> {
+    let mut state = state?;
     for step in steps {
-        if !holds(alloc, state, step)? {
+        if !holds(alloc, &mut state, step)? {
             return Ok(false);
         }
     }
