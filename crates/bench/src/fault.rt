@@ -22,7 +22,7 @@ pub enum Fault {
     Missing,
     /// A mailbox refuses a change.
     Refused,
-    /// An operation rises by a fifth or more when the box doubles.
+    /// An operation touches no message, or rises by a fifth or more when the box doubles.
     Rise,
 }
 
@@ -36,7 +36,8 @@ impl Fault {
             Fault::Flags => "no flags",
             Fault::Missing => "a message is missing",
             Fault::Refused => "a mailbox refuses a change",
-            Fault::Rise => "an operation rises by a fifth or more when the box doubles",
+            Fault::Rise =>
+                "an operation touches nothing, or rises by a fifth or more when the box doubles",
         }
     }
 }

@@ -9,14 +9,14 @@ pub enum Task {
 }
 
 impl Task {
-    /// By the word behind the bench's.
+    /// By the word behind the bench's; none are too few rounds to tell anything.
     pub fn asked(word: Option<&str>) -> Result<Task, Fault> {
         let Some(word) = word else {
             return Ok(Task::Count);
         };
         match word.parse::<u32>() {
-            Ok(rounds) => Ok(Task::Time(rounds)),
-            Err(_) => Err(Fault::Usage),
+            Ok(rounds) if rounds > 0 => Ok(Task::Time(rounds)),
+            _ => Err(Fault::Usage),
         }
     }
 

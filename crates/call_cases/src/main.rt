@@ -1,5 +1,5 @@
 //! Carries out calls of the program over a host in memory, of whose calls some fail, and compares how each ends and what it wrote with
-//! what a text file of cases wants: `call_cases TABLE`. It prints how many cases passed, or ends with status 1 at the first one that
+//! what a text file of cases wants: `call_cases TABLE ..`. It prints how many cases passed, or ends with status 1 at the first one that
 //! differs.
 //!
 //! A case is a line of fields with ` | ` between them, of which the first is its kind. Lines that begin with `#` say what the fields of
@@ -15,9 +15,8 @@ mod held;
 use crate::fault::{Fault, place_of};
 use crate::held::Files;
 use anyhow::Result;
-use case_table::{Cases, Fault as CaseFault, fields_of, tell};
+use case_table::{Cases, Fault as CaseFault, fields_of, tell_all};
 use std::alloc::Global;
-use std::env;
 
 /// Calls of the program.
 #[derive(Clone, Copy)]
@@ -43,8 +42,5 @@ fn holds(alloc: Global, fields: &[&str]) -> Result<bool, CaseFault> {
 }
 
 fn main(rt: HostRuntime) -> Result<()> {
-    for file in env::args(&rt)?.skip(1) {
-        tell(&rt, &Calls, file.as_str())?;
-    }
-    Ok(())
+    tell_all(&rt, &Calls, "call_cases TABLE ..")
 }

@@ -24,9 +24,8 @@ mod text;
 mod told;
 
 use anyhow::Result;
-use case_table::{Cases, Fault, fields_of, tell};
+use case_table::{Cases, Fault, fields_of, tell_all};
 use std::alloc::Global;
-use std::env;
 use steps::hold;
 
 /// Cases whose first field tells what they are of.
@@ -47,8 +46,5 @@ impl Cases for Kinds {
 }
 
 fn main(rt: HostRuntime) -> Result<()> {
-    for file in env::args(&rt)?.skip(1) {
-        tell(&rt, &Kinds, file.as_str())?;
-    }
-    Ok(())
+    tell_all(&rt, &Kinds, "mail_cases TABLE ..")
 }

@@ -35,9 +35,9 @@ impl Costs {
         Ok(Costs { single, double })
     }
 
-    /// Whether the cost of a message rises by less than a fifth.
+    /// Whether messages were touched, and the cost of each rises by less than a fifth.
     pub fn are_met(self, operation: &Operation) -> bool {
-        self.rise(operation) < BOUND
+        self.single.plain > 0 && self.double.plain > 0 && self.rise(operation) < BOUND
     }
 
     /// Thousandths by which the cost of a message is multiplied when the box doubles; of a reading what it costs beside the copy.
