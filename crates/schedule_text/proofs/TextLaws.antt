@@ -4,13 +4,8 @@ use Rattle.std.proofs.Common.{sym, ap, ◌∙◌, append_assoc, arith}
 use Rattle.std.proofs.lemmas.Bool.{eqb-true}
 use Rattle.std.proofs.lemmas.Bool.Decides.{nat_tests}
 use Rattle.schedule_text.specs.declared.text.Spelling.TheVariants.{Between}
-use Rattle.schedule_text.specs.Text.{bytes_of, bytes_from, with_byte, character_at, text_of, spelling_of, is_printed, hex_digit}
+use Rattle.schedule_text.specs.Text.{bytes_of, bytes_from, bytes_onto, with_byte, character_at, text_of, spelling_of, is_printed, hex_digit}
 use Rattle.schedule_text.specs.Text.{hex_value, between_spellings, behind_escape, first_digit, second_digit}
-
--- bytes behind those that were read
-unfoldable pub bytes_onto : List ℕ → Option (List ℕ) → Option (List ℕ)
-bytes_onto before None = None
-bytes_onto before (Some bytes) = Some (before ++ bytes)
 
 pub bytes_onto_none : (bytes : Option (List ℕ)) → bytes_onto [] bytes ≡ bytes
 unfolding bytes_onto
@@ -21,6 +16,17 @@ pub bytes_onto_byte : (before : List ℕ) (b : ℕ) (bytes : Option (List ℕ)) 
 unfolding bytes_onto with_byte
 bytes_onto_byte before b None = refl
 bytes_onto_byte before b (Some bytes) = ap Some (sym (append_assoc before (b ∷ []) bytes))
+
+with_bytes : (b : ℕ) (bytes : List ℕ) (more : Option (List ℕ)) → with_byte b (bytes_onto bytes more) ≡ bytes_onto (b ∷ bytes) more
+unfolding bytes_onto with_byte
+with_bytes b bytes None = refl
+with_bytes b bytes (Some more) = refl
+
+-- bytes onto bytes
+pub bytes_onto_bytes : (before bytes : List ℕ) (more : Option (List ℕ)) → bytes_onto before (bytes_onto bytes more) ≡ bytes_onto (before ++ bytes) more
+unfolding bytes_onto
+bytes_onto_bytes before bytes None = refl
+bytes_onto_bytes before bytes (Some more) = ap Some (sym (append_assoc before bytes more))
 
 hex_value-digit : (d : ℕ) → d < 16 → hex_value (hex_digit d) ≡ Some d
 unfolding hex_value hex_digit
@@ -54,5 +60,23 @@ unfolding text_of bytes_from with_byte
 bytes_of_text [] small = refl
 bytes_of_text (b ∷ bytes) small =
     spelling_behind b (text_of bytes) (omega (arith, small 0)) ∙ ap (with_byte b) (bytes_of_text bytes (λ k. small (suc k)))
+
+-- what stands behind the canonical text of bytes is read as if it stood alone, behind these bytes
+pub bytes_behind_text : (bytes more : List ℕ) → ((k : ℕ) → Fits w8 (get_or bytes k 0))
+    → bytes_from (text_of bytes ++ more) Between ≡ bytes_onto bytes (bytes_from more Between)
+unfolding text_of bytes_onto
+bytes_behind_text [] more small = sym (bytes_onto_none (bytes_from more Between))
+bytes_behind_text (b ∷ bytes) more small =
+    rw (append_assoc (spelling_of b) (text_of bytes) more)
+    (spelling_behind b (text_of bytes ++ more) (omega (arith, small 0)) ∙ ap (with_byte b) (bytes_behind_text bytes more (λ k. small (suc k)))
+    ∙ with_bytes b bytes (bytes_from more Between))
+
+-- a text in which each character stands for itself is read as itself
+pub plain_read : (before text more : List ℕ) → ((k : ℕ) → Fits w8 (get_or text k 0)) → text_of text ≡ text
+    → bytes_onto (before ++ text) (bytes_from more Between) ≡ bytes_onto before (bytes_from (text ++ more) Between)
+plain_read before text more small plain =
+    sym (ap (λ it. bytes_onto before (bytes_from (it ++ more) Between)) (sym plain)
+    ∙ ap (bytes_onto before) (bytes_behind_text text more small)
+    ∙ bytes_onto_bytes before text (bytes_from more Between))
 
 pub ruleset by_reading = (bytes_onto_none, bytes_onto_byte)

@@ -1,5 +1,5 @@
 -- Bytes as printable text, in schedules and in outputs.
-use Rattle.std.specs.Prelude.{ℕ, ◌+◌, ◌-◌, ◌*◌, ◌/◌, ◌%◌, ◌<◌, ⊤, Bool, ◌&&◌, ◌==◌, nat_lt, nat_le, if◌then◌else◌, List, [], ◌∷◌, Option, None, Some, codes}
+use Rattle.std.specs.Prelude.{◌≡◌, ℕ, ◌+◌, ◌-◌, ◌*◌, ◌/◌, ◌%◌, ◌<◌, ⊤, Bool, ◌&&◌, ◌==◌, nat_lt, nat_le, if◌then◌else◌, List, [], ◌∷◌, ◌++◌, Option, None, Some, codes}
 use Rattle.std.specs.List.{flat_map}
 use Rattle.mur_base.specs.Ascii.{cr, lf, space, digit_zero, digit_nine, backslash, tilde}
 use Rattle.schedule_text.specs.declared.text.Spelling.{Spelling}
@@ -120,6 +120,20 @@ at_end (HexDigit high) = None
 unfoldable pub bytes_from : List ℕ → Spelling → Option (List ℕ)
 bytes_from [] place = at_end place
 bytes_from (c ∷ text) place = bytes_behind (character_at place c) (bytes_from text)
+
+-- bytes behind those that were read
+unfoldable pub bytes_onto : List ℕ → Option (List ℕ) → Option (List ℕ)
+bytes_onto before None = None
+bytes_onto before (Some bytes) = Some (before ++ bytes)
+
+-- what is spelled behind a text that ended at a place, or that had a bad character
+unfoldable pub bytes_past : Option Spelling → List ℕ → Option (List ℕ)
+bytes_past None more = None
+bytes_past (Some place) more = bytes_from more place
+
+-- from a place on a text was read to the next one, which put its bytes behind those before it
+abbrev pub IsReadOn : List ℕ → Spelling → List ℕ → List ℕ → Option Spelling → Type 0
+IsReadOn text place before now next = (more : List ℕ) → bytes_onto now (bytes_past next more) ≡ bytes_onto before (bytes_from (text ++ more) place)
 
 -- the bytes that a text spells, in any of the forms
 abbrev pub bytes_of : List ℕ → Option (List ℕ)

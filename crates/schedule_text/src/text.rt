@@ -2,7 +2,7 @@
 ghost use Rattle.std.specs.Prelude.{◌≡◌, ◌<◌, [], ◌∷◌, ◌++◌, IfOk, IfSome, OnOk, IsTrue};
 ghost use Rattle.std.specs.Option.{ForSome};
 ghost use Rattle.schedule_text.specs.Text.{spelling_of, name_spelling_of, text_of, name_text_of, bytes_of, is_printed, hex_digit, hex_value, character_at};
-ghost use Rattle.schedule_text.specs.Text.{between_spellings, behind_escape, first_digit, second_digit, IsSpelling, KeepsSpelling};
+ghost use Rattle.schedule_text.specs.Text.{between_spellings, behind_escape, first_digit, second_digit, IsSpelling, KeepsSpelling, IsReadOn};
 
 use mur_base::{Bytes, Memory};
 use std::alloc::Global;
@@ -158,12 +158,55 @@ fn hex_digit(digit: u8) -> u8
 
 /// The bytes that a text spells, in any of the forms. `None` exactly where it has a byte outside 0x20 to 0x7E, or a
 /// backslash that begins none of them.
-#[tactic(auto, using(crate::proofs::TextLaws::by_reading), unfolding(crate::specs::Text::bytes_from, crate::proofs::TextLaws::bytes_onto))]
+///
+/// A block of characters that all stand for themselves is taken at once.
+#[tactic(auto, unfolding(crate::specs::Text::bytes_from, crate::specs::Text::bytes_onto, crate::specs::Text::bytes_past))]
 pub fn read_text(alloc: Global, text: &[u8]) -> Result<Option<Bytes>, Memory>
     ensures { IfOk result (λ bytes. bytes ≡ bytes_of text.now) }
 {
     let mut bytes = Bytes::new(alloc);
     let mut place = Spelling::Between;
+    let mut rest = text;
+    while !rest.is_empty() {
+        let (block, behind) = rest.split_at(rest.len().min(BLOCK));
+        match read_block(block, place, &mut bytes)? {
+            Some(next) => place = next,
+            None => return Ok(None),
+        }
+        rest = behind;
+    }
+    match place {
+        Spelling::Between => Ok(Some(bytes)),
+        Spelling::Escape | Spelling::Hex | Spelling::HexDigit(_) => Ok(None),
+    }
+}
+
+/// Takes a block from a place on, and gives the place behind it; `None` where a character of it can't stand there.
+#[tactic(auto, unfolding(crate::specs::Text::bytes_past))]
+fn read_block(block: &[u8], from: Spelling, bytes: &mut Bytes) -> Result<Option<Spelling>, Memory>
+    requires { IsSpelling from }
+    ensures reads { IfOk result (λ next. IsReadOn block.now from bytes.old bytes.new next) }
+    ensures place { IfOk result (λ next. ForSome next IsSpelling) }
+{
+    if matches!(from, Spelling::Between) && are_plain(block) {
+        bytes.extend_from_slice(block)?;
+        return Ok(Some(Spelling::Between));
+    }
+    read_characters(block, from, bytes)
+}
+
+/// As `read_block`, one character after the other.
+#[tactic(auto, using(crate::proofs::TextLaws::by_reading), unfolding(crate::specs::Text::bytes_from, crate::specs::Text::bytes_onto, crate::specs::Text::bytes_past))]
+fn read_characters(
+    text: &[u8],
+    from: Spelling,
+    bytes: &mut Bytes,
+) -> Result<Option<Spelling>, Memory>
+    requires { IsSpelling from }
+    ensures reads { IfOk result (λ next. IsReadOn text.now from bytes.old bytes.new next) }
+    ensures place { IfOk result (λ next. ForSome next IsSpelling) }
+{
+    let mut place = from;
     for character in text {
         match character_at(place, *character) {
             Character::Inside(next) => place = next,
@@ -174,10 +217,7 @@ pub fn read_text(alloc: Global, text: &[u8]) -> Result<Option<Bytes>, Memory>
             Character::Bad => return Ok(None),
         }
     }
-    match place {
-        Spelling::Between => Ok(Some(bytes)),
-        Spelling::Escape | Spelling::Hex | Spelling::HexDigit(_) => Ok(None),
-    }
+    Ok(Some(place))
 }
 
 #[tactic(auto, unfolding(crate::specs::Text::character_at))]
