@@ -30,6 +30,7 @@ pub mod Unrolled
 pub mod StartLaw
 pub mod OneStoreLaw
 pub mod InTime
+pub mod StepsMade
 pub mod HomesLaw
 pub mod ReadLaw
 pub mod ToldSoFar

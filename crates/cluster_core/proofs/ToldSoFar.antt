@@ -37,6 +37,7 @@ use Rattle.cluster_core.proofs.OneStoreLaw.{SaysOf, says_of, IsLegalTo, legal_hi
 use Rattle.cluster_core.proofs.ReadLaw.{heard_sound, read_of_legal}
 use Rattle.cluster_core.proofs.RequestsOf.{asks_all}
 use Rattle.cluster_core.proofs.StartLaw.{start_keeps}
+use Rattle.cluster_core.proofs.StepsMade.{steps_made}
 use Rattle.cluster_core.proofs.Told.{IsTold}
 use Rattle.cluster_core.proofs.Unrolled.{run_steps-append}
 
@@ -164,6 +165,7 @@ told_so_far config talk before later are date_is now last =
           (has_boxes config world law.backend law.story.course.store are law.nodes law.is_told.same);
       in_time = stands_in_time (setting_of config) world
           (run_steps (start config) (before ++ later)) law.story last.story law.backend last.backend law.is_told last.is_told behind (λ conn. (says conn).so);
+      counted = steps_made config before;
       nothing_waits = λ empty conn stays.
           subst (λ r. IsAnsweredThrough r (law.story.told conn)) (sym (law.requests conn)) ((says conn).waits_not empty stays);
     }

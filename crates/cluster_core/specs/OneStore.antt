@@ -90,6 +90,8 @@ pub record IsToldSoFar (config : Config) (talk : Talk) (points : List Point) (st
   pub legal : IsLegal (setting_of config) first_course so_far (history_of world) last
   pub one_content : HasBoxesOf last.store world
   pub in_time : StandsInTime so_far world.steps points
+  -- steps count from 1: the last one has the number of the steps made
+  pub counted : world.steps ≡ length steps
   -- nothing waits on empty links: then each whole command of a client that hasn't closed its connection was answered, up to an
   -- answer that ended the connection
   pub nothing_waits : AreEmpty world → (conn : ℕ) → has_closed (heard config conn steps) ≡ false
