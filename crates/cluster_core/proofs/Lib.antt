@@ -32,6 +32,8 @@ pub mod OneStoreLaw
 pub mod InTime
 pub mod StepsMade
 pub mod HomesLaw
+pub mod NamesHeld
+pub mod ShownHomes
 pub mod ReadLaw
 pub mod ToldSoFar
 pub mod AtRestLaw

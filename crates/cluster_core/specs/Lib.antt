@@ -10,4 +10,5 @@ pub mod OneStore
 pub mod AtRest
 pub mod OneNode
 pub mod HomeLaw
+pub mod Homes
 pub mod Headline

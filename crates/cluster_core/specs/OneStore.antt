@@ -23,6 +23,7 @@ use Rattle.cluster_core.specs.declared.world.World.{World}
 use Rattle.cluster_core.specs.Flow.{run_steps, unrolled}
 use Rattle.cluster_core.specs.Heard.{heard, bytes_heard, frames_heard, has_closed}
 use Rattle.cluster_core.specs.History.{history_of}
+use Rattle.cluster_core.specs.Homes.{ShowsBoxesOf}
 use Rattle.cluster_core.specs.Links.{on_link}
 use Rattle.cluster_core.specs.Requests.{AreRequests}
 use Rattle.cluster_core.specs.Shown.{given_to, held_at}
@@ -89,6 +90,7 @@ pub record IsToldSoFar (config : Config) (talk : Talk) (points : List Point) (st
   pub last : Course
   pub legal : IsLegal (setting_of config) first_course so_far (history_of world) last
   pub one_content : HasBoxesOf last.store world
+  pub homes_shown : ShowsBoxesOf last.store world
   pub in_time : StandsInTime so_far world.steps points
   -- steps count from 1: the last one has the number of the steps made
   pub counted : world.steps ≡ length steps
