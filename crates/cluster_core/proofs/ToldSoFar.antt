@@ -34,6 +34,7 @@ use Rattle.cluster_core.proofs.Keeps.{IsKeptAt, KeepsAll, run_keeps}
 use Rattle.cluster_core.proofs.KeepsLaw.{KeepsLaw}
 use Rattle.cluster_core.proofs.Marks.{Carries, conn_of, command_of, is_mark, all_points}
 use Rattle.cluster_core.proofs.Marks.Carries.{no_marks, a_mark}
+use Rattle.cluster_core.proofs.NoRelocation.{have_causes}
 use Rattle.cluster_core.proofs.OneStoreLaw.{SaysOf, says_of, IsLegalTo, legal_history, steps_rise, IsToldSo}
 use Rattle.cluster_core.proofs.ReadLaw.{heard_sound, read_of_legal}
 use Rattle.cluster_core.proofs.RequestsOf.{asks_all}
@@ -163,6 +164,7 @@ told_so_far config talk before later are date_is now last =
           (says conn).given;
       last = legal.last;
       legal = legal.legal;
+      refusals = have_causes (setting_of config) first_course (told_of law.story) (history_of world) legal.last legal.legal;
       one_content = subst (λ s. HasBoxesOf s world) (sym legal.same_store)
           (has_boxes config world law.backend law.story.course.store are law.nodes law.is_told.same);
       homes_shown = subst (λ s. ShowsBoxesOf s world) (sym legal.same_store)

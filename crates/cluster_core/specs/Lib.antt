@@ -11,4 +11,5 @@ pub mod AtRest
 pub mod OneNode
 pub mod HomeLaw
 pub mod Homes
+pub mod Refusals
 pub mod Headline

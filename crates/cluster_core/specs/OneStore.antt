@@ -25,6 +25,7 @@ use Rattle.cluster_core.specs.Heard.{heard, bytes_heard, frames_heard, has_close
 use Rattle.cluster_core.specs.History.{history_of}
 use Rattle.cluster_core.specs.Homes.{ShowsBoxesOf}
 use Rattle.cluster_core.specs.Links.{on_link}
+use Rattle.cluster_core.specs.Refusals.{HaveCauses}
 use Rattle.cluster_core.specs.Requests.{AreRequests}
 use Rattle.cluster_core.specs.Shown.{given_to, held_at}
 use Rattle.cluster_core.specs.World.{start, setting_of}
@@ -89,6 +90,7 @@ pub record IsToldSoFar (config : Config) (talk : Talk) (points : List Point) (st
   pub read : (conn : ℕ) → IsAllReadAsMeant (setting_of config) (given_to world conn) (bytes_heard (heard config conn steps)) (so_far.answers conn)
   pub last : Course
   pub legal : IsLegal (setting_of config) first_course so_far (history_of world) last
+  pub refusals : HaveCauses so_far (history_of world)
   pub one_content : HasBoxesOf last.store world
   pub homes_shown : ShowsBoxesOf last.store world
   pub in_time : StandsInTime so_far world.steps points
