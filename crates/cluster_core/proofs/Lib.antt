@@ -35,6 +35,7 @@ pub mod HomesLaw
 pub mod NamesHeld
 pub mod ShownHomes
 pub mod ReadLaw
+pub mod NeedsNoCause
 pub mod NoRelocation
 pub mod ToldSoFar
 pub mod AtRestLaw
