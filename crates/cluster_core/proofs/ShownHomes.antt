@@ -1,7 +1,7 @@
 -- The printed homes are the store's mailboxes.
 use Rattle.std.proofs.Common.{◌≡◌, ℕ, zero, suc, ◌≤◌, ◌&&◌, Bool, true, false, cond, List, [], ◌∷◌, ◌++◌, Option, None, Some, refl, sym, ◌∙◌}
 use Rattle.std.proofs.Common.{ap, subst, arith, filter, map}
-use Rattle.std.specs.Prelude.{All, count_by, is_some}
+use Rattle.std.specs.Prelude.{All, count_by}
 use Rattle.std.specs.Map.{keys_of}
 use Rattle.std.specs.Option.{option_to_list}
 use Rattle.std.specs.Ordering.{nat_cmp}
@@ -22,7 +22,7 @@ use Rattle.mur_model.specs.declared.store.Store.{Store}
 use Rattle.cluster_core.specs.declared.cluster.HomeRow.{HomeRow}
 use Rattle.cluster_core.specs.declared.world.World.{World}
 use Rattle.cluster_core.specs.HomeLaw.{is_writable_home}
-use Rattle.cluster_core.specs.Homes.{numbers_shown, numbers_of, IsAtBackend, ShowsBoxesOf}
+use Rattle.cluster_core.specs.Homes.{numbers_shown, numbers_of, IsHeldAt, ShowsBoxesOf}
 use Rattle.cluster_core.specs.OneStore.{open_box, open_content}
 use Rattle.cluster_core.specs.Shown.{held_at, held_by, home_row, row_if, rows_of, rows_of_all, names_at, home_rows}
 use Rattle.cluster_core.specs.World.{home_of}
@@ -143,25 +143,27 @@ same_numbers : (name node : List ℕ) (found : Option Held)
 same_numbers name node None = refl
 same_numbers name node (Some held) = numbers_by name node held.phase held.content
 
--- ---- a row's backend has its name
+-- ---- what a row tells, its backend has
 
 row_at : (world : World) (name node : List ℕ) (found : Option Held) → value_at (slice_cmp nat_cmp) (held_at world node) name ≡ found
-    → All (IsAtBackend world) (row_if name node found)
-row_at world name node None at = All-nil (IsAtBackend world)
-row_at world name node (Some held) at = All-cons (IsAtBackend world) (home_row name node held) [] (ap is_some at) (All-nil (IsAtBackend world))
+    → All (IsHeldAt world) (row_if name node found)
+row_at world name node None at = All-nil (IsHeldAt world)
+row_at world name node (Some held) at =
+    All-cons (IsHeldAt world) (home_row name node held) [] (record { held = held; at = at; phase = refl; numbers = refl })
+    (All-nil (IsHeldAt world))
 
-rows_at : (world : World) (name : List ℕ) (nodes : List (List ℕ)) → All (IsAtBackend world) (rows_of world name nodes)
+rows_at : (world : World) (name : List ℕ) (nodes : List (List ℕ)) → All (IsHeldAt world) (rows_of world name nodes)
 unfolding rows_of
-rows_at world name [] = All-nil (IsAtBackend world)
+rows_at world name [] = All-nil (IsHeldAt world)
 rows_at world name (node ∷ nodes) =
     let found = value_at (slice_cmp nat_cmp) (held_at world node) name in
-    All-append (IsAtBackend world) (row_if name node found) (rows_of world name nodes) (row_at world name node found refl) (rows_at world name nodes)
+    All-append (IsHeldAt world) (row_if name node found) (rows_of world name nodes) (row_at world name node found refl) (rows_at world name nodes)
 
-all_at : (world : World) (names : List (List ℕ)) → All (IsAtBackend world) (rows_of_all world names)
+all_at : (world : World) (names : List (List ℕ)) → All (IsHeldAt world) (rows_of_all world names)
 unfolding rows_of_all
-all_at world [] = All-nil (IsAtBackend world)
+all_at world [] = All-nil (IsHeldAt world)
 all_at world (name ∷ names) =
-    All-append (IsAtBackend world) (rows_of world name world.backends) (rows_of_all world names) (rows_at world name world.backends) (all_at world names)
+    All-append (IsHeldAt world) (rows_of world name world.backends) (rows_of_all world names) (rows_at world name world.backends) (all_at world names)
 
 pub shows_boxes : (config : Config) (world : World) (backend : Backend) (store : Store) → AreNodes config.nodes → AreNodesOf config world backend
     → IsStoreOf store backend → ShowsBoxesOf store world
@@ -170,5 +172,5 @@ shows_boxes config world backend store are nodes same = record {
   open_homes = λ name. ap (map numbers_shown) (homes_here config world backend are nodes name)
       ∙ same_numbers name (home_of config) (value_at (slice_cmp nat_cmp) backend.held name)
       ∙ ap (λ box. map numbers_of (option_to_list box)) (sym (same.boxes name));
-  backends = all_at world (names_at world [] world.backends);
+  rows = all_at world (names_at world [] world.backends);
 }

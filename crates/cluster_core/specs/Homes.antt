@@ -1,9 +1,10 @@
--- The printed homes are the store's mailboxes, each at a backend that has it.
-use Rattle.std.specs.Prelude.{◌≡◌, ℕ, true, List, length, map, is_some, All}
+-- The printed homes are the store's mailboxes, each as its backend has it.
+use Rattle.std.specs.Prelude.{◌≡◌, ℕ, List, length, map, Some, All}
 use Rattle.std.specs.List.{filter}
 use Rattle.std.specs.Option.{option_to_list}
 use Rattle.std.specs.Ordering.{nat_cmp}
 use Rattle.std.specs.Cmp.Lexicographic.{slice_cmp}
+use Rattle.backend_core.specs.declared.held.Held.{Held}
 use Rattle.mail_message.specs.Boxes.{Content}
 use Rattle.mur_base.specs.Map.{value_at}
 use Rattle.mur_model.specs.declared.store.Store.{Store}
@@ -25,12 +26,15 @@ numbers_shown row = record { serial = row.serial; next = row.next; count = row.c
 abbrev pub numbers_of : Content → Numbers
 numbers_of box = record { serial = box.serial; next = box.next; count = length box.messages }
 
--- the backend of a row has a mailbox of its name
-abbrev pub IsAtBackend : World → HomeRow → Type 0
-IsAtBackend world row = is_some (value_at (slice_cmp nat_cmp) (held_at world row.backend) row.name) ≡ true
+-- what a row tells, its backend has
+pub record IsHeldAt (world : World) (row : HomeRow) : Type 0 where
+  pub held : Held
+  pub at : value_at (slice_cmp nat_cmp) (held_at world row.backend) row.name ≡ Some held
+  pub phase : row.phase ≡ held.phase
+  pub numbers : numbers_shown row ≡ numbers_of held.content
 
 -- each name has one writable home where the store has a mailbox of it, with that mailbox's numbers, and none where it has none
 pub record ShowsBoxesOf (store : Store) (world : World) : Type 0 where
   pub open_homes : (name : List ℕ)
       → map numbers_shown (filter (is_writable_home name) (home_rows world)) ≡ map numbers_of (option_to_list (box_at store name))
-  pub backends : All (IsAtBackend world) (home_rows world)
+  pub rows : All (IsHeldAt world) (home_rows world)
