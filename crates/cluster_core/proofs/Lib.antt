@@ -30,8 +30,13 @@ pub mod Unrolled
 pub mod StartLaw
 pub mod OneStoreLaw
 pub mod InTime
+pub mod StepsMade
 pub mod HomesLaw
+pub mod NamesHeld
+pub mod ShownHomes
 pub mod ReadLaw
+pub mod NeedsNoCause
+pub mod NoRelocation
 pub mod ToldSoFar
 pub mod AtRestLaw
 pub mod OneNodeLaw

@@ -261,6 +261,9 @@ fresh_start config = fresh_nodes (home_of config) (setting_of config)
     (record no_world { backends = backends_of config.nodes; pairs = links_of config.nodes }) config.nodes
     (record { fronts = λ node front at. cc; homes = λ node backend at. cc; clients = refl; links = refl; marks = refl; steps = refl })
 
+pub no_steps : (config : Config) → (start config).steps ≡ 0
+no_steps config = (fresh_start config).steps
+
 nothing_held : (store_of : Backend) → store_of.held ≡ [] → store_of.last_serial ≡ 0 → IsStoreOf empty_store store_of
 unfolding is_spent
 nothing_held backend held serial = record {

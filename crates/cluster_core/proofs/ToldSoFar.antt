@@ -22,6 +22,7 @@ use Rattle.cluster_core.specs.declared.world.World.{World}
 use Rattle.cluster_core.specs.Flow.{run_steps, unrolled}
 use Rattle.cluster_core.specs.Heard.{Heard, nobody, heard_from, bytes_heard, frames_heard}
 use Rattle.cluster_core.specs.History.{history_of}
+use Rattle.cluster_core.specs.Homes.{ShowsBoxesOf}
 use Rattle.cluster_core.specs.OneStore.{first_course, HasBoxesOf, IsAnsweredThrough, StandsInTime, IsToldSoFar, IsToldByOneStore}
 use Rattle.cluster_core.specs.Requests.{AreRequests}
 use Rattle.cluster_core.specs.Shown.{given_to}
@@ -33,10 +34,13 @@ use Rattle.cluster_core.proofs.Keeps.{IsKeptAt, KeepsAll, run_keeps}
 use Rattle.cluster_core.proofs.KeepsLaw.{KeepsLaw}
 use Rattle.cluster_core.proofs.Marks.{Carries, conn_of, command_of, is_mark, all_points}
 use Rattle.cluster_core.proofs.Marks.Carries.{no_marks, a_mark}
+use Rattle.cluster_core.proofs.NoRelocation.{have_causes}
 use Rattle.cluster_core.proofs.OneStoreLaw.{SaysOf, says_of, IsLegalTo, legal_history, steps_rise, IsToldSo}
 use Rattle.cluster_core.proofs.ReadLaw.{heard_sound, read_of_legal}
 use Rattle.cluster_core.proofs.RequestsOf.{asks_all}
+use Rattle.cluster_core.proofs.ShownHomes.{shows_boxes}
 use Rattle.cluster_core.proofs.StartLaw.{start_keeps}
+use Rattle.cluster_core.proofs.StepsMade.{steps_made}
 use Rattle.cluster_core.proofs.Told.{IsTold}
 use Rattle.cluster_core.proofs.Unrolled.{run_steps-append}
 
@@ -160,10 +164,14 @@ told_so_far config talk before later are date_is now last =
           (says conn).given;
       last = legal.last;
       legal = legal.legal;
+      refusals = have_causes (setting_of config) first_course (told_of law.story) (history_of world) legal.last legal.legal;
       one_content = subst (λ s. HasBoxesOf s world) (sym legal.same_store)
           (has_boxes config world law.backend law.story.course.store are law.nodes law.is_told.same);
+      homes_shown = subst (λ s. ShowsBoxesOf s world) (sym legal.same_store)
+          (shows_boxes config world law.backend law.story.course.store are law.nodes law.is_told.same);
       in_time = stands_in_time (setting_of config) world
           (run_steps (start config) (before ++ later)) law.story last.story law.backend last.backend law.is_told last.is_told behind (λ conn. (says conn).so);
+      counted = steps_made config before;
       nothing_waits = λ empty conn stays.
           subst (λ r. IsAnsweredThrough r (law.story.told conn)) (sym (law.requests conn)) ((says conn).waits_not empty stays);
     }

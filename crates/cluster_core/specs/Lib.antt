@@ -10,4 +10,6 @@ pub mod OneStore
 pub mod AtRest
 pub mod OneNode
 pub mod HomeLaw
+pub mod Homes
+pub mod Refusals
 pub mod Headline

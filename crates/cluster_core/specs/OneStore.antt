@@ -23,7 +23,9 @@ use Rattle.cluster_core.specs.declared.world.World.{World}
 use Rattle.cluster_core.specs.Flow.{run_steps, unrolled}
 use Rattle.cluster_core.specs.Heard.{heard, bytes_heard, frames_heard, has_closed}
 use Rattle.cluster_core.specs.History.{history_of}
+use Rattle.cluster_core.specs.Homes.{ShowsBoxesOf}
 use Rattle.cluster_core.specs.Links.{on_link}
+use Rattle.cluster_core.specs.Refusals.{HaveCauses}
 use Rattle.cluster_core.specs.Requests.{AreRequests}
 use Rattle.cluster_core.specs.Shown.{given_to, held_at}
 use Rattle.cluster_core.specs.World.{start, setting_of}
@@ -88,8 +90,12 @@ pub record IsToldSoFar (config : Config) (talk : Talk) (points : List Point) (st
   pub read : (conn : ℕ) → IsAllReadAsMeant (setting_of config) (given_to world conn) (bytes_heard (heard config conn steps)) (so_far.answers conn)
   pub last : Course
   pub legal : IsLegal (setting_of config) first_course so_far (history_of world) last
+  pub refusals : HaveCauses so_far (history_of world)
   pub one_content : HasBoxesOf last.store world
+  pub homes_shown : ShowsBoxesOf last.store world
   pub in_time : StandsInTime so_far world.steps points
+  -- steps count from 1: the last one has the number of the steps made
+  pub counted : world.steps ≡ length steps
   -- nothing waits on empty links: then each whole command of a client that hasn't closed its connection was answered, up to an
   -- answer that ended the connection
   pub nothing_waits : AreEmpty world → (conn : ℕ) → has_closed (heard config conn steps) ≡ false
