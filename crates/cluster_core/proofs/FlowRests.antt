@@ -1,5 +1,5 @@
 -- A flow delivers as many messages as it may, and fewer only where none is on its way any more.
-use Rattle.std.proofs.Common.{◌≡◌, ◌≢◌, ℕ, zero, suc, ◌+◌, ◌≤◌, ◌<◌, ◌==◌, Bool, true, false, cond, List, [], ◌∷◌, ◌++◌, length, drop, None, Some, refl}
+use Rattle.std.proofs.Common.{◌≡◌, ◌≢◌, ℕ, zero, suc, ◌+◌, ◌≤◌, ◌==◌, Bool, true, false, cond, List, [], ◌∷◌, ◌++◌, length, drop, None, Some, refl}
 use Rattle.std.proofs.Common.{sym, ◌∙◌, ap, subst, arith, length-append, Option, All, Contains}
 use Rattle.std.proofs.lemmas.Bool.{eqb-true, eq-eqb}
 use Rattle.std.proofs.lemmas.List.Elements.{All-nil, All-cons, All-contains, Contains-append_right}
@@ -24,7 +24,7 @@ use Rattle.cluster_core.proofs.LinkedNodes.{AreApart, pairs_apart}
 use Rattle.cluster_core.proofs.OneNodeLaw.{carry_all_sends}
 use Rattle.cluster_core.proofs.OnPairs.{IsIdle, all_empty, pairs_stay}
 use Rattle.cluster_core.proofs.Unrolled.{event_made, run_steps-append}
-use Rattle.cluster_core.proofs.Wires.{same_link, same_itself, on_link-taken}
+use Rattle.cluster_core.proofs.Wires.{same_itself, on_link-taken}
 
 -- a delivery takes the first message of its link, and nothing else changes there
 

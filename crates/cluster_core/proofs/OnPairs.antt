@@ -1,5 +1,5 @@
 -- A message is on its way only between linked nodes.
-use Rattle.std.proofs.Common.{◌≡◌, ◌≢◌, ◌⊎◌, inl, inr, ℕ, Bool, true, false, List, [], ◌∷◌, None, Some, refl, sym, ◌∙◌, ap, subst, is_some, All, Contains}
+use Rattle.std.proofs.Common.{◌≡◌, ◌≢◌, ◌⊎◌, inl, inr, ℕ, true, false, List, [], ◌∷◌, refl, sym, ◌∙◌, ap, subst, is_some, All, Contains}
 use Rattle.std.proofs.Math.Logic.{⊎_elim}
 use Rattle.std.proofs.lemmas.List.{append-nil}
 use Rattle.std.proofs.lemmas.List.Elements.{All-contains}
@@ -37,7 +37,7 @@ use Rattle.cluster_core.proofs.KeepsLaw.{ConnectionIs, KeepsLaw}
 use Rattle.cluster_core.proofs.KeepsLaw.ConnectionIs.{is_nobody, is_elsewhere, is_open, is_closed}
 use Rattle.cluster_core.proofs.LinkedNodes.{to_the_home, from_the_home}
 use Rattle.cluster_core.proofs.NoneQuiet.{quiet_in, NoneQuiet, run_keeps as keeps_none_quiet}
-use Rattle.cluster_core.proofs.OnWay.{picked, alike, own_first, none_first}
+use Rattle.cluster_core.proofs.OnWay.{alike, own_first, none_first}
 use Rattle.cluster_core.proofs.StartLaw.{start_keeps, start_links, nothing_picked}
 use Rattle.cluster_core.proofs.Ways.{AreOnWay, ask_in, answer_in, own_ask, own_answer}
 use Rattle.cluster_core.proofs.Wires.{same_link}
