@@ -14,6 +14,7 @@ use Rattle.cluster_core.specs.Headline.{IsOneServer}
 use Rattle.cluster_core.specs.History.{history_of}
 use Rattle.cluster_core.specs.HomeLaw.{HasCause, RefusesForCause}
 use Rattle.cluster_core.specs.World.{start}
+use Rattle.cluster_core.proofs.FlowRests.{are_steps_of_all}
 use Rattle.cluster_core.proofs.Marks.{IsOf, all_points}
 use Rattle.cluster_core.proofs.OneNodeLaw.{one_node_each}
 use Rattle.cluster_core.proofs.OneHome.{keeps_one_home_each}
@@ -34,6 +35,7 @@ refuses world = all_points world (λ (mark : Mark). mark ≡ mark) (λ (point : 
 pub one_server : (config : Config) (events : List Event) → AreNodes config.nodes → IsDate config.date → IsOneServer config events
 one_server config events are date_is = record {
   by_steps = by_steps (start config) events;
+  its_steps = are_steps_of_all config events are;
   one_node = one_node_each (start config) (unrolled (start config) events);
   one_store = told_by_one_store config events are date_is;
   one_home = keeps_one_home_each config events are;

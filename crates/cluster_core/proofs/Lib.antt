@@ -41,6 +41,10 @@ pub mod ToldSoFar
 pub mod AtRestLaw
 pub mod OneNodeLaw
 pub mod OneHome
+pub mod NoneQuiet
+pub mod LinkedNodes
+pub mod OnPairs
+pub mod FlowRests
 pub mod HeadlineLaw
 pub mod FirstBackend
 pub mod Entries

@@ -29,7 +29,7 @@ use Rattle.cluster_core.proofs.Wires.{same_link, on_link-sent, on_link-taken}
 pub record Sends (node : List ℕ) (before after : World) : Type 0 where
   pub fronts : after.fronts ≡ before.fronts
   homes : after.homes ≡ before.homes
-  others : (from to : List ℕ) → from ≢ node → on_link after.links from to ≡ on_link before.links from to
+  pub others : (from to : List ℕ) → from ≢ node → on_link after.links from to ≡ on_link before.links from to
   goes : (to : List ℕ) → WasSent (on_link before.links node to) (on_link after.links node to)
 
 none_sent : (before after : List LinkMsg) → after ≡ before → WasSent before after

@@ -264,6 +264,9 @@ fresh_start config = fresh_nodes (home_of config) (setting_of config)
 pub no_steps : (config : Config) → (start config).steps ≡ 0
 no_steps config = (fresh_start config).steps
 
+pub start_links : (config : Config) → (start config).links ≡ []
+start_links config = (fresh_start config).links
+
 nothing_held : (store_of : Backend) → store_of.held ≡ [] → store_of.last_serial ≡ 0 → IsStoreOf empty_store store_of
 unfolding is_spent
 nothing_held backend held serial = record {
@@ -290,7 +293,7 @@ no_connection : (home : List ℕ) (setting : Setting) (node : List ℕ) (front :
 unfolding new_front
 no_connection home setting node front conn e = rw e refl
 
-nothing_picked : {T : Type 0} (pick : LinkMsg → List T) (links : _) (a b : List ℕ) → links ≡ [] → picked pick (on_link links a b) ≡ []
+pub nothing_picked : {T : Type 0} (pick : LinkMsg → List T) (links : _) (a b : List ℕ) → links ≡ [] → picked pick (on_link links a b) ≡ []
 unfolding on_link picked
 nothing_picked pick links a b e = rw e refl
 

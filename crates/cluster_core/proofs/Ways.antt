@@ -43,11 +43,11 @@ unfolding ask_in answer_in
 answer_of_another conn answer ne = let apart : nat_eq (answer.id).conn conn ≡ false = grind (arith, nat_tests) in
     record { no_ask = refl; no_answer = rw apart refl }
 
-own_ask : (conn : ℕ) (ask : FrontAsk) → (ask.id).conn ≡ conn → ask_in conn (Ask ask) ≡ ask ∷ []
+pub own_ask : (conn : ℕ) (ask : FrontAsk) → (ask.id).conn ≡ conn → ask_in conn (Ask ask) ≡ ask ∷ []
 unfolding ask_in
 own_ask conn ask e = let same : nat_eq (ask.id).conn conn ≡ true = grind (arith, nat_tests) in rw same refl
 
-own_answer : (conn : ℕ) (answer : BackAnswer) → (answer.id).conn ≡ conn → answer_in conn (Answer answer) ≡ answer ∷ []
+pub own_answer : (conn : ℕ) (answer : BackAnswer) → (answer.id).conn ≡ conn → answer_in conn (Answer answer) ≡ answer ∷ []
 unfolding answer_in
 own_answer conn answer e = let same : nat_eq (answer.id).conn conn ≡ true = grind (arith, nat_tests) in rw same refl
 

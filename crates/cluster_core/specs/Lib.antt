@@ -8,6 +8,7 @@ pub mod History
 pub mod Shown
 pub mod OneStore
 pub mod AtRest
+pub mod FlowLaw
 pub mod OneNode
 pub mod HomeLaw
 pub mod Homes

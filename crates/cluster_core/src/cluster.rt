@@ -7,6 +7,7 @@ ghost use Rattle.schedule_text.specs.declared.event.Event.{Event};
 ghost use Rattle.schedule_text.specs.Brings.{steps_of_all, bytes_of_all};
 ghost use Rattle.cluster_core.specs.AtRest.{NothingWaitsBehind};
 ghost use Rattle.cluster_core.specs.Flow.{happens, run, run_steps, steps_of_event};
+ghost use Rattle.cluster_core.specs.FlowLaw.{AreItsSteps};
 ghost use Rattle.cluster_core.specs.Headline.{IsOneServer};
 ghost use Rattle.cluster_core.specs.History.{history_of};
 ghost use Rattle.cluster_core.specs.OneNode.{OneNodeWorksEach};
@@ -84,6 +85,7 @@ impl Cluster {
         requires { HasRoom self.old event }
         ensures event { OnOk result (self.new ≡ happens self.old event) }
         ensures steps { OnOk result (self.new ≡ run_steps self.old (steps_of_event self.old event)) }
+        ensures its_steps { AreItsSteps self.old event }
         ensures one_node { OneNodeWorksEach self.old (steps_of_event self.old event) }
         ensures at_rest { NothingWaitsBehind self.old event }
     {
