@@ -27,6 +27,7 @@ pub mod KeepsDeliver
 pub mod KeepsReply
 pub mod Keeps
 pub mod Unrolled
+pub mod FrontsOfStart
 pub mod StartLaw
 pub mod OneStoreLaw
 pub mod InTime
@@ -35,6 +36,8 @@ pub mod ReadLaw
 pub mod ToldSoFar
 pub mod AtRestLaw
 pub mod OneNodeLaw
+pub mod OwnOuts
+pub mod OwnClientsLaw
 pub mod OneHome
 pub mod HeadlineLaw
 pub mod FirstBackend

@@ -1,10 +1,14 @@
 use Rattle.cluster_core.specs.Flow.{steps_of_event}
 use Rattle.cluster_core.proofs.AtRestLaw.{nothing_waits}
 use Rattle.cluster_core.proofs.OneNodeLaw.{one_node_each}
+use Rattle.cluster_core.proofs.OwnClientsLaw.{serves_its_own_behind}
 use Rattle.cluster_core.proofs.cluster.Cluster.step.Goals as goal
 
 pub returns-clause-one_node : goal.returns-clause-one_node
 returns-clause-one_node c = one_node_each c.args.self.now (steps_of_event c.args.self.now c.args.event)
+
+pub returns-clause-own_clients : goal.returns-clause-own_clients
+returns-clause-own_clients c = serves_its_own_behind c.args.self.now c.args.event
 
 pub returns-clause-at_rest : goal.returns-clause-at_rest
 returns-clause-at_rest c = nothing_waits c.args.self.now c.args.event
