@@ -36,6 +36,8 @@ pub record Sends (node : List ℕ) (before after : World) : Type 0 where
   clients : (conn : ℕ) → node_of (client_at after conn) ≡ node_of (client_at before conn)
   others : (from to : List ℕ) → from ≢ node → on_link after.links from to ≡ on_link before.links from to
   goes : (to : List ℕ) → WasSent (on_link before.links node to) (on_link after.links node to)
+  backends : after.backends ≡ before.backends
+  pairs : after.pairs ≡ before.pairs
 
 none_sent : (before after : List LinkMsg) → after ≡ before → WasSent before after
 none_sent before after same = record { more = []; behind = same ∙ sym (append-nil before) }
@@ -53,6 +55,8 @@ sends_nothing node world = record {
   clients = λ conn. refl;
   others = λ from to ne. refl;
   goes = λ to. none_sent (on_link world.links node to) (on_link world.links node to) refl;
+  backends = refl;
+  pairs = refl;
 }
 
 sends_more : (node : List ℕ) (one two three : World) → Sends node one two → Sends node two three → Sends node one three
@@ -62,6 +66,8 @@ sends_more node one two three first second = record {
   clients = λ conn. second.clients conn ∙ first.clients conn;
   others = λ from to ne. second.others from to ne ∙ first.others from to ne;
   goes = λ to. sent_on (on_link one.links node to) (on_link two.links node to) (on_link three.links node to) (first.goes to) (second.goes to);
+  backends = second.backends ∙ first.backends;
+  pairs = second.pairs ∙ first.pairs;
 }
 
 elsewhere_none : (from node to other : List ℕ) (message : LinkMsg) → from ≢ node → cond (same_link from to node other) (message ∷ []) [] ≡ []
@@ -87,6 +93,8 @@ given_sends node world conn bytes (Some client) there = record {
   clients = stays_there world conn client (record client { given = client.given ++ bytes }) there refl;
   others = λ from to ne. refl;
   goes = λ to. none_sent (on_link world.links node to) (on_link world.links node to) refl;
+  backends = refl;
+  pairs = refl;
 }
 
 carry_sends : (node : List ℕ) (world : World) (out : Out) → Sends node world (carry node world out)
@@ -99,6 +107,8 @@ carry_sends node world (mark_out ask counts) = record {
   clients = λ conn. refl;
   others = λ from to ne. refl;
   goes = λ to. none_sent (on_link world.links node to) (on_link world.links node to) refl;
+  backends = refl;
+  pairs = refl;
 }
 carry_sends node world (to_node other message) = record {
   fronts = refl;
@@ -107,6 +117,8 @@ carry_sends node world (to_node other message) = record {
   others = λ from to ne. on_link-sent world.links node other from to message
       ∙ ap (λ m. on_link world.links from to ++ m) (elsewhere_none from node to other message ne) ∙ append-nil (on_link world.links from to);
   goes = λ to. record { more = cond (same_link node to node other) (message ∷ []) []; behind = on_link-sent world.links node other node to message };
+  backends = refl;
+  pairs = refl;
 }
 
 pub carry_all_sends : (node : List ℕ) (world : World) (outs : List Out) → Sends node world (carry_all node world outs)
@@ -125,23 +137,26 @@ works_and_sends event node one two three works out = record {
   stays = λ from to ne. out.others from to ne ∙ works.stays from to ne;
   sends = λ to. sent_on (left_on event node to (on_link one.links node to)) (on_link two.links node to) (on_link three.links node to) (works.sends to)
       (out.goes to);
+  backends = out.backends ∙ works.backends;
+  pairs = out.pairs ∙ works.pairs;
 }
 
 -- an event that takes no message
 abbrev TakesNone : Event → Type 0
 TakesNone event = (from to : List ℕ) (queue : List LinkMsg) → left_on event from to queue ≡ queue
 
--- where nodes and links are as they were
-idle : (event : Event) (node : List ℕ) (before after : World) → TakesNone event → after.fronts ≡ before.fronts → after.homes ≡ before.homes
-    → ((conn : ℕ) → node_of (client_at after conn) ≡ connected event conn (node_of (client_at before conn))) → after.links ≡ before.links
-    → OnlyWorks event node before after
-idle event node before after none fronts homes clients links = record {
-  fronts = λ other ne. ap (λ f. value_at (slice_cmp nat_cmp) f other) fronts;
-  homes = λ other ne. ap (λ h. value_at (slice_cmp nat_cmp) h other) homes;
-  clients = clients;
-  stays = λ from to ne. ap (λ l. on_link l from to) links ∙ sym (none from to (on_link before.links from to));
-  sends = λ to. none_sent (left_on event node to (on_link before.links node to)) (on_link after.links node to)
-      (ap (λ l. on_link l node to) links ∙ sym (none node to (on_link before.links node to)));
+-- where nothing changes but clients
+idle : (event : Event) (node : List ℕ) (world : World) (clients : List (ℕ × Client)) → TakesNone event
+    → ((conn : ℕ) → node_of (value_at nat_cmp clients conn) ≡ connected event conn (node_of (client_at world conn)))
+    → OnlyWorks event node world (record world { clients = clients })
+idle event node world clients none there = record {
+  fronts = λ other ne. refl;
+  homes = λ other ne. refl;
+  clients = there;
+  stays = λ from to ne. sym (none from to (on_link world.links from to));
+  sends = λ to. none_sent (left_on event node to (on_link world.links node to)) (on_link world.links node to) (sym (none node to (on_link world.links node to)));
+  backends = refl;
+  pairs = refl;
 }
 
 -- a message is taken at the node that it goes to
@@ -153,6 +168,8 @@ takes_first from to world = record {
   stays = λ one other ne. on_link-taken world.links from to one other;
   sends = λ other. none_sent (left_on (Deliver from to) to other (on_link world.links to other)) (on_link (without_first world.links from to) to other)
       (on_link-taken world.links from to to other);
+  backends = refl;
+  pairs = refl;
 }
 
 nothing_first : (links : Links) (from to one other : List ℕ) (same : Bool) → same_link one other from to ≡ same → on_link links from to ≡ []
@@ -171,6 +188,8 @@ takes_nothing from to world none = record {
   stays = λ one other ne. nothing_first world.links from to one other (same_link one other from to) refl none;
   sends = λ other. none_sent (left_on (Deliver from to) to other (on_link world.links to other)) (on_link world.links to other)
       (nothing_first world.links from to to other (same_link to other from to) refl none);
+  backends = refl;
+  pairs = refl;
 }
 
 -- what a node does itself
@@ -182,6 +201,8 @@ front_changes event node before world front works = record {
   clients = works.clients;
   stays = works.stays;
   sends = works.sends;
+  backends = works.backends;
+  pairs = works.pairs;
 }
 
 home_changes : (event : Event) (node : List ℕ) (before world : World) (home : Backend) → OnlyWorks event node before world
@@ -192,6 +213,8 @@ home_changes event node before world home works = record {
   clients = works.clients;
   stays = works.stays;
   sends = works.sends;
+  backends = works.backends;
+  pairs = works.pairs;
 }
 
 front_works : (event : Event) (node : List ℕ) (before world : World) (step : Stepped) → OnlyWorks event node before world
@@ -226,10 +249,10 @@ open_works : (world : World) (node : List ℕ) (conn : ℕ) (found : Option Fron
     → OnlyWorks (Open node conn) node world (open_at world node conn found)
 unfolding open_at
 open_works world node conn None none =
-    idle (Open node conn) node world (with_client world node conn) (λ from to queue. refl) refl refl (joins world node conn none) refl
+    idle (Open node conn) node world (with_client world node conn).clients (λ from to queue. refl) (joins world node conn none)
 open_works world node conn (Some front) none =
     front_works (Open node conn) node world (with_client world node conn) (connect front conn)
-    (idle (Open node conn) node world (with_client world node conn) (λ from to queue. refl) refl refl (joins world node conn none) refl)
+    (idle (Open node conn) node world (with_client world node conn).clients (λ from to queue. refl) (joins world node conn none))
 
 is_there : (world : World) (conn other : ℕ) (client : Client) → client_at world conn ≡ Some client → node_of (client_at world other) ≡ None → other ≢ conn
 is_there world conn other client there none e =
@@ -240,17 +263,17 @@ opens_work : (world : World) (node : List ℕ) (conn : ℕ) (found : Option Clie
     → OnlyWorks (Open node conn) node world (opens world node conn found)
 unfolding opens
 opens_work world node conn (Some client) there =
-    idle (Open node conn) node world world (λ from to queue. refl) refl refl
-    (λ other. joined_before node conn other (node_of (client_at world other)) (is_there world conn other client there)) refl
+    idle (Open node conn) node world world.clients (λ from to queue. refl)
+    (λ other. joined_before node conn other (node_of (client_at world other)) (is_there world conn other client there))
 opens_work world node conn None there = open_works world node conn (front_at world node) there
 
 bytes_work : (world : World) (conn : ℕ) (bytes node : List ℕ) (found : Option Front)
     → OnlyWorks (Data conn bytes) node world (bytes_at world conn bytes node found)
 unfolding bytes_at
-bytes_work world conn bytes node None = idle (Data conn bytes) node world world (λ from to queue. refl) refl refl (λ other. refl) refl
+bytes_work world conn bytes node None = idle (Data conn bytes) node world world.clients (λ from to queue. refl) (λ other. refl)
 bytes_work world conn bytes node (Some front) =
     front_works (Data conn bytes) node world world (bytes_in front conn bytes)
-    (idle (Data conn bytes) node world world (λ from to queue. refl) refl refl (λ other. refl) refl)
+    (idle (Data conn bytes) node world world.clients (λ from to queue. refl) (λ other. refl))
 
 data_works : (world : World) (conn : ℕ) (bytes : List ℕ) (found : Option Client)
     → WorksBy (Data conn bytes) (node_of found) world (bytes_from world conn bytes found)
@@ -260,10 +283,10 @@ data_works world conn bytes (Some client) = bytes_work world conn bytes client.a
 
 hang_works : (world : World) (conn : ℕ) (node : List ℕ) (found : Option Front) → OnlyWorks (Hang conn) node world (hang_at world conn node found)
 unfolding hang_at
-hang_works world conn node None = idle (Hang conn) node world world (λ from to queue. refl) refl refl (λ other. refl) refl
+hang_works world conn node None = idle (Hang conn) node world world.clients (λ from to queue. refl) (λ other. refl)
 hang_works world conn node (Some front) =
     front_changes (Hang conn) node world world (hang front conn)
-    (idle (Hang conn) node world world (λ from to queue. refl) refl refl (λ other. refl) refl)
+    (idle (Hang conn) node world world.clients (λ from to queue. refl) (λ other. refl))
 
 hangs_work : (world : World) (conn : ℕ) (found : Option Client) → WorksBy (Hang conn) (node_of found) world (hangs world conn found)
 unfolding hangs
@@ -321,6 +344,8 @@ before_counting event (Some node) world after works = record {
   clients = works.clients;
   stays = works.stays;
   sends = works.sends;
+  backends = works.backends;
+  pairs = works.pairs;
 }
 
 one_node_works : (world : World) (event : Event) → OneNodeWorks event world (steps_by world event)

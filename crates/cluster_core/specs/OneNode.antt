@@ -40,13 +40,15 @@ pub record WasSent (before after : List LinkMsg) : Type 0 where
   pub behind : after ≡ before ++ more
 
 -- every other node is as it was, and each client where it was; on each link stands what the event left there, and behind it, on a
--- link that begins at this node, what it sent
+-- link that begins at this node, what it sent; and which backends and links there are stays
 pub record OnlyWorks (event : Event) (node : List ℕ) (before after : World) : Type 0 where
   pub fronts : (other : List ℕ) → other ≢ node → front_at after other ≡ front_at before other
   pub homes : (other : List ℕ) → other ≢ node → home_at after other ≡ home_at before other
   pub clients : (conn : ℕ) → node_of (client_at after conn) ≡ connected event conn (node_of (client_at before conn))
   pub stays : (from to : List ℕ) → from ≢ node → on_link after.links from to ≡ left_on event from to (on_link before.links from to)
   pub sends : (to : List ℕ) → WasSent (left_on event node to (on_link before.links node to)) (on_link after.links node to)
+  pub backends : after.backends ≡ before.backends
+  pub pairs : after.pairs ≡ before.pairs
 
 -- where no node works, nothing changes but the count of steps
 abbrev pub WorksBy : Event → Option (List ℕ) → World → World → Type 0
