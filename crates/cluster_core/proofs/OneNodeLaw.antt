@@ -23,7 +23,7 @@ use Rattle.cluster_core.specs.declared.world.Client.{Client}
 use Rattle.cluster_core.specs.declared.world.World.{World}
 use Rattle.cluster_core.specs.Flow.{run_steps}
 use Rattle.cluster_core.specs.Links.{Links, same_link, on_link, without_first}
-use Rattle.cluster_core.specs.OneNode.{node_of, worker, connected, left_on, WasSent, OnlyWorks, WorksBy, OneNodeWorks, OneNodeWorksEach}
+use Rattle.cluster_core.specs.OneNode.{node_of, worker, connected, leaves_on, WasSent, OnlyWorks, WorksBy, OneNodeWorks, OneNodeWorksEach}
 use Rattle.cluster_core.specs.World.{client_at, front_at, home_at, given_more, carry, carry_all, with_front, with_client, open_at, opens, bytes_at}
 use Rattle.cluster_core.specs.World.{bytes_from, hang_at, hangs, input_of, home_takes, comes_to_home, comes_to, taken, deliver_first, takes, stepped, steps_by}
 use Rattle.cluster_core.proofs.InTime.{takes_adds}
@@ -135,7 +135,7 @@ works_and_sends event node one two three works out = record {
   homes = λ other ne. ap (λ h. value_at (slice_cmp nat_cmp) h other) out.homes ∙ works.homes other ne;
   clients = λ conn. out.clients conn ∙ works.clients conn;
   stays = λ from to ne. out.others from to ne ∙ works.stays from to ne;
-  sends = λ to. sent_on (left_on event node to (on_link one.links node to)) (on_link two.links node to) (on_link three.links node to) (works.sends to)
+  sends = λ to. sent_on (leaves_on event node to (on_link one.links node to)) (on_link two.links node to) (on_link three.links node to) (works.sends to)
       (out.goes to);
   backends = out.backends ∙ works.backends;
   pairs = out.pairs ∙ works.pairs;
@@ -143,7 +143,7 @@ works_and_sends event node one two three works out = record {
 
 -- an event that takes no message
 abbrev TakesNone : Event → Type 0
-TakesNone event = (from to : List ℕ) (queue : List LinkMsg) → left_on event from to queue ≡ queue
+TakesNone event = (from to : List ℕ) (queue : List LinkMsg) → leaves_on event from to queue ≡ queue
 
 -- where nothing changes but clients
 idle : (event : Event) (node : List ℕ) (world : World) (clients : List (ℕ × Client)) → TakesNone event
@@ -154,7 +154,8 @@ idle event node world clients none there = record {
   homes = λ other ne. refl;
   clients = there;
   stays = λ from to ne. sym (none from to (on_link world.links from to));
-  sends = λ to. none_sent (left_on event node to (on_link world.links node to)) (on_link world.links node to) (sym (none node to (on_link world.links node to)));
+  sends = λ to. none_sent (leaves_on event node to (on_link world.links node to)) (on_link world.links node to)
+      (sym (none node to (on_link world.links node to)));
   backends = refl;
   pairs = refl;
 }
@@ -166,8 +167,8 @@ takes_first from to world = record {
   homes = λ other ne. refl;
   clients = λ conn. refl;
   stays = λ one other ne. on_link-taken world.links from to one other;
-  sends = λ other. none_sent (left_on (Deliver from to) to other (on_link world.links to other)) (on_link (without_first world.links from to) to other)
-      (on_link-taken world.links from to to other);
+  sends = λ other. none_sent (leaves_on (Deliver from to) to other (on_link world.links to other))
+      (on_link (without_first world.links from to) to other) (on_link-taken world.links from to to other);
   backends = refl;
   pairs = refl;
 }
@@ -186,7 +187,7 @@ takes_nothing from to world none = record {
   homes = λ other ne. refl;
   clients = λ conn. refl;
   stays = λ one other ne. nothing_first world.links from to one other (same_link one other from to) refl none;
-  sends = λ other. none_sent (left_on (Deliver from to) to other (on_link world.links to other)) (on_link world.links to other)
+  sends = λ other. none_sent (leaves_on (Deliver from to) to other (on_link world.links to other)) (on_link world.links to other)
       (nothing_first world.links from to to other (same_link to other from to) refl none);
   backends = refl;
   pairs = refl;

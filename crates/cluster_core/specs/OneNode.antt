@@ -24,15 +24,15 @@ worker world (Hang conn) = node_of (client_at world conn)
 worker world (Deliver from to) = Some to
 worker world event = None
 
--- where a client is connected behind an event: once it was opened at a node, there
+-- where a client is connected behind an event: an opening connects it at its node, unless it is connected
 abbrev pub connected : Event → ℕ → Option (List ℕ) → Option (List ℕ)
 connected (Open node opened) conn None = if conn == opened then Some node else None
 connected event conn at = at
 
 -- what an event leaves on a link: a delivery takes the first message of its own
-abbrev pub left_on : Event → List ℕ → List ℕ → List LinkMsg → List LinkMsg
-left_on (Deliver from to) one other queue = if same_link one other from to then drop 1 queue else queue
-left_on event one other queue = queue
+abbrev pub leaves_on : Event → List ℕ → List ℕ → List LinkMsg → List LinkMsg
+leaves_on (Deliver from to) one other queue = if same_link one other from to then drop 1 queue else queue
+leaves_on event one other queue = queue
 
 -- a link was sent messages, or none
 pub record WasSent (before after : List LinkMsg) : Type 0 where
@@ -45,8 +45,8 @@ pub record OnlyWorks (event : Event) (node : List ℕ) (before after : World) : 
   pub fronts : (other : List ℕ) → other ≢ node → front_at after other ≡ front_at before other
   pub homes : (other : List ℕ) → other ≢ node → home_at after other ≡ home_at before other
   pub clients : (conn : ℕ) → node_of (client_at after conn) ≡ connected event conn (node_of (client_at before conn))
-  pub stays : (from to : List ℕ) → from ≢ node → on_link after.links from to ≡ left_on event from to (on_link before.links from to)
-  pub sends : (to : List ℕ) → WasSent (left_on event node to (on_link before.links node to)) (on_link after.links node to)
+  pub stays : (from to : List ℕ) → from ≢ node → on_link after.links from to ≡ leaves_on event from to (on_link before.links from to)
+  pub sends : (to : List ℕ) → WasSent (leaves_on event node to (on_link before.links node to)) (on_link after.links node to)
   pub backends : after.backends ≡ before.backends
   pub pairs : after.pairs ≡ before.pairs
 
