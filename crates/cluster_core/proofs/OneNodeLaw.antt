@@ -34,7 +34,7 @@ pub record Sends (node : List ℕ) (before after : World) : Type 0 where
   pub fronts : after.fronts ≡ before.fronts
   homes : after.homes ≡ before.homes
   clients : (conn : ℕ) → node_of (client_at after conn) ≡ node_of (client_at before conn)
-  others : (from to : List ℕ) → from ≢ node → on_link after.links from to ≡ on_link before.links from to
+  pub others : (from to : List ℕ) → from ≢ node → on_link after.links from to ≡ on_link before.links from to
   goes : (to : List ℕ) → WasSent (on_link before.links node to) (on_link after.links node to)
   backends : after.backends ≡ before.backends
   pairs : after.pairs ≡ before.pairs
