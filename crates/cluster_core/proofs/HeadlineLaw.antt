@@ -18,6 +18,7 @@ use Rattle.cluster_core.proofs.FlowRests.{are_steps_of_all}
 use Rattle.cluster_core.proofs.Marks.{IsOf, all_points}
 use Rattle.cluster_core.proofs.OneNodeLaw.{one_node_each}
 use Rattle.cluster_core.proofs.OneHome.{keeps_one_home_each}
+use Rattle.cluster_core.proofs.OwnClientsLaw.{serves_its_own_each}
 use Rattle.cluster_core.proofs.ToldSoFar.{told_by_one_store}
 use Rattle.cluster_core.proofs.Unrolled.{by_steps}
 
@@ -37,6 +38,7 @@ one_server config events are date_is = record {
   by_steps = by_steps (start config) events;
   its_steps = are_steps_of_all config events are;
   one_node = one_node_each (start config) (unrolled (start config) events);
+  own_clients = serves_its_own_each config (unrolled (start config) events) are;
   one_store = told_by_one_store config events are date_is;
   one_home = keeps_one_home_each config events are;
   refusals = refuses (run (start config) events);

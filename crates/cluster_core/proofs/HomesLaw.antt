@@ -20,7 +20,8 @@ use Rattle.cluster_core.specs.Shown.{held_by, row_if, rows_of}
 use Rattle.cluster_core.specs.World.{no_world, or_backend, backends_of, home_of, setting_of, start, home_at}
 use Rattle.cluster_core.proofs.KeepsLaw.{AreNodesOf}
 use Rattle.cluster_core.proofs.ServedAlike.{IsStoreOf}
-use Rattle.cluster_core.proofs.StartLaw.{first_backend, backends_stay, head_apart, tail_apart}
+use Rattle.cluster_core.proofs.FrontsOfStart.{head_apart, tail_apart}
+use Rattle.cluster_core.proofs.StartLaw.{first_backend, backends_stay}
 use Rattle.mur_model.specs.declared.store.Store.{Store}
 
 named_by : (P : List ℕ → Type 0) (node : Node) (kind : Kind) (names : List (List ℕ)) → P node.name → All P names → All P (or_backend kind node.name names)

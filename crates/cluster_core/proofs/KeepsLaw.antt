@@ -25,7 +25,7 @@ use Rattle.mur_model.specs.History.{Talk, TalkGoesOn}
 use Rattle.imap_reply.specs.Inputs.{requests_in}
 use Rattle.cluster_core.proofs.Readings.{inputs_in, reading_of}
 use Rattle.cluster_core.specs.declared.world.World.{World}
-use Rattle.cluster_core.specs.Heard.{Heard, nobody, elsewhere, client, frames_heard}
+use Rattle.cluster_core.specs.Heard.{Heard, nobody, elsewhere, client, is_frontend, frames_heard}
 use Rattle.cluster_core.specs.Links.{Links}
 use Rattle.cluster_core.specs.World.{start, client_at, front_at, home_at, home_of, setting_of}
 use Rattle.cluster_core.proofs.ConnectionLaw.{Story, told_of, client_with, HasBegunSo, OnItsWay, Stands, IsLeft, IsStanding}
@@ -72,7 +72,7 @@ pub record AreNodesOf (config : Config) (world : World) (backend : Backend) : Ty
   pub home_no_front : front_at world (home_of config) ≡ None
   pub home_is : home_at world (home_of config) ≡ Some backend
   pub fronts : (node : List ℕ) (front : Front) → front_at world node ≡ Some front → (front.home ≡ home_of config) × (front.setting ≡ setting_of config)
-  pub frontends : (node : List ℕ) → is_some (front_at world node) ≡ is_some (front_at (start config) node)
+  pub frontends : (node : List ℕ) → is_some (front_at world node) ≡ is_frontend config node
   pub other_homes : (node : List ℕ) (other : Backend) → node ≢ home_of config → home_at world node ≡ Some other → other.held ≡ []
   pub backends : world.backends ≡ (start config).backends
 

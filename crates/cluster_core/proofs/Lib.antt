@@ -27,6 +27,7 @@ pub mod KeepsDeliver
 pub mod KeepsReply
 pub mod Keeps
 pub mod Unrolled
+pub mod FrontsOfStart
 pub mod StartLaw
 pub mod OneStoreLaw
 pub mod InTime
@@ -40,6 +41,8 @@ pub mod NoRelocation
 pub mod ToldSoFar
 pub mod AtRestLaw
 pub mod OneNodeLaw
+pub mod OwnOuts
+pub mod OwnClientsLaw
 pub mod OneHome
 pub mod NoneQuiet
 pub mod LinkedNodes

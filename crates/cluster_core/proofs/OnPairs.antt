@@ -25,7 +25,7 @@ use Rattle.schedule_text.specs.declared.event.Event.{Event}
 use Rattle.cluster_core.specs.declared.world.World.{World}
 use Rattle.cluster_core.specs.Flow.{run_steps}
 use Rattle.cluster_core.specs.Heard.{Heard, nobody, heard_from}
-use Rattle.cluster_core.specs.Links.{Links, on_link}
+use Rattle.cluster_core.specs.Links.{Links, same_link, on_link}
 use Rattle.cluster_core.specs.OneStore.{AreEmpty}
 use Rattle.cluster_core.specs.World.{start, front_at, home_of, setting_of, with_node, with_nodes}
 use Rattle.cluster_core.proofs.ConnectionLaw.{Story, OnItsWay, Stands, IsLeft}
@@ -38,9 +38,9 @@ use Rattle.cluster_core.proofs.KeepsLaw.ConnectionIs.{is_nobody, is_elsewhere, i
 use Rattle.cluster_core.proofs.LinkedNodes.{to_the_home, from_the_home}
 use Rattle.cluster_core.proofs.NoneQuiet.{quiet_in, NoneQuiet, run_keeps as keeps_none_quiet}
 use Rattle.cluster_core.proofs.OnWay.{alike, own_first, none_first}
+use Rattle.cluster_core.proofs.FrontsOfStart.{frontends_at_start}
 use Rattle.cluster_core.proofs.StartLaw.{start_keeps, start_links, nothing_picked}
 use Rattle.cluster_core.proofs.Ways.{AreOnWay, ask_in, answer_in, own_ask, own_answer}
-use Rattle.cluster_core.proofs.Wires.{same_link}
 
 -- what is on the way for a connection of this frontend
 record Way (links : Links) (conn : ℕ) (front home : List ℕ) : Type 0 where
@@ -140,11 +140,13 @@ unfolding quiet_in
 goes_on_pair config heard world law are only from to (Ask ask) rest e =
     let goes = ask_goes config heard world law from to ask rest e in
     subst (λ t. Contains (links_of config.nodes) (record { from = from; to = t })) (sym goes.1)
-    (to_the_home config from are (sym (law.nodes.frontends from) ∙ goes.0) (front_apart config heard world law from goes.0))
+    (to_the_home config from are (frontends_at_start config are from ∙ sym (law.nodes.frontends from) ∙ goes.0)
+    (front_apart config heard world law from goes.0))
 goes_on_pair config heard world law are only from to (Answer answer) rest e =
     let goes = answer_goes config heard world law from to answer rest e in
     subst (λ f. Contains (links_of config.nodes) (record { from = f; to = to })) (sym goes.1)
-    (from_the_home config to are (sym (law.nodes.frontends to) ∙ goes.0) (front_apart config heard world law to goes.0))
+    (from_the_home config to are (frontends_at_start config are to ∙ sym (law.nodes.frontends to) ∙ goes.0)
+    (front_apart config heard world law to goes.0))
 goes_on_pair config heard world law are only from to Up rest e = absurd (none_first quiet_in world.links [] [] from to Up rest Up e refl only)
 goes_on_pair config heard world law are only from to End rest e = absurd (none_first quiet_in world.links [] [] from to End rest End e refl only)
 goes_on_pair config heard world law are only from to (Line bytes) rest e =

@@ -2,8 +2,8 @@
 use Rattle.std.proofs.Common.{◌≡◌, ℕ, Bool, true, false, cond, List, [], ◌∷◌, ◌++◌, drop, refl, sym, ◌∙◌, ap, append_assoc}
 use Rattle.std.proofs.lemmas.List.{append-nil}
 use Rattle.link_msg.specs.declared.message.LinkMsg.{LinkMsg}
-use Rattle.cluster_core.specs.Links.{Links, on_link, sent, without_first}
-use Rattle.cluster_core.proofs.Wires.{same_link, same_names, on_link-sent, on_link-taken}
+use Rattle.cluster_core.specs.Links.{Links, same_link, on_link, sent, without_first}
+use Rattle.cluster_core.proofs.Wires.{same_names, on_link-sent, on_link-taken}
 
 -- what is picked of a queue, in its order
 unfoldable pub picked : {T : Type 0} → (LinkMsg → List T) → List LinkMsg → List T

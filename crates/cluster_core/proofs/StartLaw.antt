@@ -24,16 +24,16 @@ use Rattle.mur_model.specs.Store.{empty_store, is_spent}
 use Rattle.mur_model.proofs.HistoryGrows.{one_up_to}
 use Rattle.cluster_core.specs.declared.world.World.{World}
 use Rattle.cluster_core.specs.Heard.{nobody, frames_heard}
-use Rattle.cluster_core.specs.Links.{on_link}
+use Rattle.cluster_core.specs.Links.{same_link, on_link}
 use Rattle.cluster_core.specs.OneStore.{first_course}
 use Rattle.cluster_core.specs.World.{no_world, first_name, or_backend, backends_of, home_of, setting_of, with_node, with_nodes, start, front_at}
 use Rattle.cluster_core.specs.World.{home_at}
+use Rattle.cluster_core.proofs.FrontsOfStart.{NoFrontend, head_apart, tail_apart, apart_here, fronts_stay, frontends_at_start}
 use Rattle.cluster_core.proofs.KeepsLaw.{KeepsLaw}
 use Rattle.cluster_core.proofs.KeepsLaw.ConnectionIs.{is_nobody}
 use Rattle.cluster_core.proofs.Marks.{Carries, MarkedOnce, command_of}
 use Rattle.cluster_core.proofs.Marks.Carries.{no_marks}
 use Rattle.cluster_core.proofs.Told.{Later}
-use Rattle.cluster_core.proofs.Wires.{same_link}
 use Rattle.cluster_core.specs.declared.world.Mark.{Mark}
 use Rattle.imap_reply.specs.Inputs.{inputs_of, requests_in}
 use Rattle.cluster_core.proofs.RequestsOf.{requests_of}
@@ -125,20 +125,6 @@ named P (node ∷ nodes) rest home e all =
     named_by P node node.kind (backends_of nodes) rest home e (All-head (λ (n : Node). P n.name) node nodes all)
     (λ r h. named P nodes r home h (All-tail (λ (n : Node). P n.name) node nodes all))
 
-abbrev NoFrontend : List ℕ → Node → Type 0
-NoFrontend home node = node.kind ≡ Frontend → node.name ≢ home
-
-pub head_apart : (node : Node) (nodes : List Node) → AllPairs (λ (one other : Node). one.name ≢ other.name) (node ∷ nodes)
-    → All (λ (other : Node). node.name ≢ other.name) nodes
-head_apart node nodes pairs = λ k d h. pairs 0 (suc k) d (omega arith) (omega arith)
-
-pub tail_apart : (node : Node) (nodes : List Node) → AllPairs (λ (one other : Node). one.name ≢ other.name) (node ∷ nodes)
-    → AllPairs (λ (one other : Node). one.name ≢ other.name) nodes
-tail_apart node nodes pairs = λ i j d h k. pairs (suc i) (suc j) d (omega arith) (omega arith)
-
-apart_here : (home : List ℕ) (nodes : List Node) → All (λ (other : Node). home ≢ other.name) nodes → All (NoFrontend home) nodes
-apart_here home nodes all = λ k d h. λ kind. λ e. all k d h (sym e)
-
 apart_by : (node : Node) (nodes : List Node) (kind : Kind) (rest : List (List ℕ)) (home : List ℕ) → node.kind ≡ kind
     → or_backend kind node.name (backends_of nodes) ≡ home ∷ rest
     → AllPairs (λ (one other : Node). one.name ≢ other.name) (node ∷ nodes)
@@ -159,22 +145,6 @@ unfolding backends_of
 no_frontends [] rest home pairs e = cc
 no_frontends (node ∷ nodes) rest home pairs e =
     apart_by node nodes node.kind rest home refl e pairs (λ r h. no_frontends nodes r home (tail_apart node nodes pairs) h)
-
-front_none_by : (home : List ℕ) (setting : Setting) (world : World) (node : Node) (kind : Kind) (name : List ℕ) → node.kind ≡ kind → NoFrontend name node
-    → front_at world name ≡ None → front_at (with_node home setting world node kind) name ≡ None
-unfolding with_node
-front_none_by home setting world node Master name k free none = none
-front_none_by home setting world node Frontend name k free none =
-    value_at-with_entry-other (slice_cmp nat_cmp) names_apart world.fronts node.name name (new_front node.name home setting) (λ e. free k (sym e)) ∙ none
-front_none_by home setting world node backend_kind name k free none = none
-
-front_none : (home : List ℕ) (setting : Setting) (world : World) (nodes : List Node) (name : List ℕ) → All (NoFrontend name) nodes → front_at world name ≡ None
-    → front_at (with_nodes home setting world nodes) name ≡ None
-unfolding with_nodes
-front_none home setting world [] name free none = none
-front_none home setting world (node ∷ nodes) name free none =
-    front_none home setting (with_node home setting world node node.kind) nodes name (All-tail (NoFrontend name) node nodes free)
-    (front_none_by home setting world node node.kind name refl (All-head (NoFrontend name) node nodes free) none)
 
 -- a backend that is there
 record HasHome (world : World) (name : List ℕ) : Type 0 where
@@ -312,14 +282,14 @@ start_keeps config are =
     record {
       backend = has.backend;
       nodes = record {
-        home_no_front = front_none (home_of config) (setting_of config) origin config.nodes (home_of config)
-            (no_frontends config.nodes first.rest (home_of config) are.names first.is) refl;
+        home_no_front = fronts_stay (home_of config) (setting_of config) origin config.nodes (home_of config)
+            (no_frontends config.nodes first.rest (home_of config) are.names first.is);
         home_is = has.at;
         fronts = λ node front at. (
           ap (λ (f : Front). f.home) (fresh.fronts node front at) ∙ home_new_front node (home_of config) (setting_of config),
           ap (λ (f : Front). f.setting) (fresh.fronts node front at) ∙ setting_new_front node (home_of config) (setting_of config),
         );
-        frontends = λ node. refl;
+        frontends = frontends_at_start config are;
         other_homes = λ node other ne at. (fresh.homes node other at).0;
         backends = refl;
       };

@@ -7,11 +7,7 @@ use Rattle.std.proofs.lemmas.List.{append-nil}
 use Rattle.link_msg.specs.declared.message.LinkMsg.{LinkMsg}
 use Rattle.mur_base.specs.Map.{value_at, with_entry}
 use Rattle.mur_base.proofs.MapLaws.{names_apart, not_equal, same_or_other, value_at-with_entry, value_at-with_entry-other}
-use Rattle.cluster_core.specs.Links.{Ways, Links, ways_from, ways_or_none, queue_or_none, queue_to, on_link, with_queue, sent, without_first}
-
--- whether a pair of nodes is this link
-abbrev pub same_link : List ℕ → List ℕ → List ℕ → List ℕ → Bool
-same_link from to other another = is_eq (slice_cmp nat_cmp from other) && is_eq (slice_cmp nat_cmp to another)
+use Rattle.cluster_core.specs.Links.{Ways, Links, ways_from, ways_or_none, queue_or_none, queue_to, same_link, on_link, with_queue, sent, without_first}
 
 way_by : (ways : Ways) (t b : List ℕ) (queue : List LinkMsg)
     → queue_to (with_entry (slice_cmp nat_cmp) ways t queue) b ≡ cond (is_eq (slice_cmp nat_cmp b t)) queue (queue_to ways b)

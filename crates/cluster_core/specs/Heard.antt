@@ -1,11 +1,13 @@
 -- What came from the client of a connection.
-use Rattle.std.specs.Prelude.{ℕ, ◌==◌, Bool, true, false, if◌then◌else◌, List, [], ◌∷◌, ◌++◌, Option, None, Some, is_some}
+use Rattle.std.specs.Prelude.{ℕ, ◌==◌, Bool, true, false, if◌then◌else◌, List, [], ◌∷◌, ◌++◌, Option, None, Some}
 use Rattle.imap_wire.specs.declared.frame.Frame.{Frame}
 use Rattle.imap_wire.specs.Frames.{frames}
 use Rattle.mur_config.specs.declared.config.Config.{Config}
+use Rattle.mur_config.specs.declared.node.Kind.TheVariants.{Frontend}
+use Rattle.mur_config.specs.declared.node.Node.{Node}
+use Rattle.mur_config.specs.Nodes.{is_node_of_kind, node_named}
 use Rattle.schedule_text.specs.declared.event.Event.{Event}
 use Rattle.schedule_text.specs.declared.event.Event.TheVariants.{Open, Data, Hang}
-use Rattle.cluster_core.specs.World.{start, front_at}
 
 -- the connection wasn't opened yet; it was opened at a node that is no frontend; or these bytes came, and whether it was closed
 pub data Heard : Type 0 where
@@ -13,8 +15,13 @@ pub data Heard : Type 0 where
   elsewhere : Heard
   client : List ℕ → Bool → Heard
 
+abbrev pub is_frontend_node : Option Node → Bool
+is_frontend_node None = false
+is_frontend_node (Some node) = is_node_of_kind Frontend node
+
+-- whether the configuration has a frontend of this name
 abbrev pub is_frontend : Config → List ℕ → Bool
-is_frontend config node = is_some (front_at (start config) node)
+is_frontend config name = is_frontend_node (node_named name config.nodes)
 
 abbrev pub opened_at : Bool → Heard
 opened_at true = client [] false

@@ -1,9 +1,13 @@
 -- What is on its way between the nodes: each link is a queue in each direction.
-use Rattle.std.specs.Prelude.{ℕ, List, [], ◌∷◌, ◌++◌, drop, Option, None, Some}
-use Rattle.std.specs.Ordering.{nat_cmp}
+use Rattle.std.specs.Prelude.{ℕ, Bool, ◌&&◌, List, [], ◌∷◌, ◌++◌, drop, Option, None, Some}
+use Rattle.std.specs.Ordering.{nat_cmp, is_eq}
 use Rattle.std.specs.Cmp.Lexicographic.{slice_cmp}
 use Rattle.link_msg.specs.declared.message.LinkMsg.{LinkMsg}
 use Rattle.mur_base.specs.Map.{value_at, with_entry}
+
+-- whether a pair of nodes is this link
+abbrev pub same_link : List ℕ → List ℕ → List ℕ → List ℕ → Bool
+same_link from to other another = is_eq (slice_cmp nat_cmp from other) && is_eq (slice_cmp nat_cmp to another)
 
 -- what is on its way from one node, by the node that it goes to
 abbrev pub Ways : Type 0

@@ -10,7 +10,7 @@ ghost use Rattle.cluster_core.specs.Flow.{happens, run, run_steps, steps_of_even
 ghost use Rattle.cluster_core.specs.FlowLaw.{AreItsSteps};
 ghost use Rattle.cluster_core.specs.Headline.{IsOneServer};
 ghost use Rattle.cluster_core.specs.History.{history_of};
-ghost use Rattle.cluster_core.specs.OneNode.{OneNodeWorksEach};
+ghost use Rattle.cluster_core.specs.OneNode.{OneNodeWorksEach, ServesItsOwnBehind};
 ghost use Rattle.cluster_core.specs.Room.{HasRoom};
 ghost use Rattle.cluster_core.specs.Shown.{given_to, home_rows};
 ghost use Rattle.cluster_core.specs.World.{start};
@@ -79,7 +79,7 @@ impl Cluster {
         })
     }
 
-    /// Takes one event, in single steps, in each of which one node works. For want of memory the cluster is spent: drop it.
+    /// Takes one event, in single steps, in each of which one node works, for its own clients alone. For want of memory the cluster is spent: drop it.
     #[tactic(auto, using(crate::proofs::Unrolled::event_made))]
     pub fn step(&mut self, event: Event) -> Result<(), Memory>
         requires { HasRoom self.old event }
@@ -87,6 +87,7 @@ impl Cluster {
         ensures steps { OnOk result (self.new ≡ run_steps self.old (steps_of_event self.old event)) }
         ensures its_steps { AreItsSteps self.old event }
         ensures one_node { OneNodeWorksEach self.old (steps_of_event self.old event) }
+        ensures own_clients { ServesItsOwnBehind self.old event }
         ensures at_rest { NothingWaitsBehind self.old event }
     {
         happens(self.alloc, &mut self.world, event)

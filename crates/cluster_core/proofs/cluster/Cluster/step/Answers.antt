@@ -2,6 +2,7 @@ use Rattle.cluster_core.specs.Flow.{steps_of_event}
 use Rattle.cluster_core.proofs.AtRestLaw.{nothing_waits}
 use Rattle.cluster_core.proofs.FlowRests.{are_its_steps}
 use Rattle.cluster_core.proofs.OneNodeLaw.{one_node_each}
+use Rattle.cluster_core.proofs.OwnClientsLaw.{serves_its_own_behind}
 use Rattle.cluster_core.proofs.cluster.Cluster.step.Goals as goal
 
 pub returns-clause-one_node : goal.returns-clause-one_node
@@ -9,6 +10,9 @@ returns-clause-one_node c = one_node_each c.args.self.now (steps_of_event c.args
 
 pub returns-clause-its_steps : goal.returns-clause-its_steps
 returns-clause-its_steps c = are_its_steps c.args.self.now c.args.event
+
+pub returns-clause-own_clients : goal.returns-clause-own_clients
+returns-clause-own_clients c = serves_its_own_behind c.args.self.now c.args.event
 
 pub returns-clause-at_rest : goal.returns-clause-at_rest
 returns-clause-at_rest c = nothing_waits c.args.self.now c.args.event
