@@ -1,9 +1,10 @@
 -- The one-store law: what each client was given is what one mailbox store replies to the printed history, at every step.
-use Rattle.std.specs.Prelude.{◌≡◌, ◌⊎◌, ℕ, ◌≤◌, true, false, List, [], ◌∷◌, ◌++◌, length, Option, None, Some, All, AllPairs}
+use Rattle.std.specs.Prelude.{◌≡◌, ◌⊎◌, ℕ, ◌≤◌, true, false, List, [], ◌∷◌, ◌++◌, length, Option, None, Some, IfSome, All, AllPairs}
 use Rattle.std.specs.List.{list_any}
 use Rattle.std.specs.Ordering.{nat_cmp}
 use Rattle.std.specs.Cmp.Lexicographic.{slice_cmp}
 use Rattle.backend_core.specs.declared.held.Held.{Held}
+use Rattle.backend_core.specs.HomeLaws.{AreUidsBelowNext}
 use Rattle.imap_reply.specs.Transcript.{transcript_of, ends}
 use Rattle.imap_reply.specs.TranscriptRead.{IsAllReadAsMeant}
 use Rattle.mail_message.specs.Boxes.{Content}
@@ -24,6 +25,7 @@ use Rattle.cluster_core.specs.Flow.{run_steps, unrolled}
 use Rattle.cluster_core.specs.Heard.{heard, bytes_heard, frames_heard, has_closed}
 use Rattle.cluster_core.specs.History.{history_of}
 use Rattle.cluster_core.specs.Links.{on_link}
+use Rattle.cluster_core.specs.NoneLost.{LosesNoneByAppend}
 use Rattle.cluster_core.specs.Requests.{AreRequests}
 use Rattle.cluster_core.specs.Shown.{given_to, held_at}
 use Rattle.cluster_core.specs.World.{start, setting_of}
@@ -89,6 +91,9 @@ pub record IsToldSoFar (config : Config) (talk : Talk) (points : List Point) (st
   pub last : Course
   pub legal : IsLegal (setting_of config) first_course so_far (history_of world) last
   pub one_content : HasBoxesOf last.store world
+  -- each message has a UID below its mailbox's UIDNEXT (RFC 9051, 2.3.1.1), and no APPEND, whoever sends it, loses one
+  pub below_next : (name : List ℕ) → IfSome (box_at last.store name) AreUidsBelowNext
+  pub none_lost : LosesNoneByAppend (setting_of config) last.store
   pub in_time : StandsInTime so_far world.steps points
   -- nothing waits on empty links: then each whole command of a client that hasn't closed its connection was answered, up to an
   -- answer that ended the connection
