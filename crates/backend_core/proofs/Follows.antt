@@ -23,11 +23,11 @@ serial-after : (box : Content) (changes : List Change) → (content_after_all bo
 serial-after box [] = refl
 serial-after box (change ∷ changes) = serial-after (content_after box change) changes
 
-next-flags : (box : Content) (rows : List Row) → (content_after_all box (flag_changes rows)).next ≡ box.next
+pub next-flags : (box : Content) (rows : List Row) → (content_after_all box (flag_changes rows)).next ≡ box.next
 next-flags box [] = refl
 next-flags box (row ∷ rows) = next-flags (content_after box (SetFlags row.uid row.flags)) rows
 
-next-gone : (box : Content) (uids : List ℕ) → (content_after_all box (map (λ uid. Gone uid) uids)).next ≡ box.next
+pub next-gone : (box : Content) (uids : List ℕ) → (content_after_all box (map (λ uid. Gone uid) uids)).next ≡ box.next
 next-gone box [] = refl
 next-gone box (uid ∷ uids) = next-gone (content_after box (Gone uid)) uids
 

@@ -21,7 +21,7 @@ pub record SerialRises (home after : Backend) : Type 0 where
 rises_by : (home : Backend) (name : List ℕ) (after : Backend) → Leaves home name after → SerialRises home after
 rises_by home name after (stays is) = subst (SerialRises home) (sym is) (record { not_falls = omega arith; by_one = omega arith })
 rises_by home name after (makes none left is) = subst (SerialRises home) (sym is) (record { not_falls = omega arith; by_one = omega arith })
-rises_by home name after (turns held content found opened follows is) =
+rises_by home name after (turns held content found opened follows below is) =
     subst (SerialRises home) (sym is) (record { not_falls = omega arith; by_one = omega arith })
 
 pub serial_rises : (home : Backend) (ask : FrontAsk) → SerialRises home (home_step home ask).home
@@ -38,7 +38,7 @@ mine_by home name after held given there (makes none left is) =
     let one : new_held (home.last_serial + 1) name ≡ held = cc (found, ap (λ (h : Backend). held_at h name) (sym is) ∙ there) in
     let serial : home.last_serial + 1 ≡ held.content.serial = ap (λ (h : Held). h.content.serial) one in
     let last : after.last_serial ≡ home.last_serial + 1 = ap (λ (h : Backend). h.last_serial) is in omega arith
-mine_by home name after held given there (turns old content was opened follows is) =
+mine_by home name after held given there (turns old content was opened follows below is) =
     let later = record old { content = content } in
     let found = value_at-with_value (slice_cmp nat_cmp) names_apart home.held name later old was in
     let one : later ≡ held = cc (found, ap (λ (h : Backend). held_at h name) (sym is) ∙ there) in
@@ -65,7 +65,7 @@ made_by home name after held free there (makes none left is) =
     let found = value_at-with_entry (slice_cmp nat_cmp) names_apart home.held name (new_held (home.last_serial + 1) name) in
     let one : new_held (home.last_serial + 1) name ≡ held = cc (found, ap (λ (h : Backend). held_at h name) (sym is) ∙ there) in
     sym (ap (λ (h : Held). h.content.serial) one)
-made_by home name after held free there (turns old content was opened follows is) = let both : None ≡ Some old = sym free ∙ was in cc
+made_by home name after held free there (turns old content was opened follows below is) = let both : None ≡ Some old = sym free ∙ was in cc
 
 pub new_serial : (home : Backend) (ask : FrontAsk) (name : List ℕ) (held : Held) → held_at home name ≡ None
     → held_at (home_step home ask).home name ≡ Some held → held.content.serial ≡ home.last_serial + 1

@@ -25,7 +25,7 @@ mine_by : (home : Backend) (name : List ℕ) (after : Backend) (held : Held) →
     → GoesOn held (held_at after name)
 mine_by home name after held there (stays is) = goes_as_it_was held _ (ap (λ (h : Backend). held_at h name) is ∙ there)
 mine_by home name after held there (makes none left is) = let no : None ≡ Some held = sym none ∙ there in cc
-mine_by home name after held there (turns same content found opened follows is) =
+mine_by home name after held there (turns same content found opened follows below is) =
     let later = record same { content = content } in
     let one : same ≡ held = cc (found, there) in
     goes_to held later (held_at after name)

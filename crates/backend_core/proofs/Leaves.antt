@@ -9,7 +9,7 @@ use Rattle.backend_core.specs.declared.backend.Backend.{Backend}
 use Rattle.backend_core.specs.declared.held.Held.{Held}
 use Rattle.backend_core.specs.declared.response.Response.{Response}
 use Rattle.backend_core.specs.HomeStep.{HomeStep, BoxStep, held_at, with_content}
-use Rattle.backend_core.specs.HomeLaws.{is_open, Follows}
+use Rattle.backend_core.specs.HomeLaws.{is_open, Follows, AreUidsBelowNext}
 use Rattle.backend_core.specs.Refusal.{refusal, refusal_in, is_other}
 use Rattle.backend_core.specs.Create.{create_step, make, with_new}
 use Rattle.backend_core.specs.Served.{served, served_unless}
@@ -20,7 +20,7 @@ pub data Leaves (home : Backend) (name : List ℕ) (after : Backend) : Type 0 wh
   stays : after ≡ home → Leaves home name after
   makes : held_at home name ≡ None → nat_eq home.last_serial (2 ^ 32 - 1) ≡ false → after ≡ with_new home name → Leaves home name after
   turns : (held : Held) (content : Content) → held_at home name ≡ Some held → is_open held.phase ≡ true → Follows held.content content
-      → after ≡ with_content home name held content → Leaves home name after
+      → (AreUidsBelowNext held.content → AreUidsBelowNext content) → after ≡ with_content home name held content → Leaves home name after
 
 make_leaves : (home : Backend) (name : List ℕ) (spent : Bool) → nat_eq home.last_serial (2 ^ 32 - 1) ≡ spent → held_at home name ≡ None
     → Leaves home name (make home name spent).home
@@ -42,24 +42,28 @@ served_open phase other served = cc
 
 unless_leaves : (home : Backend) (name : List ℕ) (held : Held) (step : BoxStep) (response : Option Response)
     → held_at home name ≡ Some held → (response ≡ None → is_open held.phase ≡ true) → Follows held.content step.content
+    → (AreUidsBelowNext held.content → AreUidsBelowNext step.content)
     → Leaves home name (served_unless home name held step response).home
 unfolding served_unless
-unless_leaves home name held step (Some response) found opened follows = stays refl
-unless_leaves home name held step None found opened follows = turns held step.content found (opened refl) follows refl
+unless_leaves home name held step (Some response) found opened follows below = stays refl
+unless_leaves home name held step None found opened follows below = turns held step.content found (opened refl) follows below refl
 
 served_leaves : (home : Backend) (name : List ℕ) (selected : Option ℕ) (operation : Content → BoxStep) (found : Option Held) → held_at home name ≡ found
-    → ((content : Content) → Follows content (operation content).content) → Leaves home name (served home name selected operation found).home
+    → ((content : Content) → Follows content (operation content).content)
+    → ((content : Content) → AreUidsBelowNext content → AreUidsBelowNext (operation content).content)
+    → Leaves home name (served home name selected operation found).home
 unfolding served refusal
-served_leaves home name selected operation None found follows = stays refl
-served_leaves home name selected operation (Some held) found follows =
+served_leaves home name selected operation None found follows below = stays refl
+served_leaves home name selected operation (Some held) found follows below =
     unless_leaves home name held (operation held.content) (refusal selected held) found (served_open held.phase (is_other selected held.content))
-    (follows held.content)
+    (follows held.content) (below held.content)
 
 leaves_by : (home : Backend) (ask : FrontAsk) (op : Op) (step : HomeStep) → Serves home ask op step → Leaves home ask.name step.home
 leaves_by home ask op step (creates create is) =
     subst (λ (s : HomeStep). Leaves home ask.name s.home) (sym is) (create_leaves home ask.name (held_at home ask.name) refl)
-leaves_by home ask op step (works operation follows is) =
-    subst (λ (s : HomeStep). Leaves home ask.name s.home) (sym is) (served_leaves home ask.name ask.selected operation (held_at home ask.name) refl follows)
+leaves_by home ask op step (works operation follows below is) =
+    subst (λ (s : HomeStep). Leaves home ask.name s.home) (sym is)
+    (served_leaves home ask.name ask.selected operation (held_at home ask.name) refl follows below)
 leaves_by home ask op step (tells is) = stays is
 
 pub leaves : (home : Backend) (ask : FrontAsk) → Leaves home ask.name (home_step home ask).home

@@ -1,7 +1,10 @@
 pub mod Follows
+pub mod StaysBelow
 pub mod Serves
 pub mod Leaves
 pub mod GoesOn
+pub mod BelowNext
+pub mod NoneLost
 pub mod GivenSerials
 pub mod NewUids
 pub mod NotServed

@@ -35,7 +35,7 @@ served_stays home name selected operation (Some held) closed =
 elsewhere_by : (home : Backend) (ask : FrontAsk) (op : Op) (step : HomeStep) → op ≢ Create → is_open_here (held_at home ask.name) ≡ false
     → Serves home ask op step → step.home ≡ home
 elsewhere_by home ask op step ne closed (creates create is) = absurd (ne create)
-elsewhere_by home ask op step ne closed (works operation follows is) =
+elsewhere_by home ask op step ne closed (works operation follows below is) =
     ap (λ (s : HomeStep). s.home) is ∙ served_stays home ask.name ask.selected operation (held_at home ask.name) closed
 elsewhere_by home ask op step ne closed (tells is) = is
 
@@ -64,7 +64,7 @@ another_by : (home : Backend) (ask : FrontAsk) (op : Op) (step : HomeStep) (held
     → is_other ask.selected held.content ≡ true → Serves home ask op step → step.home ≡ home
 another_by home ask op step held found other (creates create is) =
     ap (λ (s : HomeStep). s.home) is ∙ ap (λ f. (create_step home ask.name f).home) found ∙ created_stays home ask.name held
-another_by home ask op step held found other (works operation follows is) =
+another_by home ask op step held found other (works operation follows below is) =
     ap (λ (s : HomeStep). s.home) is ∙ ap (λ f. (served home ask.name ask.selected operation f).home) found
     ∙ other_stays home ask.name ask.selected operation held other
 another_by home ask op step held found other (tells is) = is

@@ -18,7 +18,7 @@ other_by home name other after ne (stays is) = ap (λ (h : Backend). held_at h o
 other_by home name other after ne (makes none left is) =
     ap (λ (h : Backend). held_at h other) is
     ∙ value_at-with_entry-other (slice_cmp nat_cmp) names_apart home.held name other (new_held (home.last_serial + 1) name) ne
-other_by home name other after ne (turns held content found opened follows is) =
+other_by home name other after ne (turns held content found opened follows below is) =
     ap (λ (h : Backend). held_at h other) is
     ∙ value_at-with_value-other (slice_cmp nat_cmp) names_apart home.held name other (record held { content = content }) ne
 
@@ -31,7 +31,7 @@ order_by home name after ordered (stays is) = subst HasNamesInOrder (sym is) ord
 order_by home name after ordered (makes none left is) =
     subst HasNamesInOrder (sym is)
     (with_entry-in_order (slice_cmp nat_cmp) nat_list_cmp_total home.held name (new_held (home.last_serial + 1) name) ordered)
-order_by home name after ordered (turns held content found opened follows is) =
+order_by home name after ordered (turns held content found opened follows below is) =
     subst HasNamesInOrder (sym is)
     (with_value-in_order (slice_cmp nat_cmp) home.held name (record held { content = content }) ordered)
 

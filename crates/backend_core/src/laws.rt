@@ -1,5 +1,7 @@
 // What every ask leaves of a home, as laws of its definition.
-ghost use Rattle.std.specs.Prelude.{◌≡◌, ◌≢◌, ◌+◌, ◌≤◌, ℕ, List, None, Some, false};
+ghost use Rattle.std.specs.Prelude.{◌≡◌, ◌≢◌, ◌+◌, ◌≤◌, ℕ, List, None, Some, false, All};
+ghost use Rattle.mur_base.specs.declared.home.Location.{Location};
+ghost use Rattle.mail_message.specs.Boxes.{message_at};
 ghost use Rattle.mail_message.specs.declared.message.Message.{Message};
 ghost use Rattle.link_msg.specs.declared.ask.FrontAsk.{FrontAsk};
 ghost use Rattle.mail_message.specs.declared.message.Snapshot.{Snapshot};
@@ -8,8 +10,11 @@ ghost use Rattle.link_msg.specs.declared.op.Op.TheVariants.{Append, Create};
 ghost use Rattle.link_msg.specs.declared.outcome.Outcome.TheVariants.{Uids};
 ghost use Rattle.backend_core.specs.declared.backend.Backend.{Backend};
 ghost use Rattle.backend_core.specs.declared.held.Held.{Held};
+ghost use Rattle.backend_core.specs.declared.input.BackInput.{BackInput};
 ghost use Rattle.backend_core.specs.HomeStep.{held_at};
 ghost use Rattle.backend_core.specs.HomeLaws.{is_open_here, HasNamesInOrder, GoesOn, AreNewUids, HasGivenSerials};
+ghost use Rattle.backend_core.specs.HomeLaws.{HasUidsBelowNext, LosesNoMessage};
+ghost use Rattle.backend_core.specs.Plan.{booted, plan_of};
 ghost use Rattle.backend_core.specs.Step.{home_step};
 
 /// An ask but a CREATE changes nothing where its mailbox isn't Open here.
@@ -30,12 +35,23 @@ pub fn uidnext_never_falls()
         → GoesOn held (held_at (home_step home ask).home name) }
 {}
 
+/// Each message of each mailbox has a UID below its UIDNEXT, from the start and whatever comes in (RFC 9051, 2.3.1.1).
+pub fn uids_stay_below_uidnext()
+    ensures booted { (me : Location) → HasUidsBelowNext (booted me) }
+    ensures stays { (home : Backend) (input : BackInput) → HasUidsBelowNext home → HasUidsBelowNext (plan_of home input).home }
+{}
+
 /// The UIDs that an APPEND is answered with rise strictly, from UIDNEXT before it on and below UIDNEXT behind it. So no UID
-/// of a mailbox is given twice (RFC 9051, 2.3.1.1).
+/// of a mailbox is given twice (RFC 9051, 2.3.1.1), no message stood at one of them, and none is lost.
 pub fn no_uid_is_given_twice()
-    ensures { (home : Backend) (ask : FrontAsk) (messages : List Message) (held : Held) (uids : List ℕ) (seen : Snapshot)
+    ensures new { (home : Backend) (ask : FrontAsk) (messages : List Message) (held : Held) (uids : List ℕ) (seen : Snapshot)
         → ask.op ≡ Append messages → held_at home ask.name ≡ Some held → (home_step home ask).body ≡ Some (Done (Uids uids) seen)
         → AreNewUids uids held (held_at (home_step home ask).home ask.name) }
+    ensures fresh { (home : Backend) (ask : FrontAsk) (messages : List Message) (held : Held) (uids : List ℕ) (seen : Snapshot)
+        → HasUidsBelowNext home → ask.op ≡ Append messages → held_at home ask.name ≡ Some held
+        → (home_step home ask).body ≡ Some (Done (Uids uids) seen) → All (λ uid. message_at held.content.messages uid ≡ None) uids }
+    ensures kept { (home : Backend) (ask : FrontAsk) (messages : List Message) (name : List ℕ) (held : Held) → HasUidsBelowNext home
+        → ask.op ≡ Append messages → held_at home name ≡ Some held → LosesNoMessage held (held_at (home_step home ask).home name) }
 {}
 
 /// The last UIDVALIDITY never falls, no mailbox has one that wasn't given, and a new one has the UIDVALIDITY behind the last:

@@ -21,6 +21,7 @@ pub use held::Held;
 pub use input::BackInput;
 pub use laws::{
     an_ask_elsewhere_changes_nothing, an_ask_of_another_mailbox_changes_nothing,
-    no_uid_is_given_twice, other_names_stay, uidnext_never_falls, uidvalidity_is_not_given_again,
+    no_uid_is_given_twice, other_names_stay, uidnext_never_falls, uids_stay_below_uidnext,
+    uidvalidity_is_not_given_again,
 };
 pub use plan::BackPlan;

@@ -7,8 +7,10 @@ use Rattle.std.proofs.Math.Logic.{⊎_elim}
 use Rattle.std.proofs.lemmas.Bool.{cases_eq}
 use Rattle.backend_core.specs.declared.backend.Backend.{Backend}
 use Rattle.backend_core.specs.declared.input.BackInput.TheVariants.{FromFront}
+use Rattle.backend_core.specs.HomeLaws.{HasUidsBelowNext}
 use Rattle.backend_core.specs.Plan.{plan_of, answer_outs}
 use Rattle.backend_core.specs.Step.{home_step}
+use Rattle.backend_core.proofs.BelowNext.{step_stays_below}
 use Rattle.front_core.specs.declared.connection.Connection.{Connection}
 use Rattle.front_core.specs.Taken.{ask_with}
 use Rattle.session_core.specs.Begin.{user_of}
@@ -102,6 +104,7 @@ pub record IsAnswered (config : Config) (heard : ℕ → Heard) (world : World) 
   pub reply : AnswerOf
   pub serial : ℕ
   pub backend : Backend
+  pub below_next : HasUidsBelowNext backend
   pub counts : Counts
   pub course : Course
   pub world_is : with_home (taken world front (home_of config)) (home_of config) (plan_of law.backend (FromFront front ask)) ≡ answered_world world front
@@ -139,6 +142,7 @@ answers_ask config heard world law conn front connection tag it name work ask is
       reply = (carried_out (setting_of config) course conn (a_command tag it) serial).answer;
       serial = serial;
       backend = (home_step backend ask).home;
+      below_next = step_stays_below backend ask law.below_next;
       counts = (home_step backend ask).counts;
       course = next_course (setting_of config) course conn (a_command tag it) serial;
       world_is = answers_so world front (home_of config) backend ask serves.body serves.is_body;
@@ -192,6 +196,7 @@ ask_kept config heard after world law conn front connection tag name work ask re
       law = record {
         backend = answered.backend;
         nodes = nodes_with_home config world next law.backend answered.backend refl refl refl law.nodes;
+        below_next = answered.below_next;
         story = story;
         is_told = answered.is_told;
         requests = λ other. law.requests other ∙ ap (λ h. requests_of (setting_of config) (frames_heard h)) (sym (same other));

@@ -350,6 +350,7 @@ heard_on config heard world law conn bytes more node front connection e at stage
       law = record {
         backend = law.backend;
         nodes = law.nodes;
+        below_next = law.below_next;
         story = told;
         is_told = now_told config heard world law conn bytes more (reading_of (setting_of config) bytes) e refl;
         requests = λ other. refl;

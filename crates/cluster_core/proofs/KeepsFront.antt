@@ -58,6 +58,7 @@ front_keeps config heard after origin law links conn node front was connection o
       law = record {
         backend = law.backend;
         nodes = nodes_with_front config origin next law.backend node front later at refl made.others.homes made.others.backends refl refl law.nodes;
+        below_next = law.below_next;
         story = story;
         is_told = made.is_told;
         requests = λ other. ap (λ (r : ℕ → List Request). r other) made.goes_on.requests ∙ requests other;

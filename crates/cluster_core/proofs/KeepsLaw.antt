@@ -5,6 +5,7 @@ use Rattle.std.specs.Prelude.{is_some}
 use Rattle.std.specs.declared.cmp.Ordering.{Ordering}
 use Rattle.std.proofs.Math.Logic.{⊎_elim}
 use Rattle.backend_core.specs.declared.backend.Backend.{Backend}
+use Rattle.backend_core.specs.HomeLaws.{HasUidsBelowNext}
 use Rattle.front_core.specs.declared.connection.Connection.{Connection}
 use Rattle.front_core.specs.declared.connection.Stage.TheVariants.{Ended}
 use Rattle.front_core.specs.declared.front.Front.{Front}
@@ -79,6 +80,7 @@ pub record AreNodesOf (config : Config) (world : World) (backend : Backend) : Ty
 pub record KeepsLaw (config : Config) (heard : ℕ → Heard) (world : World) : Type 0 where
   pub backend : Backend
   pub nodes : AreNodesOf config world backend
+  pub below_next : HasUidsBelowNext backend
   pub story : Story
   pub is_told : IsTold (setting_of config) world.steps world.marks backend story.talk story.course
   pub requests : (conn : ℕ) → story.talk.requests conn ≡ requests_of (setting_of config) (frames_heard (heard conn))

@@ -41,6 +41,7 @@ still_kept config heard after world next alike same law = record {
   law = record {
     backend = law.backend;
     nodes = nodes_alike config world next law.backend alike.fronts alike.homes alike.backends law.nodes;
+    below_next = law.below_next;
     story = law.story;
     is_told = subst (λ m. IsTold (setting_of config) next.steps m law.backend law.story.talk law.story.course) (sym alike.marks)
         (told_later (setting_of config) world.steps next.steps world.marks law.backend law.story.talk law.story.course alike.steps law.is_told);

@@ -2,6 +2,7 @@ pub mod Wires
 pub mod OnWay
 pub mod Ways
 pub mod ServedAlike
+pub mod NoneLost
 pub mod CreateLaw
 pub mod AppendLaw
 pub mod StatusLaw

@@ -293,6 +293,7 @@ start_keeps config are =
         other_homes = λ node other ne at. (fresh.homes node other at).0;
         backends = refl;
       };
+      below_next = λ name there at. (let none : value_at (slice_cmp nat_cmp) has.backend.held name ≡ None = (rw free.0 refl) in cc);
       story = record { talk = record { requests = λ conn. []; answers = λ conn. []; serials = λ conn. [] }; told = λ conn. []; course = first_course };
       is_told = record {
         carries = subst (λ m. Carries (setting_of config)

@@ -1,12 +1,13 @@
 -- What is told at every step of a run.
 use Rattle.std.proofs.Common.{◌≡◌, ℕ, zero, suc, ◌+◌, ◌≤◌, ◌<◌, Bool, true, cond, nat_eq, List, [], ◌∷◌, ◌++◌, length}
 use Rattle.std.proofs.Common.{Some, refl, sym, ◌∙◌, ap, subst, arith, length-append}
-use Rattle.std.specs.Prelude.{All, count_by}
+use Rattle.std.specs.Prelude.{All, IfSome, count_by}
 use Rattle.std.proofs.lemmas.Bool.Decides.{nat_tests}
 use Rattle.std.proofs.lemmas.List.{append-nil}
 use Rattle.std.proofs.lemmas.List.Elements.{All-append, All-nil, All-cons, All-weaker}
 use Rattle.std.proofs.lemmas.List.Sums.{sum_by-append}
 use Rattle.std.proofs.lemmas.Option.{slice_get_within}
+use Rattle.backend_core.specs.HomeLaws.{AreUidsBelowNext}
 use Rattle.mur_base.specs.declared.point.AskId.{AskId}
 use Rattle.imap_command.specs.Ruled.{IsDate}
 use Rattle.imap_reply.proofs.SoundStores.{empty_is}
@@ -14,7 +15,9 @@ use Rattle.mur_base.specs.declared.point.Point.{Point}
 use Rattle.mur_config.specs.declared.config.Config.{Config}
 use Rattle.mur_config.specs.Nodes.{AreNodes}
 use Rattle.mur_model.specs.declared.setting.Setting.{Setting}
+use Rattle.mur_model.specs.declared.store.Store.{Store}
 use Rattle.mur_model.specs.History.{Course, Talk, numbered}
+use Rattle.mur_model.specs.Store.{box_at}
 use Rattle.mur_model.proofs.HistoryGrows.{one_up_to}
 use Rattle.schedule_text.specs.declared.event.Event.{Event}
 use Rattle.cluster_core.specs.declared.world.Mark.{Mark}
@@ -23,6 +26,7 @@ use Rattle.cluster_core.specs.Flow.{run_steps, unrolled}
 use Rattle.cluster_core.specs.Heard.{Heard, nobody, heard_from, bytes_heard, frames_heard}
 use Rattle.cluster_core.specs.History.{history_of}
 use Rattle.cluster_core.specs.Homes.{ShowsBoxesOf}
+use Rattle.cluster_core.specs.NoneLost.{LosesNoneByAppend}
 use Rattle.cluster_core.specs.OneStore.{first_course, HasBoxesOf, IsAnsweredThrough, StandsInTime, IsToldSoFar, IsToldByOneStore}
 use Rattle.cluster_core.specs.Requests.{AreRequests}
 use Rattle.cluster_core.specs.Shown.{given_to}
@@ -32,6 +36,7 @@ use Rattle.cluster_core.proofs.HomesLaw.{has_boxes}
 use Rattle.cluster_core.proofs.InTime.{StandsBehind, run_behind}
 use Rattle.cluster_core.proofs.Keeps.{IsKeptAt, KeepsAll, run_keeps}
 use Rattle.cluster_core.proofs.KeepsLaw.{KeepsLaw}
+use Rattle.cluster_core.proofs.NoneLost.{store_below, append_loses_none}
 use Rattle.cluster_core.proofs.Marks.{Carries, conn_of, command_of, is_mark, all_points}
 use Rattle.cluster_core.proofs.Marks.Carries.{no_marks, a_mark}
 use Rattle.cluster_core.proofs.NoRelocation.{have_causes}
@@ -153,6 +158,8 @@ told_so_far config talk before later are date_is now last =
     (asks_all (setting_of config) (frames_heard (heard conn))) in
     let legal : IsLegalTo (setting_of config) (told_of law.story) (history_of world) law.story.course.store =
     legal_history (setting_of config) world law.story law.backend law.is_told (λ conn. (says conn).count) (λ conn. (says conn).so) in
+    let below_next : (name : List ℕ) → IfSome (box_at law.story.course.store name) AreUidsBelowNext =
+    store_below law.story.course.store law.backend law.is_told.same law.below_next in
     record {
       so_far = told_of law.story;
       goes_on = now.more;
@@ -169,6 +176,9 @@ told_so_far config talk before later are date_is now last =
           (has_boxes config world law.backend law.story.course.store are law.nodes law.is_told.same);
       homes_shown = subst (λ s. ShowsBoxesOf s world) (sym legal.same_store)
           (shows_boxes config world law.backend law.story.course.store are law.nodes law.is_told.same);
+      below_next = subst (λ (s : Store). (name : List ℕ) → IfSome (box_at s name) AreUidsBelowNext) (sym legal.same_store) below_next;
+      none_lost = subst (LosesNoneByAppend (setting_of config)) (sym legal.same_store)
+          (append_loses_none (setting_of config) law.story.course.store below_next);
       in_time = stands_in_time (setting_of config) world
           (run_steps (start config) (before ++ later)) law.story last.story law.backend last.backend law.is_told last.is_told behind (λ conn. (says conn).so);
       counted = steps_made config before;

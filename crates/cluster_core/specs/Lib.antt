@@ -6,6 +6,7 @@ pub mod Requests
 pub mod Heard
 pub mod History
 pub mod Shown
+pub mod NoneLost
 pub mod OneStore
 pub mod AtRest
 pub mod FlowLaw
