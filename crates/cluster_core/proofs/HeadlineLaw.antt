@@ -14,6 +14,7 @@ use Rattle.cluster_core.specs.Headline.{IsOneServer}
 use Rattle.cluster_core.specs.History.{history_of}
 use Rattle.cluster_core.specs.HomeLaw.{HasCause, RefusesForCause}
 use Rattle.cluster_core.specs.World.{start}
+use Rattle.cluster_core.proofs.ClosedLaw.{gives_no_more}
 use Rattle.cluster_core.proofs.Marks.{IsOf, all_points}
 use Rattle.cluster_core.proofs.OneNodeLaw.{one_node_each}
 use Rattle.cluster_core.proofs.OneHome.{keeps_one_home_each}
@@ -36,6 +37,7 @@ one_server config events are date_is = record {
   by_steps = by_steps (start config) events;
   one_node = one_node_each (start config) (unrolled (start config) events);
   one_store = told_by_one_store config events are date_is;
+  closed = gives_no_more config events are;
   one_home = keeps_one_home_each config events are;
   refusals = refuses (run (start config) events);
 }

@@ -33,6 +33,7 @@ pub mod InTime
 pub mod HomesLaw
 pub mod ReadLaw
 pub mod ToldSoFar
+pub mod ClosedLaw
 pub mod AtRestLaw
 pub mod OneNodeLaw
 pub mod OneHome

@@ -7,6 +7,7 @@ pub mod Heard
 pub mod History
 pub mod Shown
 pub mod OneStore
+pub mod Closed
 pub mod AtRest
 pub mod OneNode
 pub mod HomeLaw
