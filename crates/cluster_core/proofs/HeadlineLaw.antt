@@ -15,6 +15,7 @@ use Rattle.cluster_core.specs.History.{history_of}
 use Rattle.cluster_core.specs.HomeLaw.{HasCause, RefusesForCause}
 use Rattle.cluster_core.specs.World.{start}
 use Rattle.cluster_core.proofs.FlowRests.{are_steps_of_all}
+use Rattle.cluster_core.proofs.ClosedLaw.{gives_no_more}
 use Rattle.cluster_core.proofs.Marks.{IsOf, all_points}
 use Rattle.cluster_core.proofs.OneNodeLaw.{one_node_each}
 use Rattle.cluster_core.proofs.OneHome.{keeps_one_home_each}
@@ -40,6 +41,7 @@ one_server config events are date_is = record {
   one_node = one_node_each (start config) (unrolled (start config) events);
   own_clients = serves_its_own_each config (unrolled (start config) events) are;
   one_store = told_by_one_store config events are date_is;
+  closed = gives_no_more config events are;
   one_home = keeps_one_home_each config events are;
   refusals = refuses (run (start config) events);
 }

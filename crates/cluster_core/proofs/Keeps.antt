@@ -52,6 +52,7 @@ takes_keeps config heard world Heal law = quiet_event config heard world Heal la
 
 pub step_keeps : (config : Config) (heard : ℕ → Heard) (world : World) (event : Event) (law : KeepsLaw config heard world)
     → KeepsOn config (told_of law.story) (λ conn. hears config conn (heard conn) event) (steps_by world event)
+unfolding still_kept
 step_keeps config heard world event law =
     let begun = still_kept config heard heard world (stepped world)
     (record {
@@ -66,7 +67,11 @@ step_keeps config heard world event law =
     })
     (λ conn. refl) law in
     let done = takes_keeps config heard (stepped world) event begun.law in
-    record { law = done.law; more = talks_follow (told_of law.story) (told_of begun.law.story) (told_of done.law.story) begun.more done.more }
+    record {
+      law = done.law;
+      more = talks_follow (told_of law.story) (told_of begun.law.story) (told_of done.law.story) begun.more done.more;
+      closed = done.closed;
+    }
 
 -- the law at a moment of a run in which this will have been said
 pub record IsKeptAt (config : Config) (talk : Talk) (heard : ℕ → Heard) (world : World) : Type 0 where

@@ -224,4 +224,5 @@ ask_kept config heard after world law conn front connection tag name work ask re
         answers = same_lists law.story.told;
         serials = item_more law.story.talk.serials conn answered.serial;
       };
+      closed = λ other shut. refl;
     }

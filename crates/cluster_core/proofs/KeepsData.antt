@@ -53,7 +53,7 @@ use Rattle.cluster_core.proofs.ConnectionLaw.{StandsOn}
 use Rattle.cluster_core.proofs.ConnectionLaw.OnItsWay.{there, back}
 use Rattle.cluster_core.proofs.ConnectionLaw.Stands.{reads, waits, faulted, finished}
 use Rattle.cluster_core.proofs.FrameLaw.{inputs_kept, asked_waits}
-use Rattle.cluster_core.proofs.KeepsLaw.{ConnectionIs, IsAt, KeepsLaw, KeepsOn, LooksAlike, looks_same, same_put, same_front, connection_stays}
+use Rattle.cluster_core.proofs.KeepsLaw.{ConnectionIs, IsAt, KeepsLaw, KeepsOn, LooksAlike, is_not_closed, looks_same, same_put, same_front, connection_stays}
 use Rattle.cluster_core.proofs.KeepsLaw.ConnectionIs.{is_nobody, is_elsewhere, is_open, is_closed}
 use Rattle.cluster_core.proofs.KeepsFront.{world_after, with_connection, front_keeps, is_at_after, standing_after}
 use Rattle.cluster_core.proofs.KeepsStill.{still_kept}
@@ -326,7 +326,9 @@ taken_more config heard world law conn bytes more node front connection e at rea
       requests = asked_more config heard conn bytes more connection.reader e (sym reader) law.story.talk.requests law.requests;
       answers = same_lists law.story.told;
       serials = same_lists law.story.talk.serials;
-    }) refl refl refl (λ other. refl) (λ other ne. other_heard config conn other more (heard other) ne) behind.made
+    }) refl refl refl (λ other. refl) (λ other ne. other_heard config conn other more (heard other) ne)
+    (λ shut. absurd (is_not_closed (after_data config heard conn more conn) (bytes ++ more) (heard_more config conn bytes more (heard conn) e) shut))
+    behind.made
     (subst (λ h. ConnectionIs (setting_of config) (home_of config) conn (world_after world node front conn turned.connection turned.outs) behind.story h)
     (sym (heard_more config conn bytes more (heard conn) e))
     (is_open (bytes ++ more) node (with_connection front conn turned.connection) turned.connection
@@ -377,6 +379,7 @@ heard_on config heard world law conn bytes more node front connection e at stage
         answers = same_lists law.story.told;
         serials = same_lists law.story.talk.serials;
       };
+      closed = λ other shut. refl;
     }
 
 -- no frame ends in what is sent behind a fault
@@ -459,7 +462,11 @@ ended_more config heard world law conn bytes more node front connection e at sta
     (looks_put world node front at.at) (λ other. refl) on.law in
     subst (λ s. KeepsOn config (told_of law.story) (after_data config heard conn more) (with_front world node s))
     (sym (at_ended front conn more connection at.has stage))
-    (record { law = put.law; more = talks_follow (told_of law.story) (told_of on.law.story) (told_of put.law.story) on.more put.more })
+    (record {
+      law = put.law;
+      more = talks_follow (told_of law.story) (told_of on.law.story) (told_of put.law.story) on.more put.more;
+      closed = λ other shut. put.closed other shut ∙ on.closed other shut;
+    })
 
 stands_more : (config : Config) (heard : ℕ → Heard) (world : World) (law : KeepsLaw config heard world) (conn : ℕ) (bytes more node : List ℕ) (front : Front)
     (connection : Connection) → heard conn ≡ client bytes false

@@ -1,5 +1,5 @@
 -- A step of one connection at its frontend keeps the law.
-use Rattle.std.proofs.Common.{◌≡◌, ◌≢◌, ℕ, List, [], Option, Some, refl, sym, ◌∙◌, ap, subst}
+use Rattle.std.proofs.Common.{◌≡◌, ◌≢◌, ℕ, true, List, [], Option, Some, refl, sym, ◌∙◌, ap, subst}
 use Rattle.std.specs.Ordering.{nat_cmp}
 use Rattle.std.specs.Cmp.Lexicographic.{slice_cmp}
 use Rattle.std.proofs.Math.Logic.{⊎_elim}
@@ -18,7 +18,7 @@ use Rattle.mur_model.specs.declared.setting.Setting.{Setting}
 use Rattle.mur_model.specs.History.{Course, TalkGoesOn}
 use Rattle.mur_model.proofs.HistoryGrows.{talks_follow}
 use Rattle.cluster_core.specs.declared.world.World.{World}
-use Rattle.cluster_core.specs.Heard.{Heard, frames_heard}
+use Rattle.cluster_core.specs.Heard.{Heard, frames_heard, has_closed}
 use Rattle.cluster_core.specs.Links.{Links}
 use Rattle.cluster_core.specs.World.{front_at, home_of, setting_of, carry_all}
 use Rattle.cluster_core.proofs.ConnectionLaw.{Story, told_of, IsMade, IsStanding}
@@ -42,11 +42,12 @@ pub front_keeps : (config : Config) (heard after : ℕ → Heard) (origin : Worl
     → TalkGoesOn (told_of law.story) (told_of told) → told.told ≡ law.story.told → told.talk.answers ≡ law.story.talk.answers → told.course ≡ law.story.course
     → ((other : ℕ) → told.talk.requests other ≡ requests_of (setting_of config) (frames_heard (after other)))
     → ((other : ℕ) → other ≢ conn → after other ≡ heard other)
+    → (has_closed (after conn) ≡ true → story.told conn ≡ law.story.told conn)
     → IsMade (setting_of config) law.backend conn (record origin { links = links }) told (carry_all node (record origin { links = links }) outs) story
     → ConnectionIs (setting_of config) (home_of config) conn (world_after (record origin { links = links }) node front conn connection outs) story (after conn)
     → KeepsOn config (told_of law.story) after (world_after (record origin { links = links }) node front conn connection outs)
 front_keeps config heard after origin law links conn node front was connection outs told story ways at has more same_told same_said same_course requests others
-    made mine =
+    no_more made mine =
     let world : World = record origin { links = links } in
     let later : Front = with_connection front conn connection in
     let fronts = with_value (slice_cmp nat_cmp) world.fronts node later in
@@ -79,6 +80,10 @@ front_keeps config heard after origin law links conn node front was connection o
             (cases_eq other conn);
       };
       more = talks_follow (told_of law.story) (told_of told) (told_of story) more made.goes_on.more;
+      closed = λ other shut. ⊎_elim
+          (λ (same : other ≡ conn). subst (λ c. story.told c ≡ law.story.told c) (sym same) (no_more (subst (λ c. has_closed (after c) ≡ true) same shut)))
+          (λ (ne : other ≢ conn). made.goes_on.told other ne ∙ ap (λ (t : ℕ → List Answer). t other) same_told)
+          (cases_eq other conn);
     })
 
 -- the connection after its step, as the world then has it

@@ -114,7 +114,7 @@ closes config heard world conn law bytes node front connection at asked now gone
     (λ (ne : other ≢ conn). law.requests other ∙ ap (λ h. requests_of (setting_of config) (frames_heard h)) (sym (other_heard config conn other
     (heard other) ne)))
     (cases_eq other conn))
-    (λ other ne. other_heard config conn other (heard other) ne)
+    (λ other ne. other_heard config conn other (heard other) ne) (λ shut. refl)
     (record { others = keeps_all conn world; goes_on = same_story conn law.story; is_told = law.is_told })
     (subst (λ h. ConnectionIs (setting_of config) (home_of config) conn (world_after world node front conn (hung_up connection) []) law.story h) (sym now)
     (is_closed bytes node (with_connection front conn (hung_up connection)) (hung_up connection)

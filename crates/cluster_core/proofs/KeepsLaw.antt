@@ -26,7 +26,7 @@ use Rattle.mur_model.specs.History.{Talk, TalkGoesOn}
 use Rattle.imap_reply.specs.Inputs.{requests_in}
 use Rattle.cluster_core.proofs.Readings.{inputs_in, reading_of}
 use Rattle.cluster_core.specs.declared.world.World.{World}
-use Rattle.cluster_core.specs.Heard.{Heard, nobody, elsewhere, client, is_frontend, frames_heard}
+use Rattle.cluster_core.specs.Heard.{Heard, nobody, elsewhere, client, is_frontend, frames_heard, has_closed}
 use Rattle.cluster_core.specs.Links.{Links}
 use Rattle.cluster_core.specs.World.{start, client_at, front_at, home_at, home_of, setting_of}
 use Rattle.cluster_core.proofs.ConnectionLaw.{Story, told_of, client_with, HasBegunSo, OnItsWay, Stands, IsLeft, IsStanding}
@@ -86,10 +86,15 @@ pub record KeepsLaw (config : Config) (heard : ℕ → Heard) (world : World) : 
   pub requests : (conn : ℕ) → story.talk.requests conn ≡ requests_of (setting_of config) (frames_heard (heard conn))
   pub connections : (conn : ℕ) → ConnectionIs (setting_of config) (home_of config) conn world story (heard conn)
 
--- so it does behind a world in which so much was said
+-- so it does behind a world in which so much was said; a client that has closed its connection was told no more
 pub record KeepsOn (config : Config) (before : Talk) (heard : ℕ → Heard) (world : World) : Type 0 where
   pub law : KeepsLaw config heard world
   pub more : TalkGoesOn before (told_of law.story)
+  pub closed : (conn : ℕ) → has_closed (heard conn) ≡ true → law.story.told conn ≡ before.answers conn
+
+pub is_not_closed : (heard : Heard) (bytes : List ℕ) → heard ≡ client bytes false → has_closed heard ≡ true → ⊥
+unfolding has_closed
+is_not_closed heard bytes e shut = (let both : false ≡ true = sym (ap has_closed e) ∙ shut in cc)
 
 -- one value put in its own place
 pub same_put : {K X : Type 0} (cmp : K → K → Ordering) (apart : TellsApart cmp) (entries : List (K × X)) (key : K) (value : X)

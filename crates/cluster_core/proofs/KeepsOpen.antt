@@ -140,6 +140,7 @@ elsewhere_keeps config heard world node conn law none new =
             (cases_eq other conn);
       };
       more = same_talk (told_of law.story);
+      closed = λ other shut. refl;
     }
 
 abbrev greeted : World → List ℕ → ℕ → Front → World
@@ -230,6 +231,7 @@ front_keeps_open config heard world node conn front law at new =
             (cases_eq other conn);
       };
       more = same_talk (told_of law.story);
+      closed = λ other shut. refl;
     })
 
 open_by : (config : Config) (heard : ℕ → Heard) (world : World) (node : List ℕ) (conn : ℕ) (found : Option Front) → front_at world node ≡ found

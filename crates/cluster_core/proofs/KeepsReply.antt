@@ -38,7 +38,7 @@ use Rattle.cluster_core.proofs.KeepsData.{asked_reader, inputs_keep_reader}
 use Rattle.cluster_core.proofs.KeepsDeliver.{ask_by, to_front, quiet_keeps}
 use Rattle.cluster_core.proofs.KeepsDeliver.IsQuiet.{an_up, an_end, a_line}
 use Rattle.cluster_core.proofs.KeepsFront.{world_after, with_connection, front_keeps, is_at_after, standing_after, gone_after}
-use Rattle.cluster_core.proofs.KeepsLaw.{ConnectionIs, IsAt, IsGone, KeepsLaw, KeepsOn, WaysOn, looks_same}
+use Rattle.cluster_core.proofs.KeepsLaw.{ConnectionIs, IsAt, IsGone, KeepsLaw, KeepsOn, WaysOn, is_not_closed, looks_same}
 use Rattle.cluster_core.proofs.KeepsLaw.ConnectionIs.{is_nobody, is_elsewhere, is_open, is_closed}
 use Rattle.cluster_core.proofs.KeepsStill.{still_kept}
 use Rattle.cluster_core.proofs.RequestsOf.{requests_of}
@@ -90,7 +90,8 @@ replied_kept config heard after world law from answer rest conn bytes node front
     (front_keeps config heard after world law
     (without_first world.links from node) conn node front connection turned.connection turned.outs law.story stands.story
     (others_on world from node answer rest conn first own) at.at at.has (same_talk (told_of law.story)) refl refl refl
-    (λ other. law.requests other ∙ ap (λ h. requests_of (setting_of config) (frames_heard h)) (sym (same other))) (λ other ne. same other) stands.made
+    (λ other. law.requests other ∙ ap (λ h. requests_of (setting_of config) (frames_heard h)) (sym (same other))) (λ other ne. same other)
+    (λ shut. absurd (is_not_closed (after conn) bytes (same conn ∙ e) shut)) stands.made
     (subst (λ h. ConnectionIs (setting_of config) (home_of config) conn
     (world_after (taken world from node) node front conn turned.connection turned.outs) stands.story h) (sym (same conn ∙ e))
     (is_open bytes node (with_connection front conn turned.connection) turned.connection
@@ -160,7 +161,7 @@ dropped config heard after world law from to answer rest conn bytes node front c
     ∙ ap (λ c. world_after (taken world from node) node front c connection []) own))
     (front_keeps config heard after world law (without_first world.links from node) conn node front connection connection [] law.story law.story
     (others_on world from node answer rest conn first own) at.at at.has (same_talk (told_of law.story)) refl refl refl
-    (λ other. law.requests other ∙ ap (λ h. requests_of (setting_of config) (frames_heard h)) (sym (same other))) (λ other ne. same other)
+    (λ other. law.requests other ∙ ap (λ h. requests_of (setting_of config) (frames_heard h)) (sym (same other))) (λ other ne. same other) (λ shut. refl)
     (record { others = keeps_all conn (taken world from node); goes_on = same_story conn law.story; is_told = law.is_told })
     (subst (λ h. ConnectionIs (setting_of config) (home_of config) conn (world_after (taken world from node) node front conn connection []) law.story h)
     (sym (same conn ∙ e))

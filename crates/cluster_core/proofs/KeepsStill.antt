@@ -35,7 +35,7 @@ nodes_alike config world next backend fronts homes backends nodes = record {
   backends = backends ∙ nodes.backends;
 }
 
-pub still_kept : (config : Config) (heard after : ℕ → Heard) (world next : World) → LooksAlike world next → ((conn : ℕ) → after conn ≡ heard conn)
+unfoldable pub still_kept : (config : Config) (heard after : ℕ → Heard) (world next : World) → LooksAlike world next → ((conn : ℕ) → after conn ≡ heard conn)
     → (law : KeepsLaw config heard world) → KeepsOn config (told_of law.story) after next
 still_kept config heard after world next alike same law = record {
   law = record {
@@ -58,6 +58,7 @@ still_kept config heard after world next alike same law = record {
         }) (law.connections conn));
   };
   more = same_talk (told_of law.story);
+  closed = λ conn shut. refl;
 }
 
 -- what the frontends are for another connection after a step of one connection at one of them

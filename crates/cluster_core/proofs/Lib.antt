@@ -40,6 +40,7 @@ pub mod ReadLaw
 pub mod NeedsNoCause
 pub mod NoRelocation
 pub mod ToldSoFar
+pub mod ClosedLaw
 pub mod AtRestLaw
 pub mod OneNodeLaw
 pub mod OwnOuts

@@ -3,6 +3,7 @@ use Rattle.std.specs.Prelude.{◌≡◌, List}
 use Rattle.mur_config.specs.declared.config.Config.{Config}
 use Rattle.mur_config.specs.Nodes.{links_of}
 use Rattle.schedule_text.specs.declared.event.Event.{Event}
+use Rattle.cluster_core.specs.Closed.{GivesNoMore}
 use Rattle.cluster_core.specs.Flow.{run, run_steps, unrolled}
 use Rattle.cluster_core.specs.FlowLaw.{AreStepsOfAll}
 use Rattle.cluster_core.specs.HomeLaw.{KeepsOneHomeEach, RefusesForCause}
@@ -11,8 +12,8 @@ use Rattle.cluster_core.specs.OneStore.{IsToldByOneStore}
 use Rattle.cluster_core.specs.World.{start}
 
 -- what the clients were given is what one mailbox store replies to the printed history, one command at a time, in each session's order;
--- in each single step one node works, for its own clients alone; a mailbox has at most one writable home; a refusal of relocation
--- comes only at a reserved name or an unreached node
+-- in each single step one node works, for its own clients alone; a client that has closed its connection is given nothing more; a mailbox
+-- has at most one writable home; a refusal of relocation comes only at a reserved name or an unreached node
 pub record IsOneServer (config : Config) (events : List Event) : Type 0 where
   -- the run is that of its single steps, and those are its events, but of a flow as many deliveries as it may make, or until none is left
   pub by_steps : run (start config) events ≡ run_steps (start config) (unrolled (start config) events)
@@ -20,5 +21,6 @@ pub record IsOneServer (config : Config) (events : List Event) : Type 0 where
   pub one_node : OneNodeWorksEach (start config) (unrolled (start config) events)
   pub own_clients : ServesItsOwnEach (start config) (unrolled (start config) events)
   pub one_store : IsToldByOneStore config events
+  pub closed : GivesNoMore config events
   pub one_home : KeepsOneHomeEach config events
   pub refusals : RefusesForCause (run (start config) events)

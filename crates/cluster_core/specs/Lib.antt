@@ -8,6 +8,7 @@ pub mod History
 pub mod Shown
 pub mod NoneLost
 pub mod OneStore
+pub mod Closed
 pub mod AtRest
 pub mod FlowLaw
 pub mod OneNode
