@@ -1,5 +1,5 @@
 -- A flow delivers as many messages as it may, and fewer only where none is on its way any more.
-use Rattle.std.proofs.Common.{◌≡◌, ◌≢◌, ℕ, zero, suc, ◌+◌, ◌≤◌, ◌==◌, Bool, true, false, cond, List, [], ◌∷◌, ◌++◌, length, drop, None, Some, refl}
+use Rattle.std.proofs.Common.{◌≡◌, ◌≢◌, ℕ, zero, suc, ◌+◌, ◌*◌, ◌≤◌, ◌==◌, Bool, true, false, cond, List, [], ◌∷◌, ◌++◌, length, drop, None, Some, refl}
 use Rattle.std.proofs.Common.{sym, ◌∙◌, ap, subst, arith, length-append, Option, All, Contains}
 use Rattle.std.proofs.lemmas.Bool.{eqb-true, eq-eqb}
 use Rattle.std.proofs.lemmas.List.Elements.{All-nil, All-cons, All-contains, Contains-append_right}
@@ -14,6 +14,7 @@ use Rattle.mur_config.specs.declared.node.Link.{Link}
 use Rattle.mur_config.specs.Nodes.{AreNodes, links_of}
 use Rattle.schedule_text.specs.declared.event.Event.{Event}
 use Rattle.schedule_text.specs.declared.event.Event.TheVariants.{Deliver, Flow}
+use Rattle.schedule_text.specs.Brings.{bytes_of, bytes_of_all}
 use Rattle.cluster_core.specs.declared.world.World.{World}
 use Rattle.cluster_core.specs.Flow.{Flowing, delivered, turn_by, turn_of, round, rounds_by, rounds, flow, steps_of_event, happens, unrolled, run_steps}
 use Rattle.cluster_core.specs.FlowLaw.{DeliversFirst, IsFlow, AreStepsOf, AreStepsOfAll, AreItsSteps}
@@ -21,6 +22,9 @@ use Rattle.cluster_core.specs.FlowLaw.AreStepsOfAll.{no_event, an_event}
 use Rattle.cluster_core.specs.Links.{on_link}
 use Rattle.cluster_core.specs.World.{front_at, home_at, input_of, home_takes, comes_to_home, comes_to, taken, deliver_first, takes, stepped, steps_by, start}
 use Rattle.cluster_core.proofs.LinkedNodes.{AreApart, pairs_apart}
+use Rattle.cluster_core.proofs.Load.{load}
+use Rattle.cluster_core.proofs.LoadFalls.{delivery_falls, start_load, step_load, steps_load}
+use Rattle.cluster_core.proofs.OncePairs.{times, pairs_once}
 use Rattle.cluster_core.proofs.OneNodeLaw.{carry_all_sends}
 use Rattle.cluster_core.proofs.OnPairs.{IsIdle, all_empty, pairs_stay}
 use Rattle.cluster_core.proofs.Unrolled.{event_made, run_steps-append}
@@ -225,50 +229,100 @@ flow_rests : (world : World) (count : ℕ) → (flow world count).left ≢ 0 →
 unfolding flow
 flow_rests world count some = rounds_rest count world.pairs (record { world = world; made = []; left = count }) (omega arith) some
 
-is_flow : (config : Config) (steps : List Event) (count : ℕ) (world : World) → AreNodes config.nodes → world ≡ run_steps (start config) steps
-    → IsFlow (links_of config.nodes) count world (flow world count).made
-is_flow config steps count world are there =
+flow_is : (config : Config) (steps : List Event) (count : ℕ) (world : World) → world ≡ run_steps (start config) steps
+    → IsFlowing (links_of config.nodes) world count (flow world count)
+flow_is config steps count world there =
+    let pairs : world.pairs ≡ links_of config.nodes = ap (λ (w : World). w.pairs) there ∙ pairs_stay config steps in
+    subst (λ links. IsFlowing links world count (flow world count)) pairs
+    (flow_flows world count (subst (λ links. All AreApart links) (sym pairs) (pairs_apart config.nodes)))
+
+-- deliveries come to an end
+
+delivers_less : (links : List Link) → ((from to : List ℕ) → times from to links ≤ 1) → (world : World) (event : Event)
+    → DeliversFirst links world event (steps_by world event) → load links (steps_by world event) + 1 ≤ load links world
+delivers_less links once world event is =
+    subst (λ e. load links (steps_by world e) + 1 ≤ load links world) (sym is.delivers)
+    (delivery_falls links once world (is.link).from (is.link).to is.message _ is.among is.is_taken)
+
+deliveries_end : (links : List Link) → ((from to : List ℕ) → times from to links ≤ 1) → (world : World) (steps : List Event) → DeliversEach links world steps
+    → load links (run_steps world steps) + length steps ≤ load links world
+unfolding run_steps
+deliveries_end links once world [] each = omega arith
+deliveries_end links once world (event ∷ steps) each =
+    omega (
+      arith,
+      delivers_less links once world event (each [] event steps refl),
+      deliveries_end links once (steps_by world event) steps (λ before step later e. each (event ∷ before) step later (ap (λ l. event ∷ l) e)),
+    )
+
+flow_ends : (config : Config) (steps : List Event) (count : ℕ) (world : World) → AreNodes config.nodes → world ≡ run_steps (start config) steps
+    → load (links_of config.nodes) (flow world count).world + length (flow world count).made ≤ load (links_of config.nodes) world
+flow_ends config steps count world are there =
+    let flows = flow_is config steps count world there in
+    omega (
+      arith,
+      deliveries_end (links_of config.nodes) (pairs_once config.nodes are) world (flow world count).made flows.each,
+      ap (load (links_of config.nodes)) flows.steps,
+    )
+
+is_flow : (config : Config) (steps : List Event) (sent count : ℕ) (world : World) → AreNodes config.nodes → world ≡ run_steps (start config) steps
+    → load (links_of config.nodes) world ≤ 2 * sent → IsFlow (links_of config.nodes) sent count world (flow world count).made
+is_flow config steps sent count world are there few =
     let pairs : world.pairs ≡ links_of config.nodes = ap (λ (w : World). w.pairs) there ∙ pairs_stay config steps in
     let made = (flow world count).made in
-    let flows = flow_flows world count (subst (λ links. All AreApart links) (sym pairs) (pairs_apart config.nodes)) in
+    let flows = flow_is config steps count world there in
     let ends : (flow world count).world ≡ run_steps (start config) (steps ++ made) =
     flows.steps ∙ ap (λ w. run_steps w made) there ∙ sym (run_steps-append (start config) steps made) in
     record {
       at_most = omega (arith, flows.counts);
-      each = λ before step later parts. subst (λ links. DeliversFirst links (run_steps world before) step (run_steps world (before ++ step ∷ []))) pairs
-          (flows.each before step later parts);
+      each = flows.each;
       fewer = λ fewer from to.
           let some : (flow world count).left ≢ 0 = λ none. omega (arith, flows.counts, fewer, none) in
           let idle = subst (λ links. All (IsIdle (flow world count).world) links) pairs (flow_rests world count some) in
           ap (λ (w : World). on_link w.links from to) (sym flows.steps ∙ ends)
           ∙ all_empty config (steps ++ made) are (subst (λ w. All (IsIdle w) (links_of config.nodes)) ends idle) from to;
+      ends = omega (arith, few, flow_ends config steps count world are there);
     }
 
-are_steps : (config : Config) (steps : List Event) (world : World) (event : Event) → AreNodes config.nodes → world ≡ run_steps (start config) steps
-    → AreStepsOf (links_of config.nodes) world event (steps_of_event world event)
+are_steps : (config : Config) (steps : List Event) (sent : ℕ) (world : World) (event : Event) → AreNodes config.nodes → world ≡ run_steps (start config) steps
+    → load (links_of config.nodes) world ≤ 2 * sent → AreStepsOf (links_of config.nodes) sent world event (steps_of_event world event)
 unfolding steps_of_event
-are_steps config steps world (Flow count) are there = is_flow config steps count world are there
-are_steps config steps world event are there = refl
+are_steps config steps sent world (Flow count) are there few = is_flow config steps sent count world are there few
+are_steps config steps sent world event are there few = refl
 
 -- behind whatever steps
 pub are_its_steps : (world : World) (event : Event) → AreItsSteps world event
-are_its_steps world event = λ config steps are there. are_steps config steps world event are there
+unfolding run_steps
+are_its_steps world event = λ config steps are there.
+    let few : load (links_of config.nodes) (run_steps (start config) steps) ≤ 2 * (0 + bytes_of_all steps) =
+    steps_load config [] steps (start config) 0 are refl (start_load config (links_of config.nodes)) in
+    let here : load (links_of config.nodes) world ≤ 2 * bytes_of_all steps = omega (arith, few, ap (load (links_of config.nodes)) there) in
+    are_steps config steps (bytes_of_all steps) world event are there here
 
-all_from : (config : Config) (steps : List Event) (world : World) (events : List Event) → AreNodes config.nodes → world ≡ run_steps (start config) steps
-    → AreStepsOfAll (links_of config.nodes) world events (unrolled world events)
+happens_load : (config : Config) (steps : List Event) (world : World) (event : Event) → AreNodes config.nodes → world ≡ run_steps (start config) steps
+    → load (links_of config.nodes) (happens world event) ≤ load (links_of config.nodes) world + 2 * bytes_of event
+unfolding happens
+happens_load config steps world (Flow count) are there = omega (arith, flow_ends config steps count world are there)
+happens_load config steps world event are there = step_load config steps world event are there
+
+all_from : (config : Config) (steps : List Event) (sent : ℕ) (world : World) (events : List Event) → AreNodes config.nodes
+    → world ≡ run_steps (start config) steps → load (links_of config.nodes) world ≤ 2 * sent
+    → AreStepsOfAll (links_of config.nodes) sent world events (unrolled world events)
 unfolding unrolled
-all_from config steps world [] are there = no_event world
-all_from config steps world (event ∷ events) are there =
+all_from config steps sent world [] are there few = no_event sent world
+all_from config steps sent world (event ∷ events) are there few =
     let its = steps_of_event world event in
     let made = event_made world event in
     let later : happens world event ≡ run_steps (start config) (steps ++ its) =
     made ∙ ap (λ w. run_steps w its) there ∙ sym (run_steps-append (start config) steps its) in
-    an_event world event events its (unrolled (happens world event) events) (are_steps config steps world event are there)
-    (subst (λ w. AreStepsOfAll (links_of config.nodes) w events (unrolled (happens world event) events)) made
-    (all_from config (steps ++ its) (happens world event) events are later))
+    let next : load (links_of config.nodes) (happens world event) ≤ 2 * (sent + bytes_of event) =
+    omega (arith, few, happens_load config steps world event are there) in
+    an_event sent world event events its (unrolled (happens world event) events) (are_steps config steps sent world event are there few)
+    (subst (λ w. AreStepsOfAll (links_of config.nodes) (sent + bytes_of event) w events (unrolled (happens world event) events)) made
+    (all_from config (steps ++ its) (sent + bytes_of event) (happens world event) events are later next))
 
 -- the steps of a run are those of its events
 pub are_steps_of_all : (config : Config) (events : List Event) → AreNodes config.nodes
-    → AreStepsOfAll (links_of config.nodes) (start config) events (unrolled (start config) events)
+    → AreStepsOfAll (links_of config.nodes) 0 (start config) events (unrolled (start config) events)
 unfolding run_steps
-are_steps_of_all config events are = all_from config [] (start config) events are refl
+are_steps_of_all config events are = all_from config [] 0 (start config) events are refl (start_load config (links_of config.nodes))

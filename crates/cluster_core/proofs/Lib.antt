@@ -49,6 +49,9 @@ pub mod OneHome
 pub mod NoneQuiet
 pub mod LinkedNodes
 pub mod OnPairs
+pub mod OncePairs
+pub mod Load
+pub mod LoadFalls
 pub mod FlowRests
 pub mod HeadlineLaw
 pub mod FirstBackend

@@ -176,6 +176,13 @@ start_none_quiet config = λ a b. nothing_picked quiet_in (start config).links a
 pub pairs_stay : (config : Config) (steps : List Event) → (run_steps (start config) steps).pairs ≡ links_of config.nodes
 pairs_stay config steps = (keeps_none_quiet (start config) steps).pairs ∙ start_pairs config
 
+pub on_pairs : (config : Config) (steps : List Event) → AreNodes config.nodes → (from to : List ℕ) (message : LinkMsg) (rest : List LinkMsg)
+    → on_link (run_steps (start config) steps).links from to ≡ message ∷ rest → Contains (links_of config.nodes) (record { from = from; to = to })
+on_pairs config steps are from to message rest e =
+    goes_on_pair config (λ conn. heard_from config conn nobody steps) (run_steps (start config) steps)
+    ((run_keeps config (λ conn. nobody) (start config) steps (start_keeps config are)).at steps [] (sym (append-nil steps))).law are
+    ((keeps_none_quiet (start config) steps).none_quiet (start_none_quiet config)) from to message rest e
+
 -- nothing is on its way on this link
 abbrev pub IsIdle : World → Link → Type 0
 IsIdle world link = on_link world.links link.from link.to ≡ []
@@ -185,13 +192,9 @@ pub all_empty : (config : Config) (steps : List Event) → AreNodes config.nodes
     → AreEmpty (run_steps (start config) steps)
 all_empty config steps are idle = λ from to. by from to (on_link (run_steps (start config) steps).links from to) refl
   where
-    law : KeepsLaw config (λ conn. heard_from config conn nobody steps) (run_steps (start config) steps)
-    law = ((run_keeps config (λ conn. nobody) (start config) steps (start_keeps config are)).at steps [] (sym (append-nil steps))).law
-
     by : (from to : List ℕ) (queue : List LinkMsg) → on_link (run_steps (start config) steps).links from to ≡ queue
         → on_link (run_steps (start config) steps).links from to ≡ []
     by from to [] e = e
     by from to (message ∷ rest) e =
         All-contains (IsIdle (run_steps (start config) steps)) (links_of config.nodes) (record { from = from; to = to }) idle
-        (goes_on_pair config (λ conn. heard_from config conn nobody steps) (run_steps (start config) steps) law are
-        ((keeps_none_quiet (start config) steps).none_quiet (start_none_quiet config)) from to message rest e)
+        (on_pairs config steps are from to message rest e)
