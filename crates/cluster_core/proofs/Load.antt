@@ -47,9 +47,9 @@ use Rattle.session_core.specs.Begin.{begin}
 use Rattle.session_core.specs.Finish.{finished_by, turn_of}
 use Rattle.session_core.specs.Need.{told}
 use Rattle.cluster_core.specs.declared.world.World.{World}
-use Rattle.cluster_core.specs.Links.{Links, on_link, sent, without_first}
+use Rattle.cluster_core.specs.Links.{Links, same_link, on_link, sent, without_first}
 use Rattle.cluster_core.proofs.OncePairs.{times}
-use Rattle.cluster_core.proofs.Wires.{same_link, same_itself, on_link-sent, on_link-taken}
+use Rattle.cluster_core.proofs.Wires.{same_itself, on_link-sent, on_link-taken}
 
 unfoldable pub message_load : LinkMsg → ℕ
 message_load (Ask ask) = 2

@@ -8,8 +8,8 @@ use Rattle.mur_base.proofs.MapLaws.{names_apart, not_equal}
 use Rattle.mur_config.specs.declared.node.Link.{Link}
 use Rattle.mur_config.specs.declared.node.Node.{Node}
 use Rattle.mur_config.specs.Nodes.{AreNodes, are_linked, link, links_from, links_between, links_of}
-use Rattle.cluster_core.proofs.StartLaw.{head_apart, tail_apart}
-use Rattle.cluster_core.proofs.Wires.{same_link}
+use Rattle.cluster_core.proofs.FrontsOfStart.{head_apart, tail_apart}
+use Rattle.cluster_core.specs.Links.{same_link}
 
 -- how often a pair stands among these
 unfoldable pub times : List ℕ → List ℕ → List Link → ℕ
