@@ -227,6 +227,9 @@ answered_here setting front home backend conn inputs next connection before told
       };
     })
 
+abbrev last_of : ℕ → Connection → Tag → Reply → Turned
+last_of conn connection tag reply = answers_last conn (record connection { session = session_ended }) tag reply
+
 -- a request that the frontend answers by itself, and with that ends the connection: nothing that follows it is taken
 last_here : (setting : Setting) (front home : List ℕ) (backend : Backend) (conn : ℕ) (inputs more : List Input) (held : Option (List ℕ))
     (connection : Connection) (before : World) (told : Story) (world : World)
@@ -236,8 +239,8 @@ last_here : (setting : Setting) (front home : List ℕ) (backend : Backend) (con
     ≡ record { store = store; session = session_ended; answer = record { tag = tag; reply = reply } })
     → ((store : Store) → MayTake setting store (was.story.course.sessions conn) request 0)
     → ends reply ≡ true
-    → StandsOn setting front home backend conn (inputs ++ Asks request ∷ more) held (answers_last conn connection tag reply).connection before told
-    (carry_all front world (answers_last conn connection tag reply).outs)
+    → StandsOn setting front home backend conn (inputs ++ Asks request ∷ more) held (last_of conn connection tag reply).connection before told
+    (carry_all front world (last_of conn connection tag reply).outs)
 unfolding answers_last
 last_here setting front home backend conn inputs more held connection before told world request tag reply was number is free is_end =
     let story = was.story in
@@ -252,7 +255,7 @@ last_here setting front home backend conn inputs more held connection before tol
     let world_is = last_carried front world conn client text (record { conn = conn; command = connection.answered + 1 }) was.reading.client in
     let after_world = marked_world (given_world world conn client text) (record { conn = conn; command = connection.answered + 1 }) in
     let now : Story = said_story setting story conn request answer in
-    subst (λ w. StandsOn setting front home backend conn next held (answers_last conn connection tag reply).connection before told w) (sym world_is)
+    subst (λ w. StandsOn setting front home backend conn next held (last_of conn connection tag reply).connection before told w) (sym world_is)
     (record {
       story = now;
       made = said_made setting front home backend conn inputs connection before told world request tag reply session_ended text was number is free;
@@ -424,7 +427,7 @@ last_turned : (setting : Setting) (home : List ℕ) (conn : ℕ) (connection : C
     ≡ record { connection = (answers_last conn connection tag reply).connection; outs = [] }
 unfolding answers_last
 last_turned setting home conn connection tag reply inputs =
-    ended_drops setting home conn (record connection { session = session_ended; stage = Ended; answered = connection.answered + 1 }) inputs refl
+    ended_drops setting home conn (record connection { stage = Ended; answered = connection.answered + 1 }) inputs refl
 
 -- an input, and then the others
 pub came_on : (setting : Setting) (front home : List ℕ) (backend : Backend) (conn : ℕ) (all : List Input) (held : Option (List ℕ)) (connection : Connection)
@@ -530,11 +533,12 @@ request_kept setting front home backend conn inputs new request held connection 
     (λ answer on. request_answered inputs (was.story.told conn) request answer was.reading.answered on))
 request_kept setting front home backend conn inputs new request held connection before told world was last all follow
     (finishes tag it reply command is free is_end form) =
-    let turned : Turned = answers_last conn connection tag reply in
+    let turned : Turned = last_of conn connection tag reply in
     came_on setting front home backend conn (inputs ++ Asks request ∷ new) held connection before told world (Asks request) new turned
     (reads_input setting home conn connection (Asks request) was.reading.stage_is ∙ form connection was.reading.session_is)
     (subst (λ (t : Turned). StandsOn setting front home backend conn (inputs ++ Asks request ∷ new) held t.connection before told
-    (carry_all front (carry_all front world turned.outs) t.outs)) (sym (last_turned setting home conn connection tag reply new))
+    (carry_all front (carry_all front world turned.outs) t.outs))
+    (sym (last_turned setting home conn (record connection { session = session_ended }) tag reply new))
     (last_here setting front home backend conn inputs new held connection before told world request tag reply was
     (next_of setting front home backend conn inputs new (Asks request) connection before told world request was all refl) is free is_end))
 request_kept setting front home backend conn inputs new request held connection before told world was last all follow

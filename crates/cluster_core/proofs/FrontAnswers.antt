@@ -39,7 +39,8 @@ pub data IsTaken (setting : Setting) (home : List ℕ) (conn : ℕ) (session : S
       ≡ record { store = store; session = session_ended; answer = record { tag = tag; reply = reply } })
       → ((store : Store) → MayTake setting store session request 0)
       → ends reply ≡ true
-      → ((connection : Connection) → connection.session ≡ session → request_in setting home conn connection request ≡ answers_last conn connection tag reply)
+      → ((connection : Connection) → connection.session ≡ session
+      → request_in setting home conn connection request ≡ answers_last conn (record connection { session = session_ended }) tag reply)
       → IsTaken setting home conn session request
   asked : (tag : Tag) (it : Command) (name : List ℕ) (work : Work) → request ≡ a_command tag it → need_of setting session it ≡ Mailbox name work
       → ((connection : Connection) → connection.session ≡ session

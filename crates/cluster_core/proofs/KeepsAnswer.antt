@@ -197,7 +197,8 @@ is_end_of (Some (Selected view)) e = cc
 is_end_of (Some session_ended) e = refl
 
 pub ended_turned : (setting : Setting) (home : List ℕ) (conn : ℕ) (connection : Connection) (tag : Tag) (reply : Reply) (later : Option Sess)
-    → ends_session later ≡ true → turned_so setting home conn connection tag reply later ≡ ends_with conn connection (reply_text tag reply)
+    → ends_session later ≡ true
+    → turned_so setting home conn connection tag reply later ≡ ends_with conn (record connection { session = session_ended }) (reply_text tag reply)
 unfolding finished_by told
 ended_turned setting home conn connection tag reply later e = ap (turned_so setting home conn connection tag reply) (is_end_of later e)
 
@@ -226,8 +227,8 @@ replied_by setting front home backend conn all passed held request connection ta
     asked true ended =
     subst (λ (t : Turned). StandsOn setting front home backend conn all held t.connection world story (carry_all front world t.outs))
     (sym (ended_turned setting home conn connection tag turn.reply turn.session ended))
-    (ended_stands setting front home backend conn all passed held request connection tag turn.reply world story parts count at answered said (both ∙ ended) way
-    told)
+    (ended_stands setting front home backend conn all passed held request (record connection { session = session_ended }) tag turn.reply world story parts count
+    at answered said (both ∙ ended) way told)
 replied_by setting front home backend conn all passed held request connection tag turn world story parts count at lasts session both answered said way told last
     asked false ended =
     subst (λ (t : Turned). StandsOn setting front home backend conn all held t.connection world story (carry_all front world t.outs))

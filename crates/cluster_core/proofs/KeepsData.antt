@@ -12,6 +12,7 @@ use Rattle.std.proofs.lemmas.List.{append-nil}
 use Rattle.front_core.specs.declared.connection.Connection.{Connection}
 use Rattle.front_core.specs.declared.connection.Stage.TheVariants.{Reading, Asked, Ended}
 use Rattle.front_core.specs.declared.front.Front.{Front}
+use Rattle.front_core.specs.Ended.{released}
 use Rattle.front_core.specs.Front.{connection_at, having_read, bytes_in, bytes_at as front_bytes_at, bytes_by, still, with_turned}
 use Rattle.front_core.specs.Taken.{Turned, input_comes, inputs_come}
 use Rattle.front_core.proofs.FrameLaws.{reader_kept}
@@ -57,6 +58,7 @@ use Rattle.cluster_core.proofs.KeepsLaw.{ConnectionIs, IsAt, KeepsLaw, KeepsOn, 
 use Rattle.cluster_core.proofs.KeepsLaw.ConnectionIs.{is_nobody, is_elsewhere, is_open, is_closed}
 use Rattle.cluster_core.proofs.KeepsFront.{world_after, with_connection, front_keeps, is_at_after, standing_after}
 use Rattle.cluster_core.proofs.KeepsStill.{still_kept}
+use Rattle.cluster_core.proofs.Released.{begun_released, standing_released}
 use Rattle.cluster_core.proofs.RequestsOf.{requests_of, replies_stop}
 use Rattle.cluster_core.proofs.Told.{IsTold, told_asked}
 use Rattle.cluster_core.proofs.Ways.{AreOnWay}
@@ -318,8 +320,13 @@ taken_more config heard world law conn bytes more node front connection e at rea
     ap (λ s. inputs_come s front.home conn (having_read s connection more) (inputs_of_more s connection.reader more)) was.1
     ∙ ap (λ h. inputs_come (setting_of config) h conn (having_read (setting_of config) connection more)
     (inputs_of_more (setting_of config) connection.reader more)) was.0 in
+    let kept : Connection = released turned.connection in
+    let reads_so : HasBegunSo turned.connection (reading_of (setting_of config) (bytes ++ more)) =
+    inr (inputs_keep_reader (setting_of config) (home_of config) conn (having_read (setting_of config) connection more) (inputs_of_more
+    (setting_of config) connection.reader more)
+    ∙ sym (reading_with_more (setting_of config) bytes more connection.reader (sym reader))) in
     subst (λ (t : Turned). KeepsOn config (told_of law.story) (after_data config heard conn more) (with_front world node (with_turned front conn t))) (sym same)
-    (front_keeps config heard (after_data config heard conn more) world law world.links conn node front connection turned.connection turned.outs
+    (front_keeps config heard (after_data config heard conn more) world law world.links conn node front connection kept turned.outs
     (asked_talk config heard conn more law.story) behind.story
     (λ other ne f h asks answers way. way) at.at at.has
     (record {
@@ -329,15 +336,15 @@ taken_more config heard world law conn bytes more node front connection e at rea
     }) refl refl refl (λ other. refl) (λ other ne. other_heard config conn other more (heard other) ne)
     (λ shut. absurd (is_not_closed (after_data config heard conn more conn) (bytes ++ more) (heard_more config conn bytes more (heard conn) e) shut))
     behind.made
-    (subst (λ h. ConnectionIs (setting_of config) (home_of config) conn (world_after world node front conn turned.connection turned.outs) behind.story h)
+    (subst (λ h. ConnectionIs (setting_of config) (home_of config) conn (world_after world node front conn kept turned.outs) behind.story h)
     (sym (heard_more config conn bytes more (heard conn) e))
-    (is_open (bytes ++ more) node (with_connection front conn turned.connection) turned.connection
-    (is_at_after world node front conn connection turned.connection turned.outs at.at at.has)
-    (inr (inputs_keep_reader (setting_of config) (home_of config) conn (having_read (setting_of config) connection more) (inputs_of_more
-    (setting_of config) connection.reader more)
-    ∙ sym (reading_with_more (setting_of config) bytes more connection.reader (sym reader))))
-    (standing_after world node front conn turned.connection turned.outs (setting_of config) (home_of config) (inputs_in (setting_of config) (bytes ++ more))
-    (begun (bytes ++ more)) behind.story behind.standing))))
+    (is_open (bytes ++ more) node (with_connection front conn kept) kept
+    (is_at_after world node front conn connection kept turned.outs at.at at.has)
+    (begun_released turned.connection (reading_of (setting_of config) (bytes ++ more)) reads_so)
+    (standing_after world node front conn kept turned.outs (setting_of config) (home_of config) (inputs_in (setting_of config) (bytes ++ more))
+    (begun (bytes ++ more)) behind.story
+    (standing_released (setting_of config) node (home_of config) conn (inputs_in (setting_of config) (bytes ++ more)) (begun (bytes ++ more))
+    turned.connection (carry_all node world turned.outs) behind.story behind.standing)))))
 
 -- one that has ended takes none of what it is sent: it stands so behind more bytes as well
 heard_on : (config : Config) (heard : ℕ → Heard) (world : World) (law : KeepsLaw config heard world) (conn : ℕ) (bytes more node : List ℕ) (front : Front)

@@ -8,6 +8,7 @@ use Rattle.backend_core.specs.Plan.{plan_of}
 use Rattle.front_core.specs.declared.connection.Connection.{Connection}
 use Rattle.front_core.specs.declared.front.Front.{Front}
 use Rattle.front_core.specs.Answered.{answer_comes}
+use Rattle.front_core.specs.Ended.{released}
 use Rattle.front_core.specs.Front.{connection_at, deliver as take_message, answer_at, with_turned}
 use Rattle.front_core.specs.Taken.{Turned, ask_with}
 use Rattle.session_core.specs.Asking.{asked_for}
@@ -279,7 +280,7 @@ pub to_front : (world : World) (from node : List ℕ) (answer : BackAnswer) (fro
     → front_at world node ≡ Some front → connection_at front (answer.id).conn ≡ Some connection
     → answer_comes front.setting front.home (answer.id).conn connection answer ≡ turned
     → comes_to (taken world from node) from node (Answer answer) (front_at world node) ≡ world_after (taken world from node) node front
-    (answer.id).conn turned.connection turned.outs
+    (answer.id).conn (released turned.connection) turned.outs
 unfolding comes_to take_message answer_at
 to_front world from node answer front connection turned at has comes =
     ap (comes_to (taken world from node) from node (Answer answer)) at

@@ -5,6 +5,7 @@ use Rattle.front_core.specs.declared.connection.Connection.{Connection}
 use Rattle.front_core.specs.declared.connection.Stage.TheVariants.{Asked}
 use Rattle.front_core.specs.declared.front.Front.{Front}
 use Rattle.front_core.specs.Answered.{answer_comes, reading_again, unchanged}
+use Rattle.front_core.specs.Ended.{released}
 use Rattle.front_core.specs.Front.{connection_at}
 use Rattle.front_core.specs.Taken.{Turned}
 use Rattle.imap_reply.specs.SessionEnds.{ends_session}
@@ -41,6 +42,7 @@ use Rattle.cluster_core.proofs.KeepsFront.{world_after, with_connection, front_k
 use Rattle.cluster_core.proofs.KeepsLaw.{ConnectionIs, IsAt, IsGone, KeepsLaw, KeepsOn, WaysOn, is_not_closed, looks_same}
 use Rattle.cluster_core.proofs.KeepsLaw.ConnectionIs.{is_nobody, is_elsewhere, is_open, is_closed}
 use Rattle.cluster_core.proofs.KeepsStill.{still_kept}
+use Rattle.cluster_core.proofs.Released.{released_count, released_ended, begun_released, standing_released}
 use Rattle.cluster_core.proofs.RequestsOf.{requests_of}
 use Rattle.cluster_core.proofs.Ways.{AreOnWay, answer_of_another, taken_for_another, answer_taken, no_answer_first}
 
@@ -84,22 +86,26 @@ replied_kept : (config : Config) (heard after : ℕ → Heard) (world : World) (
     → KeepsOn config (told_of law.story) after (comes_to (taken world from node) from node (Answer answer) (front_at world node))
 replied_kept config heard after world law from answer rest conn bytes node front connection tag awaited turn first same own e at reader stage comes stands =
     let turned : Turned = replied_turn (setting_of config) (home_of config) conn connection tag turn in
+    let kept : Connection = released turned.connection in
     subst (λ w. KeepsOn config (told_of law.story) after w)
     (sym (to_front world from node answer front connection turned at.at (ap (connection_at front) own ∙ at.has) comes
-    ∙ ap (λ c. world_after (taken world from node) node front c turned.connection turned.outs) own))
+    ∙ ap (λ c. world_after (taken world from node) node front c kept turned.outs) own))
     (front_keeps config heard after world law
-    (without_first world.links from node) conn node front connection turned.connection turned.outs law.story stands.story
+    (without_first world.links from node) conn node front connection kept turned.outs law.story stands.story
     (others_on world from node answer rest conn first own) at.at at.has (same_talk (told_of law.story)) refl refl refl
     (λ other. law.requests other ∙ ap (λ h. requests_of (setting_of config) (frames_heard h)) (sym (same other))) (λ other ne. same other)
     (λ shut. absurd (is_not_closed (after conn) bytes (same conn ∙ e) shut)) stands.made
     (subst (λ h. ConnectionIs (setting_of config) (home_of config) conn
-    (world_after (taken world from node) node front conn turned.connection turned.outs) stands.story h) (sym (same conn ∙ e))
-    (is_open bytes node (with_connection front conn turned.connection) turned.connection
-    (is_at_after (taken world from node) node front conn connection turned.connection turned.outs at.at at.has)
-    (replied_reader (setting_of config) (home_of config) conn connection tag awaited turn (reading_of (setting_of config) bytes) stage reader)
-    (standing_after (taken world from node) node front conn turned.connection turned.outs (setting_of config) (home_of config) (inputs_in
+    (world_after (taken world from node) node front conn kept turned.outs) stands.story h) (sym (same conn ∙ e))
+    (is_open bytes node (with_connection front conn kept) kept
+    (is_at_after (taken world from node) node front conn connection kept turned.outs at.at at.has)
+    (begun_released turned.connection (reading_of (setting_of config) bytes)
+    (replied_reader (setting_of config) (home_of config) conn connection tag awaited turn (reading_of (setting_of config) bytes) stage reader))
+    (standing_after (taken world from node) node front conn kept turned.outs (setting_of config) (home_of config) (inputs_in
     (setting_of config) bytes)
-    (begun bytes) stands.story stands.standing))))
+    (begun bytes) stands.story
+    (standing_released (setting_of config) node (home_of config) conn (inputs_in (setting_of config) bytes) (begun bytes) turned.connection
+    (carry_all node (taken world from node) turned.outs) stands.story stands.standing)))))
 
 answer_open : (config : Config) (heard after : ℕ → Heard) (world : World) (law : KeepsLaw config heard world) (from to : List ℕ) (answer : BackAnswer)
     (rest : List LinkMsg) (conn : ℕ) (bytes node : List ℕ) (front : Front) (connection : Connection)
@@ -155,20 +161,26 @@ dropped : (config : Config) (heard after : ℕ → Heard) (world : World) (law :
     → KeepsOn config (told_of law.story) after (comes_to (taken world from node) from node (Answer answer) (front_at world node))
 unfolding carry_all
 dropped config heard after world law from to answer rest conn bytes node front connection more first same own e at gone said few way =
+    let kept : Connection = released connection in
     subst (λ w. KeepsOn config (told_of law.story) after w)
     (sym (to_front world from node answer front connection (unchanged connection) at.at (ap (connection_at front) own ∙ at.has)
     (ended_drops_answer front.setting front.home (answer.id).conn connection answer gone.stage_is)
-    ∙ ap (λ c. world_after (taken world from node) node front c connection []) own))
-    (front_keeps config heard after world law (without_first world.links from node) conn node front connection connection [] law.story law.story
+    ∙ ap (λ c. world_after (taken world from node) node front c kept []) own))
+    (front_keeps config heard after world law (without_first world.links from node) conn node front connection kept [] law.story law.story
     (others_on world from node answer rest conn first own) at.at at.has (same_talk (told_of law.story)) refl refl refl
     (λ other. law.requests other ∙ ap (λ h. requests_of (setting_of config) (frames_heard h)) (sym (same other))) (λ other ne. same other) (λ shut. refl)
     (record { others = keeps_all conn (taken world from node); goes_on = same_story conn law.story; is_told = law.is_told })
-    (subst (λ h. ConnectionIs (setting_of config) (home_of config) conn (world_after (taken world from node) node front conn connection []) law.story h)
+    (subst (λ h. ConnectionIs (setting_of config) (home_of config) conn (world_after (taken world from node) node front conn kept []) law.story h)
     (sym (same conn ∙ e))
-    (is_closed bytes node (with_connection front conn connection) connection
-    (is_at_after (taken world from node) node front conn connection connection [] at.at at.has)
-    (gone_after (taken world from node) node front conn connection (setting_of config) (home_of config) (inputs_in (setting_of config) bytes) law.story
-    (record { stage_is = gone.stage_is; count = gone.count; client = gone.client; left = nothing more said few way })))))
+    (is_closed bytes node (with_connection front conn kept) kept
+    (is_at_after (taken world from node) node front conn connection kept [] at.at at.has)
+    (gone_after (taken world from node) node front conn kept (setting_of config) (home_of config) (inputs_in (setting_of config) bytes) law.story
+    (record {
+      stage_is = released_ended connection gone.stage_is;
+      count = released_count connection ∙ gone.count;
+      client = gone.client;
+      left = nothing more said few way;
+    })))))
 
 answer_closed : (config : Config) (heard after : ℕ → Heard) (world : World) (law : KeepsLaw config heard world) (from to : List ℕ) (answer : BackAnswer)
     (rest : List LinkMsg) (conn : ℕ) (bytes node : List ℕ) (front : Front) (connection : Connection)

@@ -20,6 +20,7 @@ pub mod KeepsLaw
 pub mod KeepsStill
 pub mod KeepsFront
 pub mod KeepsOpen
+pub mod Released
 pub mod KeepsData
 pub mod KeepsHang
 pub mod KeepsAsk

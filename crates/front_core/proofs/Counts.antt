@@ -15,6 +15,8 @@ use Rattle.front_core.specs.declared.connection.Connection.{Connection}
 use Rattle.front_core.specs.declared.connection.Stage.{Stage}
 use Rattle.front_core.specs.declared.connection.Stage.TheVariants.{Reading, Asked, Ended}
 use Rattle.front_core.specs.declared.front.Front.{Front}
+use Rattle.front_core.specs.Answered.{answer_comes}
+use Rattle.front_core.specs.Ended.{released, released_at}
 use Rattle.front_core.specs.Front.{connection_at, new_connection, connect, connect_at, bytes_in, bytes_at, bytes_by, having_read}
 use Rattle.front_core.specs.Front.{hang, hang_at, hung_up, deliver, answer_at, is_asked}
 use Rattle.front_core.specs.Room.{commands_of, HasCommands, HasRoomAt, HasRoomFor}
@@ -42,18 +44,30 @@ changed_counts front conn old new most more there has fits q c is =
     (λ (ne : q ≢ conn). omega (arith, has q c (sym (value_at-with_value-other nat_cmp numbers_apart front.connections conn q new ne) ∙ is)))
     (same_or_other nat_cmp numbers_apart q conn)
 
+released_by : (connection : Connection) (stage : Stage) → commands_of (released_at connection stage) ≤ commands_of connection
+unfolding released_at
+released_by connection Reading = omega arith
+released_by connection (Asked tag awaited) = omega arith
+released_by connection Ended = omega arith
+
+-- what is let go counts no more
+released_counts : (connection : Connection) → commands_of (released connection) ≤ commands_of connection
+released_counts connection = released_by connection connection.stage
+
 more_counts : (front : Front) (most more : ℕ) → HasCommands front most → HasCommands front (most + more)
 more_counts front most more has q c is = omega (arith, has q c is)
 
 read_counts : (front : Front) (conn : ℕ) (bytes : List ℕ) (most : ℕ) (connection : Connection) → connection_at front conn ≡ Some connection
     → HasCommands front most
     → HasCommands (changed front conn
-    (inputs_come front.setting front.home conn (having_read front.setting connection bytes)
-    (inputs_of_more front.setting connection.reader bytes)).connection) (most + length bytes)
+    (released (inputs_come front.setting front.home conn (having_read front.setting connection bytes)
+    (inputs_of_more front.setting connection.reader bytes)).connection)) (most + length bytes)
 read_counts front conn bytes most connection there has =
     changed_counts front conn connection _ most (length bytes) there has
     (omega (
       arith,
+      released_counts (inputs_come front.setting front.home conn (having_read front.setting connection bytes)
+          (inputs_of_more front.setting connection.reader bytes)).connection,
       has conn connection there,
       inputs_count front.setting front.home conn (having_read front.setting connection bytes) (inputs_of_more front.setting connection.reader bytes),
       frames_of_more-length connection.reader.held bytes,
@@ -93,7 +107,12 @@ answer_at_counts : (front : Front) (answer : BackAnswer) (most : ℕ) (found : O
 unfolding answer_at
 answer_at_counts front answer most None there has = has
 answer_at_counts front answer most (Some connection) there has =
-    unchanged_counts front (answer.id).conn connection _ most there has (answer_counts front.setting front.home (answer.id).conn connection answer)
+    unchanged_counts front (answer.id).conn connection _ most there has
+    (omega (
+      arith,
+      released_counts (answer_comes front.setting front.home (answer.id).conn connection answer).connection,
+      answer_counts front.setting front.home (answer.id).conn connection answer,
+    ))
 
 pub deliver_counts : (front : Front) (message : LinkMsg) (most : ℕ) → HasCommands front most → HasCommands (deliver front message).front most
 unfolding deliver

@@ -7,13 +7,16 @@ use Rattle.imap_reply.specs.declared.inputs.Input.{Input}
 use Rattle.link_msg.specs.declared.out.Out.{Out}
 use Rattle.mur_model.specs.declared.setting.Setting.{Setting}
 use Rattle.front_core.specs.declared.connection.Connection.{Connection}
+use Rattle.front_core.specs.Ended.{ended, released_at, with_released}
 use Rattle.front_core.specs.Front.{having_read}
 use Rattle.front_core.specs.Reading.{Reading as Read, inputs_of_more, read_more}
 use Rattle.front_core.specs.Room.{commands_of}
+use Rattle.front_core.specs.Stages.{has_ended}
 use Rattle.front_core.specs.Taken.{Turned, inputs_come, behind_outs}
 use Rattle.front_core.proofs.CommandLaws.{inputs_count}
 use Rattle.front_core.proofs.ReadingLaws.{ended_inputs, ended_reader, nothing_more, read_nothing}
-use Rattle.front_core.proofs.FramesLaws.{behind_behind, come_apart, come_append, then_come}
+use Rattle.front_core.proofs.FramesLaws.{behind_behind, come_apart, come_append, ended_drops, then_come}
+use Rattle.front_core.proofs.WaitingLaws.{stage_ended}
 
 -- the rest of a piece behind what is taken of a rest of it
 rest_of_rest : (piece : List ℕ) (taken more : ℕ) → drop more (take (length piece - taken) (drop taken piece)) ≡ drop (taken + more) piece
@@ -51,6 +54,19 @@ module _ (setting : Setting) (home : List ℕ) (conn : ℕ) where
   pub reader_over : (outs : List Out) (c : Connection) (rest : List ℕ) → is_none c.reader.held ≡ true
       → record { connection = c; outs = outs } ≡ rest_comes outs c rest
   reader_over outs c rest h = nothing_comes outs c rest (ended_inputs setting c.reader rest h) (sym (ended_reader setting c.reader rest h))
+
+  -- the connection has ended, and what is left of the piece brings nothing
+  pub ended_over : (outs : List Out) (c : Connection) (rest : List ℕ) → has_ended c.stage ≡ true
+      → with_released (record { connection = c; outs = outs }) ≡ with_released (rest_comes outs c rest)
+  unfolding released_at
+  ended_over outs c rest h =
+      let is = stage_ended c.stage h in
+      ap (λ stage. record { connection = released_at c stage; outs = outs }) is
+      ∙ ap (λ all. record { connection = ended c.answered; outs = all }) (sym (append-nil outs))
+      ∙ sym (
+      ap (λ (t : Turned). with_released (behind_outs outs t))
+      (ended_drops setting home conn (having_read setting c rest) (inputs_of_more setting c.reader rest) is)
+      ∙ ap (λ stage. record { connection = released_at (having_read setting c rest) stage; outs = outs ++ [] }) is)
 
   reader_of_all : (c : Connection) (inputs : List Input) → (inputs_come setting home conn c inputs).connection.reader ≡ c.reader
   reader_of_all c inputs = ap (λ (t : Turned). t.connection.reader) (come_apart setting home conn c.reader c inputs)

@@ -20,7 +20,7 @@ stage_read Reading h = refl
 stage_read (Asked tag awaited) h = cc
 stage_read Ended h = cc
 
-stage_ended : (stage : Stage) → has_ended stage ≡ true → stage ≡ Ended
+pub stage_ended : (stage : Stage) → has_ended stage ≡ true → stage ≡ Ended
 unfolding has_ended
 stage_ended Reading h = cc
 stage_ended (Asked tag awaited) h = cc

@@ -4,7 +4,6 @@ use Rattle.imap_reply.specs.ReplyText.{reply_text}
 use Rattle.link_msg.specs.declared.answer.BackAnswer.{BackAnswer}
 use Rattle.link_msg.specs.declared.out.Out.TheVariants.{Client, Close}
 use Rattle.mur_model.specs.declared.command.Tag.{Tag}
-use Rattle.mur_model.specs.declared.session.Sess.TheVariants.{Ended as session_ended}
 use Rattle.mur_model.specs.declared.setting.Setting.{Setting}
 use Rattle.front_core.specs.declared.connection.Connection.{Connection}
 use Rattle.front_core.specs.declared.connection.Stage.{Stage}
@@ -18,13 +17,12 @@ use Rattle.front_core.specs.Taken.{Turned, asks, inputs_come, behind_outs}
 abbrev pub reading_again : Connection → Connection
 reading_again connection = record connection { waiting = []; stage = Reading; answered = connection.answered + 1 }
 
--- the connection whose session has ended with the answer of its command
-abbrev pub ended_so : Connection → Connection
-ended_so connection = record connection { waiting = []; session = session_ended; stage = Ended; answered = connection.answered + 1 }
-
--- the last reply of a connection
+-- the last reply of a connection, which then has ended
 abbrev pub ends_with : ℕ → Connection → List ℕ → Turned
-ends_with conn connection text = record { connection = ended_so connection; outs = Client conn text ∷ Close conn ∷ [] }
+ends_with conn connection text = record {
+  connection = record connection { stage = Ended; answered = connection.answered + 1 };
+  outs = Client conn text ∷ Close conn ∷ [];
+}
 
 abbrev pub unchanged : Connection → Turned
 unchanged connection = record { connection = connection; outs = [] }

@@ -8,13 +8,14 @@ use Rattle.link_msg.specs.declared.message.LinkMsg.TheVariants.{Answer}
 use Rattle.link_msg.specs.declared.out.Out.{Out}
 use Rattle.link_msg.specs.declared.out.Out.TheVariants.{Client}
 use Rattle.mur_base.specs.Map.{value_at, with_entry, with_value}
-use Rattle.mur_model.specs.declared.session.Sess.TheVariants.{Off, Ended as session_ended}
+use Rattle.mur_model.specs.declared.session.Sess.TheVariants.{Off}
 use Rattle.mur_model.specs.declared.setting.Setting.{Setting}
 use Rattle.front_core.specs.declared.connection.Connection.{Connection}
 use Rattle.front_core.specs.declared.connection.Stage.{Stage}
 use Rattle.front_core.specs.declared.connection.Stage.TheVariants.{Reading, Asked, Ended}
 use Rattle.front_core.specs.declared.front.Front.{Front}
 use Rattle.front_core.specs.Answered.{answer_comes}
+use Rattle.front_core.specs.Ended.{ended, released}
 use Rattle.front_core.specs.Reading.{first_reading, inputs_of_more, read_more}
 use Rattle.front_core.specs.Taken.{Turned, inputs_come}
 
@@ -47,10 +48,10 @@ connect_at front conn None = record {
 unfoldable pub connect : Front → ℕ → Stepped
 connect front conn = connect_at front conn (connection_at front conn)
 
--- the frontend with what became of one connection
+-- the frontend with what became of one connection: where it has ended, what it held is let go
 abbrev pub with_turned : Front → ℕ → Turned → Stepped
 with_turned front conn turned = record {
-  front = record front { connections = with_value nat_cmp front.connections conn turned.connection };
+  front = record front { connections = with_value nat_cmp front.connections conn (released turned.connection) };
   outs = turned.outs;
 }
 
@@ -73,9 +74,9 @@ bytes_at front conn bytes (Some connection) = bytes_by front conn bytes connecti
 unfoldable pub bytes_in : Front → ℕ → List ℕ → Stepped
 bytes_in front conn bytes = bytes_at front conn bytes (connection_at front conn)
 
--- the client of a connection closes it, and nothing is kept of it but how many commands were answered
+-- the client of a connection closes it
 abbrev pub hung_up : Connection → Connection
-hung_up connection = record { reader = first_reading; waiting = []; session = session_ended; stage = Ended; answered = connection.answered }
+hung_up connection = ended connection.answered
 
 unfoldable pub hang_at : Front → ℕ → Option Connection → Front
 hang_at front conn None = front

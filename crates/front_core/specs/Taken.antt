@@ -20,7 +20,6 @@ use Rattle.mur_model.specs.declared.reply.Verdict.TheVariants.{Bad as bad_reply}
 use Rattle.mur_model.specs.declared.request.Request.{Request}
 use Rattle.mur_model.specs.declared.request.Request.TheVariants.{Command as a_command, Unknown as unknown, TooBig as too_big}
 use Rattle.mur_model.specs.declared.session.Sess.{Sess}
-use Rattle.mur_model.specs.declared.session.Sess.TheVariants.{Ended as session_ended}
 use Rattle.mur_model.specs.declared.setting.Setting.{Setting}
 use Rattle.mur_model.specs.Reply.{reply_of, refused}
 use Rattle.front_core.specs.declared.connection.Connection.{Connection}
@@ -44,10 +43,10 @@ answers conn connection session tag reply = record {
   outs = Client conn (reply_text tag reply) ∷ Mark (record { conn = conn; command = connection.answered + 1 }) Always ∷ [];
 }
 
--- the last answer of a connection; it counts as carried out in this step
+-- the last answer of a connection, which then has ended; it counts as carried out in this step
 unfoldable pub answers_last : ℕ → Connection → Tag → Reply → Turned
 answers_last conn connection tag reply = record {
-  connection = record connection { session = session_ended; stage = Ended; answered = connection.answered + 1 };
+  connection = record connection { stage = Ended; answered = connection.answered + 1 };
   outs = Client conn (reply_text tag reply) ∷ Mark (record { conn = conn; command = connection.answered + 1 }) Always ∷ Close conn ∷ [];
 }
 

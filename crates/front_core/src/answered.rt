@@ -71,8 +71,6 @@ fn end(alloc: Global, conn: u64, connection: &mut Connection, reply: Bytes) -> R
     ensures { IfOk result (λ outs. record { connection = connection.new; outs = outs }
         ≡ ends_with conn connection.old reply) }
 {
-    connection.waiting.clear();
-    connection.session.end();
     connection.stage = Stage::Ended;
     connection.answered += 1;
     let mut outs = given(alloc, conn, reply)?;

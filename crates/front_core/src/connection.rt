@@ -1,6 +1,6 @@
 // A connection of a mail client at a frontend.
 ghost use Rattle.std.specs.Prelude.{◌≡◌};
-ghost use Rattle.front_core.specs.Front.{hung_up};
+ghost use Rattle.front_core.specs.Ended.{ended, released};
 ghost use Rattle.front_core.specs.Stages.{is_reading, has_ended};
 
 use crate::reader::Reader;
@@ -50,9 +50,20 @@ impl Connection {
         matches!(self.stage, Stage::Ended)
     }
 
-    /// Ends the connection, whose client closes it. It takes no memory, and keeps none but that of the connection itself.
-    pub fn hang_up(&mut self, alloc: Global)
-        ensures { self.new ≡ hung_up self.old }
+    /// Lets go of what the connection held, where it has ended.
+    #[tactic(auto, unfolding(crate::specs::Ended::released_at))]
+    pub fn release(&mut self, alloc: Global)
+        ensures { self.new ≡ released self.old }
+    {
+        match self.stage {
+            Stage::Reading | Stage::Asked(_, _) => {}
+            Stage::Ended => self.end(alloc),
+        }
+    }
+
+    /// Ends the connection. It takes no memory, and keeps none but that of the connection itself.
+    pub fn end(&mut self, alloc: Global)
+        ensures { self.new ≡ ended self.old.answered }
     {
         self.reader = Reader::new(alloc);
         self.waiting.clear();

@@ -86,7 +86,7 @@ impl Front {
         ensures { self.new ≡ hang self.old conn }
     {
         if let Some(connection) = self.connections.get_mut(&conn) {
-            connection.hang_up(alloc);
+            connection.end(alloc);
         }
     }
 
@@ -110,14 +110,18 @@ impl Front {
     {
         let conn = answer.id.conn;
         match self.connections.get_mut(&conn) {
-            Some(connection) => answer_comes(
-                alloc,
-                &self.setting,
-                &self.home,
-                conn,
-                connection,
-                answer,
-            ),
+            Some(connection) => {
+                let outs = answer_comes(
+                    alloc,
+                    &self.setting,
+                    &self.home,
+                    conn,
+                    connection,
+                    answer,
+                )?;
+                connection.release(alloc);
+                Ok(outs)
+            }
             None => Ok(Outs::new(alloc)),
         }
     }

@@ -180,7 +180,6 @@ fn answers_last(
     ensures { OnOk result (record { connection = connection.new; outs = outs.new }
         ≡ behind_outs outs.old (answers_last conn connection.old tag.now reply)) }
 {
-    connection.session.end();
     connection.stage = Stage::Ended;
     answers(alloc, conn, connection, tag, reply, outs)?;
     outs.push(Out::Close(conn))

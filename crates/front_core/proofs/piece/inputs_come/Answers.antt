@@ -1,17 +1,25 @@
-use Rattle.std.proofs.Common.{sym, ◌∙◌, arith}
-use Rattle.front_core.proofs.PieceLaws.{rest_on, rest_some, still_read, piece_over, reader_over, next_counts}
-use Rattle.front_core.proofs.piece.piece_comes.Goals as goal
+use Rattle.std.proofs.Common.{sym, ◌∙◌, ap, arith}
+use Rattle.front_core.specs.Ended.{with_released}
+use Rattle.front_core.proofs.PieceLaws.{rest_on, rest_some, still_read, piece_over, reader_over, ended_over, next_counts}
+use Rattle.front_core.proofs.piece.inputs_come.Goals as goal
+
+pub returns-else-not-has_ended : goal.returns-else-not-has_ended
+returns-else-not-has_ended c =
+    ended_over c.args.setting.now c.args.home.now c.args.conn c.loop-taken.outs c.loop-taken.connection _ (sym c.if-not-has_ended.ensures)
+    ∙ ap with_released c.loop-taken.invariant.turned
 
 pub returns-else-not-ended : goal.returns-else-not-ended
 returns-else-not-ended c =
-    reader_over c.args.setting.now c.args.home.now c.args.conn c.loop-taken.outs c.loop-taken.connection _ (sym c.if-not-ended.ensures)
-    ∙ c.loop-taken.invariant.turned
+    ap with_released
+    (reader_over c.args.setting.now c.args.home.now c.args.conn c.loop-taken.outs c.loop-taken.connection _ (sym c.if-not-ended.ensures)
+    ∙ c.loop-taken.invariant.turned)
 
 pub returns-after-loop-taken : goal.returns-after-loop-taken
 returns-after-loop-taken c =
-    piece_over c.args.setting.now c.args.home.now c.args.conn c.loop-taken.outs c.loop-taken.connection c.args.piece.now
+    ap with_released
+    (piece_over c.args.setting.now c.args.home.now c.args.conn c.loop-taken.outs c.loop-taken.connection c.args.piece.now
     c.loop-taken.taken c.loop-taken-test.false
-    ∙ c.loop-taken.invariant.turned
+    ∙ c.loop-taken.invariant.turned)
 
 pub loop-taken-preserved : goal.loop-taken-preserved
 loop-taken-preserved c =
