@@ -14,6 +14,7 @@ use Rattle.front_core.specs.declared.connection.Stage.{Stage}
 use Rattle.front_core.specs.declared.connection.Stage.TheVariants.{Reading, Asked, Ended}
 use Rattle.front_core.specs.declared.front.Front.{Front}
 use Rattle.front_core.specs.Answered.{answer_by, answer_comes, need_behind, finished_in, reading_again}
+use Rattle.front_core.specs.Ended.{released, released_at}
 use Rattle.front_core.specs.Front.{Stepped, connection_at, new_connection, connect_at, connect, having_read, bytes_by, bytes_at, bytes_in, with_turned}
 use Rattle.front_core.specs.Front.{hang_at, hang, hung_up, answer_at, deliver as take_message}
 use Rattle.front_core.specs.Reading.{inputs_of_more}
@@ -305,10 +306,25 @@ module _ (setting : Setting) (home : List ℕ) (conn : ℕ) where
 abbrev pub Brings : Front → Stepped → ℕ → Type 0
 Brings front step more = front_load step.front + outs_load step.outs ≤ front_load front + more
 
+released_by : (c : Connection) (stage : Stage) → connection_load (released_at c stage) ≤ connection_load c
+unfolding released_at
+released_by c Reading = omega arith
+released_by c (Asked tag awaited) = omega arith
+released_by c Ended = omega arith
+
+-- what has ended holds no input
+released_load : (c : Connection) → connection_load (released c) ≤ connection_load c
+released_load c = released_by c c.stage
+
 turned_brings : (front : Front) (conn : ℕ) (old : Connection) (turned : Turned) (more : ℕ) → connection_at front conn ≡ Some old
     → turned_load turned ≤ connection_load old + more → Brings front (with_turned front conn turned) more
 turned_brings front conn old turned more there h =
-    omega (arith, h, set_load connection_load nat_cmp front.connections conn old turned.connection there)
+    omega (
+      arith,
+      h,
+      released_load turned.connection,
+      set_load connection_load nat_cmp front.connections conn old (released turned.connection) there,
+    )
 
 nothing_waits : connection_load new_connection ≡ 0
 unfolding new_connection
