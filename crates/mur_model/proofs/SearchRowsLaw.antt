@@ -8,7 +8,7 @@ use Rattle.mail_message.specs.RowOrder.{row_at}
 use Rattle.mail_message.specs.declared.key.Key.{Key, roll-Key}
 use Rattle.mail_message.specs.declared.key.Key.TheVariants.{Group, rolls-Group}
 use Rattle.mail_message.specs.declared.key.Key.TheOpen.{Key-F}
-use Rattle.mail_message.specs.declared.key.Key.TheFolds.{fold-Key, fold-roll-Key, ind-Key, map-Key}
+use Rattle.mail_message.specs.declared.key.Key.TheFolds.{fold-roll-Key, ind-Key, map-Key}
 use Rattle.mail_message.specs.declared.message.Message.{Message}
 use Rattle.mail_message.specs.declared.message.Row.{Row}
 use Rattle.mail_search.specs.Matching.{Test, all_match, key_matches, matches_by}
