@@ -11,21 +11,23 @@ use Rattle.mur_model.specs.declared.need.ViewWork.{ViewWork}
 use Rattle.mur_model.specs.declared.need.ViewWork.TheVariants.{News, Close, Expunge, Store as store_work, Fetch, Search}
 use Rattle.mur_model.specs.declared.need.Work.{Work}
 use Rattle.mur_model.specs.declared.need.Work.TheVariants.{Make, Append as append_work, Status as status_work, Select as select_work, Viewed as viewed_work}
+use Rattle.mur_model.specs.declared.search.Searching.{Searching}
 use Rattle.mur_model.specs.declared.store.Store.{Store}
 use Rattle.mur_model.specs.declared.view.View.{View}
 use Rattle.mur_model.specs.Act.{worked_at, work_on}
 use Rattle.mur_model.specs.FetchRows.{asks_rows}
+use Rattle.mur_model.specs.SearchRows.{are_keys_in_rows}
 use Rattle.mur_model.specs.Store.{is_spent}
 use Rattle.mur_model.specs.Viewing.{viewed_on}
 use Rattle.session_core.specs.Asking.{asked_for}
-use Rattle.session_core.specs.Viewed.{fetch_op, view_op}
+use Rattle.session_core.specs.Viewed.{fetch_op, search_op, view_op}
 use Rattle.cluster_core.specs.OneStore.{open_content}
 use Rattle.cluster_core.proofs.AppendLaw.{appends_alike}
 use Rattle.cluster_core.proofs.CreateLaw.{creates_alike}
 use Rattle.cluster_core.proofs.SelectLaw.{selects_alike}
 use Rattle.cluster_core.proofs.ServedAlike.{IsStoreOf, ServesAlike}
 use Rattle.cluster_core.proofs.StatusLaw.{looks_alike}
-use Rattle.cluster_core.proofs.ViewLaw.{news_views, close_views, expunge_views, store_views, read_views, rows_views, search_views}
+use Rattle.cluster_core.proofs.ViewLaw.{news_views, close_views, expunge_views, store_views, read_views, rows_views, search_views, search_rows_views}
 
 -- what a session asks for work at a mailbox
 abbrev pub plain_ask : AskId → List ℕ → List ℕ → Work → FrontAsk
@@ -47,6 +49,15 @@ unfolding op_step fetch_op
 fetches store home id user name view it op true are same = rows_views store home name view it (held_at home name) are refl same
 fetches store home id user name view it op false are same = read_views store home name view it (held_at home name) refl same
 
+-- a SEARCH, by whether the rows of the mailbox tell what is found
+searches : (store : Store) (home : Backend) (id : AskId) (user name : List ℕ) (view : View) (it : Searching) (op : Op) (rows : Bool)
+    → are_keys_in_rows it.keys ≡ rows → IsStoreOf store home
+    → ServesAlike store home name (viewed_work view (Search it)) (viewed_on view (Search it) (open_content (held_at home name)))
+    (op_step home (record { id = id; user = user; name = name; selected = Some view.serial; op = op }) (search_op view rows))
+unfolding op_step search_op
+searches store home id user name view it op true are same = search_rows_views store home name view it (held_at home name) are refl same
+searches store home id user name view it op false are same = search_views store home name view it (held_at home name) refl same
+
 views : (store : Store) (home : Backend) (id : AskId) (user name : List ℕ) (view : View) (it : ViewWork) → IsStoreOf store home
     → OpensAlike store home id user name (viewed_work view it)
 unfolding home_step op_step asked_for view_op work_on
@@ -55,7 +66,8 @@ views store home id user name view Close same = close_views store home name view
 views store home id user name view (Expunge only) same = expunge_views store home name view only (held_at home name) refl same
 views store home id user name view (store_work it) same = store_views store home name view it (held_at home name) refl same
 views store home id user name view (Fetch it) same = fetches store home id user name view it (fetch_op view it (asks_rows it)) (asks_rows it) refl same
-views store home id user name view (Search it) same = search_views store home name view it (held_at home name) refl same
+views store home id user name view (Search it) same =
+    searches store home id user name view it (search_op view (are_keys_in_rows it.keys)) (are_keys_in_rows it.keys) refl same
 
 opens_alike : (store : Store) (home : Backend) (id : AskId) (user name : List ℕ) (work : Work) → IsStoreOf store home
     → OpensAlike store home id user name work

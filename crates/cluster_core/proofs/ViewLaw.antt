@@ -35,10 +35,13 @@ use Rattle.mur_model.specs.Fetch.{fetch_at, is_body, sees}
 use Rattle.mur_model.specs.FetchRows.{asks_rows, rows_told}
 use Rattle.mur_model.specs.Left.{Worked, store_after, kept}
 use Rattle.mur_model.specs.Noop.{news_told}
+use Rattle.mur_model.specs.Search.{search_at}
+use Rattle.mur_model.specs.SearchRows.{are_keys_in_rows, rows_searched}
 use Rattle.mur_model.specs.Selected.{gone, rows_of}
 use Rattle.mur_model.specs.StoreFlags.{stored_at}
 use Rattle.mur_model.specs.Viewing.{found_gone, viewed_on, work_there}
 use Rattle.mur_model.proofs.FetchRowsLaw.{rows_tell, rows_unseen}
+use Rattle.mur_model.proofs.SearchRowsLaw.{rows_search}
 use Rattle.session_core.specs.Asking.{asked_for}
 use Rattle.session_core.specs.Finish.{turn_of}
 use Rattle.session_core.specs.Viewed.{viewed_done, viewed_told, viewed_turn}
@@ -254,6 +257,14 @@ rows_look view it are box = (rows_told view it (rows_of box), fetched, refl)
     fetched : fetch_at view it box ≡ record { left = kept; turn = rows_told view it (rows_of box) }
     fetched = rw (unseen view.is_writable, rows_tell view it box are) refl
 
+-- a search by keys that rows tell
+search_look : (view : View) (it : Searching) → are_keys_in_rows it.keys ≡ true → LooksAlike view (Search it)
+unfolding work_there viewed_done
+search_look view it are box = (rows_searched view it (rows_of box), searched, refl)
+  where
+    searched : search_at view it box ≡ record { left = kept; turn = rows_searched view it (rows_of box) }
+    searched = rw (rows_search view it box are) refl
+
 -- ---- each command
 
 abbrev pub ViewsAlike : Store → Backend → List ℕ → View → ViewWork → Option Held → HomeStep → Type 0
@@ -306,3 +317,8 @@ unfolding read_step
 search_views store home name view it found at same =
     operates store home name view (Search it) (λ content. read_to content (uids view.rows) false) found at
     (searches store home name view it same) same
+
+pub search_rows_views : (store : Store) (home : Backend) (name : List ℕ) (view : View) (it : Searching) (found : Option Held)
+    → are_keys_in_rows it.keys ≡ true → held_at home name ≡ found → IsStoreOf store home
+    → ViewsAlike store home name view (Search it) found (look_step home (Some view.serial) found)
+search_rows_views store home name view it found are at same = looks_alike store home name view (Search it) found at (search_look view it are) same

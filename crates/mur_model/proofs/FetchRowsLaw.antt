@@ -28,11 +28,11 @@ use Rattle.mur_model.proofs.FlagLaw.{flags_self}
 
 -- ---- the items
 
-and_left : (one other : Bool) → (one && other) ≡ true → one ≡ true
+pub and_left : (one other : Bool) → (one && other) ≡ true → one ≡ true
 and_left true other is = refl
 and_left false other is = is
 
-and_right : (one other : Bool) → (one && other) ≡ true → other ≡ true
+pub and_right : (one other : Bool) → (one && other) ≡ true → other ≡ true
 and_right true other is = is
 and_right false other is = absurd (cc)
 
@@ -82,7 +82,7 @@ row_by : (message : Message) (rest : Option Message) (same : Bool)
 row_by message rest true = refl
 row_by message rest false = refl
 
-row_found : (messages : List Message) (uid : ℕ) → row_at (map row_of messages) uid ≡ option_map row_of (message_at messages uid)
+pub row_found : (messages : List Message) (uid : ℕ) → row_at (map row_of messages) uid ≡ option_map row_of (message_at messages uid)
 row_found [] uid = refl
 row_found (message ∷ messages) uid =
     ap (λ rest. cond (nat_eq message.uid uid) (Some (row_of message)) rest) (row_found messages uid)

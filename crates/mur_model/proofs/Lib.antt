@@ -8,5 +8,7 @@ mod StoreLaw
 mod FlagLaw
 mod ViewedLaw
 mod KeysLaw
+mod BeginsLaw
 pub mod EachNeed
 pub mod FetchRowsLaw
+pub mod SearchRowsLaw

@@ -27,4 +27,5 @@ pub mod Keys
 pub mod Search
 pub mod Fetch
 pub mod FetchRows
+pub mod SearchRows
 pub mod Viewing

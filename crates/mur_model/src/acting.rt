@@ -58,7 +58,7 @@ fn act_by(
 }
 
 /// Takes what came of a command for its session, and gives the reply.
-pub fn turned(sess: &mut Sess, turn: Turn) -> Reply
+fn turned(sess: &mut Sess, turn: Turn) -> Reply
     ensures session { sess.new ≡ session_after sess.old turn.session }
     ensures reply { result ≡ turn.reply }
 {

@@ -22,6 +22,7 @@ mod reply;
 mod request;
 mod rights;
 mod search;
+mod search_rows;
 mod select;
 mod selected;
 mod session;
@@ -42,7 +43,7 @@ pub use fetch::{Fetching, fetch_told, sees};
 pub use fetch_rows::{asks_rows, rows_told};
 pub use named_rows::uids_of;
 pub use need::{Need, NewsFor, ViewWork, Work, begin};
-pub use news::{Told, news_of};
+pub use news::Told;
 pub use noop::news_told;
 pub use reply::{
     Attribute, BadText, Bye, Code, FlagNames, NoText, Parts, Reply, ReplyLine, ReplyLines,
@@ -50,6 +51,7 @@ pub use reply::{
 };
 pub use request::{Answer, Request};
 pub use search::{Searching, search_told};
+pub use search_rows::{are_keys_in_rows, rows_searched};
 pub use select::{Opening, select_told, unselected};
 pub use selected::gone;
 pub use session::{Sess, Turn};

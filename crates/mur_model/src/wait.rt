@@ -1,5 +1,5 @@
 // Commands that wait for one line more of their client (RFC 9051, 6.2.2 and 6.3.13).
-ghost use Rattle.std.specs.Prelude.{◌≡◌, IfOk};
+ghost use Rattle.std.specs.Prelude.{◌≡◌, IfOk, IsOkAnd};
 ghost use Rattle.mur_model.specs.Waits.{begins, begins_by, begun_behind, wait_of, waits_begun, with_line};
 
 use crate::command::Command;
@@ -67,27 +67,33 @@ pub fn begun_behind(
     begins(alloc, with, command)
 }
 
-#[tactic(auto, unfolding(crate::specs::Waits::begins))]
+#[tactic(auto, unfolding(crate::specs::Waits::begins), using(crate::proofs::BeginsLaw::begins_as))]
 fn begins(alloc: Global, with: &Setting, command: &Command) -> Result<bool, Memory>
     ensures { IfOk result (λ begun. begun ≡ begins with.now command.now) }
 {
     match command {
         Command::Login(name, password) => {
-            let need = login(
+            begins_if_made(login(
                 alloc,
                 &with.users,
                 b"LOGIN",
                 name.as_slice(),
                 password.as_slice(),
-            )?;
-            Ok(begins_by(&need))
+            ))
         }
         Command::Authenticate(Some(line)) => {
-            let need = authenticate(alloc, &with.users, line)?;
-            Ok(begins_by(&need))
+            begins_if_made(authenticate(alloc, &with.users, line))
         }
         _ => Ok(false),
     }
+}
+
+/// Whether a session begins with what a command needs, where that was made.
+fn begins_if_made(need: Result<Need, Memory>) -> Result<bool, Memory>
+    ensures { IfOk result (λ begun. IsOkAnd need (λ made. begun ≡ begins_by made)) }
+{
+    let made = need?;
+    Ok(begins_by(&made))
 }
 
 #[tactic(auto, unfolding(crate::specs::Waits::begins_by, crate::specs::Waits::begins_with))]

@@ -23,11 +23,13 @@ use Rattle.mur_model.specs.declared.session.Sess.TheVariants.{Off, In, Selected,
 use Rattle.mur_model.specs.declared.session.Turn.{Turn}
 use Rattle.mur_model.specs.declared.store_flags.FlagStore.{FlagStore}
 use Rattle.mur_model.specs.declared.view.View.{View}
+use Rattle.mur_model.specs.ClientView.{uids}
 use Rattle.mur_model.specs.Fetch.{fetch_line, fetch_lines, items_told, number_in}
 use Rattle.mur_model.specs.FetchRows.{row_line, row_lines}
 use Rattle.mur_model.specs.News.{changed_line, changed_lines, exists_lines, flag_parts, is_among, news, rows_behind}
 use Rattle.mur_model.specs.SameFlags.{is_same_flags}
 use Rattle.mur_model.specs.Search.{search_line}
+use Rattle.mur_model.specs.SearchRows.{bare_at}
 use Rattle.mur_model.specs.StoreFlags.{own_lines, stored_line, stored_lines}
 use Rattle.session_core.specs.declared.asking.Awaited.{Awaited}
 use Rattle.session_core.specs.declared.asking.Awaited.TheVariants.{Viewed}
@@ -151,6 +153,9 @@ done_none view (Fetch it) nothing seen by =
     (rows_none (items_told it false) view.rows seen.rows it.uids)
 done_none view (Fetch it) (Messages before) seen by =
     behind_none view.rows seen.rows it.by_uid _ (fetch_lines it view.rows seen.rows before) by (fetch_none it view.rows seen.rows before)
+done_none view (Search it) nothing seen by =
+    let messages : List Message = bare_at seen.rows (uids view.rows) in
+    behind_none view.rows seen.rows it.by_uid [] (search_line it view.rows messages ∷ []) by (search_none it view.rows messages)
 done_none view (Search it) (Messages found) seen by =
     behind_none view.rows seen.rows it.by_uid [] (search_line it view.rows found ∷ []) by (search_none it view.rows found)
 done_none view (Store it) outcome seen by = tt

@@ -40,6 +40,7 @@ use Rattle.mur_model.specs.FetchRows.{row_line, row_lines}
 use Rattle.mur_model.specs.Left.{replied}
 use Rattle.mur_model.specs.News.{news}
 use Rattle.mur_model.specs.Search.{search_line}
+use Rattle.mur_model.specs.SearchRows.{bare_at}
 use Rattle.mur_model.specs.Select.{closed_lines, select_told}
 use Rattle.mur_model.specs.Status.{status_reply as reply_with_counts}
 use Rattle.mur_model.specs.Append.{append_reply as reply_with_uid}
@@ -147,6 +148,9 @@ viewed_leaves known session view (Fetch it) nothing seen agrees =
     (rows_still (items_told it false) view.rows seen.rows it.uids) agrees
 viewed_leaves known session view (Fetch it) (Messages before) seen agrees =
     news_leave known view (fetch_lines it view.rows seen.rows before) seen.rows it.by_uid _ (fetch_still it view.rows seen.rows before) agrees
+viewed_leaves known session view (Search it) nothing seen agrees =
+    let messages : List Message = bare_at seen.rows (uids view.rows) in
+    news_leave known view (search_line it view.rows messages ∷ []) seen.rows it.by_uid [] (search_still it view.rows messages) agrees
 viewed_leaves known session view (Search it) (Messages found) seen agrees =
     news_leave known view (search_line it view.rows found ∷ []) seen.rows it.by_uid [] (search_still it view.rows found) agrees
 viewed_leaves known session view work outcome seen agrees = tt

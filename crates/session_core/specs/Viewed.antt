@@ -16,6 +16,7 @@ use Rattle.mur_model.specs.Expunge.{expunge_told}
 use Rattle.mur_model.specs.Fetch.{fetch_told, sees}
 use Rattle.mur_model.specs.FetchRows.{asks_rows, rows_told}
 use Rattle.mur_model.specs.Search.{search_told}
+use Rattle.mur_model.specs.SearchRows.{are_keys_in_rows, rows_searched}
 use Rattle.mur_model.specs.Selected.{gone}
 use Rattle.mur_model.specs.StoreFlags.{store_told, store_refused}
 use Rattle.mur_model.specs.Noop.{news_told}
@@ -30,13 +31,17 @@ unfoldable pub fetch_op : View → Fetching → Bool → Op
 fetch_op view it true = Look
 fetch_op view it false = read_op it.uids (sees view it)
 
+unfoldable pub search_op : View → Bool → Op
+search_op view true = Look
+search_op view false = read_op (uids_of view.rows) false
+
 unfoldable pub view_op : View → ViewWork → Op
 view_op view (News why) = Look
 view_op view Close = expunge_op None
 view_op view (Expunge only) = expunge_op only
 view_op view (Store it) = flags_op it.uids it.mode it.flags
 view_op view (Fetch it) = fetch_op view it (asks_rows it)
-view_op view (Search it) = read_op (uids_of view.rows) false
+view_op view (Search it) = search_op view (are_keys_in_rows it.keys)
 
 -- an ask of a session that has a mailbox selected names its UIDVALIDITY (RFC 9051, 2.3.1.1)
 abbrev pub viewed_asks : View → ViewWork → Asking
@@ -51,6 +56,7 @@ viewed_done view (Store it) (Rows changes) seen = Some (store_told view it chang
 viewed_done view (Store it) full seen = Some (store_refused view it seen.rows)
 viewed_done view (Fetch it) nothing seen = Some (rows_told view it seen.rows)
 viewed_done view (Fetch it) (Messages before) seen = Some (fetch_told view it before seen.rows)
+viewed_done view (Search it) nothing seen = Some (rows_searched view it seen.rows)
 viewed_done view (Search it) (Messages found) seen = Some (search_told view it found seen.rows)
 viewed_done view work outcome seen = None
 

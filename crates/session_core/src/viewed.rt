@@ -37,7 +37,7 @@ fn view_op(alloc: Global, view: &View, work: &ViewWork) -> Result<Op, Memory>
         ViewWork::Expunge(only) => expunge_op(alloc, only),
         ViewWork::Store(it) => store_op(alloc, it),
         ViewWork::Fetch(it) => fetch_op(alloc, view, it),
-        ViewWork::Search(_) => search_op(alloc, view),
+        ViewWork::Search(it) => search_op(alloc, view, it),
     }
 }
 
