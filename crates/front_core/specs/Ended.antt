@@ -15,7 +15,7 @@ released_at connection Reading = connection
 released_at connection (Asked tag awaited) = connection
 released_at connection Ended = ended connection.answered
 
--- what is kept of a connection behind what came to it
+-- what is kept of a connection behind what came to it, whatever ended it
 abbrev pub released : Connection → Connection
 released connection = released_at connection connection.stage
 

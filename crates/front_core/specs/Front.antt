@@ -59,7 +59,7 @@ with_turned front conn turned = record {
 abbrev pub having_read : Setting → Connection → List ℕ → Connection
 having_read setting connection bytes = record connection { reader = read_more setting connection.reader bytes }
 
--- bytes of a connection that has ended are dropped
+-- bytes of a connection that has ended are dropped, and so are those behind an input that ends it
 unfoldable pub bytes_by : Front → ℕ → List ℕ → Connection → Stage → Stepped
 bytes_by front conn bytes connection Ended = still front
 bytes_by front conn bytes connection Reading = with_turned front conn
