@@ -1,4 +1,4 @@
--- What a client reads of a verdict behind the tag: OK, NO or BAD (RFC 9051, 7.1), and of a NO its response code (RFC 5530).
+-- What a client reads of a verdict behind the tag: OK, NO or BAD, and of a NO its response code (RFC 9051, 7.1).
 use Rattle.std.specs.Prelude.{ℕ, List, [], ◌++◌, codes}
 use Rattle.mur_model.specs.declared.reply.Verdict.{Verdict}
 use Rattle.mur_model.specs.declared.reply.Verdict.TheVariants.{Nothing, Ok as ok_reply, No as no_reply, Bad as bad_reply}
