@@ -10,6 +10,7 @@ pub mod LongLines
 pub mod TaggedIsLine
 pub mod OneCut
 pub mod ReadParts
+pub mod VerdictLaws
 pub mod NoForgery
 pub mod TranscriptLaw
 pub mod PlainNames

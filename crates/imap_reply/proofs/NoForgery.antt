@@ -1,6 +1,6 @@
 -- No text forges a reply.
 use Rattle.std.proofs.Common.{◌≡◌, ℕ, ◌==◌, true, false, List, [], ◌∷◌}
-use Rattle.std.proofs.Common.{◌++◌, map, codes, refl, ◌∙◌, ap, append_assoc, arith}
+use Rattle.std.proofs.Common.{◌++◌, map, codes, refl, ◌∙◌, ap, arith}
 use Rattle.std.specs.Prelude.{All}
 use Rattle.std.specs.List.{list_all, concat}
 use Rattle.std.proofs.lemmas.Bool.{and_parts}
@@ -33,12 +33,12 @@ use Rattle.imap_reply.specs.SearchLine.{search_line}
 use Rattle.imap_reply.specs.StatusLine.{status_line}
 use Rattle.imap_reply.specs.ReplyText.{line_text, lines_text, reply_text}
 use Rattle.imap_reply.specs.TaggedLine.{tagged_line, under, ok_text, no_text, bad_text}
-use Rattle.imap_reply.specs.Tags.{tag_text}
 use Rattle.imap_reply.proofs.EachLine.{capability_is_line, enabled_is_line, closed_is_line, bye_is_line, exists_is_line, expunge_is_line}
 use Rattle.imap_reply.proofs.EachLine.{uid_next_is_line, uid_validity_is_line, flags_is_line, permanent_is_line, list_is_line, status_is_line}
 use Rattle.imap_reply.proofs.LongLines.{search_is_line, fetch_is_line, acl_is_line, my_rights_is_line}
 use Rattle.imap_reply.proofs.TaggedIsLine.{ok_is_line, no_is_line, bad_is_line}
 use Rattle.imap_reply.proofs.ReadParts.{read_by}
+use Rattle.imap_reply.proofs.VerdictLaws.{last_begins, refusal_told}
 
 untagged_is_line : (tag : Tag) → IsSoundTag tag → (line : ReplyLine) → IsSoundLine line → IsLine (line_text tag line)
 unfolding line_text IsSoundLine
@@ -124,30 +124,6 @@ untagged_are : (tag : Tag) (reply : Reply) (word : List ℕ) → IsTag word → 
 untagged_are tag reply word is_tag =
     All-map (λ line. begins_with word line ≡ false) (line_text tag) reply.lines (λ k d within. no_tag_first tag word is_tag _)
 
-itself : (front rest : List ℕ) → begins_with front (front ++ rest) ≡ true
-unfolding begins_with
-itself [] rest = refl
-itself (c ∷ front) rest = grind (arith, nat_tests, itself front rest)
-
-under_tag : (tag : Tag) (text : List ℕ) → begins_with (tag_text tag ++ codes " ") (under tag text) ≡ true
-unfolding under
-under_tag tag text =
-    ap (begins_with (tag_text tag ++ codes " ")) (append_assoc (tag_text tag ++ codes " ") text (codes "\r\n"))
-    ∙ itself (tag_text tag ++ codes " ") (text ++ codes "\r\n")
-
-last_are : (tag : Tag) (verdict : Verdict) → All (λ line. begins_with (tag_text tag ++ codes " ") line ≡ true) (last_line tag verdict)
-unfolding last_line tagged_line
-last_are tag Nothing = All-nil (λ line. begins_with (tag_text tag ++ codes " ") line ≡ true)
-last_are tag (ok_reply code name) =
-    let P : List ℕ → Type 0 = λ line. begins_with (tag_text tag ++ codes " ") line ≡ true in
-    All-cons P (under tag (ok_text code name)) [] (under_tag tag (ok_text code name)) (All-nil P)
-last_are tag (no_reply why) =
-    let P : List ℕ → Type 0 = λ line. begins_with (tag_text tag ++ codes " ") line ≡ true in
-    All-cons P (under tag (codes "NO " ++ no_text why)) [] (under_tag tag (codes "NO " ++ no_text why)) (All-nil P)
-last_are tag (bad_reply why) =
-    let P : List ℕ → Type 0 = λ line. begins_with (tag_text tag ++ codes " ") line ≡ true in
-    All-cons P (under tag (codes "BAD " ++ bad_text why)) [] (under_tag tag (codes "BAD " ++ bad_text why)) (All-nil P)
-
 are_lines : (tag : Tag) (reply : Reply) → IsSound tag reply → All IsLine (meant_lines tag reply)
 are_lines tag reply sound =
     All-append IsLine (untagged_lines tag reply) (last_line tag reply.verdict)
@@ -160,5 +136,6 @@ read_as_meant tag reply sound =
     record {
       read = read_by (reply_text tag reply) (meant_lines tag reply) (whole_text tag reply) (are_lines tag reply sound);
       untagged = untagged_are tag reply;
-      tagged = last_are tag reply.verdict;
+      tagged = last_begins tag reply.verdict;
+      refusal = refusal_told tag reply.verdict;
     }

@@ -18,6 +18,7 @@ pub mod SearchLine
 pub mod AccessLines
 pub mod Codes
 pub mod TaggedLine
+pub mod VerdictBegins
 pub mod ReplyText
 pub mod Inputs
 pub mod Transcript

@@ -1,6 +1,7 @@
 -- What a client reads of a reply is what was meant, whatever the texts in it are (RFC 9051, 2.2.2).
 use Rattle.std.specs.Prelude.{◌≡◌, ℕ, Bool, true, false, ◌&&◌, ◌==◌, List, [], ◌∷◌, ◌++◌, codes, map, All}
 use Rattle.mur_model.specs.declared.command.Tag.{Tag}
+use Rattle.mur_model.specs.declared.reply.NoText.{NoText}
 use Rattle.mur_model.specs.declared.reply.Reply.{Reply}
 use Rattle.mur_model.specs.declared.reply.Verdict.{Verdict}
 use Rattle.mur_model.specs.declared.reply.Verdict.TheVariants.{Nothing, Ok as ok_reply, No as no_reply, Bad as bad_reply}
@@ -9,6 +10,7 @@ use Rattle.imap_reply.specs.SoundTexts.{IsTag}
 use Rattle.imap_reply.specs.ReplyText.{line_text, reply_text}
 use Rattle.imap_reply.specs.TaggedLine.{tagged_line}
 use Rattle.imap_reply.specs.Tags.{tag_text}
+use Rattle.imap_reply.specs.VerdictBegins.{verdict_begins}
 
 unfoldable pub begins_with : List ℕ → List ℕ → Bool
 begins_with [] text = true
@@ -31,6 +33,8 @@ meant_lines tag reply = untagged_lines tag reply ++ last_line tag reply.verdict
 
 pub record IsReadAsMeant (tag : Tag) (reply : Reply) : Type 0 where
   pub read : IsReadAs (reply_text tag reply) (meant_lines tag reply)
-  -- no untagged line begins with a tag, and the tagged one with its own
+  -- no untagged line begins with a tag, and the tagged one with its own and its verdict
   pub untagged : (word : List ℕ) → IsTag word → All (λ line. begins_with word line ≡ false) (untagged_lines tag reply)
-  pub tagged : All (λ line. begins_with (tag_text tag ++ codes " ") line ≡ true) (last_line tag reply.verdict)
+  pub tagged : All (λ line. begins_with (tag_text tag ++ codes " " ++ verdict_begins reply.verdict) line ≡ true) (last_line tag reply.verdict)
+  -- of a refusal it tells which: no other verdict has its line
+  pub refusal : (why : NoText) → last_line tag reply.verdict ≡ last_line tag (no_reply why) → reply.verdict ≡ no_reply why

@@ -33,7 +33,7 @@ abbrev pub IsAnswerReadAsMeant : Answer → Type 0
 IsAnswerReadAsMeant answer = IsReadAsMeant answer.tag answer.reply
 
 -- a client that has sent these bytes, and whose requests have these answers, reads just the lines that were meant; no line begins with a tag
--- but the last of each reply, which begins with its own
+-- but the last of each reply, which begins with its own and says its verdict
 pub record IsAllReadAsMeant (setting : Setting) (given : List ℕ) (bytes : Option (List ℕ)) (answers : List Answer) : Type 0 where
   pub lines : IsReadAs given (lines_of setting bytes answers)
   pub untagged : (word : List ℕ) → IsTag word → All (λ line. begins_with word line ≡ false) (untagged_of setting bytes answers)
