@@ -35,11 +35,13 @@ pub mod OneStoreLaw
 pub mod InTime
 pub mod StepsMade
 pub mod HomesLaw
+pub mod BackendsLaw
 pub mod NamesHeld
 pub mod ShownHomes
 pub mod ReadLaw
 pub mod NeedsNoCause
 pub mod NoRelocation
+pub mod BegunLaw
 pub mod ToldSoFar
 pub mod ClosedLaw
 pub mod AtRestLaw

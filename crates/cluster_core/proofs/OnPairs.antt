@@ -170,7 +170,7 @@ start_pairs : (config : Config) → (start config).pairs ≡ links_of config.nod
 unfolding start
 start_pairs config = nodes_pairs _ _ _ config.nodes
 
-start_none_quiet : (config : Config) → NoneQuiet (start config).links
+pub start_none_quiet : (config : Config) → NoneQuiet (start config).links
 start_none_quiet config = λ a b. nothing_picked quiet_in (start config).links a b (start_links config) ∙ sym (alike (same_link a b [] []) [])
 
 pub pairs_stay : (config : Config) (steps : List Event) → (run_steps (start config) steps).pairs ≡ links_of config.nodes

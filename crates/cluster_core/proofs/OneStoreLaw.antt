@@ -1,5 +1,5 @@
 -- The one-store law at every step of a run.
-use Rattle.std.proofs.Common.{◌≡◌, ℕ, ◌≤◌, ◌<◌, Bool, true, false, ◌||◌, List, [], ◌∷◌, ◌++◌, length}
+use Rattle.std.proofs.Common.{◌≡◌, ℕ, ◌+◌, ◌≤◌, ◌<◌, Bool, true, false, ◌||◌, List, [], ◌∷◌, ◌++◌, length}
 use Rattle.std.proofs.Common.{Option, None, Some, refl, sym, ◌∙◌}
 use Rattle.std.proofs.Common.{ap, subst, arith, length-append}
 use Rattle.std.proofs.Common.{inl, inr, get_or}
@@ -27,6 +27,7 @@ use Rattle.cluster_core.specs.declared.world.World.{World}
 use Rattle.cluster_core.specs.Heard.{Heard, bytes_heard, frames_heard, has_closed}
 use Rattle.cluster_core.specs.History.{answered_in, connection_in, connection_by, connection_of, answered_of, history_of}
 use Rattle.cluster_core.specs.OneStore.{AreEmpty, IsAnsweredThrough, first_course}
+use Rattle.cluster_core.specs.Points.{AreMadeBy, LosesTheNext}
 use Rattle.cluster_core.specs.Shown.{given_by, given_to}
 use Rattle.cluster_core.specs.World.{client_at, front_at}
 use Rattle.cluster_core.proofs.ConnectionLaw.{Story, told_of, client_with, Stands, IsLeft}
@@ -260,3 +261,32 @@ unfolding history_of
 steps_rise setting world story home told =
     pairs_of_points world Later (λ (m : Mark). command_of m ≤ length (story.talk.answers (conn_of m))) (λ (one other : Point). one.step ≤ other.step)
     (λ earlier later one other behind bound is at. omega (arith, behind.1, is.same_step, at.same_step)) world.marks told.later told.numbers
+
+-- no point of the history is of a later step
+pub made_by_now : (setting : Setting) (world : World) (story : Story) (home : _) → IsTold setting world.steps world.marks home story.talk story.course
+    → AreMadeBy world.steps (history_of world)
+unfolding history_of
+made_by_now setting world story home told =
+    all_points world (λ (m : Mark). m.step ≤ world.steps) (λ (p : Point). p.step ≤ world.steps)
+    (λ mark point timely is. omega (arith, timely, is.same_step)) world.marks told.timely
+
+-- a lost command is the first that wasn't answered
+pub loses_the_next : (setting : Setting) (world : World) (story : Story) (home : _) → IsTold setting world.steps world.marks home story.talk story.course
+    → ((conn : ℕ) → answered_of world conn ≡ length (story.told conn)) → ((conn : ℕ) → IsToldSo (story.told conn) (story.talk.answers conn))
+    → LosesTheNext (told_of story) (history_of world)
+unfolding history_of
+loses_the_next setting world story home told counts so =
+    all_points world (λ (m : Mark). command_of m ≤ length (story.talk.answers (conn_of m)))
+    (λ (p : Point). loses p.what ≡ true → p.ask.command ≡ length (story.told p.ask.conn) + 1)
+    (λ mark point bound is. λ loss. omega (
+      arith,
+      bound,
+      is.if_lost loss,
+      counts (conn_of mark),
+      ap length (so (conn_of mark)).parts,
+      length-append (story.told (conn_of mark)) (so (conn_of mark)).rest,
+      (so (conn_of mark)).few,
+      ap (λ (a : AskId). a.command) is.same_ask,
+      ap (λ (a : AskId). length (story.told a.conn)) is.same_ask,
+    ))
+    world.marks told.numbers

@@ -6,10 +6,17 @@ pub mod Requests
 pub mod Heard
 pub mod History
 pub mod Shown
+pub mod OpenAt
+pub mod Backends
+pub mod LawSetting
 pub mod NoneLost
+pub mod Serials
+pub mod Points
+pub mod Begun
 pub mod OneStore
 pub mod Closed
 pub mod AtRest
+pub mod Carried
 pub mod FlowLaw
 pub mod OneNode
 pub mod HomeLaw
