@@ -15,6 +15,7 @@ pub mod Readings
 pub mod RequestsOf
 pub mod FrontAnswers
 pub mod ConnectionLaw
+pub mod LastAnswer
 pub mod FrameLaw
 pub mod KeepsLaw
 pub mod KeepsStill

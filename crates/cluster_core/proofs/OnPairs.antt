@@ -64,7 +64,7 @@ standing_way : (setting : Setting) (front home : List ℕ) (conn : ℕ) (all : L
 standing_way setting front home conn all held connection links told said session (reads a b c d e f way) = a_way links conn front home _ _ way
 standing_way setting front home conn all held connection links told said session (waits passed request tag it name work a b c d e f g way) =
     waiting_way links conn front home connection tag name work told said session way
-standing_way setting front home conn all held connection links told said session (faulted a b c d way) = a_way links conn front home _ _ way
+standing_way setting front home conn all held connection links told said session (faulted a b c d e way) = a_way links conn front home _ _ way
 standing_way setting front home conn all held connection links told said session (finished passed more request before last a b c d e f way) =
     a_way links conn front home _ _ way
 

@@ -24,6 +24,7 @@ use Rattle.cluster_core.proofs.Readings.{inputs_in}
 use Rattle.cluster_core.specs.declared.world.Client.{Client}
 use Rattle.cluster_core.specs.declared.world.Mark.{Mark}
 use Rattle.cluster_core.specs.declared.world.World.{World}
+use Rattle.cluster_core.specs.Ending.{EndsOnlyLast}
 use Rattle.cluster_core.specs.Heard.{Heard, bytes_heard, frames_heard, has_closed}
 use Rattle.cluster_core.specs.History.{answered_in, connection_in, connection_by, connection_of, answered_of, history_of}
 use Rattle.cluster_core.specs.OneStore.{AreEmpty, IsAnsweredThrough, first_course}
@@ -37,6 +38,7 @@ use Rattle.cluster_core.proofs.ConnectionLaw.IsLeft.{nothing, its_ask, its_answe
 use Rattle.cluster_core.proofs.KeepsLaw.{ConnectionIs, IsAt}
 use Rattle.cluster_core.proofs.KeepsLaw.ConnectionIs.{is_nobody, is_elsewhere, is_open, is_closed}
 use Rattle.cluster_core.proofs.Marks.{conn_of, command_of, IsOf, all_points, pairs_of_points, marks_follow, answering_points, losing_points}
+use Rattle.cluster_core.proofs.LastAnswer.{none_given, stands_last}
 use Rattle.cluster_core.proofs.Marks.{NoMore}
 use Rattle.cluster_core.proofs.RequestsOf.{requests_of, answered_lengths}
 use Rattle.cluster_core.proofs.Told.{IsTold, Later}
@@ -59,7 +61,7 @@ told_standing setting front home conn all held connection links told said sessio
     all_told told said s
 told_standing setting front home conn all held connection links told said session
     (waits passed bytes tag it name work a b c d e f g (back body turn s shown behind last way)) = record { rest = _; parts = s; few = omega arith }
-told_standing setting front home conn all held connection links told said session (faulted a b c d way) = all_told told said d
+told_standing setting front home conn all held connection links told said session (faulted a b c d e way) = all_told told said d
 told_standing setting front home conn all held connection links told said session (finished passed more bytes before last a b c d e f way) =
     all_told told said f
 
@@ -74,6 +76,7 @@ pub record SaysOf (setting : Setting) (world : World) (conn : ℕ) (heard : Hear
   pub count : answered_of world conn ≡ length told
   pub given : given_to world conn ≡ transcript_of setting (bytes_heard heard) told
   pub so : IsToldSo told said
+  pub lasts : EndsOnlyLast told
   pub waits_not : AreEmpty world → has_closed heard ≡ false → IsAnsweredThrough (requests_of setting (frames_heard heard)) told
 
 count_at : (world : World) (conn : ℕ) (node : List ℕ) (given : List ℕ) (front : Front) (connection : Connection)
@@ -117,7 +120,7 @@ none_waits setting front home conn bytes connection world told said session empt
 none_waits setting front home conn bytes connection world told said session empty
     (waits passed asking tag it name work a b c d e f g (back body turn s shown behind last way)) =
     (let none = (none_on_empty world.links conn front home _ _ empty way).1 in cc)
-none_waits setting front home conn bytes connection world told said session empty (faulted a b c d way) = inl (sym c)
+none_waits setting front home conn bytes connection world told said session empty (faulted a b c d e way) = inl (sym c)
 none_waits setting front home conn bytes connection world told said session empty (finished passed more asking before last a b c d e f way) =
     inr (subst (λ t. list_any (λ (answer : Answer). ends answer.reply) t ≡ true) (sym d) (last_ends before last e))
 
@@ -128,18 +131,22 @@ says_of setting home conn world story heard (is_nobody none fronts untold) = rec
   count = count_none world conn none ∙ ap length (sym untold.told);
   given = given_at world conn None none;
   so = all_told (story.told conn) (story.talk.answers conn) (untold.said ∙ sym untold.told);
+  lasts = none_given (story.told conn) untold.told;
   waits_not = λ empty stays. inl (ap length untold.told);
 }
 says_of setting home conn world story heard (is_elsewhere node at none untold) = record {
   count = count_elsewhere world conn node [] at none ∙ ap length (sym untold.told);
   given = given_at world conn (Some (record { at = node; given = [] })) at;
   so = all_told (story.told conn) (story.talk.answers conn) (untold.said ∙ sym untold.told);
+  lasts = none_given (story.told conn) untold.told;
   waits_not = λ empty stays. inl (ap length untold.told);
 }
 says_of setting home conn world story heard (is_open bytes node front connection at reader standing) = record {
   count = count_at world conn node _ front connection standing.client at ∙ standing.count;
   given = given_at world conn (Some (client_with node (inputs_in setting bytes) (story.told conn))) standing.client;
   so = told_standing setting node home conn (inputs_in setting bytes) (begun bytes) connection world.links (story.told conn) (story.talk.answers conn)
+      (story.course.sessions conn) standing.stands;
+  lasts = stands_last setting node home conn (inputs_in setting bytes) (begun bytes) connection world.links (story.told conn) (story.talk.answers conn)
       (story.course.sessions conn) standing.stands;
   waits_not = λ empty stays. none_waits setting node home conn bytes connection world (story.told conn) (story.talk.answers conn)
       (story.course.sessions conn) empty standing.stands;
@@ -149,6 +156,7 @@ says_of setting home conn world story heard (is_closed bytes node front connecti
   given = given_at world conn (Some (client_with node (inputs_in setting bytes) (story.told conn))) gone.client;
   so = told_left setting node home conn (requests_in (inputs_in setting bytes)) connection world.links (story.told conn) (story.talk.answers conn)
       (story.course.sessions conn) gone.left;
+  lasts = gone.lasts;
   waits_not = λ empty stays. cc;
 }
 

@@ -172,6 +172,7 @@ told_so_far config talk before later are date_is now last =
           (λ other. heard_sound (setting_of config) (heard other) (law.story.talk.requests other) (asked other)) conn (given_to world conn) (bytes_heard
           (heard conn))
           (says conn).given;
+      ends_only_last = λ conn. (says conn).lasts;
       last = legal.last;
       legal = legal.legal;
       refusals = have_causes (setting_of config) first_course (told_of law.story) (history_of world) legal.last legal.legal;

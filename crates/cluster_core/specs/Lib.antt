@@ -13,6 +13,7 @@ pub mod NoneLost
 pub mod Serials
 pub mod Points
 pub mod Begun
+pub mod Ending
 pub mod OneStore
 pub mod Closed
 pub mod AtRest

@@ -22,6 +22,7 @@ use Rattle.mur_model.specs.Store.{empty_store, box_at}
 use Rattle.schedule_text.specs.declared.event.Event.{Event}
 use Rattle.cluster_core.specs.declared.world.World.{World}
 use Rattle.cluster_core.specs.Begun.{BeginsAsRead}
+use Rattle.cluster_core.specs.Ending.{EndsOnlyLast}
 use Rattle.cluster_core.specs.Flow.{run_steps, unrolled}
 use Rattle.cluster_core.specs.Heard.{heard, bytes_heard, frames_heard, has_closed}
 use Rattle.cluster_core.specs.History.{history_of}
@@ -94,6 +95,7 @@ pub record IsToldSoFar (config : Config) (talk : Talk) (points : List Point) (st
   pub given : (conn : ℕ) → given_to world conn ≡ transcript_of (law_setting config) (bytes_heard (heard config conn steps)) (so_far.answers conn)
   -- no text of a user forges a reply: each client reads just the greeting, the continuations and the lines of these answers
   pub read : (conn : ℕ) → IsAllReadAsMeant (law_setting config) (given_to world conn) (bytes_heard (heard config conn steps)) (so_far.answers conn)
+  pub ends_only_last : (conn : ℕ) → EndsOnlyLast (so_far.answers conn)
   pub last : Course
   pub legal : IsLegal (law_setting config) first_course so_far (history_of world) last
   pub refusals : HaveCauses so_far (history_of world)
