@@ -1,4 +1,4 @@
--- A session begins just where its command is read as one that begins it.
+-- A session is as its readers take it: it begins just where its command is read as one that begins it, and then goes on until it ends.
 use Rattle.std.proofs.Common.{◌≡◌, ℕ, Bool, true, false, if◌then◌else◌, List, Option, None, Some, codes, refl}
 use Rattle.std.specs.Str.{bytes_eq}
 use Rattle.mur_base.specs.declared.user.User.{User}
@@ -9,15 +9,17 @@ use Rattle.mur_model.specs.declared.need.Need.TheVariants.{Refusal, Turned}
 use Rattle.mur_model.specs.declared.reply.BadText.TheVariants.{Syntax}
 use Rattle.mur_model.specs.declared.reply.Verdict.{Verdict}
 use Rattle.mur_model.specs.declared.reply.Verdict.TheVariants.{Bad as bad_reply}
-use Rattle.mur_model.specs.declared.session.Sess.TheVariants.{Off}
+use Rattle.mur_model.specs.declared.session.Sess.{Sess}
+use Rattle.mur_model.specs.declared.session.Sess.TheVariants.{Off, In, Selected as selected, Ended}
 use Rattle.mur_model.specs.declared.setting.Setting.{Setting}
 use Rattle.mur_model.specs.declared.store.Store.{Store}
 use Rattle.mur_model.specs.Act.{act_by, act_of, need_of, need_off}
 use Rattle.mur_model.specs.Login.{begun_by, login, login_as, login_by, login_failed}
 use Rattle.mur_model.specs.Plain.{acts_as, authenticate, authenticate_as, authenticate_by, authenticate_with, cut_at_nul, decoded}
 use Rattle.mur_model.specs.Rights.{user_named}
-use Rattle.mur_model.specs.Waits.{begins, begins_by, begins_with}
-use Rattle.cluster_core.specs.Begun.{has_begun, BeginsAsRead}
+use Rattle.mur_model.specs.Waits.{begins, begins_by, begins_with, begun_behind}
+use Rattle.cluster_core.specs.Begun.{has_begun, IsReadSo, BeginsAsRead}
+use Rattle.cluster_core.proofs.StaysBegun.{stays_begun}
 
 -- a session that hadn't begun has begun behind a need just where the need begins it
 abbrev BeginsBy : Need → Type 0
@@ -83,6 +85,20 @@ off_is setting store serial (command.Authenticate (Some response)) = plain_is se
 off_is setting store serial (command.Authenticate None) = refl
 off_is setting store serial it = refl
 
+read_so : (begun : Bool) (session : Sess) → has_begun session ≡ begun → IsReadSo begun session
+unfolding IsReadSo
+read_so begun Off e = e
+read_so begun (In user) e = e
+read_so begun (selected view) e = e
+read_so begun Ended e = tt
+
 pub begins_as_read : (setting : Setting) → BeginsAsRead setting
-unfolding act_of need_of
-begins_as_read setting = λ store it serial. off_is setting store serial it
+unfolding act_of need_of begun_behind has_begun IsReadSo act_by
+begins_as_read setting = λ store session it serial. by store session it serial
+  where
+    by : (store : Store) (session : Sess) (it : Command) (serial : ℕ)
+        → IsReadSo (begun_behind setting (has_begun session) it) (act_of setting store session it serial).session
+    by store Off it serial = read_so (begins setting it) _ (off_is setting store serial it)
+    by store (In user) it serial = stays_begun setting store (In user) it serial refl
+    by store (selected view) it serial = stays_begun setting store (selected view) it serial refl
+    by store Ended it serial = tt

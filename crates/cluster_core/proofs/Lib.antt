@@ -42,6 +42,7 @@ pub mod ShownHomes
 pub mod ReadLaw
 pub mod NeedsNoCause
 pub mod NoRelocation
+pub mod StaysBegun
 pub mod BegunLaw
 pub mod ToldSoFar
 pub mod ClosedLaw
