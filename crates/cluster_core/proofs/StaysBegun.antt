@@ -1,7 +1,7 @@
 -- A session that has begun goes on or ends: no command leaves one that has not begun.
 use Rattle.std.proofs.Common.{◌≡◌, ℕ, ◌==◌, Bool, true, false, if◌then◌else◌, List, [], ◌∷◌, Option, None, Some, refl}
 use Rattle.std.specs.Prelude.{⊤}
-use Rattle.mail_message.specs.Boxes.{Content, messages_at, snapshot_of}
+use Rattle.mail_message.specs.Boxes.{Content, messages_at}
 use Rattle.mail_message.specs.declared.message.Message.{Message}
 use Rattle.mail_message.specs.declared.mode.Mode.TheVariants.{Add}
 use Rattle.mail_store.specs.Append.{append_fault}
