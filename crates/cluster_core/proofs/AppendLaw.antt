@@ -56,6 +56,7 @@ changed_alike store home name held content at e same =
           (same_or_other (slice_cmp nat_cmp) names_apart other name);
       serials = same.serials;
       spent = same.spent;
+      counted = same.counted;
     }
 
 -- the same content at home
@@ -66,6 +67,7 @@ kept_alike store home name held at same = record {
   all_open = λ other found k. same.all_open other found (sym (still other) ∙ k);
   serials = same.serials;
   spent = same.spent;
+  counted = same.counted;
 }
   where
     still : (other : List ℕ) → value_at (slice_cmp nat_cmp)

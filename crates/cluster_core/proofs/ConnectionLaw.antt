@@ -36,6 +36,7 @@ use Rattle.session_core.specs.Asking.{asked_for}
 use Rattle.session_core.specs.Finish.{turn_of}
 use Rattle.cluster_core.specs.declared.world.Client.{Client}
 use Rattle.cluster_core.specs.declared.world.World.{World}
+use Rattle.cluster_core.specs.Ending.{EndsOnlyLast}
 use Rattle.cluster_core.specs.Links.{Links}
 use Rattle.cluster_core.specs.World.{client_at}
 use Rattle.cluster_core.proofs.Told.{IsTold}
@@ -139,7 +140,7 @@ pub data Stands (setting : Setting) (front home : List ℕ) (conn : ℕ) (inputs
       → OnItsWay links conn front home connection tag name work told said session
       → Stands setting front home conn inputs held connection links told said session
   faulted : connection.stage ≡ Ended → held ≡ None → length (requests_in inputs) ≡ length told → said ≡ told
-      → AreOnWay links conn front home [] [] → Stands setting front home conn inputs held connection links told said session
+      → EndsOnlyLast told → AreOnWay links conn front home [] [] → Stands setting front home conn inputs held connection links told said session
   finished : (passed more : List Input) (request : Request) (before : List Answer) (last : Answer) → connection.stage ≡ Ended
       → inputs ≡ passed ++ Asks request ∷ more → AreAnswered passed before → told ≡ before ++ last ∷ [] → ends last.reply ≡ true → said ≡ told
       → AreOnWay links conn front home [] [] → Stands setting front home conn inputs held connection links told said session

@@ -1,6 +1,6 @@
 -- A CREATE at the home is one at the store, where the mailbox that is made gets the serial behind the home's last.
 use Rattle.std.proofs.Common.{◌≡◌, ◌≢◌, ℕ, ◌+◌, ◌-◌, ◌^◌, ◌<◌, ◌≤◌, ◌||◌, Bool, true, false, nat_eq, List, [], ◌∷◌, ◌++◌, Option, None, Some, refl, sym, ◌∙◌}
-use Rattle.std.proofs.Common.{ap, subst, arith}
+use Rattle.std.proofs.Common.{ap, subst, arith, length-append}
 use Rattle.std.specs.Ordering.{nat_cmp}
 use Rattle.std.specs.Cmp.Lexicographic.{slice_cmp}
 use Rattle.std.proofs.Math.Logic.{⊎_elim}
@@ -78,6 +78,7 @@ made_alike store home name left same =
           (λ pair h. omega arith) store.given same.serials)
           (omega arith);
       spent = no_more store.given (record { name = name; serial = home.last_serial + 1 }) home.last_serial refl left;
+      counted = ap (λ n. n + 1) same.counted ∙ sym (length-append store.given ((record { name = name; serial = home.last_serial + 1 }) ∷ []));
     }
 
 abbrev pub CreatesAlike : Store → Backend → List ℕ → Option Held → Type 0

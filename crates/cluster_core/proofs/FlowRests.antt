@@ -26,7 +26,8 @@ use Rattle.cluster_core.proofs.Load.{load}
 use Rattle.cluster_core.proofs.LoadFalls.{delivery_falls, start_load, step_load, steps_load}
 use Rattle.cluster_core.proofs.OncePairs.{times, pairs_once}
 use Rattle.cluster_core.proofs.OneNodeLaw.{carry_all_sends}
-use Rattle.cluster_core.proofs.OnPairs.{IsIdle, all_empty, pairs_stay}
+use Rattle.cluster_core.proofs.NoneQuiet.{NoneQuiet, first_serves, run_keeps as keeps_none_quiet}
+use Rattle.cluster_core.proofs.OnPairs.{IsIdle, all_empty, pairs_stay, start_none_quiet}
 use Rattle.cluster_core.proofs.Unrolled.{event_made, run_steps-append}
 use Rattle.cluster_core.proofs.Wires.{same_itself, on_link-taken}
 
@@ -66,13 +67,14 @@ unfolding takes
 step_takes world from to ne = takes_first (stepped world) from to (on_link world.links from to) ne refl
 
 delivers_first : (links : List Link) (world : World) (link : Link) (message : LinkMsg) (queue : List LinkMsg) → Contains links link → AreApart link
-    → on_link world.links link.from link.to ≡ message ∷ queue
+    → on_link world.links link.from link.to ≡ message ∷ queue → NoneQuiet world.links
     → DeliversFirst links world (Deliver link.from link.to) (steps_by world (Deliver link.from link.to))
-delivers_first links world link message queue among apart e = record {
+delivers_first links world link message queue among apart e only = record {
   link = link;
   among = among;
   delivers = refl;
   message = message;
+  serves = first_serves world.links link.from link.to message queue e only;
   is_taken = e ∙ ap (λ q. message ∷ q) (sym (step_takes world link.from link.to apart ∙ ap (λ q. drop 1 q) e));
 }
 
@@ -108,6 +110,7 @@ record IsFlowing (links : List Link) (world : World) (count : ℕ) (flowing : Fl
   steps : flowing.world ≡ run_steps world flowing.made
   counts : length flowing.made + flowing.left ≡ count
   each : DeliversEach links world flowing.made
+  only : NoneQuiet world.links
 
 delivered_flows : (links : List Link) (world : World) (count : ℕ) (flowing : Flowing) (link : Link) (left : ℕ) (message : LinkMsg) (queue : List LinkMsg)
     → Contains links link → AreApart link → flowing.left ≡ suc left → on_link flowing.world.links link.from link.to ≡ message ∷ queue
@@ -115,13 +118,16 @@ delivered_flows : (links : List Link) (world : World) (count : ℕ) (flowing : F
 unfolding run_steps
 delivered_flows links world count flowing link left message queue among apart l e is =
     let event = Deliver link.from link.to in
+    let only : NoneQuiet flowing.world.links =
+    subst (λ (w : World). NoneQuiet w.links) (sym is.steps) ((keeps_none_quiet world flowing.made).none_quiet is.only) in
     let here : DeliversFirst links (run_steps world flowing.made) event (steps_by (run_steps world flowing.made) event) =
     subst (λ w. DeliversFirst links w event (steps_by w event)) is.steps
-    (delivers_first links flowing.world link message queue among apart e) in
+    (delivers_first links flowing.world link message queue among apart e only) in
     record {
       steps = ap (λ w. steps_by w event) is.steps ∙ sym (run_steps-append world flowing.made (event ∷ []));
       counts = omega (arith, length-append flowing.made (event ∷ []), is.counts, l);
       each = one_more links world flowing.made event is.each here;
+      only = is.only;
     }
 
 turn_flows : (links : List Link) (world : World) (count : ℕ) (flowing : Flowing) (link : Link) (left : ℕ) (queue : List LinkMsg)
@@ -219,11 +225,11 @@ rounds_rest zero links flowing h some = absurd (some (omega (arith, h)))
 rounds_rest (suc n) links flowing h some =
     rest_by n links flowing (rounds n links (round flowing links)) _ refl h some (λ fewer left. rounds_rest n links (round flowing links) fewer left)
 
-flow_flows : (world : World) (count : ℕ) → All AreApart world.pairs → IsFlowing world.pairs world count (flow world count)
+flow_flows : (world : World) (count : ℕ) → All AreApart world.pairs → NoneQuiet world.links → IsFlowing world.pairs world count (flow world count)
 unfolding flow run_steps
-flow_flows world count apart =
+flow_flows world count apart only =
     rounds_flow world.pairs world count apart count (record { world = world; made = []; left = count })
-    (record { steps = refl; counts = omega arith; each = λ before step later e. absurd (not_none before step later e) })
+    (record { steps = refl; counts = omega arith; each = λ before step later e. absurd (not_none before step later e); only = only })
 
 flow_rests : (world : World) (count : ℕ) → (flow world count).left ≢ 0 → All (IsIdle (flow world count).world) world.pairs
 unfolding flow
@@ -233,8 +239,10 @@ flow_is : (config : Config) (steps : List Event) (count : ℕ) (world : World) �
     → IsFlowing (links_of config.nodes) world count (flow world count)
 flow_is config steps count world there =
     let pairs : world.pairs ≡ links_of config.nodes = ap (λ (w : World). w.pairs) there ∙ pairs_stay config steps in
+    let only : NoneQuiet world.links =
+    subst (λ (w : World). NoneQuiet w.links) (sym there) ((keeps_none_quiet (start config) steps).none_quiet (start_none_quiet config)) in
     subst (λ links. IsFlowing links world count (flow world count)) pairs
-    (flow_flows world count (subst (λ links. All AreApart links) (sym pairs) (pairs_apart config.nodes)))
+    (flow_flows world count (subst (λ links. All AreApart links) (sym pairs) (pairs_apart config.nodes)) only)
 
 -- deliveries come to an end
 

@@ -60,6 +60,7 @@ use Rattle.cluster_core.proofs.ConnectionLaw.Stands.{reads, waits, faulted, fini
 use Rattle.cluster_core.proofs.FrontAnswers.{IsTaken, request_taken}
 use Rattle.cluster_core.proofs.FrontAnswers.IsTaken.{here, finishes, asked}
 use Rattle.cluster_core.proofs.RequestsOf.{answered_lengths, next_request, replies_stop}
+use Rattle.cluster_core.proofs.LastAnswer.{all_go_on}
 use Rattle.cluster_core.proofs.ServedAlike.{IsStoreOf, apart}
 use Rattle.cluster_core.proofs.Told.{IsTold, having_said, next_course, told_push}
 use Rattle.cluster_core.proofs.Ways.{ask_sent, sent_for_another, ask_of_another}
@@ -337,7 +338,7 @@ faulted_here setting front home backend conn inputs held connection before told 
         stands = faulted refl none
             (ap length (requests-append inputs (Faults fault ∷ []) ∙ append-nil (requests_in inputs))
             ∙ answered_lengths inputs (story.told conn) was.reading.answered)
-            was.reading.said was.reading.way;
+            was.reading.said (all_go_on inputs (story.told conn) was.reading.answered) was.reading.way;
       };
     })
 

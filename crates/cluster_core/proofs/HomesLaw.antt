@@ -31,7 +31,7 @@ named_by P node Frontend names p all = all
 named_by P node backend_kind names p all = All-cons P node.name names p all
 
 -- what holds of all names holds of the backends'
-all_named : (P : List ℕ → Type 0) (nodes : List Node) → All (λ (node : Node). P node.name) nodes → All P (backends_of nodes)
+pub all_named : (P : List ℕ → Type 0) (nodes : List Node) → All (λ (node : Node). P node.name) nodes → All P (backends_of nodes)
 unfolding backends_of
 all_named P [] all = All-nil P
 all_named P (node ∷ nodes) all =
@@ -62,7 +62,7 @@ pub record HomeIsFirst (config : Config) (world : World) : Type 0 where
   pub names : world.backends ≡ home_of config ∷ rest
   pub others : All (λ n. home_of config ≢ n) rest
 
-started : (config : Config) → (start config).backends ≡ backends_of config.nodes
+pub started : (config : Config) → (start config).backends ≡ backends_of config.nodes
 unfolding start
 started config = backends_stay (home_of config) (setting_of config)
     (record no_world { backends = backends_of config.nodes; pairs = links_of config.nodes }) config.nodes
@@ -77,7 +77,7 @@ home_first config world backend are nodes =
       others = others_apart config.nodes first.rest (home_of config) are.names first.is;
     }
 
-holds_none : (config : Config) (world : World) (backend : Backend) (node name : List ℕ) → AreNodesOf config world backend → home_of config ≢ node
+pub holds_none : (config : Config) (world : World) (backend : Backend) (node name : List ℕ) → AreNodesOf config world backend → home_of config ≢ node
     → (found : Option Backend) → home_at world node ≡ found
     → value_at (slice_cmp nat_cmp) (held_by found) name ≡ None
 holds_none config world backend node name nodes ne None at = refl

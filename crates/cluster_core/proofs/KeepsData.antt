@@ -506,7 +506,7 @@ stands_more config heard world law conn bytes more node front connection e at re
     (taken_more config heard world law conn bytes more node front connection e at has_reader
     (waiting_behind config heard world law conn bytes more node connection passed asking tag it name work e has_reader standing.count standing.client stage
     parts lasts all is need last way))
-stands_more config heard world law conn bytes more node front connection e at reader standing (faulted stage none lengths said way) =
+stands_more config heard world law conn bytes more node front connection e at reader standing (faulted stage none lengths said lasts way) =
     ended_more config heard world law conn bytes more node front connection e at stage
     (faulted_on config heard world law conn bytes more node connection standing none)
 stands_more config heard world law conn bytes more node front connection e at reader standing

@@ -191,7 +191,7 @@ ask_open config heard after world law from to ask rest conn bytes node front con
     (reads stage waiting s lasts answered said way) =
     absurd (no_ask_first world.links conn node (home_of config) from to ask rest [] first own way)
 ask_open config heard after world law from to ask rest conn bytes node front connection first same own e at reader standing
-    (faulted stage none lengths said way) =
+    (faulted stage none lengths said lasts way) =
     absurd (no_ask_first world.links conn node (home_of config) from to ask rest [] first own way)
 ask_open config heard after world law from to ask rest conn bytes node front connection first same own e at reader standing
     (finished passed more asking before final stage parts answered is_told is_end said way) =
@@ -255,6 +255,7 @@ ask_closed config heard after world law from to ask rest conn bytes node front c
     (record {
       stage_is = gone.stage_is;
       count = gone.count;
+      lasts = gone.lasts;
       client = gone.client;
       left = its_answer ((record { tag = tag; reply = done.turn.reply }) ∷ []) _
           (said_after config heard world law conn node asker tag name work ask done (law.story.told conn) said) (omega arith)

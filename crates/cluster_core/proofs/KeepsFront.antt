@@ -111,4 +111,10 @@ pub gone_after : (world : World) (node : List ℕ) (front : Front) (conn : ℕ) 
     → IsGone setting node home conn all connection world story
     → IsGone setting node home conn all connection (world_after world node front conn connection []) story
 unfolding carry_all
-gone_after world node front conn connection setting home all story is = record { stage_is = is.stage_is; count = is.count; client = is.client; left = is.left }
+gone_after world node front conn connection setting home all story is = record {
+  stage_is = is.stage_is;
+  count = is.count;
+  lasts = is.lasts;
+  client = is.client;
+  left = is.left;
+}

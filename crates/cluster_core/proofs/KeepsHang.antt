@@ -35,6 +35,7 @@ use Rattle.cluster_core.proofs.ConnectionLaw.OnItsWay.{there, back}
 use Rattle.cluster_core.proofs.ConnectionLaw.Stands.{reads, waits, faulted, finished}
 use Rattle.cluster_core.proofs.ConnectionLaw.IsLeft.{nothing, its_ask, its_answer}
 use Rattle.cluster_core.proofs.KeepsFront.{world_after, with_connection, front_keeps, is_at_after, gone_after}
+use Rattle.cluster_core.proofs.LastAnswer.{stands_last}
 use Rattle.cluster_core.proofs.KeepsLaw.{ConnectionIs, IsAt, IsGone, KeepsLaw, KeepsOn, looks_same}
 use Rattle.cluster_core.proofs.KeepsLaw.ConnectionIs.{is_nobody, is_elsewhere, is_open, is_closed}
 use Rattle.cluster_core.proofs.KeepsStill.{still_kept}
@@ -74,7 +75,7 @@ left_by setting node home conn all held connection links told said session
 left_by setting node home conn all held connection links told said session
     (waits passed request tag it name work stage parts lasts answered is need last (back body turn same shown later turned way)) =
     its_answer _ _ same (omega arith) way
-left_by setting node home conn all held connection links told said session (faulted stage none lengths same way) =
+left_by setting node home conn all held connection links told said session (faulted stage none lengths same lasts way) =
     nothing [] (same ∙ sym (append-nil told)) (omega arith) way
 left_by setting node home conn all held connection links told said session
     (finished passed more request before final stage parts answered is_told is_end same way) =
@@ -162,6 +163,8 @@ hang_by config heard world conn law was e (is_open bytes node front connection a
       stage_is = refl;
       count = standing.count;
       client = standing.client;
+      lasts = stands_last (setting_of config) node (home_of config) conn (inputs_in (setting_of config) bytes) (begun bytes) connection world.links
+          (law.story.told conn) (law.story.talk.answers conn) (law.story.course.sessions conn) standing.stands;
       left = left_by (setting_of config) node (home_of config) conn (inputs_in (setting_of config) bytes) (begun bytes) connection world.links
           (law.story.told conn)
           (law.story.talk.answers conn) (law.story.course.sessions conn) standing.stands;
@@ -173,6 +176,7 @@ hang_by config heard world conn law was e (is_closed bytes node front connection
     (record {
       stage_is = refl;
       count = gone.count;
+      lasts = gone.lasts;
       client = gone.client;
       left = left_again (setting_of config) node (home_of config) conn (requests_in (inputs_in (setting_of config) bytes)) connection world.links
           (law.story.told conn)

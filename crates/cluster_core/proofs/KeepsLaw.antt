@@ -26,6 +26,7 @@ use Rattle.mur_model.specs.History.{Talk, TalkGoesOn}
 use Rattle.imap_reply.specs.Inputs.{requests_in}
 use Rattle.cluster_core.proofs.Readings.{inputs_in, reading_of}
 use Rattle.cluster_core.specs.declared.world.World.{World}
+use Rattle.cluster_core.specs.Ending.{EndsOnlyLast}
 use Rattle.cluster_core.specs.Heard.{Heard, nobody, elsewhere, client, is_frontend, frames_heard, has_closed}
 use Rattle.cluster_core.specs.Links.{Links}
 use Rattle.cluster_core.specs.World.{start, client_at, front_at, home_at, home_of, setting_of}
@@ -53,6 +54,7 @@ pub record IsGone (setting : Setting) (node home : List ℕ) (conn : ℕ) (input
     (story : Story) : Type 0 where
   pub stage_is : connection.stage ≡ Ended
   pub count : connection.answered ≡ length (story.told conn)
+  pub lasts : EndsOnlyLast (story.told conn)
   pub client : client_at world conn ≡ Some (client_with node inputs (story.told conn))
   pub left : IsLeft setting node home conn (requests_in inputs) connection world.links (story.told conn) (story.talk.answers conn) (story.course.sessions conn)
 
@@ -124,7 +126,7 @@ pub stands_on : (setting : Setting) (front home : List ℕ) (conn : ℕ) (all : 
 stands_on setting front home conn all held connection links next told said session on (reads a b c d e f way) = reads a b c d e f (on front home _ _ way)
 stands_on setting front home conn all held connection links next told said session on (waits passed bytes tag it name work a b c d e f g way) =
     waits passed bytes tag it name work a b c d e f g (way_on links next conn front home connection tag name work told said session on way)
-stands_on setting front home conn all held connection links next told said session on (faulted a b c d way) = faulted a b c d (on front home _ _ way)
+stands_on setting front home conn all held connection links next told said session on (faulted a b c d e way) = faulted a b c d e (on front home _ _ way)
 stands_on setting front home conn all held connection links next told said session on (finished passed more bytes before last a b c d e f way) =
     finished passed more bytes before last a b c d e f (on front home _ _ way)
 
@@ -215,6 +217,7 @@ connection_stays setting home conn world next story later heard stays (is_closed
     (record {
       stage_is = gone.stage_is;
       count = gone.count ∙ ap length (sym stays.told);
+      lasts = subst EndsOnlyLast (sym stays.told) gone.lasts;
       client = stays.client ∙ gone.client ∙ ap (λ t. Some (client_with node (inputs_in setting bytes) t)) (sym stays.told);
       left = subst (λ t. IsLeft setting node home conn (requests_in (inputs_in setting bytes)) connection next.links t (later.talk.answers conn)
           (later.course.sessions conn)) (sym stays.told)

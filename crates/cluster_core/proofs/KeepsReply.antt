@@ -120,7 +120,7 @@ answer_open config heard after world law from to answer rest conn bytes node fro
     (reads stage waiting s lasts answered said way) =
     absurd (no_answer_first world.links conn node (home_of config) from to answer rest [] first own way)
 answer_open config heard after world law from to answer rest conn bytes node front connection first same own e at reader standing
-    (faulted stage none lengths said way) =
+    (faulted stage none lengths said lasts way) =
     absurd (no_answer_first world.links conn node (home_of config) from to answer rest [] first own way)
 answer_open config heard after world law from to answer rest conn bytes node front connection first same own e at reader standing
     (finished passed more asking before final stage parts answered is_told is_end said way) =
@@ -178,6 +178,7 @@ dropped config heard after world law from to answer rest conn bytes node front c
     (record {
       stage_is = released_ended connection gone.stage_is;
       count = released_count connection ∙ gone.count;
+      lasts = gone.lasts;
       client = gone.client;
       left = nothing more said few way;
     })))))

@@ -15,6 +15,7 @@ pub mod Readings
 pub mod RequestsOf
 pub mod FrontAnswers
 pub mod ConnectionLaw
+pub mod LastAnswer
 pub mod FrameLaw
 pub mod KeepsLaw
 pub mod KeepsStill
@@ -35,11 +36,14 @@ pub mod OneStoreLaw
 pub mod InTime
 pub mod StepsMade
 pub mod HomesLaw
+pub mod BackendsLaw
 pub mod NamesHeld
 pub mod ShownHomes
 pub mod ReadLaw
 pub mod NeedsNoCause
 pub mod NoRelocation
+pub mod StaysBegun
+pub mod BegunLaw
 pub mod ToldSoFar
 pub mod ClosedLaw
 pub mod AtRestLaw

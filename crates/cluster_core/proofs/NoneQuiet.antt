@@ -37,6 +37,7 @@ use Rattle.schedule_text.specs.declared.event.Event.{Event}
 use Rattle.schedule_text.specs.declared.event.Event.TheVariants.{Open, Data, Hang, Deliver}
 use Rattle.cluster_core.specs.declared.world.Client.{Client as ClientOf}
 use Rattle.cluster_core.specs.declared.world.World.{World}
+use Rattle.cluster_core.specs.Carried.{is_ask_or_answer}
 use Rattle.cluster_core.specs.Flow.{run_steps}
 use Rattle.cluster_core.specs.Links.{Links, on_link}
 use Rattle.cluster_core.specs.World.{client_at, front_at, home_at, given_more, carry, carry_all, with_front, with_client, open_at, opens, bytes_at}
@@ -270,6 +271,18 @@ first_not_quiet links from to (Answer answer) rest e only = refl
 first_not_quiet links from to Up rest e only = absurd (none_first quiet_in links [] [] from to Up rest Up e refl only)
 first_not_quiet links from to End rest e only = absurd (none_first quiet_in links [] [] from to End rest End e refl only)
 first_not_quiet links from to (Line bytes) rest e only = absurd (none_first quiet_in links [] [] from to (Line bytes) rest (Line bytes) e refl only)
+
+asks_or_answers : (message : LinkMsg) → quiet_in message ≡ [] → is_ask_or_answer message ≡ true
+unfolding quiet_in is_ask_or_answer
+asks_or_answers (Ask ask) e = refl
+asks_or_answers (Answer answer) e = refl
+asks_or_answers Up e = cc
+asks_or_answers End e = cc
+asks_or_answers (Line bytes) e = cc
+
+pub first_serves : (links : Links) (from to : List ℕ) (message : LinkMsg) (rest : List LinkMsg) → on_link links from to ≡ message ∷ rest → NoneQuiet links
+    → is_ask_or_answer message ≡ true
+first_serves links from to message rest e only = asks_or_answers message (first_not_quiet links from to message rest e only)
 
 taken_keeps : (world : World) (from to : List ℕ) (message : LinkMsg) (rest : List LinkMsg) → on_link world.links from to ≡ message ∷ rest
     → KeepsNoneQuiet world (taken world from to)

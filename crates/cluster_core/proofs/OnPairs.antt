@@ -64,7 +64,7 @@ standing_way : (setting : Setting) (front home : List ℕ) (conn : ℕ) (all : L
 standing_way setting front home conn all held connection links told said session (reads a b c d e f way) = a_way links conn front home _ _ way
 standing_way setting front home conn all held connection links told said session (waits passed request tag it name work a b c d e f g way) =
     waiting_way links conn front home connection tag name work told said session way
-standing_way setting front home conn all held connection links told said session (faulted a b c d way) = a_way links conn front home _ _ way
+standing_way setting front home conn all held connection links told said session (faulted a b c d e way) = a_way links conn front home _ _ way
 standing_way setting front home conn all held connection links told said session (finished passed more request before last a b c d e f way) =
     a_way links conn front home _ _ way
 
@@ -170,7 +170,7 @@ start_pairs : (config : Config) → (start config).pairs ≡ links_of config.nod
 unfolding start
 start_pairs config = nodes_pairs _ _ _ config.nodes
 
-start_none_quiet : (config : Config) → NoneQuiet (start config).links
+pub start_none_quiet : (config : Config) → NoneQuiet (start config).links
 start_none_quiet config = λ a b. nothing_picked quiet_in (start config).links a b (start_links config) ∙ sym (alike (same_link a b [] []) [])
 
 pub pairs_stay : (config : Config) (steps : List Event) → (run_steps (start config) steps).pairs ≡ links_of config.nodes

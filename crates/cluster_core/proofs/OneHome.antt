@@ -17,6 +17,7 @@ use Rattle.cluster_core.specs.HomeLaw.{is_writable_home, HasOneHomeEach, KeepsOn
 use Rattle.cluster_core.specs.Homes.{numbers_shown, numbers_of, ShowsBoxesOf}
 use Rattle.cluster_core.specs.Shown.{home_rows}
 use Rattle.cluster_core.specs.World.{start}
+use Rattle.cluster_core.proofs.BackendsLaw.{opens_at_one}
 use Rattle.cluster_core.proofs.ShownHomes.{shows_boxes}
 use Rattle.cluster_core.proofs.ToldSoFar.{kept_all}
 
@@ -37,8 +38,8 @@ few None = omega arith
 few (Some box) = omega arith
 
 -- as many as the store has mailboxes of the name
-one_home : (store : Store) (world : World) → ShowsBoxesOf store world → HasOneHomeEach world
-one_home store world shows = λ name. omega (
+one_home : (config : Config) (store : Store) (world : World) → ShowsBoxesOf config store world → HasOneHomeEach world
+one_home config store world shows = λ name. omega (
   arith,
   count_kept (is_writable_home name) (home_rows world),
   length-map (filter (is_writable_home name) (home_rows world)) numbers_shown,
@@ -50,5 +51,7 @@ one_home store world shows = λ name. omega (
 pub keeps_one_home_each : (config : Config) (events : List Event) → AreNodes config.nodes → KeepsOneHomeEach config events
 keeps_one_home_each config events are = λ before later parts.
     let law = ((kept_all config events are).at before later parts).law in
-    let world : World = run_steps (start config) before in
-    one_home law.story.course.store world (shows_boxes config world law.backend law.story.course.store are law.nodes law.is_told.same)
+    let world : World = run_steps (start config) before in (
+      one_home config law.story.course.store world (shows_boxes config world law.backend law.story.course.store are law.nodes law.is_told.same),
+      opens_at_one config world law.backend law.nodes,
+    )

@@ -1,5 +1,5 @@
 -- The one-store law at every step of a run.
-use Rattle.std.proofs.Common.{◌≡◌, ℕ, ◌≤◌, ◌<◌, Bool, true, false, ◌||◌, List, [], ◌∷◌, ◌++◌, length}
+use Rattle.std.proofs.Common.{◌≡◌, ℕ, ◌+◌, ◌≤◌, ◌<◌, Bool, true, false, ◌||◌, List, [], ◌∷◌, ◌++◌, length}
 use Rattle.std.proofs.Common.{Option, None, Some, refl, sym, ◌∙◌}
 use Rattle.std.proofs.Common.{ap, subst, arith, length-append}
 use Rattle.std.proofs.Common.{inl, inr, get_or}
@@ -24,9 +24,11 @@ use Rattle.cluster_core.proofs.Readings.{inputs_in}
 use Rattle.cluster_core.specs.declared.world.Client.{Client}
 use Rattle.cluster_core.specs.declared.world.Mark.{Mark}
 use Rattle.cluster_core.specs.declared.world.World.{World}
+use Rattle.cluster_core.specs.Ending.{EndsOnlyLast}
 use Rattle.cluster_core.specs.Heard.{Heard, bytes_heard, frames_heard, has_closed}
 use Rattle.cluster_core.specs.History.{answered_in, connection_in, connection_by, connection_of, answered_of, history_of}
 use Rattle.cluster_core.specs.OneStore.{AreEmpty, IsAnsweredThrough, first_course}
+use Rattle.cluster_core.specs.Points.{AreMadeBy, LosesTheNext}
 use Rattle.cluster_core.specs.Shown.{given_by, given_to}
 use Rattle.cluster_core.specs.World.{client_at, front_at}
 use Rattle.cluster_core.proofs.ConnectionLaw.{Story, told_of, client_with, Stands, IsLeft}
@@ -36,6 +38,7 @@ use Rattle.cluster_core.proofs.ConnectionLaw.IsLeft.{nothing, its_ask, its_answe
 use Rattle.cluster_core.proofs.KeepsLaw.{ConnectionIs, IsAt}
 use Rattle.cluster_core.proofs.KeepsLaw.ConnectionIs.{is_nobody, is_elsewhere, is_open, is_closed}
 use Rattle.cluster_core.proofs.Marks.{conn_of, command_of, IsOf, all_points, pairs_of_points, marks_follow, answering_points, losing_points}
+use Rattle.cluster_core.proofs.LastAnswer.{none_given, stands_last}
 use Rattle.cluster_core.proofs.Marks.{NoMore}
 use Rattle.cluster_core.proofs.RequestsOf.{requests_of, answered_lengths}
 use Rattle.cluster_core.proofs.Told.{IsTold, Later}
@@ -58,7 +61,7 @@ told_standing setting front home conn all held connection links told said sessio
     all_told told said s
 told_standing setting front home conn all held connection links told said session
     (waits passed bytes tag it name work a b c d e f g (back body turn s shown behind last way)) = record { rest = _; parts = s; few = omega arith }
-told_standing setting front home conn all held connection links told said session (faulted a b c d way) = all_told told said d
+told_standing setting front home conn all held connection links told said session (faulted a b c d e way) = all_told told said d
 told_standing setting front home conn all held connection links told said session (finished passed more bytes before last a b c d e f way) =
     all_told told said f
 
@@ -73,6 +76,7 @@ pub record SaysOf (setting : Setting) (world : World) (conn : ℕ) (heard : Hear
   pub count : answered_of world conn ≡ length told
   pub given : given_to world conn ≡ transcript_of setting (bytes_heard heard) told
   pub so : IsToldSo told said
+  pub lasts : EndsOnlyLast told
   pub waits_not : AreEmpty world → has_closed heard ≡ false → IsAnsweredThrough (requests_of setting (frames_heard heard)) told
 
 count_at : (world : World) (conn : ℕ) (node : List ℕ) (given : List ℕ) (front : Front) (connection : Connection)
@@ -116,7 +120,7 @@ none_waits setting front home conn bytes connection world told said session empt
 none_waits setting front home conn bytes connection world told said session empty
     (waits passed asking tag it name work a b c d e f g (back body turn s shown behind last way)) =
     (let none = (none_on_empty world.links conn front home _ _ empty way).1 in cc)
-none_waits setting front home conn bytes connection world told said session empty (faulted a b c d way) = inl (sym c)
+none_waits setting front home conn bytes connection world told said session empty (faulted a b c d e way) = inl (sym c)
 none_waits setting front home conn bytes connection world told said session empty (finished passed more asking before last a b c d e f way) =
     inr (subst (λ t. list_any (λ (answer : Answer). ends answer.reply) t ≡ true) (sym d) (last_ends before last e))
 
@@ -127,18 +131,22 @@ says_of setting home conn world story heard (is_nobody none fronts untold) = rec
   count = count_none world conn none ∙ ap length (sym untold.told);
   given = given_at world conn None none;
   so = all_told (story.told conn) (story.talk.answers conn) (untold.said ∙ sym untold.told);
+  lasts = none_given (story.told conn) untold.told;
   waits_not = λ empty stays. inl (ap length untold.told);
 }
 says_of setting home conn world story heard (is_elsewhere node at none untold) = record {
   count = count_elsewhere world conn node [] at none ∙ ap length (sym untold.told);
   given = given_at world conn (Some (record { at = node; given = [] })) at;
   so = all_told (story.told conn) (story.talk.answers conn) (untold.said ∙ sym untold.told);
+  lasts = none_given (story.told conn) untold.told;
   waits_not = λ empty stays. inl (ap length untold.told);
 }
 says_of setting home conn world story heard (is_open bytes node front connection at reader standing) = record {
   count = count_at world conn node _ front connection standing.client at ∙ standing.count;
   given = given_at world conn (Some (client_with node (inputs_in setting bytes) (story.told conn))) standing.client;
   so = told_standing setting node home conn (inputs_in setting bytes) (begun bytes) connection world.links (story.told conn) (story.talk.answers conn)
+      (story.course.sessions conn) standing.stands;
+  lasts = stands_last setting node home conn (inputs_in setting bytes) (begun bytes) connection world.links (story.told conn) (story.talk.answers conn)
       (story.course.sessions conn) standing.stands;
   waits_not = λ empty stays. none_waits setting node home conn bytes connection world (story.told conn) (story.talk.answers conn)
       (story.course.sessions conn) empty standing.stands;
@@ -148,6 +156,7 @@ says_of setting home conn world story heard (is_closed bytes node front connecti
   given = given_at world conn (Some (client_with node (inputs_in setting bytes) (story.told conn))) gone.client;
   so = told_left setting node home conn (requests_in (inputs_in setting bytes)) connection world.links (story.told conn) (story.talk.answers conn)
       (story.course.sessions conn) gone.left;
+  lasts = gone.lasts;
   waits_not = λ empty stays. cc;
 }
 
@@ -260,3 +269,32 @@ unfolding history_of
 steps_rise setting world story home told =
     pairs_of_points world Later (λ (m : Mark). command_of m ≤ length (story.talk.answers (conn_of m))) (λ (one other : Point). one.step ≤ other.step)
     (λ earlier later one other behind bound is at. omega (arith, behind.1, is.same_step, at.same_step)) world.marks told.later told.numbers
+
+-- no point of the history is of a later step
+pub made_by_now : (setting : Setting) (world : World) (story : Story) (home : _) → IsTold setting world.steps world.marks home story.talk story.course
+    → AreMadeBy world.steps (history_of world)
+unfolding history_of
+made_by_now setting world story home told =
+    all_points world (λ (m : Mark). m.step ≤ world.steps) (λ (p : Point). p.step ≤ world.steps)
+    (λ mark point timely is. omega (arith, timely, is.same_step)) world.marks told.timely
+
+-- a lost command is the first that wasn't answered
+pub loses_the_next : (setting : Setting) (world : World) (story : Story) (home : _) → IsTold setting world.steps world.marks home story.talk story.course
+    → ((conn : ℕ) → answered_of world conn ≡ length (story.told conn)) → ((conn : ℕ) → IsToldSo (story.told conn) (story.talk.answers conn))
+    → LosesTheNext (told_of story) (history_of world)
+unfolding history_of
+loses_the_next setting world story home told counts so =
+    all_points world (λ (m : Mark). command_of m ≤ length (story.talk.answers (conn_of m)))
+    (λ (p : Point). loses p.what ≡ true → p.ask.command ≡ length (story.told p.ask.conn) + 1)
+    (λ mark point bound is. λ loss. omega (
+      arith,
+      bound,
+      is.if_lost loss,
+      counts (conn_of mark),
+      ap length (so (conn_of mark)).parts,
+      length-append (story.told (conn_of mark)) (so (conn_of mark)).rest,
+      (so (conn_of mark)).few,
+      ap (λ (a : AskId). a.command) is.same_ask,
+      ap (λ (a : AskId). length (story.told a.conn)) is.same_ask,
+    ))
+    world.marks told.numbers

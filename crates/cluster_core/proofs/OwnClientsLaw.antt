@@ -213,7 +213,7 @@ stands_own setting links conn node home from to answer rest all held connection 
 stands_own setting links conn node home from to answer rest all held connection told said session first own
     (waits passed request tag it name work a b c d e f g way) =
     on_way_own links conn node home from to answer rest connection tag name work told said session first own way
-stands_own setting links conn node home from to answer rest all held connection told said session first own (faulted a b c d way) =
+stands_own setting links conn node home from to answer rest all held connection told said session first own (faulted a b c d e way) =
     absurd (no_answer_first links conn node home from to answer rest _ first own way)
 stands_own setting links conn node home from to answer rest all held connection told said session first own
     (finished passed more asking before last a b c d e f way) =

@@ -47,9 +47,9 @@ stands_released setting front home conn all held connection links told said sess
     (waits passed request tag it name work stage parts lasts answered is need last way) =
     subst (λ c. Stands setting front home conn all held c links told said session) (sym (ap (released_at connection) stage))
     (waits passed request tag it name work stage parts lasts answered is need last way)
-stands_released setting front home conn all held connection links told said session (faulted stage none lengths same way) =
+stands_released setting front home conn all held connection links told said session (faulted stage none lengths same lasts way) =
     subst (λ c. Stands setting front home conn all held c links told said session) (sym (ap (released_at connection) stage))
-    (faulted refl none lengths same way)
+    (faulted refl none lengths same lasts way)
 stands_released setting front home conn all held connection links told said session
     (finished passed more request before final stage parts answered is_told is_end same way) =
     subst (λ c. Stands setting front home conn all held c links told said session) (sym (ap (released_at connection) stage))

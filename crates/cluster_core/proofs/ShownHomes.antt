@@ -8,7 +8,7 @@ use Rattle.std.specs.Ordering.{nat_cmp}
 use Rattle.std.specs.Cmp.Lexicographic.{slice_cmp}
 use Rattle.std.specs.Str.{bytes_eq}
 use Rattle.std.proofs.lemmas.List.{append-nil}
-use Rattle.std.proofs.lemmas.List.Elements.{All-append, All-cons, All-nil}
+use Rattle.std.proofs.lemmas.List.Elements.{All-append, All-cons, All-nil, All-head, All-tail}
 use Rattle.backend_core.specs.declared.backend.Backend.{Backend}
 use Rattle.backend_core.specs.declared.held.Held.{Held}
 use Rattle.backend_core.specs.HomeLaws.{is_open}
@@ -21,11 +21,13 @@ use Rattle.mur_config.specs.Nodes.{AreNodes}
 use Rattle.mur_model.specs.declared.store.Store.{Store}
 use Rattle.cluster_core.specs.declared.cluster.HomeRow.{HomeRow}
 use Rattle.cluster_core.specs.declared.world.World.{World}
+use Rattle.cluster_core.specs.Backends.{IsBackend}
 use Rattle.cluster_core.specs.HomeLaw.{is_writable_home}
 use Rattle.cluster_core.specs.Homes.{numbers_shown, numbers_of, IsHeldAt, ShowsBoxesOf}
 use Rattle.cluster_core.specs.OneStore.{open_box, open_content}
 use Rattle.cluster_core.specs.Shown.{held_at, held_by, home_row, row_if, rows_of, rows_of_all, names_at, home_rows}
 use Rattle.cluster_core.specs.World.{home_of}
+use Rattle.cluster_core.proofs.BackendsLaw.{are_backends}
 use Rattle.cluster_core.proofs.HomesLaw.{home_first, rows_here}
 use Rattle.cluster_core.proofs.KeepsLaw.{AreNodesOf}
 use Rattle.cluster_core.proofs.NamesHeld.{is_name, names_cons, same_bytes, once_among, names_rise, nothing_rises, one_here, first_listed, bytes_itself}
@@ -145,32 +147,37 @@ same_numbers name node (Some held) = numbers_by name node held.phase held.conten
 
 -- ---- what a row tells, its backend has
 
-row_at : (world : World) (name node : List ℕ) (found : Option Held) → value_at (slice_cmp nat_cmp) (held_at world node) name ≡ found
-    → All (IsHeldAt world) (row_if name node found)
-row_at world name node None at = All-nil (IsHeldAt world)
-row_at world name node (Some held) at =
-    All-cons (IsHeldAt world) (home_row name node held) [] (record { held = held; at = at; phase = refl; numbers = refl })
-    (All-nil (IsHeldAt world))
+row_at : (config : Config) (world : World) (name node : List ℕ) (found : Option Held) → IsBackend config node
+    → value_at (slice_cmp nat_cmp) (held_at world node) name ≡ found → All (IsHeldAt config world) (row_if name node found)
+row_at config world name node None is at = All-nil (IsHeldAt config world)
+row_at config world name node (Some held) is at =
+    All-cons (IsHeldAt config world) (home_row name node held) [] (record { backend = is; held = held; at = at; phase = refl; numbers = refl })
+    (All-nil (IsHeldAt config world))
 
-rows_at : (world : World) (name : List ℕ) (nodes : List (List ℕ)) → All (IsHeldAt world) (rows_of world name nodes)
+rows_at : (config : Config) (world : World) (name : List ℕ) (nodes : List (List ℕ)) → All (IsBackend config) nodes
+    → All (IsHeldAt config world) (rows_of world name nodes)
 unfolding rows_of
-rows_at world name [] = All-nil (IsHeldAt world)
-rows_at world name (node ∷ nodes) =
+rows_at config world name [] are = All-nil (IsHeldAt config world)
+rows_at config world name (node ∷ nodes) are =
     let found = value_at (slice_cmp nat_cmp) (held_at world node) name in
-    All-append (IsHeldAt world) (row_if name node found) (rows_of world name nodes) (row_at world name node found refl) (rows_at world name nodes)
+    All-append (IsHeldAt config world) (row_if name node found) (rows_of world name nodes)
+    (row_at config world name node found (All-head (IsBackend config) node nodes are) refl)
+    (rows_at config world name nodes (All-tail (IsBackend config) node nodes are))
 
-all_at : (world : World) (names : List (List ℕ)) → All (IsHeldAt world) (rows_of_all world names)
+all_at : (config : Config) (world : World) (names : List (List ℕ)) → All (IsBackend config) world.backends
+    → All (IsHeldAt config world) (rows_of_all world names)
 unfolding rows_of_all
-all_at world [] = All-nil (IsHeldAt world)
-all_at world (name ∷ names) =
-    All-append (IsHeldAt world) (rows_of world name world.backends) (rows_of_all world names) (rows_at world name world.backends) (all_at world names)
+all_at config world [] are = All-nil (IsHeldAt config world)
+all_at config world (name ∷ names) are =
+    All-append (IsHeldAt config world) (rows_of world name world.backends) (rows_of_all world names) (rows_at config world name world.backends are)
+    (all_at config world names are)
 
 pub shows_boxes : (config : Config) (world : World) (backend : Backend) (store : Store) → AreNodes config.nodes → AreNodesOf config world backend
-    → IsStoreOf store backend → ShowsBoxesOf store world
+    → IsStoreOf store backend → ShowsBoxesOf config store world
 unfolding home_rows
 shows_boxes config world backend store are nodes same = record {
   open_homes = λ name. ap (map numbers_shown) (homes_here config world backend are nodes name)
       ∙ same_numbers name (home_of config) (value_at (slice_cmp nat_cmp) backend.held name)
       ∙ ap (λ box. map numbers_of (option_to_list box)) (sym (same.boxes name));
-  rows = all_at world (names_at world [] world.backends);
+  rows = all_at config world (names_at world [] world.backends) (are_backends config world backend are nodes);
 }

@@ -244,6 +244,7 @@ nothing_held backend held serial = record {
   all_open = λ name there at. (let none : value_at (slice_cmp nat_cmp) backend.held name ≡ None = (rw held refl) in cc);
   serials = λ k d h. absurd (omega arith);
   spent = rw serial refl;
+  counted = serial;
 }
 
 counts_nothing : (number : ℕ) → 0 ≡ one_up_to 0 number

@@ -29,8 +29,10 @@ use Rattle.cluster_core.specs.Homes.{ShowsBoxesOf}
 use Rattle.cluster_core.specs.NoneLost.{LosesNoneByAppend}
 use Rattle.cluster_core.specs.OneStore.{first_course, HasBoxesOf, IsAnsweredThrough, StandsInTime, IsToldSoFar, IsToldByOneStore}
 use Rattle.cluster_core.specs.Requests.{AreRequests}
+use Rattle.cluster_core.specs.Serials.{GivesLowSerials}
 use Rattle.cluster_core.specs.Shown.{given_to}
 use Rattle.cluster_core.specs.World.{start, home_of, setting_of}
+use Rattle.cluster_core.proofs.BegunLaw.{begins_as_read}
 use Rattle.cluster_core.proofs.ConnectionLaw.{Story, told_of}
 use Rattle.cluster_core.proofs.HomesLaw.{has_boxes}
 use Rattle.cluster_core.proofs.InTime.{StandsBehind, run_behind}
@@ -40,9 +42,10 @@ use Rattle.cluster_core.proofs.NoneLost.{store_below, append_loses_none}
 use Rattle.cluster_core.proofs.Marks.{Carries, conn_of, command_of, is_mark, all_points}
 use Rattle.cluster_core.proofs.Marks.Carries.{no_marks, a_mark}
 use Rattle.cluster_core.proofs.NoRelocation.{have_causes}
-use Rattle.cluster_core.proofs.OneStoreLaw.{SaysOf, says_of, IsLegalTo, legal_history, steps_rise, IsToldSo}
+use Rattle.cluster_core.proofs.OneStoreLaw.{SaysOf, says_of, IsLegalTo, legal_history, loses_the_next, made_by_now, steps_rise, IsToldSo}
 use Rattle.cluster_core.proofs.ReadLaw.{heard_sound, read_of_legal}
 use Rattle.cluster_core.proofs.RequestsOf.{asks_all}
+use Rattle.cluster_core.proofs.ServedAlike.{low_serials}
 use Rattle.cluster_core.proofs.ShownHomes.{shows_boxes}
 use Rattle.cluster_core.proofs.StartLaw.{start_keeps}
 use Rattle.cluster_core.proofs.StepsMade.{steps_made}
@@ -169,16 +172,20 @@ told_so_far config talk before later are date_is now last =
           (λ other. heard_sound (setting_of config) (heard other) (law.story.talk.requests other) (asked other)) conn (given_to world conn) (bytes_heard
           (heard conn))
           (says conn).given;
+      ends_only_last = λ conn. (says conn).lasts;
       last = legal.last;
       legal = legal.legal;
       refusals = have_causes (setting_of config) first_course (told_of law.story) (history_of world) legal.last legal.legal;
       one_content = subst (λ s. HasBoxesOf s world) (sym legal.same_store)
           (has_boxes config world law.backend law.story.course.store are law.nodes law.is_told.same);
-      homes_shown = subst (λ s. ShowsBoxesOf s world) (sym legal.same_store)
+      homes_shown = subst (λ s. ShowsBoxesOf config s world) (sym legal.same_store)
           (shows_boxes config world law.backend law.story.course.store are law.nodes law.is_told.same);
       below_next = subst (λ (s : Store). (name : List ℕ) → IfSome (box_at s name) AreUidsBelowNext) (sym legal.same_store) below_next;
       none_lost = subst (LosesNoneByAppend (setting_of config)) (sym legal.same_store)
           (append_loses_none (setting_of config) law.story.course.store below_next);
+      low_serials = subst GivesLowSerials (sym legal.same_store) (low_serials law.story.course.store law.backend law.is_told.same);
+      lost_next = loses_the_next (setting_of config) world law.story law.backend law.is_told (λ conn. (says conn).count) (λ conn. (says conn).so);
+      made_by_now = made_by_now (setting_of config) world law.story law.backend law.is_told;
       in_time = stands_in_time (setting_of config) world
           (run_steps (start config) (before ++ later)) law.story last.story law.backend last.backend law.is_told last.is_told behind (λ conn. (says conn).so);
       counted = steps_made config before;
@@ -205,6 +212,7 @@ told_by_one_store config events are date_is =
     let all = kept_all config events are in
     let last = (all.at steps [] (sym (append-nil steps))).law in
     record {
+      begins_as_read = begins_as_read (setting_of config);
       talk = all.talk;
       at_each_step = λ before later e. told_at config all.talk steps before later e are date_is (all.at before later e) last;
       steps_rise = steps_rise (setting_of config) (run_steps (start config) steps) last.story last.backend last.is_told;

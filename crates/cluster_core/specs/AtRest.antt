@@ -10,17 +10,18 @@ use Rattle.schedule_text.specs.declared.event.Event.{Event}
 use Rattle.cluster_core.specs.declared.world.World.{World}
 use Rattle.cluster_core.specs.Flow.{run_steps, steps_of_event}
 use Rattle.cluster_core.specs.Heard.{heard, bytes_heard, frames_heard, has_closed}
+use Rattle.cluster_core.specs.LawSetting.{law_setting}
 use Rattle.cluster_core.specs.OneStore.{AreEmpty, IsAnsweredThrough}
 use Rattle.cluster_core.specs.Requests.{AreRequests}
 use Rattle.cluster_core.specs.Shown.{given_to}
-use Rattle.cluster_core.specs.World.{start, setting_of}
+use Rattle.cluster_core.specs.World.{start}
 
 -- behind these steps the client was given an answer to each whole command that it sent, or one that ended its connection
 pub record IsAnswered (config : Config) (conn : ℕ) (steps : List Event) (world : World) : Type 0 where
   pub requests : List Request
   pub answers : List Answer
-  pub asked : AreRequests (setting_of config) (frames_heard (heard config conn steps)) requests
-  pub given : given_to world conn ≡ transcript_of (setting_of config) (bytes_heard (heard config conn steps)) answers
+  pub asked : AreRequests (law_setting config) (frames_heard (heard config conn steps)) requests
+  pub given : given_to world conn ≡ transcript_of (law_setting config) (bytes_heard (heard config conn steps)) answers
   pub each : IsAnsweredThrough requests answers
 
 -- of each client that hasn't closed its connection

@@ -1,5 +1,5 @@
 -- What the steps of each event are: a flow delivers as many messages as it may, and fewer only where none is on its way any more.
-use Rattle.std.specs.Prelude.{◌≡◌, ℕ, ◌+◌, ◌*◌, ◌≤◌, ◌<◌, List, [], ◌∷◌, ◌++◌, length, Contains}
+use Rattle.std.specs.Prelude.{◌≡◌, ℕ, ◌+◌, ◌*◌, ◌≤◌, ◌<◌, true, List, [], ◌∷◌, ◌++◌, length, Contains}
 use Rattle.link_msg.specs.declared.message.LinkMsg.{LinkMsg}
 use Rattle.mur_config.specs.declared.config.Config.{Config}
 use Rattle.mur_config.specs.declared.node.Link.{Link}
@@ -8,6 +8,7 @@ use Rattle.schedule_text.specs.declared.event.Event.{Event}
 use Rattle.schedule_text.specs.declared.event.Event.TheVariants.{Deliver, Flow}
 use Rattle.schedule_text.specs.Brings.{bytes_of, bytes_of_all}
 use Rattle.cluster_core.specs.declared.world.World.{World}
+use Rattle.cluster_core.specs.Carried.{is_ask_or_answer}
 use Rattle.cluster_core.specs.Flow.{run_steps, steps_of_event}
 use Rattle.cluster_core.specs.Links.{on_link}
 use Rattle.cluster_core.specs.OneStore.{AreEmpty}
@@ -19,6 +20,7 @@ pub record DeliversFirst (links : List Link) (before : World) (step : Event) (af
   pub among : Contains links link
   pub delivers : step ≡ Deliver link.from link.to
   pub message : LinkMsg
+  pub serves : is_ask_or_answer message ≡ true
   pub is_taken : on_link before.links link.from link.to ≡ message ∷ on_link after.links link.from link.to
 
 -- steps from here that are a flow of at most so many deliveries, where clients sent so many bytes before

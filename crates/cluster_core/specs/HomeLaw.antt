@@ -11,6 +11,7 @@ use Rattle.cluster_core.specs.declared.cluster.HomeRow.{HomeRow}
 use Rattle.cluster_core.specs.declared.world.World.{World}
 use Rattle.cluster_core.specs.Flow.{run_steps, unrolled}
 use Rattle.cluster_core.specs.History.{history_of}
+use Rattle.cluster_core.specs.OpenAt.{OpensAtOneNode}
 use Rattle.cluster_core.specs.Shown.{home_rows}
 use Rattle.cluster_core.specs.World.{start}
 
@@ -21,10 +22,11 @@ is_writable_home name row = is_open row.phase && bytes_eq row.name name
 abbrev pub HasOneHomeEach : World → Type 0
 HasOneHomeEach world = (name : List ℕ) → count_by (is_writable_home name) (home_rows world) ≤ 1
 
--- after every step each name has at most one writable home
+-- after every step each name has at most one writable home among those that are shown, and is open at no two nodes, shown or not
 abbrev pub KeepsOneHomeEach : Config → List Event → Type 0
 KeepsOneHomeEach config events =
-    (before later : List Event) → unrolled (start config) events ≡ before ++ later → HasOneHomeEach (run_steps (start config) before)
+    (before later : List Event) → unrolled (start config) events ≡ before ++ later
+    → HasOneHomeEach (run_steps (start config) before) × OpensAtOneNode (run_steps (start config) before)
 
 -- no name is reserved and no node is unreached yet, so there is no cause for a refusal of relocation
 abbrev pub HasCause : What → Type 0

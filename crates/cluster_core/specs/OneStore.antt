@@ -21,16 +21,21 @@ use Rattle.mur_model.specs.History.{Course, Talk, TalkGoesOn, IsLegal}
 use Rattle.mur_model.specs.Store.{empty_store, box_at}
 use Rattle.schedule_text.specs.declared.event.Event.{Event}
 use Rattle.cluster_core.specs.declared.world.World.{World}
+use Rattle.cluster_core.specs.Begun.{BeginsAsRead}
+use Rattle.cluster_core.specs.Ending.{EndsOnlyLast}
 use Rattle.cluster_core.specs.Flow.{run_steps, unrolled}
 use Rattle.cluster_core.specs.Heard.{heard, bytes_heard, frames_heard, has_closed}
 use Rattle.cluster_core.specs.History.{history_of}
 use Rattle.cluster_core.specs.Homes.{ShowsBoxesOf}
+use Rattle.cluster_core.specs.LawSetting.{law_setting}
 use Rattle.cluster_core.specs.Links.{on_link}
 use Rattle.cluster_core.specs.Refusals.{HaveCauses}
 use Rattle.cluster_core.specs.NoneLost.{LosesNoneByAppend}
+use Rattle.cluster_core.specs.Points.{AreMadeBy, LosesTheNext}
 use Rattle.cluster_core.specs.Requests.{AreRequests}
+use Rattle.cluster_core.specs.Serials.{GivesLowSerials}
 use Rattle.cluster_core.specs.Shown.{given_to, held_at}
-use Rattle.cluster_core.specs.World.{start, setting_of}
+use Rattle.cluster_core.specs.World.{start}
 
 -- the empty store, and no session begun
 abbrev pub first_course : Course
@@ -86,18 +91,22 @@ pub record StandsInTime (talk : Talk) (now : ℕ) (points : List Point) : Type 0
 pub record IsToldSoFar (config : Config) (talk : Talk) (points : List Point) (steps : List Event) (world : World) : Type 0 where
   pub so_far : Talk
   pub goes_on : TalkGoesOn so_far talk
-  pub asked : (conn : ℕ) → AreRequests (setting_of config) (frames_heard (heard config conn steps)) (so_far.requests conn)
-  pub given : (conn : ℕ) → given_to world conn ≡ transcript_of (setting_of config) (bytes_heard (heard config conn steps)) (so_far.answers conn)
+  pub asked : (conn : ℕ) → AreRequests (law_setting config) (frames_heard (heard config conn steps)) (so_far.requests conn)
+  pub given : (conn : ℕ) → given_to world conn ≡ transcript_of (law_setting config) (bytes_heard (heard config conn steps)) (so_far.answers conn)
   -- no text of a user forges a reply: each client reads just the greeting, the continuations and the lines of these answers
-  pub read : (conn : ℕ) → IsAllReadAsMeant (setting_of config) (given_to world conn) (bytes_heard (heard config conn steps)) (so_far.answers conn)
+  pub read : (conn : ℕ) → IsAllReadAsMeant (law_setting config) (given_to world conn) (bytes_heard (heard config conn steps)) (so_far.answers conn)
+  pub ends_only_last : (conn : ℕ) → EndsOnlyLast (so_far.answers conn)
   pub last : Course
-  pub legal : IsLegal (setting_of config) first_course so_far (history_of world) last
+  pub legal : IsLegal (law_setting config) first_course so_far (history_of world) last
   pub refusals : HaveCauses so_far (history_of world)
   pub one_content : HasBoxesOf last.store world
-  pub homes_shown : ShowsBoxesOf last.store world
+  pub homes_shown : ShowsBoxesOf config last.store world
   -- each message has a UID below its mailbox's UIDNEXT (RFC 9051, 2.3.1.1), and no APPEND, whoever sends it, loses one
   pub below_next : (name : List ℕ) → IfSome (box_at last.store name) AreUidsBelowNext
-  pub none_lost : LosesNoneByAppend (setting_of config) last.store
+  pub none_lost : LosesNoneByAppend (law_setting config) last.store
+  pub low_serials : GivesLowSerials last.store
+  pub lost_next : LosesTheNext so_far (history_of world)
+  pub made_by_now : AreMadeBy world.steps (history_of world)
   pub in_time : StandsInTime so_far world.steps points
   -- steps count from 1: the last one has the number of the steps made
   pub counted : world.steps ≡ length steps
@@ -110,6 +119,7 @@ pub record IsToldSoFar (config : Config) (talk : Talk) (points : List Point) (st
 -- completed its command, and not behind the one that gave its reply: a command that was answered before another one was sent
 -- stands before it, whoever sent them (linearizability, Herlihy and Wing 1990)
 pub record IsToldByOneStore (config : Config) (events : List Event) : Type 0 where
+  pub begins_as_read : BeginsAsRead (law_setting config)
   pub talk : Talk
   pub at_each_step : (before later : List Event) → unrolled (start config) events ≡ before ++ later
       → IsToldSoFar config talk (history_of (run_steps (start config) (unrolled (start config) events))) before (run_steps (start config) before)
