@@ -12,3 +12,6 @@ pub mod TallyLaws
 pub mod BulkLaws
 pub mod MoreLaws
 pub mod FaultLaws
+pub mod AnnouncedLaws
+pub mod CommandCut
+pub mod BringsLaws

@@ -32,7 +32,7 @@ length-without_last [] = refl
 length-without_last (x ∷ []) = refl
 length-without_last (x ∷ y ∷ xs) = let rest = length-without_last (y ∷ xs) in omega (arith, rest)
 
-and-false : (b : Bool) → (b && false) ≡ false
+pub and-false : (b : Bool) → (b && false) ≡ false
 and-false b = elim b as (λ v. (v && false) ≡ false) [ true ↦ refl | false ↦ refl ]
 
 and-swap : (a b : Bool) → (a && b) ≡ false → (b && a) ≡ false
@@ -53,7 +53,7 @@ split_line-none : (x : ℕ) (rest : List ℕ) → split_line (x ∷ rest) ≡ No
 unfolding split_line
 split_line-none x rest h = none-parts (x == 13 && begins_with_lf rest) None x (split_line rest) _ h
 
-split_line-more : (x : ℕ) (rest : List ℕ) → (x == 13 && begins_with_lf rest) ≡ false
+pub split_line-more : (x : ℕ) (rest : List ℕ) → (x == 13 && begins_with_lf rest) ≡ false
     → split_line (x ∷ rest) ≡ option_map (with_byte x) (split_line rest)
 unfolding split_line
 split_line-more x rest h = rw h refl

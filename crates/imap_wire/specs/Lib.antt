@@ -8,3 +8,4 @@ pub mod Begun
 pub mod Bulk
 pub mod Feeding
 pub mod More
+pub mod FrameLaws
