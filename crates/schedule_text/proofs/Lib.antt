@@ -5,3 +5,6 @@ mod CutWords
 mod OpenedLaws
 mod ScheduleLaws
 mod Shortens
+mod SpelledLines
+mod SpelledWords
+mod SpelledLaws

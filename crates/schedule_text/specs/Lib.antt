@@ -1,4 +1,5 @@
 pub mod Text
+pub mod Spelled
 pub mod Cuts
 pub mod ScheduleRules
 pub mod ScheduleWords
