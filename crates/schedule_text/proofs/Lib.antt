@@ -8,3 +8,6 @@ mod Shortens
 mod SpelledLines
 mod SpelledWords
 mod SpelledLaws
+mod ReadWords
+mod FollowLaws
+mod RefusedLaws

@@ -193,6 +193,11 @@ unfolding is_passed_over
 is_some_line [] h = cc
 is_some_line (b ∷ line) h = omega arith
 
+-- an event that is read from a line fits those before it
+pub event_fits : (config : Config) (before : List Event) (line : List ℕ) (event : Event) → is_passed_over line ≡ false → event_of config before line ≡ Ok event
+    → FitsBehind config before event
+event_fits config before line event p h = (event_by config before line event (is_some_line line p) _ _ _ _ _ refl refl refl refl refl h).fits
+
 steps-push : (before : List Event) (event : Event) → steps_of_all (before ++ event ∷ []) ≡ steps_of_all before + steps_of event
 unfolding steps_of_all
 steps-push [] event = omega arith

@@ -167,7 +167,7 @@ event_by config before line event false false false false false o d g v f h =
 pub event_spelled : (config : Config) (before : List Event) (line : List ℕ) (event : Event) → event_of config before line ≡ Ok event → IsSpelledBy line event
 event_spelled config before line event h = event_by config before line event _ _ _ _ _ refl refl refl refl refl h
 
-passed_over : (line : List ℕ) → is_passed_over line ≡ true → IsPassedOver line
+pub passed_over : (line : List ℕ) → is_passed_over line ≡ true → IsPassedOver line
 unfolding is_passed_over
 passed_over [] h = inl refl
 passed_over (b ∷ line) h = inr (line, ap (λ (x : ℕ). x ∷ line) (eqb-true b 35 h))

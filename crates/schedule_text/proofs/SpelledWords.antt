@@ -92,7 +92,7 @@ is_word text h =
     let parts = and_parts (nat_lt 0 (length text)) (is_none (cut_at_space text)) h in
     record { some = ltb-true 0 (length text) parts.0; whole = is_uncut text (none_cut (cut_at_space text) parts.1) }
 
-kept_true : {A : Type 0} (b : Bool) (kept found : A) (rule : Rule) → cond b (Ok kept) (Err rule) ≡ Ok found → b ≡ true
+pub kept_true : {A : Type 0} (b : Bool) (kept found : A) (rule : Rule) → cond b (Ok kept) (Err rule) ≡ Ok found → b ≡ true
 kept_true true kept found rule h = refl
 kept_true false kept found rule h = cc
 
