@@ -10,4 +10,6 @@ mod SpelledWords
 mod SpelledLaws
 mod ReadWords
 mod FollowLaws
+mod ReadLaws
 mod RefusedLaws
+mod MeaningLaws

@@ -35,7 +35,12 @@ pub record IsFirstBad (config : Config) (bytes : List ℕ) (number : ℕ) : Type
 abbrev pub IsRefusedAt : Config → List ℕ → ℕ → Type 0
 IsRefusedAt config bytes number = ((SCHEDULE_LIMIT < length bytes) × (number ≡ 0)) ⊎ ((length bytes ≤ SCHEDULE_LIMIT) × IsFirstBad config bytes number)
 
+-- bytes that are refused are a schedule of no events, and their line is told
+pub record IsNoSchedule (config : Config) (bytes : List ℕ) (number : ℕ) : Type 0 where
+  pub cause : IsRefusedAt config bytes number
+  pub none : (events : List Event) → IsSchedule config bytes events → ⊥
+
 -- a refusal has its cause; memory may be wanting at any time
 abbrev pub HasCause : Config → List ℕ → ScheduleError → Type 0
-HasCause config bytes (Refused fault) = IsRefusedAt config bytes fault.line
+HasCause config bytes (Refused fault) = IsNoSchedule config bytes fault.line
 HasCause config bytes Memory = ⊤

@@ -4,7 +4,7 @@ use Rattle.schedule_text.specs.Schedule.{schedule_of, events_from}
 use Rattle.schedule_text.specs.ScheduleRules.{IsReadAsSchedule}
 use Rattle.schedule_text.proofs.CutLaws.{length-cuts}
 use Rattle.schedule_text.proofs.ScheduleLaws.{schedule_fits}
-use Rattle.schedule_text.proofs.RefusedLaws.{is_schedule, has_cause}
+use Rattle.schedule_text.proofs.MeaningLaws.{is_schedule, has_cause}
 use Rattle.schedule_text.proofs.schedule.read_schedule.Goals as goal
 
 pub overflow_add-number : goal.overflow_add-number
