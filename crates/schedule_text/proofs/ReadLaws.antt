@@ -17,7 +17,6 @@ use Rattle.schedule_text.specs.ScheduleOpen.{open_of}
 use Rattle.schedule_text.specs.ScheduleOpened.{opened_before, unopened}
 use Rattle.schedule_text.specs.ScheduleWords.{first_word, cut_at_space}
 use Rattle.schedule_text.specs.Spelled.{IsSpelledBy, SpellsOpen, SpellsData, SpellsHang, SpellsDeliver, SpellsFlow}
-use Rattle.schedule_text.specs.Spelled.AreSpelledBy.{spelled}
 use Rattle.schedule_text.specs.Text.{bytes_of}
 use Rattle.schedule_text.proofs.FollowLaws.{client_node_read, link_read, opened_in, none_opens}
 use Rattle.schedule_text.proofs.ReadWords.{word_and_rest_read, one_word_read, two_words_read, number_read, number_word}
