@@ -5,3 +5,11 @@ mod CutWords
 mod OpenedLaws
 mod ScheduleLaws
 mod Shortens
+mod SpelledLines
+mod SpelledWords
+mod SpelledLaws
+mod ReadWords
+mod FollowLaws
+mod ReadLaws
+mod RefusedLaws
+mod MeaningLaws

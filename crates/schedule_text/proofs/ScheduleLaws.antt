@@ -35,7 +35,7 @@ use Rattle.schedule_text.specs.Schedule.{event_of, with_event, line_read, events
 use Rattle.schedule_text.specs.ScheduleFits.{FitsBehind, AllFitBehind, FitSchedule}
 
 -- both steps of two gave something
-both : {A B E : Type 0} (first : Result A E) (next : A → Result B E) (b : B) → (first >>= next) ≡ Ok b → (a : A) × (first ≡ Ok a) × (next a ≡ Ok b)
+pub both : {A B E : Type 0} (first : Result A E) (next : A → Result B E) (b : B) → (first >>= next) ≡ Ok b → (a : A) × (first ≡ Ok a) × (next a ≡ Ok b)
 both (Ok a) next b h = (a, refl, h)
 both (Err e) next b h = cc
 
@@ -49,7 +49,7 @@ all_fit-push config before (first ∷ events) event all fits = (
       (subst (λ (b : List Event). FitsBehind config b event) (sym (append_assoc before (first ∷ []) events)) fits),
 )
 
-kept_if : {A : Type 0} (b : Bool) (kept found : A) (rule : Rule) → cond b (Ok kept) (Err rule) ≡ Ok found → kept ≡ found
+pub kept_if : {A : Type 0} (b : Bool) (kept found : A) (rule : Rule) → cond b (Ok kept) (Err rule) ≡ Ok found → kept ≡ found
 kept_if true kept found rule h = cc
 kept_if false kept found rule h = cc
 
@@ -75,19 +75,19 @@ within_flow count found true e h =
     subst (λ (n : ℕ). n ≤ FLOW_LIMIT) same low
 within_flow count found false e h = cc
 
-flow_within : (word : List ℕ) (count : ℕ) → flow_count word ≡ Ok count → count ≤ FLOW_LIMIT
+pub flow_within : (word : List ℕ) (count : ℕ) → flow_count word ≡ Ok count → count ≤ FLOW_LIMIT
 unfolding flow_count
 flow_within word count h =
     let number = both (number_in word) _ count h in
     within_flow number.0 count _ refl number.2
 
-is_unopened : (before : List Event) (conn : ℕ) (done : Unit {0}) (b : Bool) → is_opened before conn ≡ b → unopened before conn ≡ Ok done
+pub is_unopened : (before : List Event) (conn : ℕ) (done : Unit {0}) (b : Bool) → is_opened before conn ≡ b → unopened before conn ≡ Ok done
     → is_opened before conn ≡ false
 unfolding unopened
 is_unopened before conn done true e h = let none : cond true (Err Connection) (Ok tt) ≡ Ok done = rw e at h in cc
 is_unopened before conn done false e h = e
 
-is_there : (before : List Event) (conn : ℕ) (done : Unit {0}) (b : Bool) → is_opened before conn ≡ b → opened_before before conn ≡ Ok done
+pub is_there : (before : List Event) (conn : ℕ) (done : Unit {0}) (b : Bool) → is_opened before conn ≡ b → opened_before before conn ≡ Ok done
     → is_opened before conn ≡ true
 unfolding opened_before
 is_there before conn done true e h = e
@@ -192,6 +192,11 @@ is_some_line : (line : List ℕ) → is_passed_over line ≡ false → 0 < lengt
 unfolding is_passed_over
 is_some_line [] h = cc
 is_some_line (b ∷ line) h = omega arith
+
+-- an event that is read from a line fits those before it
+pub event_fits : (config : Config) (before : List Event) (line : List ℕ) (event : Event) → is_passed_over line ≡ false → event_of config before line ≡ Ok event
+    → FitsBehind config before event
+event_fits config before line event p h = (event_by config before line event (is_some_line line p) _ _ _ _ _ refl refl refl refl refl h).fits
 
 steps-push : (before : List Event) (event : Event) → steps_of_all (before ++ event ∷ []) ≡ steps_of_all before + steps_of event
 unfolding steps_of_all

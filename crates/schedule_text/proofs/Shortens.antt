@@ -39,7 +39,7 @@ unfolding bytes_from
 bytes_shorten [] place bytes h = ended place bytes h
 bytes_shorten (c ∷ text) place bytes h = omega (arith, behind_character (character_at place c) text (bytes_shorten text) bytes h)
 
-some_text : (found : Option (List ℕ)) (bytes : List ℕ) → ok_or found BadText ≡ Ok bytes → found ≡ Some bytes
+pub some_text : (found : Option (List ℕ)) (bytes : List ℕ) → ok_or found BadText ≡ Ok bytes → found ≡ Some bytes
 some_text None bytes h = cc
 some_text (Some found) bytes h = cc
 
@@ -68,7 +68,7 @@ unfolding cut_at_space
 cut_shortens [] words h = cc
 cut_shortens (b ∷ text) words h = cut_by b text (cut_shortens text) (nat_eq b 32) refl words h
 
-some_words_by : (cut words : Words) (some : Bool) → nat_lt 0 (length cut.word) ≡ some → unless_empty (Some cut) ≡ Ok words → cut ≡ words
+pub some_words_by : (cut words : Words) (some : Bool) → nat_lt 0 (length cut.word) ≡ some → unless_empty (Some cut) ≡ Ok words → cut ≡ words
 some_words_by cut words true e h = let there : Ok cut ≡ Ok words = rw e at h in cc
 some_words_by cut words false e h = let none : Err WrongCount ≡ Ok words = rw e at h in cc
 

@@ -1,4 +1,7 @@
 pub mod Text
+pub mod Spelled
+pub mod MayFollow
+pub mod Meaning
 pub mod Cuts
 pub mod ScheduleRules
 pub mod ScheduleWords

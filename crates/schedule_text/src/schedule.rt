@@ -1,8 +1,9 @@
 // A schedule, read into its events: a recorded run, one event a line.
-ghost use Rattle.std.specs.Prelude.{◌≡◌, ◌≤◌, length, IfOk, OnOk};
+ghost use Rattle.std.specs.Prelude.{◌≡◌, ◌≤◌, length, IfErr, IfOk, OnOk};
 ghost use Rattle.schedule_text.specs.ScheduleRules.{IsReadAs, IsReadAsSchedule};
 ghost use Rattle.schedule_text.specs.ScheduleOpened.{KnowsOpened};
 ghost use Rattle.schedule_text.specs.ScheduleFits.{FitSchedule, HasCountRoom};
+ghost use Rattle.schedule_text.specs.Meaning.{HasCause, IsSchedule};
 ghost use Rattle.schedule_text.specs.Schedule.{event_of, is_passed_over, line_read, schedule_of, IsTakenAs};
 
 mod data_line;
@@ -34,6 +35,8 @@ use words::first_word;
 #[tactic(auto, unfolding(crate::specs::Schedule::schedule_of, crate::specs::Schedule::events_from))]
 pub fn read_schedule(alloc: Global, bytes: &[u8], config: &Config) -> Result<Events, ScheduleError>
     ensures read { IsReadAsSchedule (schedule_of config.now bytes.now) result }
+    ensures spelled { IfOk result (IsSchedule config.now bytes.now) }
+    ensures refused { IfErr result (HasCause config.now bytes.now) }
     ensures fit { IfOk result (FitSchedule config.now (length bytes.now)) }
     ensures room { IfOk result (λ events. HasCountRoom events) }
     ensures short { IfOk result (λ events. length bytes.now ≤ SCHEDULE_LIMIT) }
