@@ -1,5 +1,6 @@
 -- Bytes as printable text, in schedules and in outputs.
-use Rattle.std.specs.Prelude.{◌≡◌, ℕ, ◌+◌, ◌-◌, ◌*◌, ◌/◌, ◌%◌, ◌<◌, ⊤, Bool, ◌&&◌, ◌==◌, nat_lt, nat_le, if◌then◌else◌, List, [], ◌∷◌, ◌++◌, Option, None, Some, codes}
+use Rattle.std.specs.Prelude.{◌≡◌, ℕ, ◌+◌, ◌-◌, ◌*◌, ◌/◌, ◌%◌, ◌<◌, ⊤, Bool, ◌&&◌, ◌==◌, nat_lt, nat_le, if◌then◌else◌}
+use Rattle.std.specs.Prelude.{List, [], ◌∷◌, ◌++◌, Option, None, Some, codes}
 use Rattle.std.specs.List.{flat_map}
 use Rattle.mur_base.specs.Ascii.{cr, lf, space, digit_zero, digit_nine, backslash, tilde}
 use Rattle.schedule_text.specs.declared.text.Spelling.{Spelling}
@@ -127,7 +128,7 @@ bytes_onto before None = None
 bytes_onto before (Some bytes) = Some (before ++ bytes)
 
 -- what is spelled behind a text that ended at a place, or that had a bad character
-unfoldable pub bytes_past : Option Spelling → List ℕ → Option (List ℕ)
+abbrev pub bytes_past : Option Spelling → List ℕ → Option (List ℕ)
 bytes_past None more = None
 bytes_past (Some place) more = bytes_from more place
 

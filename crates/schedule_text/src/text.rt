@@ -160,7 +160,7 @@ fn hex_digit(digit: u8) -> u8
 /// backslash that begins none of them.
 ///
 /// A block of characters that all stand for themselves is taken at once.
-#[tactic(auto, unfolding(crate::specs::Text::bytes_from, crate::specs::Text::bytes_onto, crate::specs::Text::bytes_past))]
+#[tactic(auto, unfolding(crate::specs::Text::bytes_from, crate::specs::Text::bytes_onto))]
 pub fn read_text(alloc: Global, text: &[u8]) -> Result<Option<Bytes>, Memory>
     ensures { IfOk result (λ bytes. bytes ≡ bytes_of text.now) }
 {
@@ -182,7 +182,6 @@ pub fn read_text(alloc: Global, text: &[u8]) -> Result<Option<Bytes>, Memory>
 }
 
 /// Takes a block from a place on, and gives the place behind it; `None` where a character of it can't stand there.
-#[tactic(auto, unfolding(crate::specs::Text::bytes_past))]
 fn read_block(block: &[u8], from: Spelling, bytes: &mut Bytes) -> Result<Option<Spelling>, Memory>
     requires { IsSpelling from }
     ensures reads { IfOk result (λ next. IsReadOn block.now from bytes.old bytes.new next) }
@@ -196,7 +195,7 @@ fn read_block(block: &[u8], from: Spelling, bytes: &mut Bytes) -> Result<Option<
 }
 
 /// As `read_block`, one character after the other.
-#[tactic(auto, using(crate::proofs::TextLaws::by_reading), unfolding(crate::specs::Text::bytes_from, crate::specs::Text::bytes_onto, crate::specs::Text::bytes_past))]
+#[tactic(auto, using(crate::proofs::TextLaws::by_reading), unfolding(crate::specs::Text::bytes_from, crate::specs::Text::bytes_onto))]
 fn read_characters(
     text: &[u8],
     from: Spelling,

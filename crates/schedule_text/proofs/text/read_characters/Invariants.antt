@@ -6,5 +6,6 @@ abbrev pub invariant-loop-character : goal.invariant-loop-character
 invariant-loop-character l = record {
   place : IsSpelling l.place;
   spelled : (more : List ℕ)
-      → bytes_onto l.bytes (bytes_from (drop l.character-index l.text ++ more) l.place) ≡ bytes_onto l.initial.bytes (bytes_from (l.text ++ more) l.initial.place);
+      → bytes_onto l.bytes (bytes_from (drop l.character-index l.text ++ more) l.place)
+      ≡ bytes_onto l.initial.bytes (bytes_from (l.text ++ more) l.initial.place);
 }
