@@ -2,6 +2,9 @@ pub mod Wires
 pub mod OnWay
 pub mod Ways
 pub mod ServedAlike
+pub mod RisingStores
+pub mod MessagesLeft
+pub mod NeedsFit
 pub mod NoneLost
 pub mod CreateLaw
 pub mod AppendLaw

@@ -26,7 +26,7 @@ use Rattle.cluster_core.specs.Flow.{run_steps, unrolled}
 use Rattle.cluster_core.specs.Heard.{Heard, nobody, heard_from, bytes_heard, frames_heard}
 use Rattle.cluster_core.specs.History.{history_of}
 use Rattle.cluster_core.specs.Homes.{ShowsBoxesOf}
-use Rattle.cluster_core.specs.NoneLost.{LosesNoneByAppend}
+use Rattle.cluster_core.specs.NoneLost.{LosesNone}
 use Rattle.cluster_core.specs.OneStore.{first_course, HasBoxesOf, IsAnsweredThrough, StandsInTime, IsToldSoFar, IsToldByOneStore}
 use Rattle.cluster_core.specs.Requests.{AreRequests}
 use Rattle.cluster_core.specs.Shown.{given_to}
@@ -36,7 +36,7 @@ use Rattle.cluster_core.proofs.HomesLaw.{has_boxes}
 use Rattle.cluster_core.proofs.InTime.{StandsBehind, run_behind}
 use Rattle.cluster_core.proofs.Keeps.{IsKeptAt, KeepsAll, run_keeps}
 use Rattle.cluster_core.proofs.KeepsLaw.{KeepsLaw}
-use Rattle.cluster_core.proofs.NoneLost.{store_below, append_loses_none}
+use Rattle.cluster_core.proofs.NoneLost.{store_below, loses_none}
 use Rattle.cluster_core.proofs.Marks.{Carries, conn_of, command_of, is_mark, all_points}
 use Rattle.cluster_core.proofs.Marks.Carries.{no_marks, a_mark}
 use Rattle.cluster_core.proofs.NoRelocation.{have_causes}
@@ -177,8 +177,8 @@ told_so_far config talk before later are date_is now last =
       homes_shown = subst (λ s. ShowsBoxesOf s world) (sym legal.same_store)
           (shows_boxes config world law.backend law.story.course.store are law.nodes law.is_told.same);
       below_next = subst (λ (s : Store). (name : List ℕ) → IfSome (box_at s name) AreUidsBelowNext) (sym legal.same_store) below_next;
-      none_lost = subst (LosesNoneByAppend (setting_of config)) (sym legal.same_store)
-          (append_loses_none (setting_of config) law.story.course.store below_next);
+      none_lost = subst (LosesNone (setting_of config)) (sym legal.same_store)
+          (loses_none (setting_of config) law.story.course.store below_next);
       in_time = stands_in_time (setting_of config) world
           (run_steps (start config) (before ++ later)) law.story last.story law.backend last.backend law.is_told last.is_told behind (λ conn. (says conn).so);
       counted = steps_made config before;

@@ -27,7 +27,7 @@ use Rattle.cluster_core.specs.History.{history_of}
 use Rattle.cluster_core.specs.Homes.{ShowsBoxesOf}
 use Rattle.cluster_core.specs.Links.{on_link}
 use Rattle.cluster_core.specs.Refusals.{HaveCauses}
-use Rattle.cluster_core.specs.NoneLost.{LosesNoneByAppend}
+use Rattle.cluster_core.specs.NoneLost.{LosesNone}
 use Rattle.cluster_core.specs.Requests.{AreRequests}
 use Rattle.cluster_core.specs.Shown.{given_to, held_at}
 use Rattle.cluster_core.specs.World.{start, setting_of}
@@ -95,9 +95,10 @@ pub record IsToldSoFar (config : Config) (talk : Talk) (points : List Point) (st
   pub refusals : HaveCauses so_far (history_of world)
   pub one_content : HasBoxesOf last.store world
   pub homes_shown : ShowsBoxesOf last.store world
-  -- each message has a UID below its mailbox's UIDNEXT (RFC 9051, 2.3.1.1), and no APPEND, whoever sends it, loses one
+  -- each message has a UID below its mailbox's UIDNEXT (RFC 9051, 2.3.1.1), and no command, whoever sends it, loses one or its flags,
+  -- but where it is for that
   pub below_next : (name : List ℕ) → IfSome (box_at last.store name) AreUidsBelowNext
-  pub none_lost : LosesNoneByAppend (setting_of config) last.store
+  pub none_lost : LosesNone (setting_of config) last.store
   pub in_time : StandsInTime so_far world.steps points
   -- steps count from 1: the last one has the number of the steps made
   pub counted : world.steps ≡ length steps

@@ -1,0 +1,212 @@
+-- What an EXPUNGE and a STORE leave of the message of a UID.
+use Rattle.std.proofs.Common.{◌≡◌, ℕ, ◌==◌, ◌&&◌, ◌||◌, Bool, true, false, not, cond, List, [], ◌∷◌, ◌++◌, map, Option, None, Some}
+use Rattle.std.proofs.Common.{inl, inr, refl, sym, ◌∙◌, ap, subst, arith}
+use Rattle.std.specs.Prelude.{◌⊎◌, All}
+use Rattle.std.specs.List.{filter, list_any}
+use Rattle.std.proofs.lemmas.Bool.Decides.{nat_tests}
+use Rattle.std.proofs.lemmas.List.Elements.{All-nil, All-cons, All-head, All-tail, All-append}
+use Rattle.mail_message.specs.Boxes.{Content, content_after, content_after_all, has_uid, is_deleted, message_at, relabelled, uids_of, with_flags, without_uid}
+use Rattle.mail_message.specs.FlagSets.{Flags, flags_after}
+use Rattle.mail_message.specs.declared.change.Change.TheVariants.{Gone, SetFlags}
+use Rattle.mail_message.specs.declared.message.Message.{Message}
+use Rattle.mail_message.specs.declared.message.Row.{Row}
+use Rattle.mail_message.specs.declared.mode.Mode.{Mode}
+use Rattle.mail_message.proofs.OtherLaws.{other-after}
+use Rattle.mail_store.specs.Expunge.{deleted_among, deleted_uid, expunged, expunged_uids}
+use Rattle.mail_store.specs.Named.{set_of}
+use Rattle.mail_store.specs.Store.{flag_changes, rows_stored, stored, stored_row, stored_rows}
+use Rattle.cluster_core.specs.NoneLost.{HasDeleted}
+
+-- ---- EXPUNGE
+
+none_by : (k q : ℕ) (other : Message) (others : List Message) → (k == q) ≡ true → message_at others q ≡ None → (same : Bool) → (other.uid == k) ≡ same
+    → message_at (cond (not same) (other ∷ others) others) q ≡ None
+none_by k q other others is none true h = none
+none_by k q other others is none false h = let apart : (other.uid == q) ≡ false = grind (arith, nat_tests, is, h) in rw apart none
+
+none_at : (messages : List Message) (k q : ℕ) → (k == q) ≡ true → message_at (without_uid messages k) q ≡ None
+none_at [] k q is = refl
+none_at (other ∷ messages) k q is = none_by k q other (without_uid messages k) is (none_at messages k q is) (other.uid == k) refl
+
+either_none : (more : Bool) (found : Option Message) → found ≡ None → cond more None found ≡ None
+either_none true found is = refl
+either_none false found is = is
+
+gone_by : (messages : List Message) (k q : ℕ) (more same : Bool) → (k == q) ≡ same
+    → cond more None (message_at (without_uid messages k) q) ≡ cond (same || more) None (message_at messages q)
+gone_by messages k q more true is = either_none more (message_at (without_uid messages k) q) (none_at messages k q is)
+gone_by messages k q more false is = ap (λ (found : Option Message). cond more None found) (other-after messages (Gone k) q is)
+
+-- what is gone is found no more, and all else is as it was
+gone_at : (box : Content) (uids : List ℕ) (q : ℕ)
+    → message_at (content_after_all box (map (λ uid. Gone uid) uids)).messages q
+    ≡ cond (list_any (λ gone. gone == q) uids) None (message_at box.messages q)
+gone_at box [] q = refl
+gone_at box (uid ∷ uids) q =
+    gone_at (content_after box (Gone uid)) uids q ∙ gone_by box.messages uid q (list_any (λ gone. gone == q) uids) (uid == q) refl
+
+deleted_by : (other : Message) (messages : List Message) (q : ℕ) (is : Bool)
+    → list_any (λ gone. gone == q) (uids_of (filter is_deleted messages)) ≡ list_any (λ message. is_deleted message && has_uid q message) messages
+    → list_any (λ gone. gone == q) (uids_of (cond is (other ∷ filter is_deleted messages) (filter is_deleted messages)))
+    ≡ ((is && has_uid q other) || list_any (λ message. is_deleted message && has_uid q message) messages)
+deleted_by other messages q true same = ap (λ rest. (other.uid == q) || rest) same
+deleted_by other messages q false same = same
+
+all_deleted : (messages : List Message) (q : ℕ)
+    → list_any (λ gone. gone == q) (uids_of (filter is_deleted messages)) ≡ list_any (λ message. is_deleted message && has_uid q message) messages
+all_deleted [] q = refl
+all_deleted (other ∷ messages) q = deleted_by other messages q (is_deleted other) (all_deleted messages q)
+
+or_true : (b : Bool) → (b || true) ≡ true
+or_true true = refl
+or_true false = refl
+
+-- a message that is found stands among them
+found_by : (other found : Message) (messages : List Message) (u q : ℕ) → is_deleted found ≡ true → (found.uid == q) ≡ true → (same : Bool)
+    → cond same (Some other) (message_at messages u) ≡ Some found → (message_at messages u ≡ Some found → HasDeleted messages q)
+    → HasDeleted (other ∷ messages) q
+found_by other found messages u q gone is true at rest = let same : other ≡ found = cc in rw (same, gone, is) refl
+found_by other found messages u q gone is false at rest = rw (rest at) (or_true (is_deleted other && has_uid q other))
+
+found_deleted : (messages : List Message) (found : Message) (u q : ℕ) → is_deleted found ≡ true → (found.uid == q) ≡ true
+    → message_at messages u ≡ Some found → HasDeleted messages q
+found_deleted [] found u q gone is at = cc
+found_deleted (other ∷ messages) found u q gone is at =
+    found_by other found messages u q gone is (other.uid == u) at (found_deleted messages found u q gone is)
+
+either_deleted : (messages : List Message) (q : ℕ) (one more : Bool) → (one ≡ true → HasDeleted messages q) → (more ≡ true → HasDeleted messages q)
+    → (one || more) ≡ true → HasDeleted messages q
+either_deleted messages q true more one rest is = one refl
+either_deleted messages q false more one rest is = rest is
+
+one_deleted : (messages : List Message) (u q : ℕ) (message : Message) (rest : List ℕ) (is : Bool) → is_deleted message ≡ is
+    → message_at messages u ≡ Some message → (list_any (λ gone. gone == q) rest ≡ true → HasDeleted messages q)
+    → list_any (λ gone. gone == q) (cond is (message.uid ∷ []) [] ++ rest) ≡ true → HasDeleted messages q
+one_deleted messages u q message rest true is at more any =
+    either_deleted messages q (message.uid == q) (list_any (λ gone. gone == q) rest) (λ same. found_deleted messages message u q is same at) more any
+one_deleted messages u q message rest false is at more any = more any
+
+some_deleted : (messages : List Message) (u q : ℕ) (found : Option Message) (rest : List ℕ) → message_at messages u ≡ found
+    → (list_any (λ gone. gone == q) rest ≡ true → HasDeleted messages q)
+    → list_any (λ gone. gone == q) (deleted_uid found ++ rest) ≡ true → HasDeleted messages q
+some_deleted messages u q None rest at more any = more any
+some_deleted messages u q (Some message) rest at more any = one_deleted messages u q message rest (is_deleted message) refl at more any
+
+among_deleted : (messages : List Message) (uids : List ℕ) (q : ℕ) → list_any (λ gone. gone == q) (deleted_among messages uids) ≡ true
+    → HasDeleted messages q
+among_deleted messages [] q any = cc
+among_deleted messages (uid ∷ uids) q any =
+    some_deleted messages uid q (message_at messages uid) (deleted_among messages uids) refl (among_deleted messages uids q) any
+
+only_deleted : (box : Content) (only : Option (List ℕ)) (q : ℕ) → list_any (λ gone. gone == q) (expunged_uids box only) ≡ true → HasDeleted box.messages q
+only_deleted box None q any = sym (all_deleted box.messages q) ∙ any
+only_deleted box (Some uids) q any = among_deleted box.messages (set_of uids) q any
+
+-- by what is found of a message that was there: it went as it had \Deleted, or it is as it was
+abbrev pub IsLeftBy : List Message → ℕ → Message → Option Message → Type 0
+IsLeftBy messages uid message None = HasDeleted messages uid
+IsLeftBy messages uid message (Some later) = later ≡ message
+
+left_by : (messages : List Message) (q : ℕ) (message : Message) (went : Bool) → (went ≡ true → HasDeleted messages q)
+    → IsLeftBy messages q message (cond went None (Some message))
+left_by messages q message true gone = gone refl
+left_by messages q message false gone = refl
+
+pub expunged_left : (box : Content) (only : Option (List ℕ)) (q : ℕ) (message : Message) → message_at box.messages q ≡ Some message
+    → IsLeftBy box.messages q message (message_at (expunged box only).messages q)
+expunged_left box only q message at =
+    let went = list_any (λ gone. gone == q) (expunged_uids box only) in
+    subst (IsLeftBy box.messages q message) (sym (gone_at box (expunged_uids box only) q ∙ ap (λ (found : Option Message). cond went None found) at))
+    (left_by box.messages q message went (only_deleted box only q))
+
+-- ---- STORE
+
+-- a message that is found has the UID that it was looked for by
+uid_by : (uid : ℕ) (other message : Message) (found : Option Message) (same : Bool) → (other.uid == uid) ≡ same
+    → (found ≡ Some message → message.uid ≡ uid) → cond same (Some other) found ≡ Some message → message.uid ≡ uid
+uid_by uid other message found true h rest at =
+    let is : other ≡ message = cc in let own : other.uid ≡ uid = grind (arith, nat_tests, h) in ap (λ (m : Message). m.uid) (sym is) ∙ own
+uid_by uid other message found false h rest at = rest at
+
+pub uid_of_found : (messages : List Message) (uid : ℕ) (message : Message) → message_at messages uid ≡ Some message → message.uid ≡ uid
+uid_of_found [] uid message at = cc
+uid_of_found (other ∷ messages) uid message at =
+    uid_by uid other message (message_at messages uid) (other.uid == uid) refl (uid_of_found messages uid message) at
+
+-- a message with other flags has its UID
+same_uid : (k : ℕ) (flags : Flags) (message : Message) (same : Bool) → (cond same (relabelled message flags) message).uid ≡ message.uid
+same_uid k flags message true = refl
+same_uid k flags message false = refl
+
+labelled_by : (k q : ℕ) (flags : Flags) (other message : Message) (messages others : List Message)
+    → (message_at messages q ≡ Some message → message_at others q ≡ Some (with_flags k flags message)) → (here : Bool) → (other.uid == q) ≡ here
+    → cond here (Some other) (message_at messages q) ≡ Some message → message_at (with_flags k flags other ∷ others) q ≡ Some (with_flags k flags message)
+labelled_by k q flags other message messages others rest true h at =
+    let is : other ≡ message = cc in
+    let own : ((with_flags k flags other).uid == q) ≡ true = ap (λ n. n == q) (same_uid k flags other (has_uid k other)) ∙ h in
+    rw own (ap (λ (m : Message). Some (with_flags k flags m)) is)
+labelled_by k q flags other message messages others rest false h at =
+    let own : ((with_flags k flags other).uid == q) ≡ false = ap (λ n. n == q) (same_uid k flags other (has_uid k other)) ∙ h in
+    rw own (rest at)
+
+labelled_at : (messages : List Message) (k q : ℕ) (flags : Flags) (message : Message) → message_at messages q ≡ Some message
+    → message_at (map (with_flags k flags) messages) q ≡ Some (with_flags k flags message)
+labelled_at [] k q flags message at = cc
+labelled_at (other ∷ messages) k q flags message at =
+    labelled_by k q flags other message messages (map (with_flags k flags) messages) (labelled_at messages k q flags message) (other.uid == q) refl at
+
+-- it is the message, with flags of a kind
+abbrev pub IsWithFlags : (Flags → Type 0) → Message → Option Message → Type 0
+IsWithFlags P message None = ⊥
+IsWithFlags P message (Some later) = (later ≡ relabelled message later.flags) × P later.flags
+
+-- the row of a UID has flags of a kind
+abbrev IsOfKind : (Flags → Type 0) → ℕ → Row → Type 0
+IsOfKind P q row = row.uid ≡ q → P row.flags
+
+one_label : (P : Flags → Type 0) (first now : Message) (row : Row) (same : Bool) → now.uid ≡ first.uid → (now.uid == row.uid) ≡ same
+    → IsOfKind P first.uid row → IsWithFlags P first (Some now) → IsWithFlags P first (Some (cond same (relabelled now row.flags) now))
+one_label P first now row true uid h kind is =
+    (ap (λ (m : Message). relabelled m row.flags) is.0, kind (let e : row.uid ≡ first.uid = grind (arith, nat_tests, uid, h) in e))
+one_label P first now row false uid h kind is = is
+
+labels_left : (P : Flags → Type 0) (box : Content) (rows : List Row) (first now : Message) → All (IsOfKind P first.uid) rows
+    → message_at box.messages first.uid ≡ Some now → IsWithFlags P first (Some now)
+    → IsWithFlags P first (message_at (content_after_all box (flag_changes rows)).messages first.uid)
+labels_left P box [] first now kinds at is = subst (IsWithFlags P first) (sym at) is
+labels_left P box (row ∷ rows) first now kinds at is =
+    labels_left P (content_after box (SetFlags row.uid row.flags)) rows first (with_flags row.uid row.flags now)
+    (All-tail (IsOfKind P first.uid) row rows kinds) (labelled_at box.messages row.uid first.uid row.flags now at)
+    (one_label P first now row (now.uid == row.uid) (uid_of_found box.messages first.uid now at) refl (All-head (IsOfKind P first.uid) row rows kinds) is)
+
+-- the flags are as they were, or as a STORE makes them
+abbrev pub IsStoredFlags : Mode → Flags → Flags → Flags → Type 0
+IsStoredFlags mode flags old new = (new ≡ old) ⊎ (new ≡ flags_after mode old flags)
+
+row_kind : (messages : List Message) (mode : Mode) (flags : Flags) (first : Message) (u : ℕ) (found : Option Message) → message_at messages u ≡ found
+    → message_at messages first.uid ≡ Some first
+    → All (IsOfKind (IsStoredFlags mode flags first.flags) first.uid) (stored_row mode flags found)
+row_kind messages mode flags first u None at own = All-nil (IsOfKind (IsStoredFlags mode flags first.flags) first.uid)
+row_kind messages mode flags first u (Some message) at own =
+    All-cons (IsOfKind (IsStoredFlags mode flags first.flags) first.uid) (record { uid = message.uid; flags = flags_after mode message.flags flags }) []
+    (λ same. let here : u ≡ first.uid = sym (uid_of_found messages u message at) ∙ same in
+    let is : Some message ≡ Some first = sym at ∙ ap (message_at messages) here ∙ own in
+    let one : message ≡ first = cc in inr (ap (λ (m : Message). flags_after mode m.flags flags) one))
+    (All-nil (IsOfKind (IsStoredFlags mode flags first.flags) first.uid))
+
+row_kinds : (messages : List Message) (mode : Mode) (flags : Flags) (first : Message) (uids : List ℕ) → message_at messages first.uid ≡ Some first
+    → All (IsOfKind (IsStoredFlags mode flags first.flags) first.uid) (stored_rows messages mode flags uids)
+row_kinds messages mode flags first [] own = All-nil (IsOfKind (IsStoredFlags mode flags first.flags) first.uid)
+row_kinds messages mode flags first (uid ∷ uids) own =
+    All-append (IsOfKind (IsStoredFlags mode flags first.flags) first.uid) (stored_row mode flags (message_at messages uid))
+    (stored_rows messages mode flags uids) (row_kind messages mode flags first uid (message_at messages uid) refl own)
+    (row_kinds messages mode flags first uids own)
+
+pub stored_left : (box : Content) (uids : List ℕ) (mode : Mode) (flags : Flags) (q : ℕ) (message : Message) → message_at box.messages q ≡ Some message
+    → IsWithFlags (IsStoredFlags mode flags message.flags) message (message_at (stored box uids mode flags).messages q)
+stored_left box uids mode flags q message at =
+    let uid : message.uid ≡ q = uid_of_found box.messages q message at in
+    let own : message_at box.messages message.uid ≡ Some message = ap (message_at box.messages) uid ∙ at in
+    subst (λ n. IsWithFlags (IsStoredFlags mode flags message.flags) message (message_at (stored box uids mode flags).messages n)) uid
+    (labels_left (IsStoredFlags mode flags message.flags) box (rows_stored box uids mode flags) message message
+    (row_kinds box.messages mode flags message (set_of uids) own) own (refl, inl refl))

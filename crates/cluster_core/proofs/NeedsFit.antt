@@ -1,0 +1,264 @@
+-- Which command can end in which work at a mailbox that takes messages away or changes their flags.
+use Rattle.std.proofs.Common.{◌≡◌, ℕ, Bool, true, false, if◌then◌else◌, List, length, Option, None, Some, codes, refl, sym, ◌∙◌}
+use Rattle.std.specs.Prelude.{⊤}
+use Rattle.std.specs.Str.{bytes_eq}
+use Rattle.mail_message.specs.Boxes.{Content}
+use Rattle.mail_message.specs.FlagSets.{Flags, flags_after, with_flag}
+use Rattle.mail_message.specs.declared.flag_name.FlagName.TheVariants.{System}
+use Rattle.mail_message.specs.declared.item.Item.{Item}
+use Rattle.mail_message.specs.declared.message.Message.{Message}
+use Rattle.mail_message.specs.declared.mode.Mode.{Mode}
+use Rattle.mail_message.specs.declared.set.SetPart.{SetPart}
+use Rattle.mail_message.specs.declared.system_flags.SystemFlag.TheVariants.{Seen}
+use Rattle.mur_base.specs.Inbox.{taken_name}
+use Rattle.mur_base.specs.Names.{mail_name_fault}
+use Rattle.mur_base.specs.declared.name.NameFault.{NameFault}
+use Rattle.mur_base.specs.declared.user.User.{User}
+use Rattle.mur_model.specs.declared.command.Command.{Command}
+use Rattle.mur_model.specs.declared.command.Command.TheVariants as command
+use Rattle.mur_model.specs.declared.command.StatusItem.{StatusItem}
+use Rattle.mur_model.specs.declared.need.Need.{Need}
+use Rattle.mur_model.specs.declared.need.Need.TheVariants.{Refusal, Turned, Mailbox}
+use Rattle.mur_model.specs.declared.need.NewsFor.TheVariants as news_for
+use Rattle.mur_model.specs.declared.need.ViewWork.{ViewWork}
+use Rattle.mur_model.specs.declared.need.ViewWork.TheVariants as view_work
+use Rattle.mur_model.specs.declared.need.Work.{Work}
+use Rattle.mur_model.specs.declared.need.Work.TheVariants.{Make, Append as append_work, Status as status_work, Select as select_work, Viewed as viewed_work}
+use Rattle.mur_model.specs.declared.reply.BadText.TheVariants.{State, Syntax}
+use Rattle.mur_model.specs.declared.reply.Verdict.TheVariants.{Bad as bad_reply}
+use Rattle.mur_model.specs.declared.select.Opening.{Opening}
+use Rattle.mur_model.specs.declared.session.Sess.{Sess}
+use Rattle.mur_model.specs.declared.session.Sess.TheVariants.{Off, In, Selected as selected, Ended}
+use Rattle.mur_model.specs.declared.setting.Setting.{Setting}
+use Rattle.mur_model.specs.declared.view.View.{View}
+use Rattle.mur_model.specs.Act.{idled, need_begun, need_in, need_of, need_off, need_selected, need_unselected, wants_selected}
+use Rattle.mur_model.specs.Append.{append, append_as, append_by, new_message}
+use Rattle.mur_model.specs.AtOnce.{is_done}
+use Rattle.mur_model.specs.Close.{left_by}
+use Rattle.mur_model.specs.Create.{create, create_as, create_by, create_meant, is_inbox, without_separator}
+use Rattle.mur_model.specs.Expunge.{expunge, expunge_named}
+use Rattle.mur_model.specs.Fetch.{fetch_named}
+use Rattle.mur_model.specs.Keys.{have_all_numbers, keys_at}
+use Rattle.mur_model.specs.Left.{replied}
+use Rattle.mur_model.specs.Login.{login, login_as, login_by, login_failed}
+use Rattle.mur_model.specs.NamedRows.{last_uid, named_uids, names_messages}
+use Rattle.mur_model.specs.Need.{at_mailbox, no_such_number, read_only}
+use Rattle.mur_model.specs.Plain.{acts_as, authenticate, authenticate_as, authenticate_by, authenticate_with, cut_at_nul, decoded}
+use Rattle.mur_model.specs.Reply.{completed}
+use Rattle.mur_model.specs.Rights.{has_rights, may_create, user_named}
+use Rattle.mur_model.specs.Search.{search}
+use Rattle.mur_model.specs.Select.{opening, select, select_as, select_by}
+use Rattle.mur_model.specs.Status.{status, status_as, status_by}
+use Rattle.mur_model.specs.StoreFlags.{store, store_named}
+use Rattle.cluster_core.specs.NoneLost.{Expunges, MayChange, MayLabel}
+
+-- the session may change the mailbox of the view, where that is there still
+abbrev pub MayChangeIts : Sess → List ℕ → View → Type 0
+MayChangeIts session name view = (box : Content) → box.serial ≡ view.serial → MayChange session name box
+
+abbrev pub FitsView : Sess → Command → List ℕ → View → ViewWork → Type 0
+FitsView session it name view (view_work.News why) = ⊤
+FitsView session it name view view_work.Close = MayChangeIts session name view × Expunges it
+FitsView session it name view (view_work.Expunge only) = MayChangeIts session name view × Expunges it
+FitsView session it name view (view_work.Store asked) =
+    MayChangeIts session name view × ((old : Flags) → MayLabel it old (flags_after asked.mode old asked.flags))
+FitsView session it name view (view_work.Fetch asked) =
+    (view.is_writable ≡ true → MayChangeIts session name view) × ((old : Flags) → MayLabel it old (with_flag old (System Seen)))
+FitsView session it name view (view_work.Search asked) = ⊤
+
+abbrev pub FitsWork : Sess → Command → List ℕ → Work → Type 0
+FitsWork session it name Make = ⊤
+FitsWork session it name (append_work message) = ⊤
+FitsWork session it name (status_work shown items) = ⊤
+FitsWork session it name (select_work opened) = ⊤
+FitsWork session it name (viewed_work view work) = FitsView session it name view work
+
+-- the work is such as this command of this session ends in
+abbrev pub Fits : Sess → Command → Need → Type 0
+Fits session it (Refusal verdict) = ⊤
+Fits session it (Turned turn) = ⊤
+Fits session it (Mailbox name work) = FitsWork session it name work
+
+module _ (session : Sess) (it : Command) where
+  either : (test : Bool) (one other : Need) → (test ≡ true → Fits session it one) → Fits session it other → Fits session it (if test then one else other)
+  either true one other is is_other = is refl
+  either false one other is is_other = is_other
+
+  login_by_fits : (name user : List ℕ) (same : Bool) → Fits session it (login_by name user same)
+  unfolding login_by
+  login_by_fits name user true = tt
+  login_by_fits name user false = tt
+
+  login_as_fits : (name : List ℕ) (found : Option User) (password : List ℕ) → Fits session it (login_as name found password)
+  unfolding login_as
+  login_as_fits name None password = tt
+  login_as_fits name (Some user) password = login_by_fits name user.name (bytes_eq user.password password)
+
+  login_fits : (users : List User) (name user password : List ℕ) → Fits session it (login users name user password)
+  unfolding login
+  login_fits users name user password = login_as_fits name (user_named users user) password
+
+  plain_by_fits : (users : List User) (authzid : List ℕ) (rest : Option (List ℕ × List ℕ)) → Fits session it (authenticate_by users authzid rest)
+  unfolding authenticate_by
+  plain_by_fits users authzid None = tt
+  plain_by_fits users authzid (Some (user, password)) =
+      either (acts_as authzid user) (login users (codes "AUTHENTICATE") user password) login_failed
+      (λ so. login_fits users (codes "AUTHENTICATE") user password) tt
+
+  plain_as_fits : (users : List User) (parts : Option (List ℕ × List ℕ)) → Fits session it (authenticate_as users parts)
+  unfolding authenticate_as
+  plain_as_fits users None = tt
+  plain_as_fits users (Some (authzid, rest)) = plain_by_fits users authzid (cut_at_nul rest)
+
+  plain_with_fits : (users : List User) (message : Option (List ℕ)) → Fits session it (authenticate_with users message)
+  unfolding authenticate_with
+  plain_with_fits users None = tt
+  plain_with_fits users (Some message) = plain_as_fits users (cut_at_nul message)
+
+  plain_fits : (users : List User) (response : List ℕ) → Fits session it (authenticate users response)
+  unfolding authenticate
+  plain_fits users response =
+      either (bytes_eq response (codes "*")) (Refusal (bad_reply Syntax)) (authenticate_with users (decoded response)) (λ so. tt)
+      (plain_with_fits users (decoded response))
+
+  off_fits : (setting : Setting) (asked : Command) → Fits session it (need_off setting asked)
+  unfolding need_off
+  off_fits setting (command.Login user password) = login_fits setting.users (codes "LOGIN") user password
+  off_fits setting (command.Authenticate (Some response)) = plain_fits setting.users response
+  off_fits setting (command.Authenticate None) = tt
+  off_fits setting asked = tt
+
+  create_by_fits : (name : List ℕ) (may : Bool) → Fits session it (create_by name may)
+  unfolding create_by
+  create_by_fits name true = tt
+  create_by_fits name false = tt
+
+  create_fits : (setting : Setting) (user name : List ℕ) (inbox : Bool) (fault : Option NameFault) → Fits session it (create_as setting user name inbox fault)
+  unfolding create_as
+  create_fits setting user name true fault = tt
+  create_fits setting user name false (Some fault) = tt
+  create_fits setting user name false None = create_by_fits name (may_create setting.users user name)
+
+  append_by_fits : (name : List ℕ) (message : Message) (may : Bool) → Fits session it (append_by name message may)
+  unfolding append_by
+  append_by_fits name message true = tt
+  append_by_fits name message false = tt
+
+  append_fits : (setting : Setting) (user name : List ℕ) (message : Message) (fault : Option NameFault)
+      → Fits session it (append_as setting user name message fault)
+  unfolding append_as
+  append_fits setting user name message (Some fault) = tt
+  append_fits setting user name message None = append_by_fits name message (has_rights setting.users user name)
+
+  status_by_fits : (user name : List ℕ) (items : List StatusItem) (may : Bool) → Fits session it (status_by user name items may)
+  unfolding status_by
+  status_by_fits user name items true = tt
+  status_by_fits user name items false = tt
+
+  status_fits : (setting : Setting) (user name : List ℕ) (items : List StatusItem) (fault : Option NameFault)
+      → Fits session it (status_as setting user name items fault)
+  unfolding status_as
+  status_fits setting user name items (Some fault) = tt
+  status_fits setting user name items None = status_by_fits user name items (has_rights setting.users user name)
+
+  select_by_fits : (name : List ℕ) (opened : Opening) (may : Bool) → Fits session it (select_by name opened may)
+  unfolding select_by
+  select_by_fits name opened true = tt
+  select_by_fits name opened false = tt
+
+  select_fits : (setting : Setting) (user name : List ℕ) (is_writable was_selected : Bool) (fault : Option NameFault)
+      → Fits session it (select_as setting user name is_writable was_selected fault)
+  unfolding select_as
+  select_fits setting user name is_writable was_selected (Some fault) = tt
+  select_fits setting user name is_writable was_selected None =
+      select_by_fits name (opening user name is_writable was_selected) (has_rights setting.users user name)
+
+  begun_fits : (setting : Setting) (user : List ℕ) (is_selected : Bool) (asked : Command) → Fits session it (need_begun setting user is_selected asked)
+  unfolding need_begun create create_meant append status select
+  begun_fits setting user is_selected (command.Create text) =
+      let meant = without_separator text in
+      create_fits setting user (taken_name user meant) (is_inbox meant) (mail_name_fault (taken_name user meant))
+  begun_fits setting user is_selected (command.Append text flags date body) =
+      append_fits setting user (taken_name user text) (new_message setting flags date body) (mail_name_fault (taken_name user text))
+  begun_fits setting user is_selected (command.Status text items) =
+      status_fits setting user (taken_name user text) items (mail_name_fault (taken_name user text))
+  begun_fits setting user is_selected (command.Select text) =
+      select_fits setting user (taken_name user text) true is_selected (mail_name_fault (taken_name user text))
+  begun_fits setting user is_selected (command.Examine text) =
+      select_fits setting user (taken_name user text) false is_selected (mail_name_fault (taken_name user text))
+  begun_fits setting user is_selected asked = tt
+
+  idled_fits : (line : List ℕ) (done : Need) → Fits session it done → Fits session it (idled line done)
+  idled_fits line done is = either (is_done line) done (Refusal (bad_reply Syntax)) (λ so. is) tt
+
+  unselected_fits : (setting : Setting) (user : List ℕ) (asked : Command) → Fits session it (need_unselected setting user asked)
+  unselected_fits setting user asked =
+      either (wants_selected asked) (Refusal (bad_reply State)) (need_begun setting user false asked) (λ so. tt) (begun_fits setting user false asked)
+
+  in_fits : (setting : Setting) (user : List ℕ) (asked : Command) → Fits session it (need_in setting user asked)
+  unfolding need_in
+  in_fits setting user command.Noop = tt
+  in_fits setting user (command.Idle (Some line)) = idled_fits line (Turned (replied (completed (codes "IDLE")))) tt
+  in_fits setting user (command.Idle None) = unselected_fits setting user (command.Idle None)
+  in_fits setting user asked = unselected_fits setting user asked
+
+-- ---- commands of a session that has this view
+
+may_change : (view : View) → view.is_writable ≡ true → MayChangeIts (selected view) view.name view
+unfolding MayChange
+may_change view writable box same = (refl, sym same, writable)
+
+expunge_fits : (view : View) (only : Option (List SetPart)) → Fits (selected view) (command.Expunge only) (expunge view only)
+unfolding Expunges
+expunge_fits view only = either (selected view) (command.Expunge only) view.is_writable (expunge_named view only) read_only (named only) tt
+  where
+    named : (asked : Option (List SetPart)) → view.is_writable ≡ true → Fits (selected view) (command.Expunge only) (expunge_named view asked)
+    named None writable = (may_change view writable, tt)
+    named (Some set) writable = (may_change view writable, tt)
+
+store_fits : (view : View) (by_uid : Bool) (set : List SetPart) (mode : Mode) (is_silent : Bool) (flags : Flags)
+    → Fits (selected view) (command.Store by_uid set mode is_silent flags) (store view by_uid set mode is_silent flags)
+unfolding MayLabel
+store_fits view by_uid set mode is_silent flags =
+    let it : Command = command.Store by_uid set mode is_silent flags in
+    let named = store_named view by_uid set mode is_silent flags in
+    either (selected view) it (names_messages view by_uid set) (if view.is_writable then named else read_only) no_such_number
+    (λ so. either (selected view) it view.is_writable named read_only (λ writable. (may_change view writable, λ old. refl)) tt) tt
+
+fetch_fits : (view : View) (by_uid : Bool) (set : List SetPart) (items : List Item)
+    → Fits (selected view) (command.Fetch by_uid set items) (if names_messages view by_uid set then fetch_named view by_uid set items else no_such_number)
+unfolding MayLabel
+fetch_fits view by_uid set items =
+    either (selected view) (command.Fetch by_uid set items) (names_messages view by_uid set) (fetch_named view by_uid set items) no_such_number
+    (λ so. (may_change view, λ old. refl)) tt
+
+close_fits : (view : View)
+    → Fits (selected view) command.Close (if view.is_writable then at_mailbox view view_work.Close else Turned (left_by view (codes "CLOSE")))
+unfolding Expunges
+close_fits view =
+    either (selected view) command.Close view.is_writable (at_mailbox view view_work.Close) (Turned (left_by view (codes "CLOSE")))
+    (λ writable. (may_change view writable, tt)) tt
+
+selected_fits : (setting : Setting) (view : View) (it : Command) → Fits (selected view) it (need_selected setting view it)
+unfolding need_selected
+selected_fits setting view command.Noop = tt
+selected_fits setting view (command.Idle (Some line)) =
+    idled_fits (selected view) (command.Idle (Some line)) line (at_mailbox view (view_work.News news_for.Idle)) tt
+selected_fits setting view (command.Idle None) = begun_fits (selected view) (command.Idle None) setting view.user true (command.Idle None)
+selected_fits setting view command.Close = close_fits view
+selected_fits setting view command.Unselect = tt
+selected_fits setting view (command.Expunge only) = expunge_fits view only
+selected_fits setting view (command.Store by_uid set mode is_silent flags) = store_fits view by_uid set mode is_silent flags
+selected_fits setting view (command.Fetch by_uid set items) = fetch_fits view by_uid set items
+selected_fits setting view (command.Search by_uid keys) =
+    let placed = keys_at (length view.rows) (last_uid view.rows) keys in
+    either (selected view) (command.Search by_uid keys) (have_all_numbers (length view.rows) keys)
+    (at_mailbox view (view_work.Search (record { by_uid = by_uid; keys = placed }))) no_such_number (λ so. tt) tt
+selected_fits setting view it = begun_fits (selected view) it setting view.user true it
+
+pub need_fits : (setting : Setting) (session : Sess) (it : Command) → Fits session it (need_of setting session it)
+unfolding need_of
+need_fits setting Off it = off_fits Off it setting it
+need_fits setting (In user) it = in_fits (In user) it setting user it
+need_fits setting (selected view) it = selected_fits setting view it
+need_fits setting Ended it = tt
