@@ -1,5 +1,5 @@
 -- What an EXPUNGE and a STORE leave of the message of a UID.
-use Rattle.std.proofs.Common.{◌≡◌, ℕ, ◌==◌, ◌&&◌, ◌||◌, Bool, true, false, not, cond, List, [], ◌∷◌, ◌++◌, map, Option, None, Some}
+use Rattle.std.proofs.Common.{◌≡◌, ℕ, ◌+◌, ◌<◌, ◌==◌, ◌&&◌, ◌||◌, Bool, true, false, not, cond, List, [], ◌∷◌, ◌++◌, map, Option, None, Some}
 use Rattle.std.proofs.Common.{inl, inr, refl, sym, ◌∙◌, ap, subst, arith}
 use Rattle.std.specs.Prelude.{◌⊎◌, All}
 use Rattle.std.specs.List.{filter, list_any}
@@ -15,7 +15,52 @@ use Rattle.mail_message.proofs.OtherLaws.{other-after}
 use Rattle.mail_store.specs.Expunge.{deleted_among, deleted_uid, expunged, expunged_uids}
 use Rattle.mail_store.specs.Named.{set_of}
 use Rattle.mail_store.specs.Store.{flag_changes, rows_stored, stored, stored_row, stored_rows}
-use Rattle.cluster_core.specs.NoneLost.{HasDeleted}
+use Rattle.cluster_core.proofs.RisingStores.{Rises, RisesTo}
+
+-- ---- a UID is one message's, where UIDs rise
+
+-- a message with this UID has \Deleted
+abbrev HasDeleted : List Message → ℕ → Type 0
+HasDeleted messages uid = list_any (λ message. is_deleted message && has_uid uid message) messages ≡ true
+
+and_false : (b : Bool) → (b && false) ≡ false
+and_false true = refl
+and_false false = refl
+
+none_lower : (low : ℕ) (messages : List Message) (next uid : ℕ) → uid < low → RisesTo low messages next
+    → list_any (λ message. is_deleted message && has_uid uid message) messages ≡ false
+none_lower low [] next uid lt rises = refl
+none_lower low (message ∷ messages) next uid lt rises =
+    let here : uid < message.uid = omega (arith, lt, rises.0) in
+    let apart : (message.uid == uid) ≡ false = grind (arith, nat_tests, here) in
+    let not_it : (is_deleted message && has_uid uid message) ≡ false = ap (λ b. is_deleted message && b) apart ∙ and_false (is_deleted message) in
+    rw not_it (none_lower (message.uid + 1) messages next uid (omega (arith, here)) rises.1)
+
+only_first : (one more : Bool) → more ≡ false → ((one && true) || more) ≡ true → one ≡ true
+only_first true more none any = refl
+only_first false more none any = let no : more ≡ true = any in cc
+
+only_rest : (one more : Bool) → ((one && false) || more) ≡ true → more ≡ true
+only_rest true more any = any
+only_rest false more any = any
+
+one_by : (other found : Message) (messages : List Message) (next q : ℕ) (same : Bool) → (other.uid == q) ≡ same → RisesTo (other.uid + 1) messages next
+    → (message_at messages q ≡ Some found → HasDeleted messages q → is_deleted found ≡ true) → cond same (Some other) (message_at messages q) ≡ Some found
+    → ((is_deleted other && same) || list_any (λ message. is_deleted message && has_uid q message) messages) ≡ true → is_deleted found ≡ true
+one_by other found messages next q true h rises rest at any =
+    let is : other ≡ found = cc in
+    let lt : q < other.uid + 1 = grind (arith, nat_tests, h) in
+    ap is_deleted (sym is)
+    ∙ only_first (is_deleted other) (list_any (λ message. is_deleted message && has_uid q message) messages)
+    (none_lower (other.uid + 1) messages next q lt rises) any
+one_by other found messages next q false h rises rest at any =
+    rest at (only_rest (is_deleted other) (list_any (λ message. is_deleted message && has_uid q message) messages) any)
+
+deleted_itself : (low : ℕ) (messages : List Message) (next q : ℕ) (found : Message) → RisesTo low messages next → message_at messages q ≡ Some found
+    → HasDeleted messages q → is_deleted found ≡ true
+deleted_itself low [] next q found rises at any = cc
+deleted_itself low (other ∷ messages) next q found rises at any =
+    one_by other found messages next q (other.uid == q) refl rises.1 (deleted_itself (other.uid + 1) messages next q found rises.1) at any
 
 -- ---- EXPUNGE
 
@@ -103,21 +148,20 @@ only_deleted box None q any = sym (all_deleted box.messages q) ∙ any
 only_deleted box (Some uids) q any = among_deleted box.messages (set_of uids) q any
 
 -- by what is found of a message that was there: it went as it had \Deleted, or it is as it was
-abbrev pub IsLeftBy : List Message → ℕ → Message → Option Message → Type 0
-IsLeftBy messages uid message None = HasDeleted messages uid
-IsLeftBy messages uid message (Some later) = later ≡ message
+abbrev pub IsLeftBy : Message → Option Message → Type 0
+IsLeftBy message None = is_deleted message ≡ true
+IsLeftBy message (Some later) = later ≡ message
 
-left_by : (messages : List Message) (q : ℕ) (message : Message) (went : Bool) → (went ≡ true → HasDeleted messages q)
-    → IsLeftBy messages q message (cond went None (Some message))
-left_by messages q message true gone = gone refl
-left_by messages q message false gone = refl
+left_by : (message : Message) (went : Bool) → (went ≡ true → is_deleted message ≡ true) → IsLeftBy message (cond went None (Some message))
+left_by message true gone = gone refl
+left_by message false gone = refl
 
-pub expunged_left : (box : Content) (only : Option (List ℕ)) (q : ℕ) (message : Message) → message_at box.messages q ≡ Some message
-    → IsLeftBy box.messages q message (message_at (expunged box only).messages q)
-expunged_left box only q message at =
+pub expunged_left : (box : Content) (only : Option (List ℕ)) (q : ℕ) (message : Message) → Rises box → message_at box.messages q ≡ Some message
+    → IsLeftBy message (message_at (expunged box only).messages q)
+expunged_left box only q message rises at =
     let went = list_any (λ gone. gone == q) (expunged_uids box only) in
-    subst (IsLeftBy box.messages q message) (sym (gone_at box (expunged_uids box only) q ∙ ap (λ (found : Option Message). cond went None found) at))
-    (left_by box.messages q message went (only_deleted box only q))
+    subst (IsLeftBy message) (sym (gone_at box (expunged_uids box only) q ∙ ap (λ (found : Option Message). cond went None found) at))
+    (left_by message went (λ any. deleted_itself 0 box.messages box.next q message rises at (only_deleted box only q any)))
 
 -- ---- STORE
 

@@ -52,10 +52,11 @@ use Rattle.mur_model.specs.Status.{status_on}
 use Rattle.mur_model.specs.Store.{box_at, is_spent, with_box, with_new_box}
 use Rattle.mur_model.specs.StoreFlags.{stored_at}
 use Rattle.mur_model.specs.Viewing.{found_gone, viewed_on, work_there}
-use Rattle.cluster_core.specs.NoneLost.{AllGoOn, BoxGoesOn, Expunges, GoesOnAt, HasDeleted, LosesNone, MayChange, MayLabel, MessageGoesOn}
+use Rattle.cluster_core.specs.NoneLost.{AllGoOn, BoxGoesOn, Expunges, GoesOnAt, LosesNone, MayChange, MayLabel, MessageGoesOn}
 use Rattle.cluster_core.specs.OneStore.{open_box, open_content}
-use Rattle.cluster_core.proofs.MessagesLeft.{IsLeftBy, IsStoredFlags, IsWithFlags, expunged_left, stored_left, uid_of_found}
+use Rattle.cluster_core.proofs.MessagesLeft.{IsLeftBy, IsStoredFlags, IsWithFlags, expunged_left, stored_left}
 use Rattle.cluster_core.proofs.NeedsFit.{Fits, FitsView, FitsWork, MayChangeIts, need_fits}
+use Rattle.cluster_core.proofs.RisingStores.{Rises}
 use Rattle.cluster_core.proofs.ServedAlike.{IsStoreOf}
 
 -- ---- UIDs are below UIDNEXT
@@ -119,6 +120,14 @@ appended_follows box message =
 
 -- ---- a mailbox goes on
 
+-- each UID is one message's, and below UIDNEXT
+abbrev pub IsNumbered : Content → Type 0
+IsNumbered box = AreUidsBelowNext box × Rises box
+
+pub both_hold : (found : Option Content) → IfSome found AreUidsBelowNext → IfSome found Rises → IfSome found IsNumbered
+both_hold None below rises = tt
+both_hold (Some box) below rises = (below, rises)
+
 module _ (session : Sess) (it : Command) (name : List ℕ) where
   found_goes_on : (box : Content) (message : Message) (found : Option Message) → found ≡ Some message → MessageGoesOn session it name box message found
   found_goes_on box message found is = subst (MessageGoesOn session it name box message) (sym is) (refl, inl refl)
@@ -136,19 +145,16 @@ module _ (session : Sess) (it : Command) (name : List ℕ) where
   }
 
   expunged_by : (box : Content) (message : Message) (found : Option Message) → MayChange session name box → Expunges it
-      → IsLeftBy box.messages message.uid message found → MessageGoesOn session it name box message found
+      → IsLeftBy message found → MessageGoesOn session it name box message found
   expunged_by box message None may is left = (may, is, left)
   expunged_by box message (Some later) may is left = found_goes_on box message (Some later) (ap (λ (m : Message). Some m) left)
 
-  expunged_goes_on : (box : Content) (only : Option (List ℕ)) → MayChange session name box → Expunges it
+  expunged_goes_on : (box : Content) (only : Option (List ℕ)) → Rises box → MayChange session name box → Expunges it
       → BoxGoesOn session it name box (expunged box only)
-  expunged_goes_on box only may is = record {
+  expunged_goes_on box only rises may is = record {
     follows = expunge_follows only box;
     messages = λ uid message at.
-        let own : message.uid ≡ uid = uid_of_found box.messages uid message at in
-        expunged_by box message (message_at (expunged box only).messages uid) may is
-        (subst (λ n. IsLeftBy box.messages n message (message_at (expunged box only).messages uid)) (sym own)
-        (expunged_left box only uid message at));
+        expunged_by box message (message_at (expunged box only).messages uid) may is (expunged_left box only uid message rises at);
   }
 
   stored_by : (box : Content) (mode : Mode) (flags : Flags) (message : Message) (found : Option Message) → MayChange session name box
@@ -203,32 +209,32 @@ module _ (session : Sess) (it : Command) (name : List ℕ) where
       (λ seen. stored_goes_on box asked.uids Add seen_flags (may (both_true view.is_writable (list_any is_body asked.items) seen))
       (λ old. subst (MayLabel it old) (sym (seen_alone old)) (labels old))) tt
 
-  there_leaves : (view : View) (work : ViewWork) (box : Content) → box.serial ≡ view.serial → FitsView session it name view work
+  there_leaves : (view : View) (work : ViewWork) (box : Content) → Rises box → box.serial ≡ view.serial → FitsView session it name view work
       → LeavesIt box (work_there view work box).left
   unfolding work_there
-  there_leaves view (view_work.News why) box same fits = tt
-  there_leaves view view_work.Close box same fits = expunged_goes_on box None (fits.0 box same) fits.1
-  there_leaves view (view_work.Expunge only) box same fits = expunged_goes_on box only (fits.0 box same) fits.1
-  there_leaves view (view_work.Store asked) box same fits =
+  there_leaves view (view_work.News why) box rises same fits = tt
+  there_leaves view view_work.Close box rises same fits = expunged_goes_on box None rises (fits.0 box same) fits.1
+  there_leaves view (view_work.Expunge only) box rises same fits = expunged_goes_on box only rises (fits.0 box same) fits.1
+  there_leaves view (view_work.Store asked) box rises same fits =
       stored_leaves view asked box (has_too_many_flags (rows_stored box asked.uids asked.mode asked.flags)) (fits.0 box same) fits.1
-  there_leaves view (view_work.Fetch asked) box same fits = fetched_leaves view asked box (λ writable. fits.0 writable box same) fits.1
-  there_leaves view (view_work.Search asked) box same fits = tt
+  there_leaves view (view_work.Fetch asked) box rises same fits = fetched_leaves view asked box (λ writable. fits.0 writable box same) fits.1
+  there_leaves view (view_work.Search asked) box rises same fits = tt
 
-  viewed_leaves : (view : View) (work : ViewWork) (box : Content) → FitsView session it name view work
+  viewed_leaves : (view : View) (work : ViewWork) (box : Content) → Rises box → FitsView session it name view work
       → LeavesIt box (viewed_on view work (Some box)).left
   unfolding viewed_on
-  viewed_leaves view work box fits =
+  viewed_leaves view work box rises fits =
       either_leaves box (box.serial == view.serial) (work_there view work box) found_gone
-      (λ h. there_leaves view work box (let same : box.serial ≡ view.serial = grind (arith, nat_tests, h) in same) fits) tt
+      (λ h. there_leaves view work box rises (let same : box.serial ≡ view.serial = grind (arith, nat_tests, h) in same) fits) tt
 
-  work_leaves : (work : Work) (serial : ℕ) (spent : Bool) (box : Content) → AreUidsBelowNext box → FitsWork session it name work
+  work_leaves : (work : Work) (serial : ℕ) (spent : Bool) (box : Content) → IsNumbered box → FitsWork session it name work
       → LeavesIt box (work_on name work serial spent (Some box)).left
   unfolding work_on create_on append_on status_on select_on
-  work_leaves Make serial spent box below fits = tt
-  work_leaves (append_work message) serial spent box below fits = append_leaves message box (append_fault box (message ∷ [])) below
-  work_leaves (status_work shown items) serial spent box below fits = tt
-  work_leaves (select_work opened) serial spent box below fits = tt
-  work_leaves (viewed_work view work) serial spent box below fits = viewed_leaves view work box fits
+  work_leaves Make serial spent box numbered fits = tt
+  work_leaves (append_work message) serial spent box numbered fits = append_leaves message box (append_fault box (message ∷ [])) numbered.0
+  work_leaves (status_work shown items) serial spent box numbered fits = tt
+  work_leaves (select_work opened) serial spent box numbered fits = tt
+  work_leaves (viewed_work view work) serial spent box numbered fits = viewed_leaves view work box numbered.1 fits
 
 -- ---- and of a name that has none: it may be made
 
@@ -298,20 +304,20 @@ module _ (session : Sess) (it : Command) where
   none_goes_on store name (made content) none changes = made_goes_on store name content none
   none_goes_on store name (changed content) none changes = absurd changes
 
-  work_goes_on : (store : Store) (name : List ℕ) (work : Work) (serial : ℕ) (found : Option Content) → IfSome found AreUidsBelowNext
+  work_goes_on : (store : Store) (name : List ℕ) (work : Work) (serial : ℕ) (found : Option Content) → IfSome found IsNumbered
       → box_at store name ≡ found → FitsWork session it name work
       → AllGoOn session it store (store_after store name (work_on name work serial (is_spent store.given) found).left)
-  work_goes_on store name work serial None below at fits = none_goes_on store name _ at (work_changes_none name work serial (is_spent store.given))
-  work_goes_on store name work serial (Some box) below at fits =
-      left_goes_on store name box _ at (work_leaves session it name work serial (is_spent store.given) box below fits)
+  work_goes_on store name work serial None numbered at fits = none_goes_on store name _ at (work_changes_none name work serial (is_spent store.given))
+  work_goes_on store name work serial (Some box) numbered at fits =
+      left_goes_on store name box _ at (work_leaves session it name work serial (is_spent store.given) box numbered fits)
 
-  act_goes_on : (store : Store) (serial : ℕ) (need : Need) → ((name : List ℕ) → IfSome (box_at store name) AreUidsBelowNext) → Fits session it need
+  act_goes_on : (store : Store) (serial : ℕ) (need : Need) → ((name : List ℕ) → IfSome (box_at store name) IsNumbered) → Fits session it need
       → AllGoOn session it store (act_by store session serial need).store
   unfolding act_by
-  act_goes_on store serial (Refusal verdict) below fits = still_there store
-  act_goes_on store serial (Turned turn) below fits = still_there store
-  act_goes_on store serial (Mailbox name work) below fits = work_goes_on store name work serial (box_at store name) (below name) refl fits
+  act_goes_on store serial (Refusal verdict) numbered fits = still_there store
+  act_goes_on store serial (Turned turn) numbered fits = still_there store
+  act_goes_on store serial (Mailbox name work) numbered fits = work_goes_on store name work serial (box_at store name) (numbered name) refl fits
 
-pub loses_none : (setting : Setting) (store : Store) → ((name : List ℕ) → IfSome (box_at store name) AreUidsBelowNext) → LosesNone setting store
+pub loses_none : (setting : Setting) (store : Store) → ((name : List ℕ) → IfSome (box_at store name) IsNumbered) → LosesNone setting store
 unfolding act_of
-loses_none setting store below session it serial = act_goes_on session it store serial (need_of setting session it) below (need_fits setting session it)
+loses_none setting store numbered session it serial = act_goes_on session it store serial (need_of setting session it) numbered (need_fits setting session it)

@@ -236,3 +236,7 @@ points_rise setting talk first last points (a_reply course end step conn n reque
 
 pub none_rises : AllRise empty_store
 none_rises = All-nil Rises
+
+pub some_rising : (found : Option Content) → IfSome found Rises → IfSome found (λ box. IsRising box.messages)
+some_rising None rises = tt
+some_rising (Some box) rises = rising_is 0 box.messages box.next rises

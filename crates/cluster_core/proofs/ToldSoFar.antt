@@ -26,7 +26,6 @@ use Rattle.cluster_core.specs.Flow.{run_steps, unrolled}
 use Rattle.cluster_core.specs.Heard.{Heard, nobody, heard_from, bytes_heard, frames_heard}
 use Rattle.cluster_core.specs.History.{history_of}
 use Rattle.cluster_core.specs.Homes.{ShowsBoxesOf}
-use Rattle.cluster_core.specs.NoneLost.{LosesNone}
 use Rattle.cluster_core.specs.OneStore.{first_course, HasBoxesOf, IsAnsweredThrough, StandsInTime, IsToldSoFar, IsToldByOneStore}
 use Rattle.cluster_core.specs.Requests.{AreRequests}
 use Rattle.cluster_core.specs.Shown.{given_to}
@@ -36,13 +35,14 @@ use Rattle.cluster_core.proofs.HomesLaw.{has_boxes}
 use Rattle.cluster_core.proofs.InTime.{StandsBehind, run_behind}
 use Rattle.cluster_core.proofs.Keeps.{IsKeptAt, KeepsAll, run_keeps}
 use Rattle.cluster_core.proofs.KeepsLaw.{KeepsLaw}
-use Rattle.cluster_core.proofs.NoneLost.{store_below, loses_none}
+use Rattle.cluster_core.proofs.NoneLost.{both_hold, loses_none, store_below}
 use Rattle.cluster_core.proofs.Marks.{Carries, conn_of, command_of, is_mark, all_points}
 use Rattle.cluster_core.proofs.Marks.Carries.{no_marks, a_mark}
 use Rattle.cluster_core.proofs.NoRelocation.{have_causes}
 use Rattle.cluster_core.proofs.OneStoreLaw.{SaysOf, says_of, IsLegalTo, legal_history, steps_rise, IsToldSo}
 use Rattle.cluster_core.proofs.ReadLaw.{heard_sound, read_of_legal}
 use Rattle.cluster_core.proofs.RequestsOf.{asks_all}
+use Rattle.cluster_core.proofs.RisingStores.{Rises, box_rises, none_rises, points_rise, some_rising}
 use Rattle.cluster_core.proofs.ShownHomes.{shows_boxes}
 use Rattle.cluster_core.proofs.StartLaw.{start_keeps}
 use Rattle.cluster_core.proofs.StepsMade.{steps_made}
@@ -158,8 +158,12 @@ told_so_far config talk before later are date_is now last =
     (asks_all (setting_of config) (frames_heard (heard conn))) in
     let legal : IsLegalTo (setting_of config) (told_of law.story) (history_of world) law.story.course.store =
     legal_history (setting_of config) world law.story law.backend law.is_told (λ conn. (says conn).count) (λ conn. (says conn).so) in
-    let below_next : (name : List ℕ) → IfSome (box_at law.story.course.store name) AreUidsBelowNext =
-    store_below law.story.course.store law.backend law.is_told.same law.below_next in
+    let below_next : (name : List ℕ) → IfSome (box_at legal.last.store name) AreUidsBelowNext =
+    subst (λ (s : Store). (name : List ℕ) → IfSome (box_at s name) AreUidsBelowNext) (sym legal.same_store)
+    (store_below law.story.course.store law.backend law.is_told.same law.below_next) in
+    let rises : (name : List ℕ) → IfSome (box_at legal.last.store name) Rises =
+    λ name. box_rises legal.last.store name
+    (points_rise (setting_of config) (told_of law.story) first_course legal.last (history_of world) legal.legal.follows none_rises) in
     record {
       so_far = told_of law.story;
       goes_on = now.more;
@@ -176,9 +180,10 @@ told_so_far config talk before later are date_is now last =
           (has_boxes config world law.backend law.story.course.store are law.nodes law.is_told.same);
       homes_shown = subst (λ s. ShowsBoxesOf s world) (sym legal.same_store)
           (shows_boxes config world law.backend law.story.course.store are law.nodes law.is_told.same);
-      below_next = subst (λ (s : Store). (name : List ℕ) → IfSome (box_at s name) AreUidsBelowNext) (sym legal.same_store) below_next;
-      none_lost = subst (LosesNone (setting_of config)) (sym legal.same_store)
-          (loses_none (setting_of config) law.story.course.store below_next);
+      below_next = below_next;
+      uids_rise = λ name. some_rising (box_at legal.last.store name) (rises name);
+      none_lost = loses_none (setting_of config) legal.last.store
+          (λ name. both_hold (box_at legal.last.store name) (below_next name) (rises name));
       in_time = stands_in_time (setting_of config) world
           (run_steps (start config) (before ++ later)) law.story last.story law.backend last.backend law.is_told last.is_told behind (λ conn. (says conn).so);
       counted = steps_made config before;

@@ -1,8 +1,7 @@
 -- No command loses a message of the store, or a flag of one, but where that is what the command is for (RFC 9051, 2.3.1.1 and 2.3.2).
-use Rattle.std.specs.Prelude.{◌≡◌, ◌⊎◌, ⊤, ℕ, ◌&&◌, Bool, true, List, Option, None, Some, IfSome}
-use Rattle.std.specs.List.{list_any}
+use Rattle.std.specs.Prelude.{◌≡◌, ◌⊎◌, ⊤, ℕ, true, List, Option, None, Some, IfSome}
 use Rattle.backend_core.specs.HomeLaws.{Follows}
-use Rattle.mail_message.specs.Boxes.{Content, has_uid, is_deleted, message_at, relabelled}
+use Rattle.mail_message.specs.Boxes.{Content, is_deleted, message_at, relabelled}
 use Rattle.mail_message.specs.FlagSets.{Flags, flags_after, with_flag}
 use Rattle.mail_message.specs.declared.flag_name.FlagName.TheVariants.{System}
 use Rattle.mail_message.specs.declared.message.Message.{Message}
@@ -35,14 +34,10 @@ MayLabel (command.Store by_uid set mode is_silent flags) old new = new ≡ flags
 MayLabel (command.Fetch by_uid set items) old new = new ≡ with_flag old (System Seen)
 MayLabel it old new = ⊥
 
--- a message with this UID has \Deleted
-abbrev pub HasDeleted : List Message → ℕ → Type 0
-HasDeleted messages uid = list_any (λ message. is_deleted message && has_uid uid message) messages ≡ true
-
 -- by what is found at a message's UID behind a command: nothing, only where it had \Deleted and was expunged; else it with its date and its body,
 -- and with its flags, unless they are those that the command makes of them
 abbrev pub MessageGoesOn : Sess → Command → List ℕ → Content → Message → Option Message → Type 0
-MessageGoesOn session it name box message None = MayChange session name box × Expunges it × HasDeleted box.messages message.uid
+MessageGoesOn session it name box message None = MayChange session name box × Expunges it × (is_deleted message ≡ true)
 MessageGoesOn session it name box message (Some later) =
     (later ≡ relabelled message later.flags)
     × ((later.flags ≡ message.flags) ⊎ (MayChange session name box × MayLabel it message.flags later.flags))

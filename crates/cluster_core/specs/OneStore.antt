@@ -7,7 +7,7 @@ use Rattle.backend_core.specs.declared.held.Held.{Held}
 use Rattle.backend_core.specs.HomeLaws.{AreUidsBelowNext}
 use Rattle.imap_reply.specs.Transcript.{transcript_of, ends}
 use Rattle.imap_reply.specs.TranscriptRead.{IsAllReadAsMeant}
-use Rattle.mail_message.specs.Boxes.{Content}
+use Rattle.mail_message.specs.Boxes.{Content, IsRising}
 use Rattle.mur_base.specs.Map.{value_at}
 use Rattle.mur_base.specs.declared.home.Phase.{Phase}
 use Rattle.mur_base.specs.declared.home.Phase.TheVariants.{Creating, Open as open_here, Closing, Receiving, Ready, Pointer}
@@ -95,9 +95,10 @@ pub record IsToldSoFar (config : Config) (talk : Talk) (points : List Point) (st
   pub refusals : HaveCauses so_far (history_of world)
   pub one_content : HasBoxesOf last.store world
   pub homes_shown : ShowsBoxesOf last.store world
-  -- each message has a UID below its mailbox's UIDNEXT (RFC 9051, 2.3.1.1), and no command, whoever sends it, loses one or its flags,
-  -- but where it is for that
+  -- each message has a UID of its own, below its mailbox's UIDNEXT (RFC 9051, 2.3.1.1), and no command, whoever sends it, loses one or
+  -- its flags, but where it is for that
   pub below_next : (name : List ℕ) → IfSome (box_at last.store name) AreUidsBelowNext
+  pub uids_rise : (name : List ℕ) → IfSome (box_at last.store name) (λ box. IsRising box.messages)
   pub none_lost : LosesNone (setting_of config) last.store
   pub in_time : StandsInTime so_far world.steps points
   -- steps count from 1: the last one has the number of the steps made
