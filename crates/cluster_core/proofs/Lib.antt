@@ -3,8 +3,8 @@ pub mod OnWay
 pub mod Ways
 pub mod ServedAlike
 pub mod RisingStores
-pub mod MessagesLeft
 pub mod NeedsFit
+pub mod MessagesLeft
 pub mod NoneLost
 pub mod CreateLaw
 pub mod AppendLaw

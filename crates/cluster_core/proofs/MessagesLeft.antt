@@ -2,9 +2,12 @@
 use Rattle.std.proofs.Common.{◌≡◌, ℕ, ◌+◌, ◌<◌, ◌==◌, ◌&&◌, ◌||◌, Bool, true, false, not, cond, List, [], ◌∷◌, ◌++◌, map, Option, None, Some}
 use Rattle.std.proofs.Common.{inl, inr, refl, sym, ◌∙◌, ap, subst, arith}
 use Rattle.std.specs.Prelude.{◌⊎◌, All}
-use Rattle.std.specs.List.{filter, list_any}
+use Rattle.std.specs.BTreeSet.{insert_key}
+use Rattle.std.specs.List.{Contains, filter, fold, list_any}
+use Rattle.std.specs.Ordering.{nat_cmp}
 use Rattle.std.proofs.lemmas.Bool.Decides.{nat_tests}
-use Rattle.std.proofs.lemmas.List.Elements.{All-nil, All-cons, All-head, All-tail, All-append}
+use Rattle.std.proofs.lemmas.List.Elements.{All-nil, All-cons, All-head, All-tail, All-append, All-contains_itself}
+use Rattle.std.proofs.lemmas.Map.Views.{All-insert_key}
 use Rattle.mail_message.specs.Boxes.{Content, content_after, content_after_all, has_uid, is_deleted, message_at, relabelled, uids_of, with_flags, without_uid}
 use Rattle.mail_message.specs.FlagSets.{Flags, flags_after}
 use Rattle.mail_message.specs.declared.change.Change.TheVariants.{Gone, SetFlags}
@@ -15,6 +18,7 @@ use Rattle.mail_message.proofs.OtherLaws.{other-after}
 use Rattle.mail_store.specs.Expunge.{deleted_among, deleted_uid, expunged, expunged_uids}
 use Rattle.mail_store.specs.Named.{set_of}
 use Rattle.mail_store.specs.Store.{flag_changes, rows_stored, stored, stored_row, stored_rows}
+use Rattle.cluster_core.proofs.NeedsFit.{IsMeant}
 use Rattle.cluster_core.proofs.RisingStores.{Rises, RisesTo}
 
 -- ---- a UID is one message's, where UIDs rise
@@ -61,6 +65,30 @@ deleted_itself : (low : ℕ) (messages : List Message) (next q : ℕ) (found : M
 deleted_itself low [] next q found rises at any = cc
 deleted_itself low (other ∷ messages) next q found rises at any =
     one_by other found messages next q (other.uid == q) refl rises.1 (deleted_itself (other.uid + 1) messages next q found rises.1) at any
+
+-- ---- UIDs
+
+-- a message that is found has the UID that it was looked for by
+uid_by : (uid : ℕ) (other message : Message) (found : Option Message) (same : Bool) → (other.uid == uid) ≡ same
+    → (found ≡ Some message → message.uid ≡ uid) → cond same (Some other) found ≡ Some message → message.uid ≡ uid
+uid_by uid other message found true h rest at =
+    let is : other ≡ message = cc in let own : other.uid ≡ uid = grind (arith, nat_tests, h) in ap (λ (m : Message). m.uid) (sym is) ∙ own
+uid_by uid other message found false h rest at = rest at
+
+pub uid_of_found : (messages : List Message) (uid : ℕ) (message : Message) → message_at messages uid ≡ Some message → message.uid ≡ uid
+uid_of_found [] uid message at = cc
+uid_of_found (other ∷ messages) uid message at =
+    uid_by uid other message (message_at messages uid) (other.uid == uid) refl (uid_of_found messages uid message) at
+
+-- the set of some UIDs has no other
+
+set_of_all : (P : ℕ → Type 0) (keys uids : List ℕ) → All P keys → All P uids → All P (fold (insert_key nat_cmp) keys uids)
+set_of_all P keys [] one all = one
+set_of_all P keys (uid ∷ uids) one all =
+    set_of_all P (insert_key nat_cmp keys uid) uids (All-insert_key nat_cmp uid P keys one (All-head P uid uids all)) (All-tail P uid uids all)
+
+set_within : (uids : List ℕ) → All (Contains uids) (set_of uids)
+set_within uids = set_of_all (Contains uids) [] uids (All-nil (Contains uids)) (All-contains_itself uids)
 
 -- ---- EXPUNGE
 
@@ -147,35 +175,54 @@ only_deleted : (box : Content) (only : Option (List ℕ)) (q : ℕ) → list_any
 only_deleted box None q any = sym (all_deleted box.messages q) ∙ any
 only_deleted box (Some uids) q any = among_deleted box.messages (set_of uids) q any
 
--- by what is found of a message that was there: it went as it had \Deleted, or it is as it was
-abbrev pub IsLeftBy : Message → Option Message → Type 0
-IsLeftBy message None = is_deleted message ≡ true
-IsLeftBy message (Some later) = later ≡ message
+-- what is so of some UIDs is so of one that is among them
+one_of : (P : ℕ → Type 0) (uid q : ℕ) (more : List ℕ) (same : Bool) → (uid == q) ≡ same → P uid → (list_any (λ gone. gone == q) more ≡ true → P q)
+    → (same || list_any (λ gone. gone == q) more) ≡ true → P q
+one_of P uid q more true h is rest any = let here : uid ≡ q = grind (arith, nat_tests, h) in subst P here is
+one_of P uid q more false h is rest any = rest any
 
-left_by : (message : Message) (went : Bool) → (went ≡ true → is_deleted message ≡ true) → IsLeftBy message (cond went None (Some message))
-left_by message true gone = gone refl
-left_by message false gone = refl
+some_of : (P : ℕ → Type 0) (uid q : ℕ) (more : List ℕ) (deleted : Bool) → P uid → (list_any (λ gone. gone == q) more ≡ true → P q)
+    → list_any (λ gone. gone == q) (cond deleted (uid ∷ []) [] ++ more) ≡ true → P q
+some_of P uid q more true is rest any = one_of P uid q more (uid == q) refl is rest any
+some_of P uid q more false is rest any = rest any
+
+found_of : (P : ℕ → Type 0) (messages : List Message) (uid q : ℕ) (more : List ℕ) (found : Option Message) → message_at messages uid ≡ found → P uid
+    → (list_any (λ gone. gone == q) more ≡ true → P q) → list_any (λ gone. gone == q) (deleted_uid found ++ more) ≡ true → P q
+found_of P messages uid q more None at is rest any = rest any
+found_of P messages uid q more (Some message) at is rest any =
+    some_of P message.uid q more (is_deleted message) (subst P (sym (uid_of_found messages uid message at)) is) rest any
+
+among_of : (P : ℕ → Type 0) (messages : List Message) (uids : List ℕ) (q : ℕ) → All P uids
+    → list_any (λ gone. gone == q) (deleted_among messages uids) ≡ true → P q
+among_of P messages [] q all any = cc
+among_of P messages (uid ∷ uids) q all any =
+    found_of P messages uid q (deleted_among messages uids) (message_at messages uid) refl (All-head P uid uids all)
+    (among_of P messages uids q (All-tail P uid uids all)) any
+
+only_meant : (box : Content) (only : Option (List ℕ)) (q : ℕ) → list_any (λ gone. gone == q) (expunged_uids box only) ≡ true → IsMeant only q
+only_meant box None q any = tt
+only_meant box (Some uids) q any = among_of (Contains uids) box.messages (set_of uids) q (set_within uids) any
+
+-- by what is found of a message that was there: it went as it had \Deleted and was meant, or it is as it was
+abbrev pub IsLeftBy : Type 0 → Message → Option Message → Type 0
+IsLeftBy meant message None = (is_deleted message ≡ true) × meant
+IsLeftBy meant message (Some later) = later ≡ message
+
+left_by : (meant : Type 0) (message : Message) (went : Bool) → (went ≡ true → (is_deleted message ≡ true) × meant)
+    → IsLeftBy meant message (cond went None (Some message))
+left_by meant message true gone = gone refl
+left_by meant message false gone = refl
 
 pub expunged_left : (box : Content) (only : Option (List ℕ)) (q : ℕ) (message : Message) → Rises box → message_at box.messages q ≡ Some message
-    → IsLeftBy message (message_at (expunged box only).messages q)
+    → IsLeftBy (IsMeant only q) message (message_at (expunged box only).messages q)
 expunged_left box only q message rises at =
     let went = list_any (λ gone. gone == q) (expunged_uids box only) in
-    subst (IsLeftBy message) (sym (gone_at box (expunged_uids box only) q ∙ ap (λ (found : Option Message). cond went None found) at))
-    (left_by message went (λ any. deleted_itself 0 box.messages box.next q message rises at (only_deleted box only q any)))
+    subst (IsLeftBy (IsMeant only q) message)
+    (sym (gone_at box (expunged_uids box only) q ∙ ap (λ (found : Option Message). cond went None found) at))
+    (left_by (IsMeant only q) message went
+    (λ any. (deleted_itself 0 box.messages box.next q message rises at (only_deleted box only q any), only_meant box only q any)))
 
 -- ---- STORE
-
--- a message that is found has the UID that it was looked for by
-uid_by : (uid : ℕ) (other message : Message) (found : Option Message) (same : Bool) → (other.uid == uid) ≡ same
-    → (found ≡ Some message → message.uid ≡ uid) → cond same (Some other) found ≡ Some message → message.uid ≡ uid
-uid_by uid other message found true h rest at =
-    let is : other ≡ message = cc in let own : other.uid ≡ uid = grind (arith, nat_tests, h) in ap (λ (m : Message). m.uid) (sym is) ∙ own
-uid_by uid other message found false h rest at = rest at
-
-pub uid_of_found : (messages : List Message) (uid : ℕ) (message : Message) → message_at messages uid ≡ Some message → message.uid ≡ uid
-uid_of_found [] uid message at = cc
-uid_of_found (other ∷ messages) uid message at =
-    uid_by uid other message (message_at messages uid) (other.uid == uid) refl (uid_of_found messages uid message) at
 
 -- a message with other flags has its UID
 same_uid : (k : ℕ) (flags : Flags) (message : Message) (same : Bool) → (cond same (relabelled message flags) message).uid ≡ message.uid
@@ -223,34 +270,34 @@ labels_left P box (row ∷ rows) first now kinds at is =
     (All-tail (IsOfKind P first.uid) row rows kinds) (labelled_at box.messages row.uid first.uid row.flags now at)
     (one_label P first now row (now.uid == row.uid) (uid_of_found box.messages first.uid now at) refl (All-head (IsOfKind P first.uid) row rows kinds) is)
 
--- the flags are as they were, or as a STORE makes them
-abbrev pub IsStoredFlags : Mode → Flags → Flags → Flags → Type 0
-IsStoredFlags mode flags old new = (new ≡ old) ⊎ (new ≡ flags_after mode old flags)
+-- the flags of a message are as they were, or as a STORE that names it makes them
+abbrev pub IsStoredFlags : Mode → Flags → List ℕ → Message → Flags → Type 0
+IsStoredFlags mode flags uids message new = (new ≡ message.flags) ⊎ ((new ≡ flags_after mode message.flags flags) × Contains uids message.uid)
 
-row_kind : (messages : List Message) (mode : Mode) (flags : Flags) (first : Message) (u : ℕ) (found : Option Message) → message_at messages u ≡ found
-    → message_at messages first.uid ≡ Some first
-    → All (IsOfKind (IsStoredFlags mode flags first.flags) first.uid) (stored_row mode flags found)
-row_kind messages mode flags first u None at own = All-nil (IsOfKind (IsStoredFlags mode flags first.flags) first.uid)
-row_kind messages mode flags first u (Some message) at own =
-    All-cons (IsOfKind (IsStoredFlags mode flags first.flags) first.uid) (record { uid = message.uid; flags = flags_after mode message.flags flags }) []
-    (λ same. let here : u ≡ first.uid = sym (uid_of_found messages u message at) ∙ same in
-    let is : Some message ≡ Some first = sym at ∙ ap (message_at messages) here ∙ own in
-    let one : message ≡ first = cc in inr (ap (λ (m : Message). flags_after mode m.flags flags) one))
-    (All-nil (IsOfKind (IsStoredFlags mode flags first.flags) first.uid))
+module _ (messages : List Message) (mode : Mode) (flags : Flags) (uids : List ℕ) (first : Message) (own : message_at messages first.uid ≡ Some first) where
+  abbrev IsRowOf : Row → Type 0
+  IsRowOf row = IsOfKind (IsStoredFlags mode flags uids first) first.uid row
 
-row_kinds : (messages : List Message) (mode : Mode) (flags : Flags) (first : Message) (uids : List ℕ) → message_at messages first.uid ≡ Some first
-    → All (IsOfKind (IsStoredFlags mode flags first.flags) first.uid) (stored_rows messages mode flags uids)
-row_kinds messages mode flags first [] own = All-nil (IsOfKind (IsStoredFlags mode flags first.flags) first.uid)
-row_kinds messages mode flags first (uid ∷ uids) own =
-    All-append (IsOfKind (IsStoredFlags mode flags first.flags) first.uid) (stored_row mode flags (message_at messages uid))
-    (stored_rows messages mode flags uids) (row_kind messages mode flags first uid (message_at messages uid) refl own)
-    (row_kinds messages mode flags first uids own)
+  row_kind : (uid : ℕ) (found : Option Message) → message_at messages uid ≡ found → Contains uids uid → All IsRowOf (stored_row mode flags found)
+  row_kind uid None at named = All-nil IsRowOf
+  row_kind uid (Some message) at named =
+      All-cons IsRowOf (record { uid = message.uid; flags = flags_after mode message.flags flags }) []
+      (λ same. let here : uid ≡ first.uid = sym (uid_of_found messages uid message at) ∙ same in
+          let is : Some message ≡ Some first = sym at ∙ ap (message_at messages) here ∙ own in
+          let one : message ≡ first = cc in inr (ap (λ (m : Message). flags_after mode m.flags flags) one, subst (Contains uids) here named))
+      (All-nil IsRowOf)
+
+  row_kinds : (some : List ℕ) → All (Contains uids) some → All IsRowOf (stored_rows messages mode flags some)
+  row_kinds [] named = All-nil IsRowOf
+  row_kinds (uid ∷ some) named =
+      All-append IsRowOf (stored_row mode flags (message_at messages uid)) (stored_rows messages mode flags some)
+      (row_kind uid (message_at messages uid) refl (All-head (Contains uids) uid some named)) (row_kinds some (All-tail (Contains uids) uid some named))
 
 pub stored_left : (box : Content) (uids : List ℕ) (mode : Mode) (flags : Flags) (q : ℕ) (message : Message) → message_at box.messages q ≡ Some message
-    → IsWithFlags (IsStoredFlags mode flags message.flags) message (message_at (stored box uids mode flags).messages q)
+    → IsWithFlags (IsStoredFlags mode flags uids message) message (message_at (stored box uids mode flags).messages q)
 stored_left box uids mode flags q message at =
     let uid : message.uid ≡ q = uid_of_found box.messages q message at in
     let own : message_at box.messages message.uid ≡ Some message = ap (message_at box.messages) uid ∙ at in
-    subst (λ n. IsWithFlags (IsStoredFlags mode flags message.flags) message (message_at (stored box uids mode flags).messages n)) uid
-    (labels_left (IsStoredFlags mode flags message.flags) box (rows_stored box uids mode flags) message message
-    (row_kinds box.messages mode flags message (set_of uids) own) own (refl, inl refl))
+    subst (λ n. IsWithFlags (IsStoredFlags mode flags uids message) message (message_at (stored box uids mode flags).messages n)) uid
+    (labels_left (IsStoredFlags mode flags uids message) box (rows_stored box uids mode flags) message message
+    (row_kinds box.messages mode flags uids message own (set_of uids) (set_within uids)) own (refl, inl refl))

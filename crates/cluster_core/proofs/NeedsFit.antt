@@ -1,6 +1,7 @@
 -- Which command can end in which work at a mailbox that takes messages away or changes their flags.
 use Rattle.std.proofs.Common.{◌≡◌, ℕ, Bool, true, false, if◌then◌else◌, List, length, Option, None, Some, codes, refl, sym, ◌∙◌}
 use Rattle.std.specs.Prelude.{⊤}
+use Rattle.std.specs.List.{Contains}
 use Rattle.std.specs.Str.{bytes_eq}
 use Rattle.mail_message.specs.Boxes.{Content}
 use Rattle.mail_message.specs.FlagSets.{Flags, flags_after, with_flag}
@@ -50,20 +51,25 @@ use Rattle.mur_model.specs.Search.{search}
 use Rattle.mur_model.specs.Select.{opening, select, select_as, select_by}
 use Rattle.mur_model.specs.Status.{status, status_as, status_by}
 use Rattle.mur_model.specs.StoreFlags.{store, store_named}
-use Rattle.cluster_core.specs.NoneLost.{Expunges, MayChange, MayLabel}
+use Rattle.cluster_core.specs.NoneLost.{Expunges, IsAbout, MayChange, MayLabel}
 
--- the session may change the mailbox of the view, where that is there still
-abbrev pub MayChangeIts : Sess → List ℕ → View → Type 0
-MayChangeIts session name view = (box : Content) → box.serial ≡ view.serial → MayChange session name box
+-- all messages are meant, or those of some UIDs
+abbrev pub IsMeant : Option (List ℕ) → ℕ → Type 0
+IsMeant None uid = ⊤
+IsMeant (Some uids) uid = Contains uids uid
+
+-- the session may change messages of some UIDs in the mailbox of the view, where that is there still
+abbrev pub MayChangeThese : Sess → Command → List ℕ → View → (ℕ → Type 0) → Type 0
+MayChangeThese session it name view P = (box : Content) (uid : ℕ) → box.serial ≡ view.serial → P uid → MayChange session it name box uid
 
 abbrev pub FitsView : Sess → Command → List ℕ → View → ViewWork → Type 0
 FitsView session it name view (view_work.News why) = ⊤
-FitsView session it name view view_work.Close = MayChangeIts session name view × Expunges it
-FitsView session it name view (view_work.Expunge only) = MayChangeIts session name view × Expunges it
+FitsView session it name view view_work.Close = MayChangeThese session it name view (IsMeant None) × Expunges it
+FitsView session it name view (view_work.Expunge only) = MayChangeThese session it name view (IsMeant only) × Expunges it
 FitsView session it name view (view_work.Store asked) =
-    MayChangeIts session name view × ((old : Flags) → MayLabel it old (flags_after asked.mode old asked.flags))
+    MayChangeThese session it name view (Contains asked.uids) × ((old : Flags) → MayLabel it old (flags_after asked.mode old asked.flags))
 FitsView session it name view (view_work.Fetch asked) =
-    (view.is_writable ≡ true → MayChangeIts session name view) × ((old : Flags) → MayLabel it old (with_flag old (System Seen)))
+    (view.is_writable ≡ true → MayChangeThese session it name view (Contains asked.uids)) × ((old : Flags) → MayLabel it old (with_flag old (System Seen)))
 FitsView session it name view (view_work.Search asked) = ⊤
 
 abbrev pub FitsWork : Sess → Command → List ℕ → Work → Type 0
@@ -204,40 +210,43 @@ module _ (session : Sess) (it : Command) where
 
 -- ---- commands of a session that has this view
 
-may_change : (view : View) → view.is_writable ≡ true → MayChangeIts (selected view) view.name view
+may_change : (view : View) (it : Command) (P : ℕ → Type 0) → ((uid : ℕ) → P uid → IsAbout view.rows it uid) → view.is_writable ≡ true
+    → MayChangeThese (selected view) it view.name view P
 unfolding MayChange
-may_change view writable box same = (refl, sym same, writable)
+may_change view it P about writable box uid same meant = (refl, sym same, writable, about uid meant)
 
 expunge_fits : (view : View) (only : Option (List SetPart)) → Fits (selected view) (command.Expunge only) (expunge view only)
-unfolding Expunges
-expunge_fits view only = either (selected view) (command.Expunge only) view.is_writable (expunge_named view only) read_only (named only) tt
-  where
-    named : (asked : Option (List SetPart)) → view.is_writable ≡ true → Fits (selected view) (command.Expunge only) (expunge_named view asked)
-    named None writable = (may_change view writable, tt)
-    named (Some set) writable = (may_change view writable, tt)
+unfolding Expunges IsAbout
+expunge_fits view None =
+    either (selected view) (command.Expunge None) view.is_writable (expunge_named view None) read_only
+    (λ writable. (may_change view (command.Expunge None) (IsMeant None) (λ uid meant. tt) writable, tt)) tt
+expunge_fits view (Some set) =
+    either (selected view) (command.Expunge (Some set)) view.is_writable (expunge_named view (Some set)) read_only
+    (λ writable. (may_change view (command.Expunge (Some set)) (Contains (named_uids true set view.rows)) (λ uid meant. meant) writable, tt)) tt
 
 store_fits : (view : View) (by_uid : Bool) (set : List SetPart) (mode : Mode) (is_silent : Bool) (flags : Flags)
     → Fits (selected view) (command.Store by_uid set mode is_silent flags) (store view by_uid set mode is_silent flags)
-unfolding MayLabel
+unfolding MayLabel IsAbout
 store_fits view by_uid set mode is_silent flags =
     let it : Command = command.Store by_uid set mode is_silent flags in
     let named = store_named view by_uid set mode is_silent flags in
     either (selected view) it (names_messages view by_uid set) (if view.is_writable then named else read_only) no_such_number
-    (λ so. either (selected view) it view.is_writable named read_only (λ writable. (may_change view writable, λ old. refl)) tt) tt
+    (λ so. either (selected view) it view.is_writable named read_only
+        (λ writable. (may_change view it (Contains (named_uids by_uid set view.rows)) (λ uid meant. meant) writable, λ old. refl)) tt) tt
 
 fetch_fits : (view : View) (by_uid : Bool) (set : List SetPart) (items : List Item)
     → Fits (selected view) (command.Fetch by_uid set items) (if names_messages view by_uid set then fetch_named view by_uid set items else no_such_number)
-unfolding MayLabel
+unfolding MayLabel IsAbout
 fetch_fits view by_uid set items =
     either (selected view) (command.Fetch by_uid set items) (names_messages view by_uid set) (fetch_named view by_uid set items) no_such_number
-    (λ so. (may_change view, λ old. refl)) tt
+    (λ so. (may_change view (command.Fetch by_uid set items) (Contains (named_uids by_uid set view.rows)) (λ uid meant. meant), λ old. refl)) tt
 
 close_fits : (view : View)
     → Fits (selected view) command.Close (if view.is_writable then at_mailbox view view_work.Close else Turned (left_by view (codes "CLOSE")))
-unfolding Expunges
+unfolding Expunges IsAbout
 close_fits view =
     either (selected view) command.Close view.is_writable (at_mailbox view view_work.Close) (Turned (left_by view (codes "CLOSE")))
-    (λ writable. (may_change view writable, tt)) tt
+    (λ writable. (may_change view command.Close (IsMeant None) (λ uid meant. tt) writable, tt)) tt
 
 selected_fits : (setting : Setting) (view : View) (it : Command) → Fits (selected view) it (need_selected setting view it)
 unfolding need_selected

@@ -3,7 +3,7 @@ use Rattle.std.proofs.Math.Logic.{⊎_elim}
 use Rattle.std.proofs.Common.{◌≡◌, ◌≢◌, ℕ, ◌+◌, ◌==◌, ◌&&◌, ◌||◌, Bool, true, false, if◌then◌else◌, List, [], ◌∷◌, length, Option, None, Some}
 use Rattle.std.proofs.Common.{inl, inr, refl, sym, ◌∙◌, ap, subst, arith}
 use Rattle.std.specs.Prelude.{IfSome}
-use Rattle.std.specs.List.{list_any}
+use Rattle.std.specs.List.{Contains, list_any}
 use Rattle.std.specs.Ordering.{nat_cmp}
 use Rattle.std.specs.Cmp.Lexicographic.{slice_cmp}
 use Rattle.std.proofs.lemmas.Bool.Decides.{nat_tests}
@@ -54,8 +54,8 @@ use Rattle.mur_model.specs.StoreFlags.{stored_at}
 use Rattle.mur_model.specs.Viewing.{found_gone, viewed_on, work_there}
 use Rattle.cluster_core.specs.NoneLost.{AllGoOn, BoxGoesOn, Expunges, GoesOnAt, LosesNone, MayChange, MayLabel, MessageGoesOn}
 use Rattle.cluster_core.specs.OneStore.{open_box, open_content}
-use Rattle.cluster_core.proofs.MessagesLeft.{IsLeftBy, IsStoredFlags, IsWithFlags, expunged_left, stored_left}
-use Rattle.cluster_core.proofs.NeedsFit.{Fits, FitsView, FitsWork, MayChangeIts, need_fits}
+use Rattle.cluster_core.proofs.MessagesLeft.{IsLeftBy, IsStoredFlags, IsWithFlags, expunged_left, stored_left, uid_of_found}
+use Rattle.cluster_core.proofs.NeedsFit.{Fits, FitsView, FitsWork, IsMeant, need_fits}
 use Rattle.cluster_core.proofs.RisingStores.{Rises}
 use Rattle.cluster_core.proofs.ServedAlike.{IsStoreOf}
 
@@ -144,35 +144,37 @@ module _ (session : Sess) (it : Command) (name : List ℕ) where
     messages = λ uid other at. found_goes_on box other _ (appended_keeps box (message ∷ []) below uid other at);
   }
 
-  expunged_by : (box : Content) (message : Message) (found : Option Message) → MayChange session name box → Expunges it
-      → IsLeftBy message found → MessageGoesOn session it name box message found
-  expunged_by box message None may is left = (may, is, left)
-  expunged_by box message (Some later) may is left = found_goes_on box message (Some later) (ap (λ (m : Message). Some m) left)
+  expunged_by : (box : Content) (meant : Type 0) (message : Message) (found : Option Message) → (meant → MayChange session it name box message.uid)
+      → Expunges it → IsLeftBy meant message found → MessageGoesOn session it name box message found
+  expunged_by box meant message None may is left = (may left.1, is, left.0)
+  expunged_by box meant message (Some later) may is left = found_goes_on box message (Some later) (ap (λ (m : Message). Some m) left)
 
-  expunged_goes_on : (box : Content) (only : Option (List ℕ)) → Rises box → MayChange session name box → Expunges it
-      → BoxGoesOn session it name box (expunged box only)
+  expunged_goes_on : (box : Content) (only : Option (List ℕ)) → Rises box → ((uid : ℕ) → IsMeant only uid → MayChange session it name box uid)
+      → Expunges it → BoxGoesOn session it name box (expunged box only)
   expunged_goes_on box only rises may is = record {
     follows = expunge_follows only box;
     messages = λ uid message at.
-        expunged_by box message (message_at (expunged box only).messages uid) may is (expunged_left box only uid message rises at);
+        let own : message.uid ≡ uid = uid_of_found box.messages uid message at in
+        expunged_by box (IsMeant only uid) message (message_at (expunged box only).messages uid)
+        (λ meant. may message.uid (subst (IsMeant only) (sym own) meant)) is (expunged_left box only uid message rises at);
   }
 
-  stored_by : (box : Content) (mode : Mode) (flags : Flags) (message : Message) (found : Option Message) → MayChange session name box
-      → ((old : Flags) → MayLabel it old (flags_after mode old flags)) → IsWithFlags (IsStoredFlags mode flags message.flags) message found
-      → MessageGoesOn session it name box message found
-  stored_by box mode flags message None may labels is = absurd is
-  stored_by box mode flags message (Some later) may labels is = (
-    is.0,
-    ⊎_elim (λ (same : later.flags ≡ message.flags). inl same)
-        (λ (new : later.flags ≡ flags_after mode message.flags flags). inr (may, subst (MayLabel it message.flags) (sym new) (labels message.flags))) is.1,
-  )
+  stored_by : (box : Content) (uids : List ℕ) (mode : Mode) (flags : Flags) (message : Message) (found : Option Message)
+      → (Contains uids message.uid → MayChange session it name box message.uid) → ((old : Flags) → MayLabel it old (flags_after mode old flags))
+      → IsWithFlags (IsStoredFlags mode flags uids message) message found → MessageGoesOn session it name box message found
+  stored_by box uids mode flags message None may labels is = absurd is
+  stored_by box uids mode flags message (Some later) may labels is =
+      (is.0, ⊎_elim (λ (same : later.flags ≡ message.flags). inl same)
+      (λ (new : (later.flags ≡ flags_after mode message.flags flags) × Contains uids message.uid).
+          inr (may new.1, subst (MayLabel it message.flags) (sym new.0) (labels message.flags))) is.1)
 
-  stored_goes_on : (box : Content) (uids : List ℕ) (mode : Mode) (flags : Flags) → MayChange session name box
+  stored_goes_on : (box : Content) (uids : List ℕ) (mode : Mode) (flags : Flags)
+      → ((uid : ℕ) → Contains uids uid → MayChange session it name box uid)
       → ((old : Flags) → MayLabel it old (flags_after mode old flags)) → BoxGoesOn session it name box (stored box uids mode flags)
   stored_goes_on box uids mode flags may labels = record {
     follows = stored_follows box uids mode flags;
     messages = λ uid message at.
-        stored_by box mode flags message (message_at (stored box uids mode flags).messages uid) may labels
+        stored_by box uids mode flags message (message_at (stored box uids mode flags).messages uid) (may message.uid) labels
         (stored_left box uids mode flags uid message at);
   }
 
@@ -193,7 +195,8 @@ module _ (session : Sess) (it : Command) (name : List ℕ) where
   append_leaves message box (Some fault) below = tt
   append_leaves message box None below = appended_goes_on box message below
 
-  stored_leaves : (view : View) (asked : FlagStore) (box : Content) (many : Bool) → MayChange session name box
+  stored_leaves : (view : View) (asked : FlagStore) (box : Content) (many : Bool)
+      → ((uid : ℕ) → Contains asked.uids uid → MayChange session it name box uid)
       → ((old : Flags) → MayLabel it old (flags_after asked.mode old asked.flags)) → LeavesIt box (stored_at view asked box many).left
   stored_leaves view asked box true may labels = tt
   stored_leaves view asked box false may labels = stored_goes_on box asked.uids asked.mode asked.flags may labels
@@ -202,7 +205,8 @@ module _ (session : Sess) (it : Command) (name : List ℕ) where
   both_true true b is = refl
   both_true false b is = is
 
-  fetched_leaves : (view : View) (asked : Fetching) (box : Content) → (view.is_writable ≡ true → MayChange session name box)
+  fetched_leaves : (view : View) (asked : Fetching) (box : Content)
+      → (view.is_writable ≡ true → (uid : ℕ) → Contains asked.uids uid → MayChange session it name box uid)
       → ((old : Flags) → MayLabel it old (with_flag old (System Seen))) → LeavesIt box (fetch_at view asked box).left
   fetched_leaves view asked box may labels =
       either_leaves box (sees view asked) _ _
@@ -213,11 +217,11 @@ module _ (session : Sess) (it : Command) (name : List ℕ) where
       → LeavesIt box (work_there view work box).left
   unfolding work_there
   there_leaves view (view_work.News why) box rises same fits = tt
-  there_leaves view view_work.Close box rises same fits = expunged_goes_on box None rises (fits.0 box same) fits.1
-  there_leaves view (view_work.Expunge only) box rises same fits = expunged_goes_on box only rises (fits.0 box same) fits.1
+  there_leaves view view_work.Close box rises same fits = expunged_goes_on box None rises (λ uid. fits.0 box uid same) fits.1
+  there_leaves view (view_work.Expunge only) box rises same fits = expunged_goes_on box only rises (λ uid. fits.0 box uid same) fits.1
   there_leaves view (view_work.Store asked) box rises same fits =
-      stored_leaves view asked box (has_too_many_flags (rows_stored box asked.uids asked.mode asked.flags)) (fits.0 box same) fits.1
-  there_leaves view (view_work.Fetch asked) box rises same fits = fetched_leaves view asked box (λ writable. fits.0 writable box same) fits.1
+      stored_leaves view asked box (has_too_many_flags (rows_stored box asked.uids asked.mode asked.flags)) (λ uid. fits.0 box uid same) fits.1
+  there_leaves view (view_work.Fetch asked) box rises same fits = fetched_leaves view asked box (λ writable uid. fits.0 writable box uid same) fits.1
   there_leaves view (view_work.Search asked) box rises same fits = tt
 
   viewed_leaves : (view : View) (work : ViewWork) (box : Content) → Rises box → FitsView session it name view work

@@ -1,10 +1,12 @@
 -- No command loses a message of the store, or a flag of one, but where that is what the command is for (RFC 9051, 2.3.1.1 and 2.3.2).
 use Rattle.std.specs.Prelude.{◌≡◌, ◌⊎◌, ⊤, ℕ, true, List, Option, None, Some, IfSome}
+use Rattle.std.specs.List.{Contains}
 use Rattle.backend_core.specs.HomeLaws.{Follows}
 use Rattle.mail_message.specs.Boxes.{Content, is_deleted, message_at, relabelled}
 use Rattle.mail_message.specs.FlagSets.{Flags, flags_after, with_flag}
 use Rattle.mail_message.specs.declared.flag_name.FlagName.TheVariants.{System}
 use Rattle.mail_message.specs.declared.message.Message.{Message}
+use Rattle.mail_message.specs.declared.message.Row.{Row}
 use Rattle.mail_message.specs.declared.system_flags.SystemFlag.TheVariants.{Seen}
 use Rattle.mur_model.specs.declared.command.Command.{Command}
 use Rattle.mur_model.specs.declared.command.Command.TheVariants as command
@@ -13,14 +15,25 @@ use Rattle.mur_model.specs.declared.session.Sess.TheVariants.{Off, In, Selected 
 use Rattle.mur_model.specs.declared.setting.Setting.{Setting}
 use Rattle.mur_model.specs.declared.store.Store.{Store}
 use Rattle.mur_model.specs.Act.{act_of}
+use Rattle.mur_model.specs.NamedRows.{named_uids}
 use Rattle.mur_model.specs.Store.{box_at}
 
--- the session has this mailbox selected, to be changed (RFC 9051, 6.3.2): an EXAMINE doesn't, nor does a mailbox with another UIDVALIDITY count
-unfoldable pub MayChange : Sess → List ℕ → Content → Type 0
-MayChange (selected view) name box = (view.name ≡ name) × (view.serial ≡ box.serial) × (view.is_writable ≡ true)
-MayChange Off name box = ⊥
-MayChange (In user) name box = ⊥
-MayChange Ended name box = ⊥
+-- the command is about the message of a UID, among those that its client was told: it names it, or is about all (RFC 9051, 6.4.9)
+unfoldable pub IsAbout : List Row → Command → ℕ → Type 0
+IsAbout rows (command.Expunge None) uid = ⊤
+IsAbout rows (command.Expunge (Some set)) uid = Contains (named_uids true set rows) uid
+IsAbout rows (command.Store by_uid set mode is_silent flags) uid = Contains (named_uids by_uid set rows) uid
+IsAbout rows (command.Fetch by_uid set items) uid = Contains (named_uids by_uid set rows) uid
+IsAbout rows it uid = ⊤
+
+-- the session has this mailbox selected, to be changed (RFC 9051, 6.3.2): an EXAMINE doesn't, nor is it one of the name with another UIDVALIDITY;
+-- and the command is about the message of the UID
+unfoldable pub MayChange : Sess → Command → List ℕ → Content → ℕ → Type 0
+MayChange (selected view) it name box uid =
+    (view.name ≡ name) × (view.serial ≡ box.serial) × (view.is_writable ≡ true) × IsAbout view.rows it uid
+MayChange Off it name box uid = ⊥
+MayChange (In user) it name box uid = ⊥
+MayChange Ended it name box uid = ⊥
 
 -- the commands that take messages away (RFC 9051, 6.4.1, 6.4.3 and 6.4.9)
 unfoldable pub Expunges : Command → Type 0
@@ -37,10 +50,10 @@ MayLabel it old new = ⊥
 -- by what is found at a message's UID behind a command: nothing, only where it had \Deleted and was expunged; else it with its date and its body,
 -- and with its flags, unless they are those that the command makes of them
 abbrev pub MessageGoesOn : Sess → Command → List ℕ → Content → Message → Option Message → Type 0
-MessageGoesOn session it name box message None = MayChange session name box × Expunges it × (is_deleted message ≡ true)
+MessageGoesOn session it name box message None = MayChange session it name box message.uid × Expunges it × (is_deleted message ≡ true)
 MessageGoesOn session it name box message (Some later) =
     (later ≡ relabelled message later.flags)
-    × ((later.flags ≡ message.flags) ⊎ (MayChange session name box × MayLabel it message.flags later.flags))
+    × ((later.flags ≡ message.flags) ⊎ (MayChange session it name box message.uid × MayLabel it message.flags later.flags))
 
 -- UIDVALIDITY stays, UIDNEXT doesn't fall, and each message goes on at its UID
 pub record BoxGoesOn (session : Sess) (it : Command) (name : List ℕ) (box later : Content) : Type 0 where
