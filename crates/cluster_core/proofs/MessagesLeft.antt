@@ -283,8 +283,8 @@ module _ (messages : List Message) (mode : Mode) (flags : Flags) (uids : List �
   row_kind uid (Some message) at named =
       All-cons IsRowOf (record { uid = message.uid; flags = flags_after mode message.flags flags }) []
       (λ same. let here : uid ≡ first.uid = sym (uid_of_found messages uid message at) ∙ same in
-          let is : Some message ≡ Some first = sym at ∙ ap (message_at messages) here ∙ own in
-          let one : message ≡ first = cc in inr (ap (λ (m : Message). flags_after mode m.flags flags) one, subst (Contains uids) here named))
+      let is : Some message ≡ Some first = sym at ∙ ap (message_at messages) here ∙ own in
+      let one : message ≡ first = cc in inr (ap (λ (m : Message). flags_after mode m.flags flags) one, subst (Contains uids) here named))
       (All-nil IsRowOf)
 
   row_kinds : (some : List ℕ) → All (Contains uids) some → All IsRowOf (stored_rows messages mode flags some)

@@ -1,8 +1,10 @@
 -- Which command can end in which work at a mailbox that takes messages away or changes their flags.
-use Rattle.std.proofs.Common.{◌≡◌, ℕ, Bool, true, false, if◌then◌else◌, List, length, Option, None, Some, codes, refl, sym, ◌∙◌}
+use Rattle.std.proofs.Common.{◌≡◌, ℕ, ◌||◌, Bool, true, false, if◌then◌else◌, List, [], ◌∷◌, ◌++◌, length, Option, None, Some, codes}
+use Rattle.std.proofs.Common.{refl, sym, ◌∙◌, ap}
 use Rattle.std.specs.Prelude.{⊤}
-use Rattle.std.specs.List.{Contains}
+use Rattle.std.specs.List.{Contains, list_any}
 use Rattle.std.specs.Str.{bytes_eq}
+use Rattle.std.proofs.lemmas.List.Folds.{list_any-append}
 use Rattle.mail_message.specs.Boxes.{Content}
 use Rattle.mail_message.specs.FlagSets.{Flags, flags_after, with_flag}
 use Rattle.mail_message.specs.declared.flag_name.FlagName.TheVariants.{System}
@@ -38,7 +40,7 @@ use Rattle.mur_model.specs.AtOnce.{is_done}
 use Rattle.mur_model.specs.Close.{left_by}
 use Rattle.mur_model.specs.Create.{create, create_as, create_by, create_meant, is_inbox, without_separator}
 use Rattle.mur_model.specs.Expunge.{expunge, expunge_named}
-use Rattle.mur_model.specs.Fetch.{fetch_named}
+use Rattle.mur_model.specs.Fetch.{each_once, fetch_named, is_body, same_item}
 use Rattle.mur_model.specs.Keys.{have_all_numbers, keys_at}
 use Rattle.mur_model.specs.Left.{replied}
 use Rattle.mur_model.specs.Login.{login, login_as, login_by, login_failed}
@@ -69,7 +71,8 @@ FitsView session it name view (view_work.Expunge only) = MayChangeThese session 
 FitsView session it name view (view_work.Store asked) =
     MayChangeThese session it name view (Contains asked.uids) × ((old : Flags) → MayLabel it old (flags_after asked.mode old asked.flags))
 FitsView session it name view (view_work.Fetch asked) =
-    (view.is_writable ≡ true → MayChangeThese session it name view (Contains asked.uids)) × ((old : Flags) → MayLabel it old (with_flag old (System Seen)))
+    (view.is_writable ≡ true → MayChangeThese session it name view (Contains asked.uids))
+    × (list_any is_body asked.items ≡ true → (old : Flags) → MayLabel it old (with_flag old (System Seen)))
 FitsView session it name view (view_work.Search asked) = ⊤
 
 abbrev pub FitsWork : Sess → Command → List ℕ → Work → Type 0
@@ -232,14 +235,42 @@ store_fits view by_uid set mode is_silent flags =
     let named = store_named view by_uid set mode is_silent flags in
     either (selected view) it (names_messages view by_uid set) (if view.is_writable then named else read_only) no_such_number
     (λ so. either (selected view) it view.is_writable named read_only
-        (λ writable. (may_change view it (Contains (named_uids by_uid set view.rows)) (λ uid meant. meant) writable, λ old. refl)) tt) tt
+    (λ writable. (may_change view it (Contains (named_uids by_uid set view.rows)) (λ uid meant. meant) writable, λ old. refl)) tt) tt
+
+asked_before : (told one more : Bool) → (told || more) ≡ true → (told || (one || more)) ≡ true
+asked_before true one more is = refl
+asked_before false true more is = refl
+asked_before false false more is = is
+
+asked_now : (told one more : Bool) → ((told || (one || false)) || more) ≡ true → (told || (one || more)) ≡ true
+asked_now true one more is = refl
+asked_now false true more is = refl
+asked_now false false more is = is
+
+-- what stands in a line once was asked for
+once_by : (told : List Item) (item : Item) (items : List Item) (same : Bool)
+    → (list_any is_body (if same then told else told ++ item ∷ []) || list_any is_body items) ≡ true
+    → (list_any is_body told || list_any is_body (item ∷ items)) ≡ true
+once_by told item items true is = asked_before (list_any is_body told) (is_body item) (list_any is_body items) is
+once_by told item items false is =
+    asked_now (list_any is_body told) (is_body item) (list_any is_body items)
+    (ap (λ b. b || list_any is_body items) (sym (list_any-append is_body told (item ∷ []))) ∙ is)
+
+once_asked : (told items : List Item) → list_any is_body (each_once told items) ≡ true → (list_any is_body told || list_any is_body items) ≡ true
+once_asked told [] is = rw is refl
+once_asked told (item ∷ items) is =
+    let seen : Bool = list_any (same_item item) told in
+    once_by told item items seen (once_asked (if seen then told else told ++ item ∷ []) items is)
 
 fetch_fits : (view : View) (by_uid : Bool) (set : List SetPart) (items : List Item)
     → Fits (selected view) (command.Fetch by_uid set items) (if names_messages view by_uid set then fetch_named view by_uid set items else no_such_number)
 unfolding MayLabel IsAbout
 fetch_fits view by_uid set items =
     either (selected view) (command.Fetch by_uid set items) (names_messages view by_uid set) (fetch_named view by_uid set items) no_such_number
-    (λ so. (may_change view (command.Fetch by_uid set items) (Contains (named_uids by_uid set view.rows)) (λ uid meant. meant), λ old. refl)) tt
+    (λ so. (
+      may_change view (command.Fetch by_uid set items) (Contains (named_uids by_uid set view.rows)) (λ uid meant. meant),
+      λ body old. (once_asked [] items body, refl),
+    )) tt
 
 close_fits : (view : View)
     → Fits (selected view) command.Close (if view.is_writable then at_mailbox view view_work.Close else Turned (left_by view (codes "CLOSE")))

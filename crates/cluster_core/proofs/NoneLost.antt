@@ -52,7 +52,7 @@ use Rattle.mur_model.specs.Status.{status_on}
 use Rattle.mur_model.specs.Store.{box_at, is_spent, with_box, with_new_box}
 use Rattle.mur_model.specs.StoreFlags.{stored_at}
 use Rattle.mur_model.specs.Viewing.{found_gone, viewed_on, work_there}
-use Rattle.cluster_core.specs.NoneLost.{AllGoOn, BoxGoesOn, Expunges, GoesOnAt, LosesNone, MayChange, MayLabel, MessageGoesOn}
+use Rattle.cluster_core.specs.NoneLost.{AllGoOn, BoxGoesOn, ChangesOne, Expunges, GoesOnAt, LosesNone, MayChange, MayLabel, MessageGoesOn}
 use Rattle.cluster_core.specs.OneStore.{open_box, open_content}
 use Rattle.cluster_core.proofs.MessagesLeft.{IsLeftBy, IsStoredFlags, IsWithFlags, expunged_left, stored_left, uid_of_found}
 use Rattle.cluster_core.proofs.NeedsFit.{Fits, FitsView, FitsWork, IsMeant, need_fits}
@@ -163,10 +163,12 @@ module _ (session : Sess) (it : Command) (name : List ℕ) where
       → (Contains uids message.uid → MayChange session it name box message.uid) → ((old : Flags) → MayLabel it old (flags_after mode old flags))
       → IsWithFlags (IsStoredFlags mode flags uids message) message found → MessageGoesOn session it name box message found
   stored_by box uids mode flags message None may labels is = absurd is
-  stored_by box uids mode flags message (Some later) may labels is =
-      (is.0, ⊎_elim (λ (same : later.flags ≡ message.flags). inl same)
-      (λ (new : (later.flags ≡ flags_after mode message.flags flags) × Contains uids message.uid).
-          inr (may new.1, subst (MayLabel it message.flags) (sym new.0) (labels message.flags))) is.1)
+  stored_by box uids mode flags message (Some later) may labels is = (
+    is.0,
+    ⊎_elim (λ (same : later.flags ≡ message.flags). inl same)
+        (λ (new : (later.flags ≡ flags_after mode message.flags flags) × Contains uids message.uid).
+        inr (may new.1, subst (MayLabel it message.flags) (sym new.0) (labels message.flags))) is.1,
+  )
 
   stored_goes_on : (box : Content) (uids : List ℕ) (mode : Mode) (flags : Flags)
       → ((uid : ℕ) → Contains uids uid → MayChange session it name box uid)
@@ -205,13 +207,17 @@ module _ (session : Sess) (it : Command) (name : List ℕ) where
   both_true true b is = refl
   both_true false b is = is
 
+  other_true : (a b : Bool) → (a && b) ≡ true → b ≡ true
+  other_true true b is = is
+  other_true false b is = cc
+
   fetched_leaves : (view : View) (asked : Fetching) (box : Content)
       → (view.is_writable ≡ true → (uid : ℕ) → Contains asked.uids uid → MayChange session it name box uid)
-      → ((old : Flags) → MayLabel it old (with_flag old (System Seen))) → LeavesIt box (fetch_at view asked box).left
+      → (list_any is_body asked.items ≡ true → (old : Flags) → MayLabel it old (with_flag old (System Seen))) → LeavesIt box (fetch_at view asked box).left
   fetched_leaves view asked box may labels =
       either_leaves box (sees view asked) _ _
       (λ seen. stored_goes_on box asked.uids Add seen_flags (may (both_true view.is_writable (list_any is_body asked.items) seen))
-      (λ old. subst (MayLabel it old) (sym (seen_alone old)) (labels old))) tt
+      (λ old. subst (MayLabel it old) (sym (seen_alone old)) (labels (other_true view.is_writable (list_any is_body asked.items) seen) old))) tt
 
   there_leaves : (view : View) (work : ViewWork) (box : Content) → Rises box → box.serial ≡ view.serial → FitsView session it name view work
       → LeavesIt box (work_there view work box).left
@@ -322,6 +328,23 @@ module _ (session : Sess) (it : Command) where
   act_goes_on store serial (Turned turn) numbered fits = still_there store
   act_goes_on store serial (Mailbox name work) numbered fits = work_goes_on store name work serial (box_at store name) (numbered name) refl fits
 
+-- ---- one mailbox at most changes
+
+others_stay : (store : Store) (name : List ℕ) (left : Left) (other : List ℕ) → other ≢ name
+    → box_at (store_after store name left) other ≡ box_at store other
+unfolding store_after
+others_stay store name kept other ne = refl
+others_stay store name (made content) other ne = value_at-with_entry-other (slice_cmp nat_cmp) names_apart store.boxes name other content ne
+others_stay store name (changed content) other ne = value_at-with_value-other (slice_cmp nat_cmp) names_apart store.boxes name other content ne
+
+act_changes_one : (store : Store) (session : Sess) (serial : ℕ) (need : Need) → ChangesOne store (act_by store session serial need).store
+unfolding act_by
+act_changes_one store session serial (Refusal verdict) = record { at = []; others = λ other ne. refl }
+act_changes_one store session serial (Turned turn) = record { at = []; others = λ other ne. refl }
+act_changes_one store session serial (Mailbox name work) = record { at = name; others = λ other ne. others_stay store name _ other ne }
+
 pub loses_none : (setting : Setting) (store : Store) → ((name : List ℕ) → IfSome (box_at store name) IsNumbered) → LosesNone setting store
 unfolding act_of
-loses_none setting store numbered session it serial = act_goes_on session it store serial (need_of setting session it) numbered (need_fits setting session it)
+loses_none setting store numbered session it serial =
+    let need = need_of setting session it in
+    (act_goes_on session it store serial need numbered (need_fits setting session it), act_changes_one store session serial need)

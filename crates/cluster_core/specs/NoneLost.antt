@@ -1,6 +1,6 @@
 -- No command loses a message of the store, or a flag of one, but where that is what the command is for (RFC 9051, 2.3.1.1 and 2.3.2).
-use Rattle.std.specs.Prelude.{◌≡◌, ◌⊎◌, ⊤, ℕ, true, List, Option, None, Some, IfSome}
-use Rattle.std.specs.List.{Contains}
+use Rattle.std.specs.Prelude.{◌≡◌, ◌≢◌, ◌⊎◌, ⊤, ℕ, true, List, Option, None, Some, IfSome}
+use Rattle.std.specs.List.{Contains, list_any}
 use Rattle.backend_core.specs.HomeLaws.{Follows}
 use Rattle.mail_message.specs.Boxes.{Content, is_deleted, message_at, relabelled}
 use Rattle.mail_message.specs.FlagSets.{Flags, flags_after, with_flag}
@@ -15,6 +15,7 @@ use Rattle.mur_model.specs.declared.session.Sess.TheVariants.{Off, In, Selected 
 use Rattle.mur_model.specs.declared.setting.Setting.{Setting}
 use Rattle.mur_model.specs.declared.store.Store.{Store}
 use Rattle.mur_model.specs.Act.{act_of}
+use Rattle.mur_model.specs.Fetch.{is_body}
 use Rattle.mur_model.specs.NamedRows.{named_uids}
 use Rattle.mur_model.specs.Store.{box_at}
 
@@ -41,10 +42,11 @@ Expunges command.Close = ⊤
 Expunges (command.Expunge only) = ⊤
 Expunges it = ⊥
 
--- the flags that a command may make of a message's old ones: a STORE what it says, a FETCH adds \Seen (RFC 9051, 6.4.5 and 6.4.6)
+-- the flags that a command may make of a message's old ones: a STORE what it says, a FETCH of a body adds \Seen, which a peek doesn't
+-- (RFC 9051, 6.4.5 and 6.4.6)
 unfoldable pub MayLabel : Command → Flags → Flags → Type 0
 MayLabel (command.Store by_uid set mode is_silent flags) old new = new ≡ flags_after mode old flags
-MayLabel (command.Fetch by_uid set items) old new = new ≡ with_flag old (System Seen)
+MayLabel (command.Fetch by_uid set items) old new = (list_any is_body items ≡ true) × (new ≡ with_flag old (System Seen))
 MayLabel it old new = ⊥
 
 -- by what is found at a message's UID behind a command: nothing, only where it had \Deleted and was expunged; else it with its date and its body,
@@ -70,6 +72,12 @@ GoesOnAt session it name box (Some later) = BoxGoesOn session it name box later
 abbrev pub AllGoOn : Sess → Command → Store → Store → Type 0
 AllGoOn session it store later = (name : List ℕ) → IfSome (box_at store name) (λ box. GoesOnAt session it name box (box_at later name))
 
+-- one mailbox at most is another, or is new: each of another name is as it was, whole
+pub record ChangesOne (store later : Store) : Type 0 where
+  pub at : List ℕ
+  pub others : (name : List ℕ) → name ≢ at → box_at later name ≡ box_at store name
+
 -- in whichever session, and whatever the command is
 abbrev pub LosesNone : Setting → Store → Type 0
-LosesNone setting store = (session : Sess) (it : Command) (serial : ℕ) → AllGoOn session it store (act_of setting store session it serial).store
+LosesNone setting store = (session : Sess) (it : Command) (serial : ℕ)
+    → AllGoOn session it store (act_of setting store session it serial).store × ChangesOne store (act_of setting store session it serial).store
