@@ -3,6 +3,7 @@ pub mod OnWay
 pub mod Ways
 pub mod ServedAlike
 pub mod RisingStores
+pub mod AppendedThere
 pub mod NeedsFit
 pub mod MessagesLeft
 pub mod NoneLost

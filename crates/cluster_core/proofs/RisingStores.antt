@@ -66,9 +66,9 @@ from_lower : (lower low : ℕ) (messages : List Message) (next : ℕ) → lower 
 from_lower lower low [] next le rises = omega (arith, le, rises)
 from_lower lower low (message ∷ messages) next le rises = (omega (arith, le, rises.0), rises.1)
 
-below_next : (low : ℕ) (messages : List Message) (next : ℕ) → RisesTo low messages next → low ≤ next
-below_next low [] next rises = rises
-below_next low (message ∷ messages) next rises = omega (arith, rises.0, below_next (message.uid + 1) messages next rises.1)
+pub rises_below : (low : ℕ) (messages : List Message) (next : ℕ) → RisesTo low messages next → low ≤ next
+rises_below low [] next rises = rises
+rises_below low (message ∷ messages) next rises = omega (arith, rises.0, rises_below (message.uid + 1) messages next rises.1)
 
 -- ---- what follows
 
@@ -97,7 +97,7 @@ put_rises : (low : ℕ) (messages : List Message) (message : Message) → RisesT
 put_rises low [] message rises = (rises, omega arith)
 put_rises low (other ∷ messages) message rises =
     put_by low (message.uid + 1) message other messages (with_message messages message)
-    (omega (arith, below_next (other.uid + 1) messages message.uid rises.1)) rises.0 (put_rises (other.uid + 1) messages message rises.1)
+    (omega (arith, rises_below (other.uid + 1) messages message.uid rises.1)) rises.0 (put_rises (other.uid + 1) messages message rises.1)
 
 pub appended_rises : (box : Content) (message : Message) → Rises box → Rises (appended box (message ∷ []))
 appended_rises box message rises = put_rises 0 box.messages (record message { uid = box.next }) rises

@@ -30,6 +30,7 @@ use Rattle.cluster_core.specs.OneStore.{first_course, HasBoxesOf, IsAnsweredThro
 use Rattle.cluster_core.specs.Requests.{AreRequests}
 use Rattle.cluster_core.specs.Shown.{given_to}
 use Rattle.cluster_core.specs.World.{start, home_of, setting_of}
+use Rattle.cluster_core.proofs.AppendedThere.{keeps_appended}
 use Rattle.cluster_core.proofs.ConnectionLaw.{Story, told_of}
 use Rattle.cluster_core.proofs.HomesLaw.{has_boxes}
 use Rattle.cluster_core.proofs.InTime.{StandsBehind, run_behind}
@@ -184,6 +185,7 @@ told_so_far config talk before later are date_is now last =
       uids_rise = λ name. some_rising (box_at legal.last.store name) (rises name);
       none_lost = loses_none (setting_of config) legal.last.store
           (λ name. both_hold (box_at legal.last.store name) (below_next name) (rises name));
+      appended_there = keeps_appended (setting_of config) legal.last.store rises;
       in_time = stands_in_time (setting_of config) world
           (run_steps (start config) (before ++ later)) law.story last.story law.backend last.backend law.is_told last.is_told behind (λ conn. (says conn).so);
       counted = steps_made config before;

@@ -7,6 +7,7 @@ pub mod Heard
 pub mod History
 pub mod Shown
 pub mod NoneLost
+pub mod Appended
 pub mod OneStore
 pub mod Closed
 pub mod AtRest

@@ -21,6 +21,7 @@ use Rattle.mur_model.specs.History.{Course, Talk, TalkGoesOn, IsLegal}
 use Rattle.mur_model.specs.Store.{empty_store, box_at}
 use Rattle.schedule_text.specs.declared.event.Event.{Event}
 use Rattle.cluster_core.specs.declared.world.World.{World}
+use Rattle.cluster_core.specs.Appended.{KeepsAppended}
 use Rattle.cluster_core.specs.Flow.{run_steps, unrolled}
 use Rattle.cluster_core.specs.Heard.{heard, bytes_heard, frames_heard, has_closed}
 use Rattle.cluster_core.specs.History.{history_of}
@@ -100,6 +101,8 @@ pub record IsToldSoFar (config : Config) (talk : Talk) (points : List Point) (st
   pub below_next : (name : List ℕ) → IfSome (box_at last.store name) AreUidsBelowNext
   pub uids_rise : (name : List ℕ) → IfSome (box_at last.store name) (λ box. IsRising box.messages)
   pub none_lost : LosesNone (setting_of config) last.store
+  -- and what an APPEND was answered OK for is there
+  pub appended_there : KeepsAppended (setting_of config) last.store
   pub in_time : StandsInTime so_far world.steps points
   -- steps count from 1: the last one has the number of the steps made
   pub counted : world.steps ≡ length steps
