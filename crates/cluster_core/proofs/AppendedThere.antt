@@ -25,7 +25,7 @@ use Rattle.mur_model.specs.declared.setting.Setting.{Setting}
 use Rattle.mur_model.specs.declared.store.Store.{Store}
 use Rattle.mur_model.specs.Act.{need_of, need_off, need_in, need_selected, need_begun, wants_selected, work_on, act_by, act_of}
 use Rattle.mur_model.specs.Append.{new_message, append, append_as, append_by, append_on, append_reply, append_to}
-use Rattle.mur_model.specs.Left.{Worked, store_after}
+use Rattle.mur_model.specs.Left.{store_after}
 use Rattle.mur_model.specs.Rights.{has_rights}
 use Rattle.mur_model.specs.Store.{box_at}
 use Rattle.cluster_core.specs.Appended.{HasAppended, HasAppendedAt, KeepsAppended, name_meant}

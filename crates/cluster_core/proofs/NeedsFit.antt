@@ -49,7 +49,6 @@ use Rattle.mur_model.specs.Need.{at_mailbox, no_such_number, read_only}
 use Rattle.mur_model.specs.Plain.{acts_as, authenticate, authenticate_as, authenticate_by, authenticate_with, cut_at_nul, decoded}
 use Rattle.mur_model.specs.Reply.{completed}
 use Rattle.mur_model.specs.Rights.{has_rights, may_create, user_named}
-use Rattle.mur_model.specs.Search.{search}
 use Rattle.mur_model.specs.Select.{opening, select, select_as, select_by}
 use Rattle.mur_model.specs.Status.{status, status_as, status_by}
 use Rattle.mur_model.specs.StoreFlags.{store, store_named}

@@ -1,19 +1,18 @@
 -- The messages of each mailbox of a store stand in strictly rising order of UID and below UIDNEXT, whatever commands it took.
-use Rattle.std.proofs.Common.{◌≡◌, ℕ, ◌+◌, ◌<◌, ◌≤◌, ◌==◌, ◌&&◌, ◌||◌, Bool, true, false, not, cond, if◌then◌else◌, List, [], ◌∷◌, map, Option, None, Some}
-use Rattle.std.proofs.Common.{refl, sym, ◌∙◌, ap, subst, arith}
+use Rattle.std.proofs.Common.{◌≡◌, ℕ, ◌+◌, ◌<◌, ◌≤◌, ◌==◌, Bool, true, false, not, cond, if◌then◌else◌, List, [], ◌∷◌, map, Option, None, Some}
+use Rattle.std.proofs.Common.{sym, subst, arith}
 use Rattle.std.specs.Prelude.{All, IfSome, ⊤}
 use Rattle.std.specs.BTreeMap.{is_at}
 use Rattle.std.specs.Cmp.{nat_cmp_is}
 use Rattle.std.specs.Cmp.Lexicographic.{slice_cmp}
-use Rattle.std.specs.List.{AllByRecursion, filter}
+use Rattle.std.specs.List.{AllByRecursion}
 use Rattle.std.specs.List.Sorted.{IsStrictlySortedBy}
 use Rattle.std.specs.Map.{values_of}
 use Rattle.std.specs.Ordering.{nat_cmp, match_ordering}
 use Rattle.std.specs.declared.cmp.Ordering.TheVariants.{Less, Greater}
-use Rattle.std.proofs.lemmas.Bool.Decides.{nat_tests}
 use Rattle.std.proofs.lemmas.List.Elements.{All-nil}
 use Rattle.std.proofs.lemmas.Map.Views.{All-values-insert_entry, All-values-set_value, IfSome-lookup_from_All}
-use Rattle.mail_message.specs.Boxes.{Content, IsRising, content_after, content_after_all, has_uid, is_deleted, message_at, relabelled, uids_of, with_flags}
+use Rattle.mail_message.specs.Boxes.{Content, IsRising, content_after, content_after_all, has_uid, relabelled, uids_of, with_flags}
 use Rattle.mail_message.specs.Boxes.{with_message, without_uid}
 use Rattle.mail_message.specs.FlagSets.{Flags}
 use Rattle.mail_message.specs.declared.change.Change.TheVariants.{Gone, SetFlags}
