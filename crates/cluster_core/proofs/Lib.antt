@@ -2,6 +2,10 @@ pub mod Wires
 pub mod OnWay
 pub mod Ways
 pub mod ServedAlike
+pub mod RisingStores
+pub mod AppendedThere
+pub mod NeedsFit
+pub mod MessagesLeft
 pub mod NoneLost
 pub mod CreateLaw
 pub mod AppendLaw

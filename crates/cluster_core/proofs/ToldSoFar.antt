@@ -26,19 +26,19 @@ use Rattle.cluster_core.specs.Flow.{run_steps, unrolled}
 use Rattle.cluster_core.specs.Heard.{Heard, nobody, heard_from, bytes_heard, frames_heard}
 use Rattle.cluster_core.specs.History.{history_of}
 use Rattle.cluster_core.specs.Homes.{ShowsBoxesOf}
-use Rattle.cluster_core.specs.NoneLost.{LosesNoneByAppend}
 use Rattle.cluster_core.specs.OneStore.{first_course, HasBoxesOf, IsAnsweredThrough, StandsInTime, IsToldSoFar, IsToldByOneStore}
 use Rattle.cluster_core.specs.Requests.{AreRequests}
 use Rattle.cluster_core.specs.Serials.{GivesLowSerials}
 use Rattle.cluster_core.specs.Shown.{given_to}
 use Rattle.cluster_core.specs.World.{start, home_of, setting_of}
 use Rattle.cluster_core.proofs.BegunLaw.{begins_as_read}
+use Rattle.cluster_core.proofs.AppendedThere.{keeps_appended}
 use Rattle.cluster_core.proofs.ConnectionLaw.{Story, told_of}
 use Rattle.cluster_core.proofs.HomesLaw.{has_boxes}
 use Rattle.cluster_core.proofs.InTime.{StandsBehind, run_behind}
 use Rattle.cluster_core.proofs.Keeps.{IsKeptAt, KeepsAll, run_keeps}
 use Rattle.cluster_core.proofs.KeepsLaw.{KeepsLaw}
-use Rattle.cluster_core.proofs.NoneLost.{store_below, append_loses_none}
+use Rattle.cluster_core.proofs.NoneLost.{both_hold, loses_none, store_below}
 use Rattle.cluster_core.proofs.Marks.{Carries, conn_of, command_of, is_mark, all_points}
 use Rattle.cluster_core.proofs.Marks.Carries.{no_marks, a_mark}
 use Rattle.cluster_core.proofs.NoRelocation.{have_causes}
@@ -46,6 +46,7 @@ use Rattle.cluster_core.proofs.OneStoreLaw.{SaysOf, says_of, IsLegalTo, legal_hi
 use Rattle.cluster_core.proofs.ReadLaw.{heard_sound, read_of_legal}
 use Rattle.cluster_core.proofs.RequestsOf.{asks_all}
 use Rattle.cluster_core.proofs.ServedAlike.{low_serials}
+use Rattle.cluster_core.proofs.RisingStores.{Rises, box_rises, none_rises, points_rise, some_rising}
 use Rattle.cluster_core.proofs.ShownHomes.{shows_boxes}
 use Rattle.cluster_core.proofs.StartLaw.{start_keeps}
 use Rattle.cluster_core.proofs.StepsMade.{steps_made}
@@ -161,8 +162,12 @@ told_so_far config talk before later are date_is now last =
     (asks_all (setting_of config) (frames_heard (heard conn))) in
     let legal : IsLegalTo (setting_of config) (told_of law.story) (history_of world) law.story.course.store =
     legal_history (setting_of config) world law.story law.backend law.is_told (λ conn. (says conn).count) (λ conn. (says conn).so) in
-    let below_next : (name : List ℕ) → IfSome (box_at law.story.course.store name) AreUidsBelowNext =
-    store_below law.story.course.store law.backend law.is_told.same law.below_next in
+    let below_next : (name : List ℕ) → IfSome (box_at legal.last.store name) AreUidsBelowNext =
+    subst (λ (s : Store). (name : List ℕ) → IfSome (box_at s name) AreUidsBelowNext) (sym legal.same_store)
+    (store_below law.story.course.store law.backend law.is_told.same law.below_next) in
+    let rises : (name : List ℕ) → IfSome (box_at legal.last.store name) Rises =
+    λ name. box_rises legal.last.store name
+    (points_rise (setting_of config) (told_of law.story) first_course legal.last (history_of world) legal.legal.follows none_rises) in
     record {
       so_far = told_of law.story;
       goes_on = now.more;
@@ -180,9 +185,11 @@ told_so_far config talk before later are date_is now last =
           (has_boxes config world law.backend law.story.course.store are law.nodes law.is_told.same);
       homes_shown = subst (λ s. ShowsBoxesOf config s world) (sym legal.same_store)
           (shows_boxes config world law.backend law.story.course.store are law.nodes law.is_told.same);
-      below_next = subst (λ (s : Store). (name : List ℕ) → IfSome (box_at s name) AreUidsBelowNext) (sym legal.same_store) below_next;
-      none_lost = subst (LosesNoneByAppend (setting_of config)) (sym legal.same_store)
-          (append_loses_none (setting_of config) law.story.course.store below_next);
+      below_next = below_next;
+      uids_rise = λ name. some_rising (box_at legal.last.store name) (rises name);
+      none_lost = loses_none (setting_of config) legal.last.store
+          (λ name. both_hold (box_at legal.last.store name) (below_next name) (rises name));
+      appended_there = keeps_appended (setting_of config) legal.last.store rises;
       low_serials = subst GivesLowSerials (sym legal.same_store) (low_serials law.story.course.store law.backend law.is_told.same);
       lost_next = loses_the_next (setting_of config) world law.story law.backend law.is_told (λ conn. (says conn).count) (λ conn. (says conn).so);
       made_by_now = made_by_now (setting_of config) world law.story law.backend law.is_told;

@@ -14,6 +14,7 @@ pub mod Serials
 pub mod Points
 pub mod Begun
 pub mod Ending
+pub mod Appended
 pub mod OneStore
 pub mod Closed
 pub mod AtRest

@@ -7,7 +7,7 @@ use Rattle.backend_core.specs.declared.held.Held.{Held}
 use Rattle.backend_core.specs.HomeLaws.{AreUidsBelowNext}
 use Rattle.imap_reply.specs.Transcript.{transcript_of, ends}
 use Rattle.imap_reply.specs.TranscriptRead.{IsAllReadAsMeant}
-use Rattle.mail_message.specs.Boxes.{Content}
+use Rattle.mail_message.specs.Boxes.{Content, IsRising}
 use Rattle.mur_base.specs.Map.{value_at}
 use Rattle.mur_base.specs.declared.home.Phase.{Phase}
 use Rattle.mur_base.specs.declared.home.Phase.TheVariants.{Creating, Open as open_here, Closing, Receiving, Ready, Pointer}
@@ -23,6 +23,7 @@ use Rattle.schedule_text.specs.declared.event.Event.{Event}
 use Rattle.cluster_core.specs.declared.world.World.{World}
 use Rattle.cluster_core.specs.Begun.{BeginsAsRead}
 use Rattle.cluster_core.specs.Ending.{EndsOnlyLast}
+use Rattle.cluster_core.specs.Appended.{KeepsAppended}
 use Rattle.cluster_core.specs.Flow.{run_steps, unrolled}
 use Rattle.cluster_core.specs.Heard.{heard, bytes_heard, frames_heard, has_closed}
 use Rattle.cluster_core.specs.History.{history_of}
@@ -30,7 +31,7 @@ use Rattle.cluster_core.specs.Homes.{ShowsBoxesOf}
 use Rattle.cluster_core.specs.LawSetting.{law_setting}
 use Rattle.cluster_core.specs.Links.{on_link}
 use Rattle.cluster_core.specs.Refusals.{HaveCauses}
-use Rattle.cluster_core.specs.NoneLost.{LosesNoneByAppend}
+use Rattle.cluster_core.specs.NoneLost.{LosesNone}
 use Rattle.cluster_core.specs.Points.{AreMadeBy, LosesTheNext}
 use Rattle.cluster_core.specs.Requests.{AreRequests}
 use Rattle.cluster_core.specs.Serials.{GivesLowSerials}
@@ -101,10 +102,15 @@ pub record IsToldSoFar (config : Config) (talk : Talk) (points : List Point) (st
   pub refusals : HaveCauses so_far (history_of world)
   pub one_content : HasBoxesOf last.store world
   pub homes_shown : ShowsBoxesOf config last.store world
-  -- each message has a UID below its mailbox's UIDNEXT (RFC 9051, 2.3.1.1), and no APPEND, whoever sends it, loses one
+  -- each message has a UID of its own, below its mailbox's UIDNEXT (RFC 9051, 2.3.1.1), and no command, whoever sends it, loses one or
+  -- its flags, but where it is for that
   pub below_next : (name : List ℕ) → IfSome (box_at last.store name) AreUidsBelowNext
-  pub none_lost : LosesNoneByAppend (law_setting config) last.store
+  pub uids_rise : (name : List ℕ) → IfSome (box_at last.store name) (λ box. IsRising box.messages)
+  pub none_lost : LosesNone (law_setting config) last.store
+  -- and what an APPEND was answered OK for is there
+  pub appended_there : KeepsAppended (law_setting config) last.store
   pub low_serials : GivesLowSerials last.store
+  -- which points there may be
   pub lost_next : LosesTheNext so_far (history_of world)
   pub made_by_now : AreMadeBy world.steps (history_of world)
   pub in_time : StandsInTime so_far world.steps points
@@ -117,7 +123,7 @@ pub record IsToldSoFar (config : Config) (talk : Talk) (points : List Point) (st
 
 -- at every step, each delivery of a flow being one; so a point stands at a step that is not before the one whose bytes
 -- completed its command, and not behind the one that gave its reply: a command that was answered before another one was sent
--- stands before it, whoever sent them (linearizability, Herlihy and Wing 1990)
+-- stands before it, whoever sent them (linearizability)
 pub record IsToldByOneStore (config : Config) (events : List Event) : Type 0 where
   pub begins_as_read : BeginsAsRead (law_setting config)
   pub talk : Talk
