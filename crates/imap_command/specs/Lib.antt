@@ -23,4 +23,4 @@ pub mod Store
 pub mod Dates
 pub mod Keys
 pub mod Search
-pub mod ReadAs
+pub mod LineFor

@@ -7,5 +7,5 @@ use Rattle.mur_model.specs.declared.request.Request.TheVariants.{Command as a_co
 use Rattle.imap_command.specs.Request.{request_of}
 
 -- behind the tag `a` and a space, and before CRLF
-abbrev pub IsReadAs : List ℕ → Command → Type 0
-IsReadAs line it = request_of (codes "a " ++ (line ++ crlf)) ≡ a_command (Text (codes "a")) it
+abbrev pub IsLineFor : List ℕ → Command → Type 0
+IsLineFor line it = request_of (codes "a " ++ (line ++ crlf)) ≡ a_command (Text (codes "a")) it
