@@ -23,3 +23,4 @@ pub mod Store
 pub mod Dates
 pub mod Keys
 pub mod Search
+pub mod LineFor

@@ -23,6 +23,7 @@ mod fault;
 mod flags;
 mod items;
 mod keys;
+mod laws;
 mod left_out;
 mod list;
 mod printer;
@@ -39,6 +40,7 @@ mod utf8;
 mod verb;
 
 pub use fault::{Bad, ReadFault};
+pub use laws::each_verb_is_read;
 pub use printer::print;
 pub use reader::read;
 pub use request::{read_request, too_big};
