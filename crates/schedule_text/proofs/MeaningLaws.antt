@@ -130,7 +130,8 @@ schedule_read config bytes events is =
     (lines_read is.spell.lines events is.spell.spelled (cuts_of bytes) (lines_cut bytes is.spell.lines is.spell.cut) config 1 [] is.follow)
 
 -- bytes are a schedule of one list of events at most
-pub one_meaning : (config : Config) (bytes : List ℕ) (events other : List Event) → IsSchedule config bytes events → IsSchedule config bytes other → events ≡ other
+pub one_meaning : (config : Config) (bytes : List ℕ) (events other : List Event) → IsSchedule config bytes events → IsSchedule config bytes other
+    → events ≡ other
 one_meaning config bytes events other is also =
     let same : Ok events ≡ Ok other = sym (schedule_read config bytes events is) ∙ schedule_read config bytes other also in cc
 

@@ -1,6 +1,5 @@
 -- Which bytes are a schedule, of which events; and which line is the first bad one, where they are none.
-use Rattle.std.specs.Prelude.{◌≡◌, ℕ, ◌+◌, ◌<◌, ◌≤◌, ⊤, ◌⊎◌, List, [], ◌∷◌, ◌++◌, length}
-use Rattle.mur_base.specs.declared.limits.TheConstants.{SCHEDULE_LIMIT}
+use Rattle.std.specs.Prelude.{◌≡◌, ℕ, ◌+◌, ◌^◌, ◌<◌, ◌≤◌, ⊤, ◌⊎◌, List, [], ◌∷◌, ◌++◌, length}
 use Rattle.mur_config.specs.declared.config.Config.{Config}
 use Rattle.schedule_text.specs.declared.event.Event.{Event}
 use Rattle.schedule_text.specs.declared.schedule.fault.ScheduleError.{ScheduleError}
@@ -10,7 +9,7 @@ use Rattle.schedule_text.specs.Spelled.{AreLinesOf, IsSpelledBy, IsPassedOver, A
 
 -- the bytes spell these events, which may follow one another
 pub record IsSchedule (config : Config) (bytes : List ℕ) (events : List Event) : Type 0 where
-  pub short : length bytes ≤ SCHEDULE_LIMIT
+  pub short : length bytes ≤ 2 ^ 28
   pub spell : SpellEvents bytes events
   pub follow : AllMayFollow config [] events
 
@@ -33,7 +32,7 @@ pub record IsFirstBad (config : Config) (bytes : List ℕ) (number : ℕ) : Type
 
 -- why bytes are refused at a line: they are too many, which is told of line 0, or it is the first bad one
 abbrev pub IsRefusedAt : Config → List ℕ → ℕ → Type 0
-IsRefusedAt config bytes number = ((SCHEDULE_LIMIT < length bytes) × (number ≡ 0)) ⊎ ((length bytes ≤ SCHEDULE_LIMIT) × IsFirstBad config bytes number)
+IsRefusedAt config bytes number = ((2 ^ 28 < length bytes) × (number ≡ 0)) ⊎ ((length bytes ≤ 2 ^ 28) × IsFirstBad config bytes number)
 
 -- bytes that are refused are a schedule of no events, and their line is told
 pub record IsNoSchedule (config : Config) (bytes : List ℕ) (number : ℕ) : Type 0 where

@@ -16,6 +16,7 @@ use Rattle.cluster_core.specs.Flow.{run}
 use Rattle.cluster_core.specs.World.{start}
 use Rattle.mur_config.specs.Config.{config_of}
 use Rattle.cluster_core.specs.Headline.{IsOneServer}
+use Rattle.schedule_text.specs.Meaning.{IsSchedule, IsNoSchedule}
 use Rattle.schedule_text.specs.Schedule.{schedule_of}
 use Rattle.schedule_text.specs.ScheduleRules.{rule_number}
 use Rattle.schedule_text.specs.declared.schedule.fault.SchedFault.{SchedFault}
@@ -100,6 +101,7 @@ pub record HasEvents (config : Configuration) (name : List ℕ) (events : List E
   pub reads : Reads SCHEDULE_LIMIT name text before now
   pub whole : length text ≤ SCHEDULE_LIMIT
   pub right : schedule_of config text ≡ Ok events
+  pub means : IsSchedule config text events
 
 -- the schedule's file was read; this is its first line that breaks a rule, and the rule
 pub record HasNoEvents (config : Configuration) (name : List ℕ) (line rule : ℕ) (before now : HostFacts) : Type 0 where
@@ -107,6 +109,7 @@ pub record HasNoEvents (config : Configuration) (name : List ℕ) (line rule : �
   pub reads : Reads SCHEDULE_LIMIT name text before now
   pub fault : SchedFault
   pub wrong : schedule_of config text ≡ Err fault
+  pub means : IsNoSchedule config text line
   pub at_line : line ≡ fault.line
   pub by_rule : rule ≡ rule_number fault.why
 
