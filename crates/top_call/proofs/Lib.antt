@@ -1,1 +1,6 @@
 mod WritingLaws
+mod NumberRead
+mod SpellingRead
+mod OneWord
+mod LinesRead
+mod ReadBackLaw
