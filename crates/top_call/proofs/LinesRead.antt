@@ -13,8 +13,10 @@ use Rattle.cluster_core.specs.declared.world.Client.{Client}
 use Rattle.schedule_text.specs.Cuts.{cuts_of}
 use Rattle.schedule_text.specs.Text.{text_of, name_text_of}
 use Rattle.mur_base.specs.Names.{with_first}
-use Rattle.top_call.specs.Output.{to_line, client_lines, point_line, what_text, unreached_text, counts_text, pointer_text, phase_text, row_text, line_in, box_line, end_line}
-use Rattle.top_call.specs.ReadBack.{TellsEach, no_line, a_line, IsToLine, TellsClient, IsPointLine, SaysWhat, SaysCounts, IsRowLine, IsLineAt, IsBoxLine, IsEndLine}
+use Rattle.top_call.specs.Output.{to_line, client_lines, point_line, what_text, unreached_text, counts_text, pointer_text, phase_text, row_text, line_in}
+use Rattle.top_call.specs.Output.{box_line, end_line}
+use Rattle.top_call.specs.ReadBack.{TellsEach, no_line, a_line, IsToLine, TellsClient, IsPointLine, SaysWhat, SaysCounts, IsRowLine, IsLineAt, IsBoxLine}
+use Rattle.top_call.specs.ReadBack.{IsEndLine}
 use Rattle.top_call.proofs.NumberRead.{number_of-decimal}
 use Rattle.top_call.proofs.OneWord.{one_word}
 use Rattle.top_call.proofs.SpellingRead.{text_read, name_text_read}

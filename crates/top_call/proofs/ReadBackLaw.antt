@@ -11,6 +11,7 @@ use Rattle.cluster_core.specs.World.{start}
 use Rattle.top_call.specs.Output.{output_of, lines_of, client_lines, point_line, box_line, end_line}
 use Rattle.top_call.specs.ReadBack.{TellsClient, IsPointLine, IsBoxLine, TellsRun}
 use Rattle.top_call.specs.Replay.{run_text}
+use Rattle.top_call.proofs.FoundLaw.{clients_found}
 use Rattle.top_call.proofs.LinesRead.{tells_each, client_read, point_line_read, box_line_read, end_line_read}
 
 output_read : (world : World) → TellsRun (output_of world) world
@@ -22,6 +23,7 @@ output_read world = record {
   end_text = end_line world.steps (length (history_of world));
   whole = refl;
   clients = tells_each TellsClient client_lines client_read world.clients;
+  found = clients_found world;
   points = tells_each IsPointLine point_line point_line_read (history_of world);
   boxes = tells_each IsBoxLine box_line box_line_read (home_rows world);
   ends = end_line_read world.steps (length (history_of world));
