@@ -2,6 +2,7 @@ mod WritingLaws
 mod NumberRead
 mod SpellingRead
 mod OneWord
+mod CutsJoined
 mod FoundLaw
 mod LinesRead
 mod ReadBackLaw

@@ -1,5 +1,5 @@
 -- Each line of the output is read back as what it is of.
-use Rattle.std.proofs.Common.{◌≡◌, ℕ, Bool, true, false, nat_eq, List, [], ◌∷◌, ◌++◌, refl, sym, ap, subst, ◌∙◌, append_assoc}
+use Rattle.std.proofs.Common.{◌≡◌, ℕ, List, [], ◌∷◌, ◌++◌, refl, sym, subst, append_assoc}
 use Rattle.std.specs.Prelude.{codes}
 use Rattle.std.specs.List.{flat_map}
 use Rattle.std.specs.Fmt.{decimal}
@@ -12,17 +12,14 @@ use Rattle.cluster_core.specs.declared.cluster.HomeRow.{HomeRow}
 use Rattle.cluster_core.specs.declared.world.Client.{Client}
 use Rattle.schedule_text.specs.Cuts.{cuts_of}
 use Rattle.schedule_text.specs.Text.{text_of, name_text_of}
-use Rattle.mur_base.specs.Names.{with_first}
 use Rattle.top_call.specs.Output.{to_line, client_lines, point_line, what_text, unreached_text, counts_text, pointer_text, phase_text, row_text, line_in}
 use Rattle.top_call.specs.Output.{box_line, end_line}
 use Rattle.top_call.specs.ReadBack.{TellsEach, no_line, a_line, IsToLine, TellsClient, IsPointLine, SaysWhat, SaysCounts, IsRowLine, IsLineAt, IsBoxLine}
 use Rattle.top_call.specs.ReadBack.{IsEndLine}
+use Rattle.top_call.proofs.CutsJoined.{join_cuts, cuts_something}
 use Rattle.top_call.proofs.NumberRead.{number_of-decimal}
 use Rattle.top_call.proofs.OneWord.{one_word}
 use Rattle.top_call.proofs.SpellingRead.{text_read, name_text_read}
-
-abbrev itself : List ℕ → List ℕ
-itself piece = piece
 
 pub tells_each : {X : Type 0} (IsLine : X → List ℕ → Type 0) (line_of : X → List ℕ) → ((item : X) → IsLine item (line_of item)) → (items : List X)
     → TellsEach IsLine items (flat_map line_of items)
@@ -40,29 +37,13 @@ to_line_read conn piece = record {
   of_piece = text_read piece;
 }
 
-join_first : (b : ℕ) (pieces : List (List ℕ)) → flat_map itself (with_first b pieces) ≡ b ∷ flat_map itself pieces
-unfolding with_first
-join_first b [] = refl
-join_first b (piece ∷ pieces) = refl
-
-join_by : (b : ℕ) (text : List ℕ) → flat_map itself (cuts_of text) ≡ text → (feed : Bool) → nat_eq b 10 ≡ feed
-    → flat_map itself (cuts_of (b ∷ text)) ≡ b ∷ text
-unfolding cuts_of
-join_by b text ih true e = rw e (ap (λ (it : List ℕ). b ∷ it) ih)
-join_by b text ih false e = rw e (join_first b (cuts_of text) ∙ ap (λ (it : List ℕ). b ∷ it) ih)
-
--- cutting loses nothing
-join_cuts : (text : List ℕ) → flat_map itself (cuts_of text) ≡ text
-unfolding cuts_of
-join_cuts [] = refl
-join_cuts (b ∷ text) = join_by b text (join_cuts text) (nat_eq b 10) refl
-
 pub client_read : (client : ℕ × Client) → TellsClient client (client_lines client)
 unfolding client_lines
 client_read client = record {
   pieces = cuts_of (client.1).given;
   lines = tells_each (IsToLine client.0) (to_line client.0) (to_line_read client.0) (cuts_of (client.1).given);
   all = join_cuts (client.1).given;
+  something = cuts_something (client.1).given;
 }
 
 what_said : (what : What) → SaysWhat what (what_text what)

@@ -39,11 +39,12 @@ pub record IsToLine (conn : ℕ) (piece line : List ℕ) : Type 0 where
   pub of_conn : ReadsNumber number conn
   pub of_piece : ReadsBytes text piece
 
--- the lines of one connection: what they tell, joined, is all that its client was given
+-- the lines of one connection: what they tell, joined, is all that its client was given. No line tells nothing
 pub record TellsClient (client : ℕ × Client) (text : List ℕ) : Type 0 where
   pub pieces : List (List ℕ)
   pub lines : TellsEach (IsToLine client.0) pieces text
   pub all : flat_map (λ (piece : List ℕ). piece) pieces ≡ (client.1).given
+  pub something : All (λ (piece : List ℕ). 0 < length piece) pieces
 
 -- what a point says of its command
 abbrev pub SaysWhat : What → List ℕ → Type 0
