@@ -1,1 +1,8 @@
 mod WritingLaws
+mod NumberRead
+mod SpellingRead
+mod OneWord
+mod CutsJoined
+mod FoundLaw
+mod LinesRead
+mod ReadBackLaw

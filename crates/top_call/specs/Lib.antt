@@ -1,4 +1,5 @@
 pub mod Output
+pub mod ReadBack
 pub mod Replay
 pub mod Status
 pub mod Words

@@ -21,6 +21,7 @@ use Rattle.schedule_text.specs.Schedule.{schedule_of}
 use Rattle.schedule_text.specs.ScheduleRules.{rule_number}
 use Rattle.schedule_text.specs.declared.schedule.fault.SchedFault.{SchedFault}
 use Rattle.top_call.specs.Output.{output_of}
+use Rattle.top_call.specs.ReadBack.{TellsRun}
 use Rattle.top_call.specs.Status.{line_of, CountsStatus}
 use Rattle.top_call.specs.Words.{Names, names_in}
 use Rattle.mur_config.specs.declared.config.TheConstants.{CONFIG_LIMIT}
@@ -161,7 +162,8 @@ pub record EndsBehindConfig (names : Names) (before now : HostFacts) (status : S
   pub ended : EndsAtSchedule config names.schedule between now status
 
 -- both were right, and the call ended as it wrote the text of the run. Of this run the headline holds: its clients were given what one
--- mailbox store replies to the printed history, a mailbox has at most one writable home, and each refusal of relocation has its cause
+-- mailbox store replies to the printed history, a mailbox has at most one writable home, and each refusal of relocation has its cause.
+-- The text tells what this run gave its clients, its history, its mailboxes and its counts, whether or not an output took it
 pub record EndsBehindRun (names : Names) (before now : HostFacts) (status : Status) : Type 0 where
   pub config : Configuration
   pub events : List Event
@@ -170,6 +172,7 @@ pub record EndsBehindRun (names : Names) (before now : HostFacts) (status : Stat
   pub configured : HasConfig names.config config before configured_at
   pub scheduled : HasEvents config names.schedule events configured_at between
   pub one_server : IsOneServer config events
+  pub tells : TellsRun (run_text config events) (run (start config) events)
   pub ended : EndsWriting (run_text config events) between now status
 
 -- a replay ends at the configuration, else at the schedule, else as it writes the text of the run

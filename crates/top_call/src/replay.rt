@@ -1,8 +1,11 @@
 // `replay CONFIG SCHEDULE`: reads both files, runs the cluster and writes the text of the run.
 ghost use Rattle.std.specs.Prelude.{◌≡◌, IfOk};
+ghost use Rattle.cluster_core.specs.Flow.{run};
 ghost use Rattle.cluster_core.specs.Headline.{IsOneServer};
+ghost use Rattle.cluster_core.specs.World.{start};
 ghost use Rattle.schedule_text.specs.ScheduleFits.{HasCountRoom};
 ghost use Rattle.top_call.specs.Output.{lines_of, output_of};
+ghost use Rattle.top_call.specs.ReadBack.{TellsRun};
 ghost use Rattle.top_call.specs.Replay.{DidReadConfig, DidReadSchedule, EndsWriting, DidReplay, run_text};
 ghost use Rattle.top_call.specs.Status.{CountsStatus, CountsFile};
 ghost use Rattle.top_call.specs.declared.status.Status.TheVariants.{Schedule};
@@ -86,9 +89,11 @@ fn refused(fault: SchedFault) -> Status
 }
 
 // Runs the events and writes the text of the run.
+#[tactic(auto, using(crate::proofs::ReadBackLaw::by_reading))]
 fn write_run<H: Host>(alloc: Global, host: &mut H, config: Config, events: Events) -> Status
     requires room { HasCountRoom events }
     ensures one_server { IsOneServer config events }
+    ensures tells { TellsRun (run_text config events) (run (start config) events) }
     ensures did { EndsWriting (run_text config events) (H.facts host.old) (H.facts host.new) result }
     ensures counts { CountsStatus result (H.facts host.old).faults (H.facts host.new).faults }
 {
