@@ -39,6 +39,7 @@ pub mod StartLaw
 pub mod OneStoreLaw
 pub mod InTime
 pub mod StepsMade
+pub mod ClientsInOrder
 pub mod HomesLaw
 pub mod BackendsLaw
 pub mod NamesHeld

@@ -1,35 +1,42 @@
 -- The text of a run is read back as what the run did.
-use Rattle.std.proofs.Common.{List, length, refl}
+use Rattle.std.proofs.Common.{List, length, refl, sym, subst}
 use Rattle.std.specs.List.{flat_map}
+use Rattle.std.specs.Ordering.{nat_cmp}
+use Rattle.mur_base.specs.Map.{IsInOrder}
 use Rattle.mur_config.specs.declared.config.Config.{Config}
 use Rattle.schedule_text.specs.declared.event.Event.{Event}
 use Rattle.cluster_core.specs.declared.world.World.{World}
-use Rattle.cluster_core.specs.Flow.{run}
+use Rattle.cluster_core.specs.Flow.{run, unrolled}
 use Rattle.cluster_core.specs.History.{history_of}
 use Rattle.cluster_core.specs.Shown.{home_rows}
 use Rattle.cluster_core.specs.World.{start}
 use Rattle.top_call.specs.Output.{output_of, lines_of, client_lines, point_line, box_line, end_line}
 use Rattle.top_call.specs.ReadBack.{TellsClient, IsPointLine, IsBoxLine, TellsRun}
 use Rattle.top_call.specs.Replay.{run_text}
+use Rattle.cluster_core.proofs.ClientsInOrder.{clients_in_order}
+use Rattle.cluster_core.proofs.Unrolled.{by_steps}
 use Rattle.top_call.proofs.FoundLaw.{clients_found}
 use Rattle.top_call.proofs.LinesRead.{tells_each, client_read, point_line_read, box_line_read, end_line_read}
 
-output_read : (world : World) → TellsRun (output_of world) world
+output_read : (world : World) → IsInOrder nat_cmp world.clients → TellsRun (output_of world) world
 unfolding output_of lines_of
-output_read world = record {
+output_read world ordered = record {
   to_text = flat_map client_lines world.clients;
   point_text = flat_map point_line (history_of world);
   box_text = flat_map box_line (home_rows world);
   end_text = end_line world.steps (length (history_of world));
   whole = refl;
   clients = tells_each TellsClient client_lines client_read world.clients;
-  found = clients_found world;
+  found = clients_found world ordered;
   points = tells_each IsPointLine point_line point_line_read (history_of world);
   boxes = tells_each IsBoxLine box_line box_line_read (home_rows world);
   ends = end_line_read world.steps (length (history_of world));
 }
 
 pub run_read : (config : Config) (events : List Event) → TellsRun (run_text config events) (run (start config) events)
-run_read config events = output_read (run (start config) events)
+run_read config events =
+    output_read (run (start config) events)
+    (subst (λ (world : World). IsInOrder nat_cmp world.clients) (sym (by_steps (start config) events))
+    (clients_in_order config (unrolled (start config) events)))
 
 pub ruleset by_reading = (run_read)

@@ -1,9 +1,7 @@
 -- The text of a run is read back: its lines tell, one for one, all that the clients were given, the history, the mailboxes and the counts.
 use Rattle.std.specs.Prelude.{◌≡◌, ◌≢◌, ℕ, ◌^◌, ◌<◌, List, [], ◌∷◌, ◌++◌, length, get_or, All, Some, codes}
 use Rattle.std.specs.List.{flat_map}
-use Rattle.std.specs.Ordering.{nat_cmp}
 use Rattle.mur_base.specs.Ascii.{space}
-use Rattle.mur_base.specs.Map.{IsInOrder}
 use Rattle.mur_base.specs.Number.{number_of}
 use Rattle.mur_base.specs.declared.point.Point.{Point}
 use Rattle.mur_base.specs.declared.point.What.{What}
@@ -106,7 +104,7 @@ pub record IsEndLine (steps points : ℕ) (line : List ℕ) : Type 0 where
   pub of_points : ReadsNumber second points
 
 -- the text of a run: what the clients were given, the history, the mailboxes at the nodes that have them, how many steps and points. Each
--- client is the one that its number finds, the numbers rising as the keys of every map do
+-- client is the one that its number finds
 pub record TellsRun (text : List ℕ) (world : World) : Type 0 where
   pub to_text : List ℕ
   pub point_text : List ℕ
@@ -114,7 +112,7 @@ pub record TellsRun (text : List ℕ) (world : World) : Type 0 where
   pub end_text : List ℕ
   pub whole : text ≡ to_text ++ (point_text ++ (box_text ++ end_text))
   pub clients : TellsEach TellsClient world.clients to_text
-  pub found : IsInOrder nat_cmp world.clients → All (λ (client : ℕ × Client). given_to world client.0 ≡ (client.1).given) world.clients
+  pub found : All (λ (client : ℕ × Client). given_to world client.0 ≡ (client.1).given) world.clients
   pub points : TellsEach IsPointLine (history_of world) point_text
   pub boxes : TellsEach IsBoxLine (home_rows world) box_text
   pub ends : IsEndLine world.steps (length (history_of world)) end_text
