@@ -26,8 +26,10 @@ use Rattle.cluster_core.specs.declared.world.Client.{Client}
 use Rattle.cluster_core.specs.declared.world.World.{World}
 use Rattle.cluster_core.specs.Flow.{run_steps}
 use Rattle.cluster_core.specs.Links.{on_link}
-use Rattle.cluster_core.specs.World.{no_world, start, with_node, with_nodes, home_of, setting_of, backends_of, client_at, front_at, home_at, given_more, carry, carry_all}
-use Rattle.cluster_core.specs.World.{with_front, with_home, with_client, open_at, opens, bytes_at, bytes_from, hang_at, hangs, input_of, home_takes, comes_to_home}
+use Rattle.cluster_core.specs.World.{no_world, start, with_node, with_nodes, home_of, setting_of, backends_of, client_at, front_at, home_at}
+use Rattle.cluster_core.specs.World.{given_more, carry, carry_all}
+use Rattle.cluster_core.specs.World.{with_front, with_home, with_client, open_at, opens, bytes_at, bytes_from, hang_at, hangs}
+use Rattle.cluster_core.specs.World.{input_of, home_takes, comes_to_home}
 use Rattle.cluster_core.specs.World.{comes_to, taken, deliver_first, takes, stepped, steps_by}
 
 abbrev pub IsOrdered : World → Type 0
@@ -92,7 +94,8 @@ unfolding hangs
 hangs-ordered world conn None is = is
 hangs-ordered world conn (Some client) is = hang_at-ordered world conn client.at (front_at world client.at) is
 
-home_takes-ordered : (world : World) (node : List ℕ) (home : Backend) (input : Option BackInput) → IsOrdered world → IsOrdered (home_takes world node home input)
+home_takes-ordered : (world : World) (node : List ℕ) (home : Backend) (input : Option BackInput) → IsOrdered world
+    → IsOrdered (home_takes world node home input)
 unfolding home_takes
 home_takes-ordered world node home None is = is
 home_takes-ordered world node home (Some input) is = with_home-ordered world node (plan_of home input) is

@@ -85,7 +85,8 @@ first_by f t from to item more items true h e = let is = same_names f t from to 
 first_by f t from to item more items false h e = absurd (let none : item ∷ more ≡ [] = e in cc)
 
 -- the first of a link that has one is the first on its way
-pub own_first : {T : Type 0} (pick : LinkMsg → List T) (links : Links) (from to f t : List ℕ) (message : LinkMsg) (rest : List LinkMsg) (item : T) (items : List T)
+pub own_first : {T : Type 0} (pick : LinkMsg → List T) (links : Links) (from to f t : List ℕ) (message : LinkMsg) (rest : List LinkMsg)
+    (item : T) (items : List T)
     → on_link links f t ≡ message ∷ rest → pick message ≡ item ∷ [] → IsOnWay pick links from to items
     → (f ≡ from) × (t ≡ to) × (items ≡ item ∷ picked pick (drop 1 (on_link links f t)))
 own_first pick links from to f t message rest item items e p way =

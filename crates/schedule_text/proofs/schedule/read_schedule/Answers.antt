@@ -19,7 +19,8 @@ returns-clause-spelled c =
 pub returns-in_err-take_schedule_line-clause-refused : goal.returns-in_err-take_schedule_line-clause-refused
 unfolding schedule_of events_from
 returns-in_err-take_schedule_line-clause-refused c =
-    let read : IsReadAsSchedule (schedule_of c.args.config.now c.args.bytes.now) c.from_residual.result = first_of (search rules, grind (arith, common_steps)) in
+    let read : IsReadAsSchedule (schedule_of c.args.config.now c.args.bytes.now) c.from_residual.result =
+    first_of (search rules, grind (arith, common_steps)) in
     has_cause _ _ _ read
 
 pub returns-clause-fit : goal.returns-clause-fit
