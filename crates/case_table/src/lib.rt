@@ -7,5 +7,5 @@ mod fields;
 mod table;
 
 pub use fault::Fault;
-pub use fields::fields_of;
+pub use fields::{fields_of, parts_of};
 pub use table::{Cases, tell, tell_all};
