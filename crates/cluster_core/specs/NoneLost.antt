@@ -2,7 +2,7 @@
 use Rattle.std.specs.Prelude.{◌≡◌, ◌≢◌, ◌⊎◌, ⊤, ℕ, true, List, Option, None, Some, IfSome}
 use Rattle.std.specs.List.{Contains, list_any}
 use Rattle.backend_core.specs.HomeLaws.{Follows}
-use Rattle.mail_message.specs.Boxes.{Content, is_deleted, message_at, relabelled}
+use Rattle.mail_message.specs.Boxes.{Content, message_at, relabelled}
 use Rattle.mail_message.specs.FlagSets.{Flags, flags_after, with_flag}
 use Rattle.mail_message.specs.declared.flag_name.FlagName.TheVariants.{System}
 use Rattle.mail_message.specs.declared.message.Message.{Message}
@@ -52,7 +52,7 @@ MayLabel it old new = ⊥
 -- by what is found at a message's UID behind a command: nothing, only where it had \Deleted and was expunged; else it with its date and its body,
 -- and with its flags, unless they are those that the command makes of them
 abbrev pub MessageGoesOn : Sess → Command → List ℕ → Content → Message → Option Message → Type 0
-MessageGoesOn session it name box message None = MayChange session it name box message.uid × Expunges it × (is_deleted message ≡ true)
+MessageGoesOn session it name box message None = MayChange session it name box message.uid × Expunges it × (message.flags.system.deleted ≡ true)
 MessageGoesOn session it name box message (Some later) =
     (later ≡ relabelled message later.flags)
     × ((later.flags ≡ message.flags) ⊎ (MayChange session it name box message.uid × MayLabel it message.flags later.flags))
