@@ -63,7 +63,7 @@ class Frames:
         del self.rest[:len(line) + 2]
         self.text += len(line)
         self.frame += line + b'\r\n'
-        literal = re.search(rb'\{(\d+)(\+?)\}$', line)
+        literal = re.search(rb'\{(\d+)(\+?)\}\Z', line)
         if not literal:
             frames.append(('whole', self.frame))
             return self.new()
@@ -549,7 +549,7 @@ class Cluster:
         out = []
         for conn in sorted(self.conns):
             given = b''.join(self.conns[conn]['given'])
-            out += ['to %d %s\n' % (conn, spelled(line)) for line in re.findall(rb'[^\n]*\n|[^\n]+$', given)]
+            out += ['to %d %s\n' % (conn, spelled(line)) for line in re.findall(rb'[^\n]*\n|[^\n]+\Z', given)]
         points = []
         for step, conn, number, done in self.marks:
             if number <= self.conns[conn]['answered']:
@@ -574,15 +574,83 @@ class Cluster:
             self.flow(int(rest[0]))
 
 
+WORDS = {b'open': 2, b'data': 2, b'hang': 1, b'deliver': 2, b'flow': 1}  # how many words follow each
+NUMBER_ENDS = {b'open': 2**64, b'data': 2**64, b'hang': 2**64, b'flow': 2**32}
+TEXT = re.compile(rb'(?:[ -\[\]-~]|\\(?:[rn\\]|x[0-9a-f]{2}))*')
+
+
+def lines_of(schedule):
+    """The lines, each with its number; the CR before an LF is no part of one."""
+    *ended, last = schedule.split(b'\n')
+    return list(enumerate([line.removesuffix(b'\r') for line in ended] + [last], 1))
+
+
+def is_event(line):
+    return line and not line.startswith(b'#')
+
+
+class Rules:
+    """The rules of a schedule, and the connections that its lines opened."""
+
+    def __init__(self, cluster):
+        self.cluster, self.opened = cluster, set()
+
+    def broken_by(self, line):
+        """The first rule that a line breaks, or None."""
+        word, *rest = line.split(b' ', 1)
+        if word not in WORDS:
+            return 1
+        words = rest[0].split(b' ', 1 if word == b'data' else -1) if rest else []
+        if len(words) != WORDS[word] or not all(words[:1] if word == b'data' else words):
+            return 2
+        number = None
+        if word in NUMBER_ENDS:
+            number = words[1 if word == b'open' else 0]
+            if not re.fullmatch(rb'[0-9]+', number) or int(number) >= NUMBER_ENDS[word]:
+                return 3
+            number = int(number)
+        return self.node_broken(word, words) or self.connection_broken(word, number) or self.text_broken(word, words)
+
+    def node_broken(self, word, words):
+        names = [name.decode('latin-1') for name in words]
+        kinds = self.cluster.kinds
+        if word == b'open' and kinds.get(names[0]) not in ('master', 'frontend') or word == b'deliver' and tuple(names) not in self.cluster.pairs:
+            return 4
+
+    def connection_broken(self, word, number):
+        if word == b'open':
+            is_broken = number in self.opened
+            self.opened.add(number)
+            return 5 if is_broken else None
+        if word in (b'data', b'hang') and number not in self.opened:
+            return 5
+
+    def text_broken(self, word, words):
+        if word == b'data' and not TEXT.fullmatch(words[1]):
+            return 7
+
+
+def refusal(config, schedule):
+    """The number of the first bad line of a schedule and the first rule that it breaks, or None."""
+    rules = Rules(Cluster(json.loads(config)))
+    for number, line in lines_of(schedule):
+        rule = rules.broken_by(line) if is_event(line) else None
+        if rule:
+            return number, rule
+
+
 def run(config, schedule):
     cluster = Cluster(json.loads(config))
-    for line in schedule.split(b'\n'):
-        line = line.removesuffix(b'\r')
-        if line and not line.startswith(b'#'):
+    for _, line in lines_of(schedule):
+        if is_event(line):
             cluster.take(line)
     return cluster.output()
 
 
 if __name__ == '__main__':
     config, schedule = (open(name, 'rb').read() for name in sys.argv[1:3])
+    refused = refusal(config, schedule)
+    if refused:
+        sys.stderr.write('murder: schedule refused: line %d rule %d\n' % refused)
+        sys.exit(3)
     sys.stdout.write(run(config, schedule))

@@ -1,0 +1,44 @@
+//! Worked cases of what no client can see of names, mailboxes, homes and sessions: `case_mail FILE ..`. It prints how many cases of each
+//! file passed, or ends with status 1 at the first one that doesn't. The first lines of each file say what its cases are.
+#![tactic(auto)]
+
+mod home;
+mod line;
+mod messages;
+mod model;
+mod names;
+mod operation;
+mod outs;
+mod session;
+mod steps;
+mod values;
+
+use anyhow::Result;
+use case_base::{Cases, Fault, tell_all};
+use mur_base::Bytes;
+use std::alloc::Global;
+use steps::put_steps;
+
+/// The kinds of cases of names, messages, mailboxes and sessions.
+struct Kinds;
+
+impl Cases for Kinds {
+    fn put(&self, alloc: Global, fields: &[&str], out: &mut Bytes) -> Result<(), Fault> {
+        match fields {
+            ["home", steps @ ..] => put_steps(alloc, &mut home::empty(alloc)?, steps, out),
+            ["session", steps @ ..] => put_steps(alloc, &mut session::empty(alloc)?, steps, out),
+            ["model", steps @ ..] => put_steps(alloc, &mut model::empty(alloc)?, steps, out),
+            ["search", keys, messages @ ..] => messages::put_found(alloc, keys, messages, out),
+            ["part", from, count, body] => messages::put_part(alloc, from, count, body, out),
+            ["name", kind, text] => names::put_fault(alloc, kind, text, out),
+            ["first access list", name] => names::put_first_acl(alloc, name, out),
+            ["pattern", pattern, text] => names::put_match(alloc, pattern, text, out),
+            [kind, text] => values::put_held(alloc, kind, text, out),
+            _ => Err(Fault::Unreadable("no such kind of case")),
+        }
+    }
+}
+
+fn main(rt: HostRuntime) -> Result<()> {
+    tell_all(&rt, &Kinds, "case_mail FILE ..")
+}
