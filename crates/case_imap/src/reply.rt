@@ -2,20 +2,18 @@
 use case_base::{Fault, bytes_of, number_of, put_field};
 use imap_reply::write;
 use mur_base::{Bytes, Items, Memory};
-use mur_model::{Attribute, Bye, Code, NoText, Reply, ReplyLine, Tag, Verdict};
+use mur_model::{Attribute, Bye, Code, NoText, Reply, ReplyLine, Tag, Verdict, refused};
 use std::alloc::Global;
 
 /// Prints the reply that tells a client of something under a tag.
 pub fn put_reply(alloc: Global, tag: &str, told: &[&str], out: &mut Bytes) -> Result<(), Fault> {
+    let reply = reply_of(alloc, told)?;
+    put_under(alloc, tag, &reply, out)
+}
+
+fn put_under(alloc: Global, tag: &str, reply: &Reply, out: &mut Bytes) -> Result<(), Fault> {
     let tag = Tag::Text(bytes_of(alloc, tag)?);
-    let reply = match verdict_of(alloc, told)? {
-        Verdict::Nothing => line_alone(alloc, line_of(alloc, told)?)?,
-        verdict => Reply {
-            lines: Items::new(alloc),
-            verdict,
-        },
-    };
-    Ok(put_written(alloc, &tag, &reply, out)?)
+    Ok(put_written(alloc, &tag, reply, out)?)
 }
 
 fn put_written(alloc: Global, tag: &Tag, reply: &Reply, out: &mut Bytes) -> Result<(), Memory> {
@@ -24,17 +22,24 @@ fn put_written(alloc: Global, tag: &Tag, reply: &Reply, out: &mut Bytes) -> Resu
     put_field(text.as_slice(), out)
 }
 
-/// The verdict that is told, if it is one.
-fn verdict_of(alloc: Global, told: &[&str]) -> Result<Verdict, Fault> {
+fn reply_of(alloc: Global, told: &[&str]) -> Result<Reply, Fault> {
     match told {
-        ["being moved"] => Ok(Verdict::No(NoText::BeingMoved)),
-        ["not reached"] => Ok(Verdict::No(NoText::NotReached)),
+        ["being moved"] => Ok(refused(alloc, NoText::BeingMoved)),
+        ["not reached"] => Ok(refused(alloc, NoText::NotReached)),
         ["copied", serial, uids, copies] => {
             let code = copied(alloc, number_of(serial)?, uids, copies)?;
-            Ok(Verdict::Ok(code, Bytes::from_slice(alloc, b"COPY")?))
+            Ok(copy_done(alloc, code)?)
         }
-        _ => Ok(Verdict::Nothing),
+        _ => Ok(line_alone(alloc, line_of(alloc, told)?)?),
     }
+}
+
+fn copy_done(alloc: Global, code: Code) -> Result<Reply, Memory> {
+    let verdict = Verdict::Ok(code, Bytes::from_slice(alloc, b"COPY")?);
+    Ok(Reply {
+        lines: Items::new(alloc),
+        verdict,
+    })
 }
 
 fn copied(alloc: Global, serial: u32, uids: &str, copies: &str) -> Result<Code, Fault> {

@@ -24,16 +24,25 @@ pub fn empty(alloc: Global) -> Result<Backend, Fault> {
 
 impl Steps for Backend {
     fn take(&mut self, alloc: Global, step: &str, out: &mut Bytes) -> Result<(), Fault> {
-        match parts_of(alloc, step, " ")?.as_slice() {
-            ["phase", name] => put_phase(self, &mail_name(alloc, name.as_bytes())?, out),
-            ["forget", name] => forget(self, &mail_name(alloc, name.as_bytes())?),
-            ["last", serial] => set_last(self, number_of(serial)?),
-            ["make", name, words @ ..] => {
-                let name = mail_name(alloc, name.as_bytes())?;
-                make_so(alloc, held_of(self, &name)?, words)
-            }
-            words => put_asked(alloc, self, words, out),
+        let words = parts_of(alloc, step, " ")?;
+        take_words(alloc, self, words.as_slice(), out)
+    }
+}
+
+fn take_words(
+    alloc: Global,
+    home: &mut Backend,
+    words: &[&str],
+    out: &mut Bytes,
+) -> Result<(), Fault> {
+    match words {
+        ["phase", name] => put_phase(home, &mail_name(alloc, name.as_bytes())?, out),
+        ["forget", name] => forget(alloc, home, &mail_name(alloc, name.as_bytes())?, out),
+        ["last", serial] => set_last(home, number_of(serial)?),
+        ["make", name, state @ ..] => {
+            make_so(alloc, home, &mail_name(alloc, name.as_bytes())?, state)
         }
+        _ => put_asked(alloc, home, words, out),
     }
 }
 
@@ -47,9 +56,16 @@ fn put_phase(home: &Backend, name: &MailName, out: &mut Bytes) -> Result<(), Fau
     })?)
 }
 
-fn forget(home: &mut Backend, name: &MailName) -> Result<(), Fault> {
+/// Takes a name away, and prints how many are left.
+fn forget(
+    alloc: Global,
+    home: &mut Backend,
+    name: &MailName,
+    out: &mut Bytes,
+) -> Result<(), Fault> {
     let _ = home.held.remove(name);
-    Ok(())
+    let left = format!(in alloc; "{} left", home.held.len())?;
+    Ok(out.extend_from_slice(left.as_bytes())?)
 }
 
 fn set_last(home: &mut Backend, serial: u32) -> Result<(), Fault> {
@@ -57,16 +73,21 @@ fn set_last(home: &mut Backend, serial: u32) -> Result<(), Fault> {
     Ok(())
 }
 
-fn held_of<'a>(home: &'a mut Backend, name: &MailName) -> Result<&'a mut Held, Fault> {
+/// Gives a name another phase, or its mailbox another UIDNEXT.
+fn make_so(
+    alloc: Global,
+    home: &mut Backend,
+    name: &MailName,
+    state: &[&str],
+) -> Result<(), Fault> {
     match home.held.get_mut(name) {
-        Some(held) => Ok(held),
+        Some(held) => make_held_so(alloc, held, state),
         None => Err(Fault::Unreadable("no such name here")),
     }
 }
 
-/// Gives a name another phase, or its mailbox another UIDNEXT.
-fn make_so(alloc: Global, held: &mut Held, words: &[&str]) -> Result<(), Fault> {
-    match words {
+fn make_held_so(alloc: Global, held: &mut Held, state: &[&str]) -> Result<(), Fault> {
+    match state {
         ["closing"] => held.phase = Phase::Closing,
         ["pointer", node] => held.phase = Phase::Pointer(node_name(alloc, node.as_bytes())?),
         ["next", uid] => held.content.apply(Change::NextUid(number_of(uid)?))?,

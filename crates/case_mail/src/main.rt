@@ -33,7 +33,8 @@ impl Cases for Kinds {
             ["name", kind, text] => names::put_fault(alloc, kind, text, out),
             ["first access list", name] => names::put_first_acl(alloc, name, out),
             ["pattern", pattern, text] => names::put_match(alloc, pattern, text, out),
-            [kind, text] => values::put_held(alloc, kind, text, out),
+            ["list", letters] => values::put_list(alloc, letters, out),
+            ["queue", letters] => values::put_queue(alloc, letters, out),
             _ => Err(Fault::Unreadable("no such kind of case")),
         }
     }

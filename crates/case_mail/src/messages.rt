@@ -1,11 +1,11 @@
 // Searches and parts of messages.
-use crate::line::command_of;
 use case_base::{Fault, bytes_of, number_of, put_field, put_value, wide_number_of};
 use mail_fetch::part;
-use mail_message::{FlagSet, Item, Key, Keys, Message, Messages, Partial, Uids, date};
+use mail_message::{
+    FlagSet, Item, Key, Keys, Message, Messages, Partial, SetEnd, SetPart, SetParts, Uids, date,
+};
 use mail_search::search;
 use mur_base::{Boxed, Bytes, Memory};
-use mur_model::Command;
 use std::alloc::Global;
 
 /// A message without flags.
@@ -50,10 +50,10 @@ struct Listed {
     messages: Messages,
 }
 
-/// Prints the UIDs of the messages that keys find.
-pub fn put_found(alloc: Global, keys: &str, fields: &[&str], out: &mut Bytes) -> Result<(), Fault> {
+/// Prints the UIDs of the messages that a key finds, or those of all for no key.
+pub fn put_found(alloc: Global, key: &str, fields: &[&str], out: &mut Bytes) -> Result<(), Fault> {
     let listed = listed_of(alloc, fields)?;
-    put_found_in(alloc, &keys_of(alloc, keys)?, &listed, out)
+    put_found_in(alloc, &keys_of(alloc, key)?, &listed, out)
 }
 
 /// The messages that fields write, each as its number, its UID and its body.
@@ -89,27 +89,32 @@ fn put_found_in(alloc: Global, keys: &Keys, listed: &Listed, out: &mut Bytes) ->
     Ok(())
 }
 
-/// The keys that a text writes, as a client spells them; or no key, or one that no client can spell.
 fn keys_of(alloc: Global, text: &str) -> Result<Keys, Fault> {
     let mut keys = Keys::new(alloc);
-    match text {
-        "" => (),
-        "()" => keys.push(Key::Group(Keys::new(alloc)))?,
-        "NOT ()" => {
-            let group = Boxed::new(alloc, Key::Group(Keys::new(alloc)))?;
-            keys.push(Key::Not(group))?;
-        }
-        "LARGER 18446744073709551615" => keys.push(Key::Larger(u64::MAX))?,
-        "SMALLER 18446744073709551615" => keys.push(Key::Smaller(u64::MAX))?,
-        _ => return spelled(alloc, text),
+    if !text.is_empty() {
+        keys.push(key_of(alloc, text)?)?;
     }
     Ok(keys)
 }
 
-fn spelled(alloc: Global, text: &str) -> Result<Keys, Fault> {
-    let line = format!(in alloc; "a SEARCH {text}")?;
-    match command_of(alloc, line.as_str())? {
-        Command::Search(_by_uid, keys) => Ok(keys),
-        _ => Err(Fault::Unreadable("no keys")),
+/// The key that a text writes, as a client spells it; an empty group too, and numbers of 64 bits, which no client can spell.
+fn key_of(alloc: Global, text: &str) -> Result<Key, Fault> {
+    let (word, number) = text.split_once(' ').unwrap_or(("", text));
+    match word {
+        "LARGER" => Ok(Key::Larger(wide_number_of(number)?)),
+        "SMALLER" => Ok(Key::Smaller(wide_number_of(number)?)),
+        "UID" => Ok(Key::Uid(set_of(alloc, number)?)),
+        "NOT" => Ok(Key::Not(Boxed::new(alloc, Key::Group(Keys::new(alloc)))?)),
+        _ if number == "()" => Ok(Key::Group(Keys::new(alloc))),
+        _ => Ok(Key::Numbers(set_of(alloc, number)?)),
     }
+}
+
+/// The set of the numbers between commas.
+fn set_of(alloc: Global, numbers: &str) -> Result<SetParts, Fault> {
+    let mut set = SetParts::new(alloc);
+    for number in numbers.split(',') {
+        set.push(SetPart::One(SetEnd::Number(number_of(number)?)))?;
+    }
+    Ok(set)
 }

@@ -2,7 +2,7 @@
 use crate::messages::message;
 use case_base::{Fault, number_of};
 use link_msg::Op;
-use mail_message::{FlagSet, Messages, Mode, Uids, flag};
+use mail_message::{FlagSet, Message, Messages, Mode, Uids, flag};
 use mur_base::Bytes;
 use std::alloc::Global;
 
@@ -28,9 +28,13 @@ pub fn op_of(alloc: Global, words: &[&str]) -> Result<Op, Fault> {
 fn messages_of(alloc: Global, count: &str) -> Result<Messages, Fault> {
     let mut messages = Messages::new(alloc);
     for _ in 0..number_of(count)? {
-        messages.push(message(alloc, 0, Bytes::from_slice(alloc, b"hi")?)?)?;
+        messages.push(hi(alloc)?)?;
     }
     Ok(messages)
+}
+
+fn hi(alloc: Global) -> Result<Message, Fault> {
+    message(alloc, 0, Bytes::from_slice(alloc, b"hi")?)
 }
 
 /// The UIDs between commas.

@@ -1,12 +1,11 @@
 //! Worked cases of what no replay shows of a run: `case_run FILE ..`. It prints how many cases of each file passed, or ends with status 1 at
 //! the first one that doesn't.
 //!
-//! The kinds of cases: `nodes` and `users` take lists of a configuration; `call` takes the words of the program, a schedule, and which calls
-//! of a host in memory fail. The first lines of each file say more.
+//! The kinds of cases: `nodes` and `users` take lists of a configuration; `call` takes the words of the program, a schedule, and what a host in
+//! memory refuses. The first lines of each file say more.
 #![tactic(auto)]
 
 mod call;
-mod fault;
 mod lists;
 
 use anyhow::Result;
@@ -22,8 +21,8 @@ impl Cases for Kinds {
         match fields {
             ["nodes", list] => lists::put_nodes(alloc, list, out),
             ["users", list] => lists::put_users(alloc, list, out),
-            ["call", words, schedule, faults] => {
-                call::put_ended(alloc, words, schedule, faults, out)
+            ["call", words, schedule, refused] => {
+                call::put_ended(alloc, words, schedule, refused, out)
             }
             _ => Err(Fault::Unreadable("no such kind of case")),
         }
