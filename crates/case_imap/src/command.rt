@@ -14,9 +14,9 @@ pub fn put_command(alloc: Global, frame: &str, out: &mut Bytes) -> Result<(), Fa
 }
 
 fn put_read(alloc: Global, frame: &[u8], out: &mut Bytes) -> Result<(), Memory> {
-    match read(alloc, frame) {
+    match &read(alloc, frame) {
         Ok(tagged) => put_again(alloc, &tagged.0, &tagged.1, out),
-        Err(ReadFault::Bad(bad)) => put_bad(alloc, &bad, out),
+        Err(ReadFault::Bad(bad)) => put_bad(alloc, bad, out),
         Err(ReadFault::Memory) => Err(Memory),
     }
 }
@@ -25,8 +25,15 @@ fn put_read(alloc: Global, frame: &[u8], out: &mut Bytes) -> Result<(), Memory> 
 fn put_again(alloc: Global, tag: &Tag, command: &Command, out: &mut Bytes) -> Result<(), Memory>
     requires { IsSpelled tag.now command.now }
 {
-    let (tag, command) = reread(alloc, tag, command)?;
-    put_field(print(alloc, &tag, &command)?.as_slice(), out)
+    let tagged = reread(alloc, tag, command)?;
+    put_printed(alloc, &tagged.0, &tagged.1, out)
+}
+
+fn put_printed(alloc: Global, tag: &Tag, command: &Command, out: &mut Bytes) -> Result<(), Memory>
+    requires { IsSpelled tag.now command.now }
+{
+    let text = print(alloc, tag, command)?;
+    put_field(text.as_slice(), out)
 }
 
 fn put_bad(alloc: Global, bad: &Bad, out: &mut Bytes) -> Result<(), Memory> {

@@ -1,16 +1,25 @@
 // The pieces of a connection, and its frames.
-use case_base::{Fault, bytes_of, put_field};
+use case_base::{Fault, bytes_of, put_field, put_value};
 use imap_wire::{Frame, FrameFault, Framer, frames};
 use mur_base::{Bytes, Items, Memory};
 use std::alloc::Global;
 
 /// Prints the frames of pieces.
 pub fn put_frames(alloc: Global, fields: &[&str], out: &mut Bytes) -> Result<(), Fault> {
+    let pieces = pieces_of(alloc, fields)?;
+    Ok(put_frames_of(alloc, pieces.as_slice(), out)?)
+}
+
+fn pieces_of(alloc: Global, fields: &[&str]) -> Result<Items<Bytes>, Fault> {
     let mut pieces = Items::new(alloc);
     for field in fields {
         pieces.push(bytes_of(alloc, field)?)?;
     }
-    for frame in frames(alloc, pieces.as_slice())?.as_slice() {
+    Ok(pieces)
+}
+
+fn put_frames_of(alloc: Global, pieces: &[Bytes], out: &mut Bytes) -> Result<(), Memory> {
+    for frame in frames(alloc, pieces)?.as_slice() {
         put_frame(alloc, frame, out)?;
     }
     Ok(())
@@ -18,21 +27,34 @@ pub fn put_frames(alloc: Global, fields: &[&str], out: &mut Bytes) -> Result<(),
 
 /// Feeds pieces one by one. Prints for each how many of its bytes were taken, and the frame that ended with them.
 pub fn put_fed(alloc: Global, fields: &[&str], out: &mut Bytes) -> Result<(), Fault> {
-    let mut framer = Framer::new(alloc);
-    for field in fields {
-        feed(alloc, &mut framer, field, out)?;
-    }
-    Ok(put_counts(alloc, &framer, out)?)
+    let pieces = pieces_of(alloc, fields)?;
+    Ok(put_each(alloc, pieces.as_slice(), out)?)
 }
 
-fn feed(alloc: Global, framer: &mut Framer, field: &str, out: &mut Bytes) -> Result<(), Fault> {
-    let piece = bytes_of(alloc, field)?;
-    let (frame, taken) = framer.feed(piece.as_slice())?;
-    put_field(format!(in alloc; "{taken}")?.as_bytes(), out)?;
-    if let Some(frame) = frame {
-        put_frame(alloc, &frame, out)?;
+fn put_each(alloc: Global, pieces: &[Bytes], out: &mut Bytes) -> Result<(), Memory> {
+    let mut framer = Framer::new(alloc);
+    for piece in pieces {
+        feed(alloc, &mut framer, piece.as_slice(), out)?;
     }
-    Ok(())
+    put_counts(alloc, &framer, out)
+}
+
+fn feed(alloc: Global, framer: &mut Framer, piece: &[u8], out: &mut Bytes) -> Result<(), Memory> {
+    let (frame, taken) = framer.feed(piece)?;
+    put_taken(alloc, &frame, taken, out)
+}
+
+fn put_taken(
+    alloc: Global,
+    frame: &Option<Frame>,
+    taken: usize,
+    out: &mut Bytes,
+) -> Result<(), Memory> {
+    put_value(alloc, &taken, out)?;
+    match frame {
+        Some(frame) => put_frame(alloc, frame, out),
+        None => Ok(()),
+    }
 }
 
 /// Prints how many bytes a framer took and copied, whether in fewer moves than bytes; and whether it takes no more.

@@ -25,9 +25,9 @@ struct Kinds;
 impl Cases for Kinds {
     fn put(&self, alloc: Global, fields: &[&str], out: &mut Bytes) -> Result<(), Fault> {
         match fields {
-            ["home", steps @ ..] => put_steps(alloc, &mut home::empty(alloc)?, steps, out),
-            ["session", steps @ ..] => put_steps(alloc, &mut session::empty(alloc)?, steps, out),
-            ["model", steps @ ..] => put_steps(alloc, &mut model::empty(alloc)?, steps, out),
+            ["home", steps @ ..] => put_steps(alloc, home::empty(alloc), steps, out),
+            ["session", steps @ ..] => put_steps(alloc, session::empty(alloc), steps, out),
+            ["model", steps @ ..] => put_steps(alloc, model::empty(alloc), steps, out),
             ["search", keys, messages @ ..] => messages::put_found(alloc, keys, messages, out),
             ["part", from, count, body] => messages::put_part(alloc, from, count, body, out),
             ["name", kind, text] => names::put_fault(alloc, kind, text, out),

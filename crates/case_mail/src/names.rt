@@ -4,17 +4,23 @@ use mail_message::{first_acl, flag};
 use mur_base::limits::NAME_LIMIT;
 use mur_base::{Bytes, Memory, mail_name, matches, node_name, user_name};
 use std::alloc::Global;
+use std::fmt::Debug;
 
 /// Prints why a text is no name of a kind: `None` if it is one.
 pub fn put_fault(alloc: Global, kind: &str, text: &str, out: &mut Bytes) -> Result<(), Fault> {
     let text = bytes_of(alloc, text)?;
+    let text = text.as_slice();
     match kind {
-        "mailbox" => Ok(put_value(alloc, &mail_name(alloc, text.as_slice()).err(), out)?),
-        "node" => Ok(put_value(alloc, &node_name(alloc, text.as_slice()).err(), out)?),
-        "user" => Ok(put_value(alloc, &user_name(alloc, text.as_slice()).err(), out)?),
-        "flag" => Ok(put_value(alloc, &flag(alloc, text.as_slice()).err(), out)?),
+        "mailbox" => put_why(alloc, &mail_name(alloc, text), out),
+        "node" => put_why(alloc, &node_name(alloc, text), out),
+        "user" => put_why(alloc, &user_name(alloc, text), out),
+        "flag" => put_why(alloc, &flag(alloc, text), out),
         _ => Err(Fault::Unreadable("no kind of name")),
     }
+}
+
+fn put_why<T, F: Debug>(alloc: Global, read: &Result<T, F>, out: &mut Bytes) -> Result<(), Fault> {
+    Ok(put_value(alloc, &read.as_ref().err(), out)?)
 }
 
 /// Prints whether a text matches a pattern.

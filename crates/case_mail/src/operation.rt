@@ -16,12 +16,14 @@ pub fn op_of(alloc: Global, words: &[&str]) -> Result<Op, Fault> {
         ["read", uids] => Ok(Op::Read(uids_of(alloc, uids)?, false)),
         ["fetch", uids] => Ok(Op::Read(uids_of(alloc, uids)?, true)),
         ["expunge"] => Ok(Op::Expunge(None)),
-        ["flag", uids, name] => {
-            let uids = uids_of(alloc, uids)?;
-            Ok(Op::Flags(uids, Mode::Add, flags_of(alloc, name)?))
-        }
+        ["flag", uids, name] => flag_op(alloc, uids, name),
         _ => Err(Fault::Unreadable("no operation")),
     }
+}
+
+fn flag_op(alloc: Global, uids: &str, name: &str) -> Result<Op, Fault> {
+    let uids = uids_of(alloc, uids)?;
+    Ok(Op::Flags(uids, Mode::Add, flags_of(alloc, name)?))
 }
 
 /// So many messages of two bytes without flags.

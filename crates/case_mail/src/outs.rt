@@ -1,7 +1,7 @@
 // What a home puts out, in words.
 use link_msg::{AnswerBody, LinkMsg, Out, Outcome};
 use mail_fetch::flags_part;
-use mail_message::{FlagSet, Snapshot};
+use mail_message::{FlagSet, Message, Row, Snapshot};
 use mur_base::{Bytes, Memory};
 use std::alloc::Global;
 
@@ -44,38 +44,43 @@ fn put_outcome(alloc: Global, outcome: &Outcome, text: &mut Bytes) -> Result<(),
         Outcome::Exists => text.extend_from_slice(b" exists"),
         Outcome::Limit => text.extend_from_slice(b" limit"),
         Outcome::Gone => text.extend_from_slice(b" gone"),
-        Outcome::Uids(uids) => {
-            text.extend_from_slice(b" uids")?;
-            for uid in uids.as_slice() {
-                text.extend_from_slice(format!(in alloc; " {uid}")?.as_bytes())?;
-            }
-            Ok(())
-        }
-        Outcome::Messages(messages) => {
-            text.extend_from_slice(b" messages")?;
-            for message in messages.as_slice() {
-                put_row(alloc, message.uid, &message.flags, text)?;
-            }
-            Ok(())
-        }
+        Outcome::Uids(uids) => put_uids(alloc, uids.as_slice(), text),
+        Outcome::Messages(messages) => put_messages(alloc, messages.as_slice(), text),
         Outcome::Rows(rows) => {
             text.extend_from_slice(b" rows")?;
-            for row in rows.as_slice() {
-                put_row(alloc, row.uid, &row.flags, text)?;
-            }
-            Ok(())
+            put_rows(alloc, rows.as_slice(), text)
         }
     }
+}
+
+fn put_uids(alloc: Global, uids: &[u32], text: &mut Bytes) -> Result<(), Memory> {
+    text.extend_from_slice(b" uids")?;
+    for uid in uids {
+        text.extend_from_slice(format!(in alloc; " {uid}")?.as_bytes())?;
+    }
+    Ok(())
+}
+
+fn put_messages(alloc: Global, messages: &[Message], text: &mut Bytes) -> Result<(), Memory> {
+    text.extend_from_slice(b" messages")?;
+    for message in messages {
+        put_row(alloc, message.uid, &message.flags, text)?;
+    }
+    Ok(())
+}
+
+fn put_rows(alloc: Global, rows: &[Row], text: &mut Bytes) -> Result<(), Memory> {
+    for row in rows {
+        put_row(alloc, row.uid, &row.flags, text)?;
+    }
+    Ok(())
 }
 
 /// Prints UIDVALIDITY, UIDNEXT, the bytes of all bodies, and the rows.
 fn put_snapshot(alloc: Global, seen: &Snapshot, text: &mut Bytes) -> Result<(), Memory> {
     let front = format!(in alloc; " seen {} {} {}", seen.serial, seen.next, seen.size)?;
     text.extend_from_slice(front.as_bytes())?;
-    for row in seen.rows.as_slice() {
-        put_row(alloc, row.uid, &row.flags, text)?;
-    }
-    Ok(())
+    put_rows(alloc, seen.rows.as_slice(), text)
 }
 
 /// Prints a UID and its flags.

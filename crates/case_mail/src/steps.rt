@@ -10,21 +10,32 @@ pub trait Steps {
 }
 
 /// Takes steps, and prints a field for each: `-` for one that prints nothing.
-pub fn put_steps<S: Steps>(
+pub fn put_steps<S: Steps + Drop>(
     alloc: Global,
-    state: &mut S,
+    start: Result<S, Fault>,
     steps: &[&str],
     out: &mut Bytes,
 ) -> Result<(), Fault> {
+    let mut state = start?;
     for step in steps {
-        if !out.is_empty() {
-            out.extend_from_slice(b" | ")?;
-        }
-        let before = out.len();
-        state.take(alloc, step, out)?;
-        if out.len() == before {
-            out.push(b'-')?;
-        }
+        put_step(alloc, &mut state, step, out)?;
+    }
+    Ok(())
+}
+
+fn put_step<S: Steps>(
+    alloc: Global,
+    state: &mut S,
+    step: &str,
+    out: &mut Bytes,
+) -> Result<(), Fault> {
+    if !out.is_empty() {
+        out.extend_from_slice(b" | ")?;
+    }
+    let before = out.len();
+    state.take(alloc, step, out)?;
+    if out.len() == before {
+        out.push(b'-')?;
     }
     Ok(())
 }
