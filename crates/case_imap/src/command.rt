@@ -14,9 +14,9 @@ pub fn put_command(alloc: Global, frame: &str, out: &mut Bytes) -> Result<(), Fa
 }
 
 fn put_read(alloc: Global, frame: &[u8], out: &mut Bytes) -> Result<(), Memory> {
-    match &read(alloc, frame) {
+    match read(alloc, frame) {
         Ok(tagged) => put_again(alloc, &tagged.0, &tagged.1, out),
-        Err(ReadFault::Bad(bad)) => put_bad(alloc, bad, out),
+        Err(ReadFault::Bad(bad)) => put_bad(alloc, &bad, out),
         Err(ReadFault::Memory) => Err(Memory),
     }
 }

@@ -146,7 +146,10 @@ fn answer_to(
 
 fn body_of(out: Out) -> Option<AnswerBody> {
     match out {
-        Out::Link(_to, LinkMsg::Answer(answer)) => Some(answer.body),
+        Out::Link(_to, message) => match message {
+            LinkMsg::Answer(answer) => Some(answer.body),
+            _ => None,
+        },
         _ => None,
     }
 }
