@@ -63,7 +63,7 @@ class Frames:
         del self.rest[:len(line) + 2]
         self.text += len(line)
         self.frame += line + b'\r\n'
-        literal = re.search(rb'\{(\d+)(\+?)\}$', line)
+        literal = re.search(rb'\{(\d+)(\+?)\}\Z', line)
         if not literal:
             frames.append(('whole', self.frame))
             return self.new()
@@ -549,7 +549,7 @@ class Cluster:
         out = []
         for conn in sorted(self.conns):
             given = b''.join(self.conns[conn]['given'])
-            out += ['to %d %s\n' % (conn, spelled(line)) for line in re.findall(rb'[^\n]*\n|[^\n]+$', given)]
+            out += ['to %d %s\n' % (conn, spelled(line)) for line in re.findall(rb'[^\n]*\n|[^\n]+\Z', given)]
         points = []
         for step, conn, number, done in self.marks:
             if number <= self.conns[conn]['answered']:
