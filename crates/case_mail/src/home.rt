@@ -1,7 +1,7 @@
 // Steps of a home of mailboxes.
 use crate::operation::op_of;
 use crate::outs::put_outs;
-use crate::steps::Steps;
+use crate::steps::{Steps, put_steps};
 use backend_core::{BackInput, Backend, Held};
 use case_base::{Fault, number_of, parts_of};
 use link_msg::{FrontAsk, Op, Outs};
@@ -14,6 +14,11 @@ const ID: AskId = AskId {
     conn: 7,
     command: 2,
 };
+
+/// Takes steps of a home that begins without mailboxes, and prints what each gives.
+pub fn put(alloc: Global, steps: &[&str], out: &mut Bytes) -> Result<(), Fault> {
+    put_steps(alloc, empty(alloc), steps, out)
+}
 
 /// A home without mailboxes.
 pub fn empty(alloc: Global) -> Result<Backend, Fault> {
@@ -36,13 +41,29 @@ fn take_words(
     out: &mut Bytes,
 ) -> Result<(), Fault> {
     match words {
-        ["phase", name] => put_phase(home, &mail_name(alloc, name.as_bytes())?, out),
-        ["forget", name] => forget(alloc, home, &mail_name(alloc, name.as_bytes())?, out),
         ["last", serial] => set_last(home, number_of(serial)?),
-        ["make", name, state @ ..] => {
-            make_so(alloc, home, &mail_name(alloc, name.as_bytes())?, state)
+        ["name", name, what @ ..] => {
+            take_name(alloc, home, &mail_name(alloc, name.as_bytes())?, what, out)
         }
         _ => put_asked(alloc, home, words, out),
+    }
+}
+
+/// Prints the phase of a name, takes the name away, or gives it another state.
+fn take_name(
+    alloc: Global,
+    home: &mut Backend,
+    name: &MailName,
+    what: &[&str],
+    out: &mut Bytes,
+) -> Result<(), Fault> {
+    match what {
+        ["phase"] => put_phase(home, name, out),
+        ["gone"] => forget(alloc, home, name, out),
+        state => match home.held.get_mut(name) {
+            Some(held) => make_so(alloc, held, state),
+            None => Err(Fault::Unreadable("no such name here")),
+        },
     }
 }
 
@@ -74,19 +95,7 @@ fn set_last(home: &mut Backend, serial: u32) -> Result<(), Fault> {
 }
 
 /// Gives a name another phase, or its mailbox another UIDNEXT.
-fn make_so(
-    alloc: Global,
-    home: &mut Backend,
-    name: &MailName,
-    state: &[&str],
-) -> Result<(), Fault> {
-    match home.held.get_mut(name) {
-        Some(held) => make_held_so(alloc, held, state),
-        None => Err(Fault::Unreadable("no such name here")),
-    }
-}
-
-fn make_held_so(alloc: Global, held: &mut Held, state: &[&str]) -> Result<(), Fault> {
+fn make_so(alloc: Global, held: &mut Held, state: &[&str]) -> Result<(), Fault> {
     match state {
         ["closing"] => held.phase = Phase::Closing,
         ["pointer", node] => held.phase = Phase::Pointer(node_name(alloc, node.as_bytes())?),

@@ -17,7 +17,6 @@ use anyhow::Result;
 use case_base::{Cases, Fault, tell_all};
 use mur_base::Bytes;
 use std::alloc::Global;
-use steps::put_steps;
 
 /// The kinds of cases of names, messages, mailboxes and sessions.
 struct Kinds;
@@ -25,9 +24,9 @@ struct Kinds;
 impl Cases for Kinds {
     fn put(&self, alloc: Global, fields: &[&str], out: &mut Bytes) -> Result<(), Fault> {
         match fields {
-            ["home", steps @ ..] => put_steps(alloc, home::empty(alloc), steps, out),
-            ["session", steps @ ..] => put_steps(alloc, session::empty(alloc), steps, out),
-            ["model", steps @ ..] => put_steps(alloc, model::empty(alloc), steps, out),
+            ["home", steps @ ..] => home::put(alloc, steps, out),
+            ["session", steps @ ..] => session::put(alloc, steps, out),
+            ["model", steps @ ..] => model::put(alloc, steps, out),
             ["search", keys, messages @ ..] => messages::put_found(alloc, keys, messages, out),
             ["part", from, count, body] => messages::put_part(alloc, from, count, body, out),
             ["name", kind, text] => names::put_fault(alloc, kind, text, out),

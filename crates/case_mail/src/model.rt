@@ -1,6 +1,6 @@
 // The store of the model: what its one session is told.
 use crate::line::{command_of, put_reply};
-use crate::steps::Steps;
+use crate::steps::{Steps, put_steps};
 use case_base::Fault;
 use mail_message::date;
 use mur_base::{Bytes, Items, Map, Memory, User, Users, user_name};
@@ -15,8 +15,13 @@ pub struct Model {
     session: Sess,
 }
 
+/// Takes lines of a session in which nobody has logged in, over a store without mailboxes, and prints each reply.
+pub fn put(alloc: Global, steps: &[&str], out: &mut Bytes) -> Result<(), Fault> {
+    put_steps(alloc, empty(alloc), steps, out)
+}
+
 /// A store without mailboxes, and a session in which nobody has logged in.
-pub fn empty(alloc: Global) -> Result<Model, Fault> {
+fn empty(alloc: Global) -> Result<Model, Fault> {
     let setting = setting(alloc)?;
     let store = Store {
         boxes: Map::new(alloc),

@@ -2,7 +2,7 @@
 use crate::home;
 use crate::line::{command_of, put_reply};
 use crate::model::setting;
-use crate::steps::Steps;
+use crate::steps::{Steps, put_steps};
 use backend_core::{BackInput, Backend};
 use case_base::Fault;
 use link_msg::{AnswerBody, LinkMsg, Out};
@@ -31,8 +31,13 @@ pub struct Stage {
     has_left: bool,
 }
 
+/// Takes steps of a session in which nobody has logged in, over a home without mailboxes, and prints what each gives.
+pub fn put(alloc: Global, steps: &[&str], out: &mut Bytes) -> Result<(), Fault> {
+    put_steps(alloc, empty(alloc), steps, out)
+}
+
 /// A session in which nobody has logged in, over a home without mailboxes.
-pub fn empty(alloc: Global) -> Result<Stage, Fault> {
+fn empty(alloc: Global) -> Result<Stage, Fault> {
     let setting = setting(alloc)?;
     Ok(Stage {
         setting,
