@@ -1,9 +1,7 @@
-// Searches and parts of messages.
-use case_base::{Fault, bytes_of, number_of, put_field, put_value, wide_number_of};
+// Searches and parts of messages, for keys and numbers that no client can spell.
+use case_base::{Fault, put_field, put_value, wide_number_of};
 use mail_fetch::part;
-use mail_message::{
-    FlagSet, Item, Key, Keys, Message, Messages, Partial, SetEnd, SetPart, SetParts, Uids, date,
-};
+use mail_message::{FlagSet, Item, Key, Keys, Message, Messages, Partial, Uids, date};
 use mail_search::search;
 use mur_base::{Boxed, Bytes, Memory};
 use std::alloc::Global;
@@ -21,16 +19,15 @@ pub fn message(alloc: Global, uid: u32, body: Bytes) -> Result<Message, Fault> {
     }
 }
 
-/// Prints a part of the body of a message: so many bytes from a place on.
-pub fn put_part(
-    alloc: Global,
-    from: &str,
-    count: &str,
-    body: &str,
-    out: &mut Bytes,
-) -> Result<(), Fault> {
+/// The message of UID 5 and five bytes.
+fn hello(alloc: Global) -> Result<Message, Fault> {
+    message(alloc, 5, Bytes::from_slice(alloc, b"hello")?)
+}
+
+/// Prints a part of the body `hello`: so many bytes from a place on.
+pub fn put_part(alloc: Global, from: &str, count: &str, out: &mut Bytes) -> Result<(), Fault> {
     let item = Item::BodyPeek(Partial::new(wide_number_of(from)?, wide_number_of(count)?));
-    let message = message(alloc, 1, bytes_of(alloc, body)?)?;
+    let message = hello(alloc)?;
     Ok(put_part_of(alloc, &item, &message, out)?)
 }
 
@@ -43,50 +40,31 @@ fn put_part_of(
     put_field(part(alloc, item, message)?.as_slice(), out)
 }
 
-/// Messages, and the number of each.
-#[derive(Drop)]
-struct Listed {
-    numbers: Uids,
-    messages: Messages,
+/// Prints the UIDs of the messages that a key, or no key, finds in a view of one message: number 1, UID 5, five bytes.
+pub fn put_found(alloc: Global, key: &str, out: &mut Bytes) -> Result<(), Fault> {
+    let keys = keys_of(alloc, key)?;
+    put_found_by(alloc, &keys, out)
 }
 
-/// Prints the UIDs of the messages that a key finds, or those of all for no key.
-pub fn put_found(alloc: Global, key: &str, fields: &[&str], out: &mut Bytes) -> Result<(), Fault> {
-    let listed = listed_of(alloc, fields)?;
-    put_found_in(alloc, &keys_of(alloc, key)?, &listed, out)
+fn put_found_by(alloc: Global, keys: &Keys, out: &mut Bytes) -> Result<(), Fault> {
+    let mut messages = Messages::new(alloc);
+    messages.push(hello(alloc)?)?;
+    put_found_in(alloc, keys, &messages, out)
 }
 
-/// The messages that fields write, each as its number, its UID and its body.
-fn listed_of(alloc: Global, fields: &[&str]) -> Result<Listed, Fault> {
-    let mut listed = Listed {
-        numbers: Uids::new(alloc),
-        messages: Messages::new(alloc),
-    };
-    for field in fields {
-        listed.push(alloc, field)?;
-    }
-    Ok(listed)
-}
-
-impl Listed {
-    fn push(&mut self, alloc: Global, field: &str) -> Result<(), Fault> {
-        let (number, rest) = field.split_once(' ').unwrap_or((field, ""));
-        let (uid, body) = rest.split_once(' ').unwrap_or((rest, ""));
-        self.numbers.push(number_of(number)?)?;
-        let message = message(alloc, number_of(uid)?, bytes_of(alloc, body)?)?;
-        Ok(self.messages.push(message)?)
-    }
-}
-
-fn put_found_in(alloc: Global, keys: &Keys, listed: &Listed, out: &mut Bytes) -> Result<(), Fault> {
-    let (numbers, messages) = (&listed.numbers, &listed.messages);
+fn put_found_in(
+    alloc: Global,
+    keys: &Keys,
+    messages: &Messages,
+    out: &mut Bytes,
+) -> Result<(), Fault> {
+    let mut numbers = Uids::new(alloc);
+    numbers.push(1)?;
     if numbers.len() != messages.len() {
         return Err(Fault::Unreadable("a message without a number"));
     }
-    for uid in search(alloc, keys, messages, numbers)?.as_slice() {
-        put_value(alloc, uid, out)?;
-    }
-    Ok(())
+    let found = search(alloc, keys, messages, &numbers)?;
+    Ok(put_value(alloc, &found.as_slice(), out)?)
 }
 
 fn keys_of(alloc: Global, text: &str) -> Result<Keys, Fault> {
@@ -97,24 +75,12 @@ fn keys_of(alloc: Global, text: &str) -> Result<Keys, Fault> {
     Ok(keys)
 }
 
-/// The key that a text writes, as a client spells it; an empty group too, and numbers of 64 bits, which no client can spell.
+/// The key that a text writes: an empty group, or a size of 64 bits.
 fn key_of(alloc: Global, text: &str) -> Result<Key, Fault> {
-    let (word, number) = text.split_once(' ').unwrap_or(("", text));
-    match word {
-        "LARGER" => Ok(Key::Larger(wide_number_of(number)?)),
-        "SMALLER" => Ok(Key::Smaller(wide_number_of(number)?)),
-        "UID" => Ok(Key::Uid(set_of(alloc, number)?)),
-        "NOT" => Ok(Key::Not(Boxed::new(alloc, Key::Group(Keys::new(alloc)))?)),
-        _ if number == "()" => Ok(Key::Group(Keys::new(alloc))),
-        _ => Ok(Key::Numbers(set_of(alloc, number)?)),
+    match text.split_once(' ') {
+        None => Ok(Key::Group(Keys::new(alloc))),
+        Some(("LARGER", size)) => Ok(Key::Larger(wide_number_of(size)?)),
+        Some(("SMALLER", size)) => Ok(Key::Smaller(wide_number_of(size)?)),
+        Some(_) => Ok(Key::Not(Boxed::new(alloc, Key::Group(Keys::new(alloc)))?)),
     }
-}
-
-/// The set of the numbers between commas.
-fn set_of(alloc: Global, numbers: &str) -> Result<SetParts, Fault> {
-    let mut set = SetParts::new(alloc);
-    for number in numbers.split(',') {
-        set.push(SetPart::One(SetEnd::Number(number_of(number)?)))?;
-    }
-    Ok(set)
 }

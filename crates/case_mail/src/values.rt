@@ -6,16 +6,14 @@ use std::alloc::Global;
 /// Prints the first and the second letter of a list.
 pub fn put_list(alloc: Global, letters: &str, out: &mut Bytes) -> Result<(), Fault> {
     let list = Items::from_slice(alloc, letters.as_bytes())?;
-    put_value(alloc, &list.get(0), out)?;
-    Ok(put_value(alloc, &list.get(1), out)?)
+    Ok(put_value(alloc, &(list.get(0), list.get(1)), out)?)
 }
 
-/// Prints how many letters a queue has, the first one, and the one that is taken out.
+/// Prints how many letters a queue has, and the first one.
 pub fn put_queue(alloc: Global, letters: &str, out: &mut Bytes) -> Result<(), Fault> {
     let mut queue = Queue::new(alloc);
     for letter in letters.as_bytes() {
         queue.push(*letter)?;
     }
-    put_value(alloc, &(queue.len(), queue.first()), out)?;
-    Ok(put_value(alloc, &queue.pop(), out)?)
+    Ok(put_value(alloc, &(queue.len(), queue.first()), out)?)
 }
