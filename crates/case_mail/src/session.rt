@@ -68,7 +68,19 @@ impl Stage {
         course: Course,
         out: &mut Bytes,
     ) -> Result<(), Fault> {
-        let need = self.need_of(alloc, command_of(alloc, line)?, course)?;
+        let command = command_of(alloc, line)?;
+        self.put_for(alloc, line, command, course, out)
+    }
+
+    fn put_for(
+        &mut self,
+        alloc: Global,
+        line: &str,
+        command: Command,
+        course: Course,
+        out: &mut Bytes,
+    ) -> Result<(), Fault> {
+        let need = self.need_of(alloc, command, course)?;
         self.put_need(alloc, line, &need, out)
     }
 

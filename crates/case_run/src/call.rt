@@ -27,7 +27,7 @@ fn put_over(
     out: &mut Bytes,
 ) -> Result<(), Fault> {
     let mut host = host_of(alloc, sources, refused)?;
-    Ok(put_called(alloc, words, &mut host, out)?)
+    put_called(alloc, words, &mut host, out)
 }
 
 fn put_called(
@@ -35,11 +35,11 @@ fn put_called(
     words: &str,
     host: &mut MemHost,
     out: &mut Bytes,
-) -> Result<(), Memory> {
+) -> Result<(), Fault> {
     put_status(alloc, words, host, out)?;
     put_field(host.error_output(), out)?;
     put_field(host.output(), out)?;
-    put_value(alloc, &host.held, out)
+    Ok(put_value(alloc, &host.held, out)?)
 }
 
 fn put_status(
