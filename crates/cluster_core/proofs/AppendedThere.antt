@@ -16,9 +16,9 @@ use Rattle.mur_base.specs.Inbox.{taken_name}
 use Rattle.mur_base.specs.Names.{mail_name_fault}
 use Rattle.mur_base.specs.declared.name.NameFault.{NameFault}
 use Rattle.mur_base.proofs.MapLaws.{names_apart, value_at-with_value}
-use Rattle.mur_model.specs.declared.command.Command.TheVariants.{Append as append_command}
-use Rattle.mur_model.specs.declared.reply.Code.{Code}
-use Rattle.mur_model.specs.declared.reply.Verdict.TheVariants.{Ok as ok_reply}
+use Rattle.imap_types.specs.declared.command.Command.TheVariants.{Append as append_command}
+use Rattle.imap_types.specs.declared.reply.Code.{Code}
+use Rattle.imap_types.specs.declared.reply.Verdict.TheVariants.{Ok as ok_reply}
 use Rattle.mur_model.specs.declared.session.Sess.{Sess}
 use Rattle.mur_model.specs.declared.session.Sess.TheVariants.{Off, In, Selected as selected, Ended}
 use Rattle.mur_model.specs.declared.setting.Setting.{Setting}

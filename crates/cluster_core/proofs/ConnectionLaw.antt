@@ -19,13 +19,13 @@ use Rattle.cluster_core.proofs.Readings.{FaultsLast}
 use Rattle.link_msg.specs.declared.answer.AnswerBody.{AnswerBody}
 use Rattle.link_msg.specs.declared.answer.BackAnswer.{BackAnswer}
 use Rattle.link_msg.specs.declared.ask.FrontAsk.{FrontAsk}
-use Rattle.mur_model.specs.declared.command.Command.{Command}
-use Rattle.mur_model.specs.declared.command.Tag.{Tag}
+use Rattle.imap_types.specs.declared.command.Command.{Command}
+use Rattle.imap_types.specs.declared.command.Tag.{Tag}
 use Rattle.mur_model.specs.declared.need.Need.TheVariants.{Mailbox}
 use Rattle.mur_model.specs.declared.need.Work.{Work}
-use Rattle.mur_model.specs.declared.request.Answer.{Answer}
-use Rattle.mur_model.specs.declared.request.Request.{Request}
-use Rattle.mur_model.specs.declared.request.Request.TheVariants.{Command as a_command}
+use Rattle.imap_types.specs.declared.request.Answer.{Answer}
+use Rattle.imap_types.specs.declared.request.Request.{Request}
+use Rattle.imap_types.specs.declared.request.Request.TheVariants.{Command as a_command}
 use Rattle.mur_model.specs.declared.session.Sess.{Sess}
 use Rattle.mur_model.specs.declared.session.Turn.{Turn}
 use Rattle.mur_model.specs.declared.setting.Setting.{Setting}

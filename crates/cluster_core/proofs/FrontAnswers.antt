@@ -3,17 +3,17 @@
 use Rattle.std.proofs.Common.{◌≡◌, ℕ, true, false, List, Option, None, Some, refl, sym, ◌∙◌, ap}
 use Rattle.front_core.specs.declared.connection.Connection.{Connection}
 use Rattle.front_core.specs.Taken.{answers, answers_last, asks, begun_in, need_in, request_in}
-use Rattle.mur_model.specs.declared.command.Command.{Command}
-use Rattle.mur_model.specs.declared.command.Tag.{Tag}
+use Rattle.imap_types.specs.declared.command.Command.{Command}
+use Rattle.imap_types.specs.declared.command.Tag.{Tag}
 use Rattle.mur_model.specs.declared.need.Need.{Need}
 use Rattle.mur_model.specs.declared.need.Need.TheVariants.{Refusal, Turned as turned_at_once, Mailbox}
 use Rattle.mur_model.specs.declared.need.Work.{Work}
-use Rattle.mur_model.specs.declared.reply.BadText.TheVariants.{Syntax}
-use Rattle.mur_model.specs.declared.reply.NoText.TheVariants.{Limit}
-use Rattle.mur_model.specs.declared.reply.Reply.{Reply}
-use Rattle.mur_model.specs.declared.reply.Verdict.TheVariants.{Bad as bad_reply}
-use Rattle.mur_model.specs.declared.request.Request.{Request}
-use Rattle.mur_model.specs.declared.request.Request.TheVariants.{Command as a_command, Unknown as unknown, TooBig as too_big}
+use Rattle.imap_types.specs.declared.reply.BadText.TheVariants.{Syntax}
+use Rattle.imap_types.specs.declared.reply.NoText.TheVariants.{Limit}
+use Rattle.imap_types.specs.declared.reply.Reply.{Reply}
+use Rattle.imap_types.specs.declared.reply.Verdict.TheVariants.{Bad as bad_reply}
+use Rattle.imap_types.specs.declared.request.Request.{Request}
+use Rattle.imap_types.specs.declared.request.Request.TheVariants.{Command as a_command, Unknown as unknown, TooBig as too_big}
 use Rattle.mur_model.specs.declared.session.Sess.{Sess}
 use Rattle.mur_model.specs.declared.session.Sess.TheVariants.{Off, In, Selected, Ended as session_ended}
 use Rattle.mur_model.specs.declared.setting.Setting.{Setting}
@@ -23,7 +23,7 @@ use Rattle.mur_model.specs.Answer.{answer_of, MayTake}
 use Rattle.imap_reply.specs.SessionEnds.{has_ended, TurnEnds}
 use Rattle.imap_reply.specs.Transcript.{ends}
 use Rattle.imap_reply.proofs.AnswersEnd.{turned_ends}
-use Rattle.mur_model.specs.Reply.{reply_of, refused}
+use Rattle.imap_types.specs.Reply.{reply_of, refused}
 use Rattle.session_core.specs.Asking.{asked_for}
 use Rattle.session_core.specs.Need.{begun_by, told}
 

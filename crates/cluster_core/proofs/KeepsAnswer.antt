@@ -17,17 +17,17 @@ use Rattle.imap_reply.proofs.AnswersEnd.{ended_by}
 use Rattle.imap_reply.proofs.TranscriptGrows.{AreAnswered, request_answered, end_told}
 use Rattle.imap_reply.specs.declared.inputs.Input.{Input}
 use Rattle.imap_reply.specs.declared.inputs.Input.TheVariants.{Asks}
-use Rattle.mur_model.specs.declared.request.Request.{Request}
+use Rattle.imap_types.specs.declared.request.Request.{Request}
 use Rattle.imap_reply.specs.Inputs.{requests_in}
 use Rattle.cluster_core.proofs.Readings.{FaultsLast}
 use Rattle.link_msg.specs.declared.answer.AnswerBody.{AnswerBody}
 use Rattle.link_msg.specs.declared.answer.BackAnswer.{BackAnswer}
 use Rattle.link_msg.specs.declared.out.Out.TheVariants.{Client as to_client}
 use Rattle.mur_base.proofs.MapLaws.{numbers_apart, value_at-with_value}
-use Rattle.mur_model.specs.declared.command.Tag.{Tag}
+use Rattle.imap_types.specs.declared.command.Tag.{Tag}
 use Rattle.mur_model.specs.declared.need.Work.{Work}
-use Rattle.mur_model.specs.declared.reply.Reply.{Reply}
-use Rattle.mur_model.specs.declared.request.Answer.{Answer as AnswerOf}
+use Rattle.imap_types.specs.declared.reply.Reply.{Reply}
+use Rattle.imap_types.specs.declared.request.Answer.{Answer as AnswerOf}
 use Rattle.mur_model.specs.declared.session.Sess.{Sess}
 use Rattle.mur_model.specs.declared.session.Sess.TheVariants.{Off, In, Selected, Ended as session_ended}
 use Rattle.mur_model.specs.declared.session.Turn.{Turn}

@@ -27,14 +27,14 @@ use Rattle.imap_wire.specs.Frames.{begun}
 use Rattle.imap_wire.proofs.FeedLaws.{frames-ended, begun-ended}
 use Rattle.mur_base.proofs.MapLaws.{names_apart}
 use Rattle.mur_config.specs.declared.config.Config.{Config}
-use Rattle.mur_model.specs.declared.command.Command.{Command}
-use Rattle.mur_model.specs.declared.command.Tag.{Tag}
+use Rattle.imap_types.specs.declared.command.Command.{Command}
+use Rattle.imap_types.specs.declared.command.Tag.{Tag}
 use Rattle.mur_model.specs.declared.need.Need.TheVariants.{Mailbox}
 use Rattle.mur_model.specs.declared.need.Work.{Work}
-use Rattle.mur_model.specs.declared.request.Answer.{Answer}
-use Rattle.mur_model.specs.declared.request.Request.TheVariants.{Command as a_command}
+use Rattle.imap_types.specs.declared.request.Answer.{Answer}
+use Rattle.imap_types.specs.declared.request.Request.TheVariants.{Command as a_command}
 use Rattle.mur_model.specs.Act.{need_of}
-use Rattle.mur_model.specs.declared.request.Request.{Request}
+use Rattle.imap_types.specs.declared.request.Request.{Request}
 use Rattle.mur_model.specs.declared.setting.Setting.{Setting}
 use Rattle.mur_model.specs.History.{GoesOn}
 use Rattle.mur_model.proofs.HistoryGrows.{same_lists, talks_follow}

@@ -21,10 +21,10 @@ use Rattle.link_msg.specs.declared.message.LinkMsg.{LinkMsg}
 use Rattle.link_msg.specs.declared.message.LinkMsg.TheVariants.{Up, End, Line, Ask, Answer}
 use Rattle.mur_base.proofs.MapLaws.{names_apart}
 use Rattle.mur_config.specs.declared.config.Config.{Config}
-use Rattle.mur_model.specs.declared.command.Tag.{Tag}
+use Rattle.imap_types.specs.declared.command.Tag.{Tag}
 use Rattle.mur_model.specs.declared.need.Work.{Work}
-use Rattle.mur_model.specs.declared.request.Answer.{Answer as AnswerOf}
-use Rattle.mur_model.specs.declared.request.Request.TheVariants.{Command as a_command}
+use Rattle.imap_types.specs.declared.request.Answer.{Answer as AnswerOf}
+use Rattle.imap_types.specs.declared.request.Request.TheVariants.{Command as a_command}
 use Rattle.mur_model.specs.Act.{need_of, session_after}
 use Rattle.mur_model.specs.History.{numbered}
 use Rattle.mur_model.proofs.Numbered.{with_item, with_item-same}

@@ -15,8 +15,8 @@ use Rattle.imap_reply.specs.declared.inputs.Input.TheVariants.{Asks}
 use Rattle.imap_wire.specs.Frames.{begun}
 use Rattle.mur_base.specs.Map.{with_value}
 use Rattle.mur_config.specs.declared.config.Config.{Config}
-use Rattle.mur_model.specs.declared.request.Answer.{Answer}
-use Rattle.mur_model.specs.declared.request.Request.TheVariants.{Command as a_command}
+use Rattle.imap_types.specs.declared.request.Answer.{Answer}
+use Rattle.imap_types.specs.declared.request.Request.TheVariants.{Command as a_command}
 use Rattle.mur_model.specs.declared.session.Sess.{Sess}
 use Rattle.mur_model.specs.declared.setting.Setting.{Setting}
 use Rattle.mur_model.specs.Act.{need_of}

@@ -8,7 +8,7 @@ use Rattle.imap_reply.specs.declared.inputs.Input.{Input}
 use Rattle.imap_reply.specs.declared.inputs.Input.TheVariants.{GoesOn, Asks, Faults}
 use Rattle.imap_reply.proofs.TranscriptGrows.{AreAnswered}
 use Rattle.front_core.specs.declared.connection.Connection.{Connection}
-use Rattle.mur_model.specs.declared.request.Answer.{Answer}
+use Rattle.imap_types.specs.declared.request.Answer.{Answer}
 use Rattle.mur_model.specs.declared.session.Sess.{Sess}
 use Rattle.mur_model.specs.declared.setting.Setting.{Setting}
 use Rattle.cluster_core.specs.Ending.{EndsOnlyLast}

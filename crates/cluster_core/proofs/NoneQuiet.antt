@@ -25,9 +25,9 @@ use Rattle.link_msg.specs.declared.message.LinkMsg.TheVariants.{Up, End, Line, A
 use Rattle.link_msg.specs.declared.out.Out.{Out}
 use Rattle.link_msg.specs.declared.out.Out.TheVariants.{Client as to_client, Close, Link as to_node, Mark as mark}
 use Rattle.mur_base.specs.declared.point.AskId.{AskId}
-use Rattle.mur_model.specs.declared.command.Tag.{Tag}
-use Rattle.mur_model.specs.declared.request.Request.{Request}
-use Rattle.mur_model.specs.declared.request.Request.TheVariants.{Command as a_command, Unknown as unknown, TooBig as too_big}
+use Rattle.imap_types.specs.declared.command.Tag.{Tag}
+use Rattle.imap_types.specs.declared.request.Request.{Request}
+use Rattle.imap_types.specs.declared.request.Request.TheVariants.{Command as a_command, Unknown as unknown, TooBig as too_big}
 use Rattle.mur_model.specs.declared.setting.Setting.{Setting}
 use Rattle.session_core.specs.declared.need.Need.{Need}
 use Rattle.session_core.specs.declared.need.Need.TheVariants as needs

@@ -14,10 +14,10 @@ use Rattle.imap_reply.specs.declared.inputs.Input.TheVariants.{GoesOn, Asks, Fau
 use Rattle.link_msg.specs.declared.answer.BackAnswer.{BackAnswer}
 use Rattle.link_msg.specs.declared.out.Out.{Out}
 use Rattle.link_msg.specs.declared.out.Out.TheVariants.{Client}
-use Rattle.mur_model.specs.declared.command.Tag.{Tag}
-use Rattle.mur_model.specs.declared.reply.Reply.{Reply}
-use Rattle.mur_model.specs.declared.request.Request.{Request}
-use Rattle.mur_model.specs.declared.request.Request.TheVariants.{Command as a_command, Unknown as unknown, TooBig as too_big}
+use Rattle.imap_types.specs.declared.command.Tag.{Tag}
+use Rattle.imap_types.specs.declared.reply.Reply.{Reply}
+use Rattle.imap_types.specs.declared.request.Request.{Request}
+use Rattle.imap_types.specs.declared.request.Request.TheVariants.{Command as a_command, Unknown as unknown, TooBig as too_big}
 use Rattle.mur_model.specs.declared.session.Sess.{Sess}
 use Rattle.mur_model.specs.declared.setting.Setting.{Setting}
 use Rattle.session_core.specs.declared.need.Need.{Need}

@@ -15,10 +15,10 @@ use Rattle.imap_wire.specs.Frames.{frames, begun}
 use Rattle.imap_wire.specs.More.{frames_of_more, begun_by_more}
 use Rattle.imap_wire.proofs.FaultLaws.{faults_last, FaultsLast as FramesFaultLast}
 use Rattle.imap_wire.proofs.MoreLaws.{frames_with_more, begun_with_more}
-use Rattle.mur_model.specs.declared.command.Command.{Command}
-use Rattle.mur_model.specs.declared.command.Tag.{Tag}
-use Rattle.mur_model.specs.declared.request.Request.{Request}
-use Rattle.mur_model.specs.declared.request.Request.TheVariants.{Command as a_command, Unknown as unknown, TooBig as too_big}
+use Rattle.imap_types.specs.declared.command.Command.{Command}
+use Rattle.imap_types.specs.declared.command.Tag.{Tag}
+use Rattle.imap_types.specs.declared.request.Request.{Request}
+use Rattle.imap_types.specs.declared.request.Request.TheVariants.{Command as a_command, Unknown as unknown, TooBig as too_big}
 use Rattle.mur_model.specs.declared.setting.Setting.{Setting}
 use Rattle.mur_model.specs.declared.wait.Wait.{Wait}
 use Rattle.mur_model.specs.Waits.{wait_of}

@@ -15,11 +15,11 @@ use Rattle.imap_reply.specs.Transcript.Stop.{silent}
 use Rattle.imap_reply.proofs.TranscriptGrows.{AreAnswered, unanswered_told}
 use Rattle.imap_wire.specs.declared.frame.Frame.{Frame}
 use Rattle.imap_wire.specs.declared.frame.Frame.TheVariants.{Whole, NeedLiteral, TooBig, Fault}
-use Rattle.mur_model.specs.declared.command.Command.{Command}
-use Rattle.mur_model.specs.declared.command.Tag.{Tag}
-use Rattle.mur_model.specs.declared.request.Answer.{Answer}
-use Rattle.mur_model.specs.declared.request.Request.{Request}
-use Rattle.mur_model.specs.declared.request.Request.TheVariants.{Command as a_command, Unknown as unknown, TooBig as too_big}
+use Rattle.imap_types.specs.declared.command.Command.{Command}
+use Rattle.imap_types.specs.declared.command.Tag.{Tag}
+use Rattle.imap_types.specs.declared.request.Answer.{Answer}
+use Rattle.imap_types.specs.declared.request.Request.{Request}
+use Rattle.imap_types.specs.declared.request.Request.TheVariants.{Command as a_command, Unknown as unknown, TooBig as too_big}
 use Rattle.mur_model.specs.declared.setting.Setting.{Setting}
 use Rattle.mur_model.specs.declared.wait.Wait.{Wait}
 use Rattle.mur_model.specs.History.{numbered}

@@ -8,7 +8,7 @@ use Rattle.backend_core.specs.Response.{done}
 use Rattle.link_msg.specs.declared.outcome.Outcome.TheVariants.{None as nothing}
 use Rattle.mail_message.specs.Boxes.{snapshot_of}
 use Rattle.mur_base.specs.declared.home.Phase.TheVariants.{Open as open_here}
-use Rattle.mur_model.specs.declared.command.StatusItem.{StatusItem}
+use Rattle.imap_types.specs.declared.command.StatusItem.{StatusItem}
 use Rattle.mur_model.specs.declared.need.Work.TheVariants.{Status as status_work}
 use Rattle.mur_model.specs.declared.store.Store.{Store}
 use Rattle.mur_model.specs.Act.{MayWork}

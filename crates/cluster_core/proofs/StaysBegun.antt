@@ -7,8 +7,8 @@ use Rattle.mail_message.specs.declared.mode.Mode.TheVariants.{Add}
 use Rattle.mail_store.specs.Append.{append_fault}
 use Rattle.mail_store.specs.Store.{stored, rows_stored, has_too_many_flags}
 use Rattle.mail_store.specs.declared.fault.StoreFault.{StoreFault}
-use Rattle.mur_model.specs.declared.command.Command.{Command}
-use Rattle.mur_model.specs.declared.command.StatusItem.{StatusItem}
+use Rattle.imap_types.specs.declared.command.Command.{Command}
+use Rattle.imap_types.specs.declared.command.StatusItem.{StatusItem}
 use Rattle.mur_model.specs.declared.fetch.Fetching.{Fetching}
 use Rattle.mur_model.specs.declared.need.Need.{Need}
 use Rattle.mur_model.specs.declared.need.Need.TheVariants.{Refusal, Turned, Mailbox}
@@ -16,8 +16,8 @@ use Rattle.mur_model.specs.declared.need.ViewWork.{ViewWork}
 use Rattle.mur_model.specs.declared.need.ViewWork.TheVariants as view_work
 use Rattle.mur_model.specs.declared.need.Work.{Work}
 use Rattle.mur_model.specs.declared.need.Work.TheVariants.{Make, Append as append_work, Status as status_work, Select as select_work, Viewed as viewed_work}
-use Rattle.mur_model.specs.declared.reply.NoText.{NoText}
-use Rattle.mur_model.specs.declared.reply.NoText.TheVariants.{NonExistent}
+use Rattle.imap_types.specs.declared.reply.NoText.{NoText}
+use Rattle.imap_types.specs.declared.reply.NoText.TheVariants.{NonExistent}
 use Rattle.mur_model.specs.declared.select.Opening.{Opening}
 use Rattle.mur_model.specs.declared.session.Sess.{Sess}
 use Rattle.mur_model.specs.declared.session.Sess.TheVariants.{Off, In, Selected as selected, Ended}

@@ -3,10 +3,10 @@ use Rattle.std.specs.Prelude.{◌≡◌, ℕ, List, Option, None, Some, unwrap_o
 use Rattle.mail_message.specs.Boxes.{Content, message_at}
 use Rattle.mail_message.specs.FlagSets.{Flags}
 use Rattle.mur_base.specs.Inbox.{taken_name}
-use Rattle.mur_model.specs.declared.command.Command.TheVariants.{Append}
-use Rattle.mur_model.specs.declared.reply.Code.{Code}
-use Rattle.mur_model.specs.declared.reply.Code.TheVariants.{AppendUid}
-use Rattle.mur_model.specs.declared.reply.Verdict.TheVariants.{Ok as ok_reply}
+use Rattle.imap_types.specs.declared.command.Command.TheVariants.{Append}
+use Rattle.imap_types.specs.declared.reply.Code.{Code}
+use Rattle.imap_types.specs.declared.reply.Code.TheVariants.{AppendUid}
+use Rattle.imap_types.specs.declared.reply.Verdict.TheVariants.{Ok as ok_reply}
 use Rattle.mur_model.specs.declared.session.Sess.{Sess}
 use Rattle.mur_model.specs.declared.session.Sess.TheVariants.{Off, In, Selected as selected, Ended}
 use Rattle.mur_model.specs.declared.setting.Setting.{Setting}

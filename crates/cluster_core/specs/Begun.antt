@@ -1,6 +1,6 @@
 -- Whether a session has begun, which the readers of both sides tell by its commands alone: an IDLE waits for its line only in a session that has begun.
 use Rattle.std.specs.Prelude.{◌≡◌, ℕ, ⊤, Bool, true, false}
-use Rattle.mur_model.specs.declared.command.Command.{Command}
+use Rattle.imap_types.specs.declared.command.Command.{Command}
 use Rattle.mur_model.specs.declared.session.Sess.{Sess}
 use Rattle.mur_model.specs.declared.session.Sess.TheVariants.{Off, In, Selected as selected, Ended}
 use Rattle.mur_model.specs.declared.setting.Setting.{Setting}

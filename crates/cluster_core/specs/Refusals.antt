@@ -3,10 +3,10 @@ use Rattle.std.specs.Prelude.{◌≡◌, ℕ, ◌<◌, Bool, true, false, List, 
 use Rattle.mur_base.specs.declared.point.Point.{Point}
 use Rattle.mur_base.specs.declared.point.What.{What}
 use Rattle.mur_base.specs.declared.point.What.TheVariants.{Reserved as reserved, Unreached as unreached}
-use Rattle.mur_model.specs.declared.reply.NoText.TheVariants.{BeingMoved, NotReached}
-use Rattle.mur_model.specs.declared.reply.Verdict.{Verdict}
-use Rattle.mur_model.specs.declared.reply.Verdict.TheVariants.{No as no_reply}
-use Rattle.mur_model.specs.declared.request.Answer.{Answer}
+use Rattle.imap_types.specs.declared.reply.NoText.TheVariants.{BeingMoved, NotReached}
+use Rattle.imap_types.specs.declared.reply.Verdict.{Verdict}
+use Rattle.imap_types.specs.declared.reply.Verdict.TheVariants.{No as no_reply}
+use Rattle.imap_types.specs.declared.request.Answer.{Answer}
 use Rattle.mur_model.specs.History.{Talk, numbered, is_about}
 
 -- `mailbox is being moved`, and `server not reached`

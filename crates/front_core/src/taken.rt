@@ -6,7 +6,7 @@ ghost use Rattle.front_core.specs.declared.connection.Stage.TheVariants.{Ended};
 ghost use Rattle.imap_reply.specs.ByeLine.{bye_of, bye_line};
 ghost use Rattle.imap_reply.specs.Continuation.{continuation_line};
 ghost use Rattle.imap_reply.specs.ReplyText.{reply_text};
-ghost use Rattle.mur_model.specs.Reply.{reply_of};
+ghost use Rattle.imap_types.specs.Reply.{reply_of};
 ghost use Rattle.session_core.specs.Begin.{MayNeed};
 ghost use Rattle.front_core.specs.Taken.{input_comes, input_in, request_in, need_in, answers, answers_last, behind_outs};
 

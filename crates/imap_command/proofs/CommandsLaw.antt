@@ -5,9 +5,9 @@ use Rattle.grammar.specs.Forms.{Law, behind, dispatch, nothing, several}
 use Rattle.grammar.proofs.FormLaw.{Branch, branch, one_byte, apart_byte, law_and, law_closed, law_dispatch, law_nothing, law_spaced, law_weaker}
 use Rattle.grammar.proofs.NamesLaw.{law_table}
 use Rattle.grammar.proofs.SeveralLaw.{law_several}
-use Rattle.mur_model.specs.declared.command.Command.{Command}
-use Rattle.mur_model.specs.declared.command.Command.TheVariants as command
-use Rattle.mur_model.specs.declared.command.StatusItem.TheVariants.{Messages}
+use Rattle.imap_types.specs.declared.command.Command.{Command}
+use Rattle.imap_types.specs.declared.command.Command.TheVariants as command
+use Rattle.imap_types.specs.declared.command.StatusItem.TheVariants.{Messages}
 use Rattle.imap_command.specs.declared.verb.Verb.{Verb}
 use Rattle.imap_command.specs.declared.verb.Verb.TheVariants as verb
 use Rattle.imap_command.specs.declared.verb.MailboxVerb.{MailboxVerb}

@@ -18,8 +18,8 @@ use Rattle.imap_command.specs.Spells.{line, known}
 use Rattle.imap_command.specs.Verbs.{is_uid, verbs, verb_form, name_text, uid_verbs}
 use Rattle.imap_command.specs.declared.verb.Verb.{Verb}
 use Rattle.imap_command.specs.declared.verb.Verb.TheVariants as verb
-use Rattle.mur_model.specs.declared.command.Command.{Command}
-use Rattle.mur_model.specs.declared.command.Command.TheVariants as command
+use Rattle.imap_types.specs.declared.command.Command.{Command}
+use Rattle.imap_types.specs.declared.command.Command.TheVariants as command
 use Rattle.imap_command.proofs.ArgumentsLaw.{ends_atom, ends_line}
 use Rattle.imap_command.proofs.CommandsLaw.{branch_of, uid_branch}
 use Rattle.imap_command.proofs.StringsLaw.{good_crlf}

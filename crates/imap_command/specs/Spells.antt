@@ -11,10 +11,10 @@ use Rattle.imap_command.specs.Commands.{arguments, verb_of}
 use Rattle.imap_command.specs.LeftOut.{left_out}
 use Rattle.imap_command.specs.Strings.{crlf_part}
 use Rattle.imap_command.specs.Verbs.{verb_form}
-use Rattle.mur_model.specs.declared.command.Tag.{Tag}
-use Rattle.mur_model.specs.declared.command.Tag.TheVariants.{Text}
-use Rattle.mur_model.specs.declared.command.Command.{Command}
-use Rattle.mur_model.specs.declared.command.Command.TheVariants as command
+use Rattle.imap_types.specs.declared.command.Tag.{Tag}
+use Rattle.imap_types.specs.declared.command.Tag.TheVariants.{Text}
+use Rattle.imap_types.specs.declared.command.Command.{Command}
+use Rattle.imap_types.specs.declared.command.Command.TheVariants as command
 
 -- tag = 1*<any ASTRING-CHAR except "+">, of at most 32 bytes
 abbrev pub tags : Words

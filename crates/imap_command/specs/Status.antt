@@ -3,8 +3,8 @@ use Rattle.std.specs.Prelude.{ℕ, List, [], ◌∷◌, codes}
 use Rattle.mur_base.specs.Ascii.{space, open_paren, close_paren}
 use Rattle.grammar.specs.Forms.{Form, Row, behind, closed, several, ◌spaced◌, table}
 use Rattle.imap_command.specs.Strings.{argument}
-use Rattle.mur_model.specs.declared.command.StatusItem.{StatusItem}
-use Rattle.mur_model.specs.declared.command.StatusItem.TheVariants.{Messages, UidNext, UidValidity, Unseen, Deleted, Size}
+use Rattle.imap_types.specs.declared.command.StatusItem.{StatusItem}
+use Rattle.imap_types.specs.declared.command.StatusItem.TheVariants.{Messages, UidNext, UidValidity, Unseen, Deleted, Size}
 
 abbrev pub item_rows : List (Row StatusItem)
 item_rows =

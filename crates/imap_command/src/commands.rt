@@ -17,7 +17,7 @@ use crate::strings::Atom;
 use crate::verb::{MailboxVerb, UID_VERBS, UidVerb, Verb};
 use grammar::{ReadError, byte_of, several_of, table_of};
 use mur_base::Bytes;
-use mur_model::Command;
+use imap_types::Command;
 use std::alloc::Global;
 
 #[tactic(auto, unfolding(crate::specs::Commands::arguments))]

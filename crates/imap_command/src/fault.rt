@@ -3,7 +3,7 @@ ghost use Rattle.std.specs.Prelude.{◌≡◌};
 ghost use Rattle.imap_command.specs.declared.fault.ReadFault.TheVariants.{Memory as OutOfMemory};
 
 use mur_base::Memory;
-use mur_model::Tag;
+use imap_types::Tag;
 use std::fmt;
 use thiserror::Error;
 

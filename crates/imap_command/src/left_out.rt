@@ -5,7 +5,7 @@ ghost use Rattle.imap_command.specs.LeftOut.{left_out};
 use crate::strings::crlf_of;
 use grammar::{AnyCase, Only, ReadError, all_before, begins, byte_of, word_of};
 use mur_base::Bytes;
-use mur_model::Command;
+use imap_types::Command;
 use std::alloc::Global;
 
 /// Their names.

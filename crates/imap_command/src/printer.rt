@@ -22,7 +22,7 @@ use crate::verb::words_of;
 use grammar::put_several;
 use mail_message::SetParts;
 use mur_base::{Bytes, Memory};
-use mur_model::{Atoms, Command, Tag};
+use imap_types::{Atoms, Command, Tag};
 use std::alloc::Global;
 
 #[tactic(auto, using(std::proofs::lemmas::Grind::common_steps))]

@@ -16,7 +16,7 @@ use grammar::{
     word_of,
 };
 use mur_base::{Bytes, Memory};
-use mur_model::{Command, Tag};
+use imap_types::{Command, Tag};
 use std::alloc::Global;
 
 /// A byte of a tag.

@@ -6,7 +6,7 @@ ghost use Rattle.imap_command.specs.Status.{item_text, status_item, status_items
 use crate::strings::{astring_of, put_astring};
 use grammar::{Production, ReadError, byte_of, put_several, several_of, table_of};
 use mur_base::{Bytes, Memory};
-use mur_model::{StatusItem, StatusItems};
+use imap_types::{StatusItem, StatusItems};
 use std::alloc::Global;
 
 /// The names of status-att.

@@ -13,9 +13,9 @@ use Rattle.mail_store.specs.Append.{append_fault}
 use Rattle.mail_store.specs.Expunge.{expunged}
 use Rattle.mail_store.specs.Store.{stored, rows_stored, has_too_many_flags}
 use Rattle.mail_store.specs.declared.fault.StoreFault.{StoreFault}
-use Rattle.mur_model.specs.declared.command.Command.{Command}
-use Rattle.mur_model.specs.declared.command.Command.TheVariants as command
-use Rattle.mur_model.specs.declared.command.StatusItem.{StatusItem}
+use Rattle.imap_types.specs.declared.command.Command.{Command}
+use Rattle.imap_types.specs.declared.command.Command.TheVariants as command
+use Rattle.imap_types.specs.declared.command.StatusItem.{StatusItem}
 use Rattle.mur_model.specs.declared.fetch.Fetching.{Fetching}
 use Rattle.mur_model.specs.declared.need.Need.{Need}
 use Rattle.mur_model.specs.declared.need.Need.TheVariants.{Refusal, Turned, Mailbox}
@@ -25,14 +25,14 @@ use Rattle.mur_model.specs.declared.need.ViewWork.TheVariants as view_work
 use Rattle.mur_model.specs.declared.need.Work.{Work}
 use Rattle.mur_model.specs.declared.need.Work.TheVariants.{Make, Append as append_work, Status as status_work, Select as select_work, Viewed as viewed_work}
 use Rattle.mur_model.specs.declared.news.Told.{Told}
-use Rattle.mur_model.specs.declared.reply.NoText.{NoText}
-use Rattle.mur_model.specs.declared.reply.NoText.TheVariants.{NonExistent}
-use Rattle.mur_model.specs.declared.reply.ReplyLine.{ReplyLine}
-use Rattle.mur_model.specs.declared.reply.ReplyLine.TheVariants.{Search}
-use Rattle.mur_model.specs.declared.reply.Verdict.{Verdict}
-use Rattle.mur_model.specs.declared.reply.Verdict.TheVariants.{No as no_reply}
-use Rattle.mur_model.specs.declared.request.Request.{Request}
-use Rattle.mur_model.specs.declared.request.Request.TheVariants.{Command as a_command, Unknown as unknown, TooBig as too_big}
+use Rattle.imap_types.specs.declared.reply.NoText.{NoText}
+use Rattle.imap_types.specs.declared.reply.NoText.TheVariants.{NonExistent}
+use Rattle.imap_types.specs.declared.reply.ReplyLine.{ReplyLine}
+use Rattle.imap_types.specs.declared.reply.ReplyLine.TheVariants.{Search}
+use Rattle.imap_types.specs.declared.reply.Verdict.{Verdict}
+use Rattle.imap_types.specs.declared.reply.Verdict.TheVariants.{No as no_reply}
+use Rattle.imap_types.specs.declared.request.Request.{Request}
+use Rattle.imap_types.specs.declared.request.Request.TheVariants.{Command as a_command, Unknown as unknown, TooBig as too_big}
 use Rattle.mur_model.specs.declared.search.Searching.{Searching}
 use Rattle.mur_model.specs.declared.select.Opening.{Opening}
 use Rattle.mur_model.specs.declared.session.Sess.{Sess}
@@ -53,7 +53,7 @@ use Rattle.mur_model.specs.Fetch.{fetch_at, fetch_told, fetch_lines, sees, seen_
 use Rattle.mur_model.specs.Left.{Worked, replied, kept, changed}
 use Rattle.mur_model.specs.News.{news}
 use Rattle.mur_model.specs.Noop.{news_told}
-use Rattle.mur_model.specs.Reply.{completed, reply_of}
+use Rattle.imap_types.specs.Reply.{completed, reply_of}
 use Rattle.mur_model.specs.Select.{select, select_on, select_told, unselected}
 use Rattle.mur_model.specs.Search.{search_told}
 use Rattle.mur_model.specs.Selected.{gone, rows_of, with_news}

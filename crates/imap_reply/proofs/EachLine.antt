@@ -9,13 +9,13 @@ use Rattle.mail_message.specs.declared.flag_name.FlagName.{FlagName}
 use Rattle.mail_message.specs.declared.flag_name.FlagName.TheVariants.{System, Keyword}
 use Rattle.mail_message.specs.declared.system_flags.SystemFlag.TheVariants.{Answered, Flagged, Deleted, Seen, Draft}
 use Rattle.imap_command.specs.Status.{item_text}
-use Rattle.mur_model.specs.declared.command.StatusItem.{StatusItem}
-use Rattle.mur_model.specs.declared.command.StatusItem.TheVariants.{Messages, UidNext, UidValidity, Unseen, Deleted as deleted_item, Size}
-use Rattle.mur_model.specs.declared.reply.StatusCount.{StatusCount}
-use Rattle.mur_model.specs.declared.reply.Attribute.{Attribute}
-use Rattle.mur_model.specs.declared.reply.Attribute.TheVariants.{None as no_attribute, NoSelect, NonExistent}
-use Rattle.mur_model.specs.declared.reply.Bye as bye
-use Rattle.mur_model.specs.declared.reply.Bye.TheVariants.{Logout, Gone, Lost, LineTooLong, LiteralTooLong}
+use Rattle.imap_types.specs.declared.command.StatusItem.{StatusItem}
+use Rattle.imap_types.specs.declared.command.StatusItem.TheVariants.{Messages, UidNext, UidValidity, Unseen, Deleted as deleted_item, Size}
+use Rattle.imap_types.specs.declared.reply.StatusCount.{StatusCount}
+use Rattle.imap_types.specs.declared.reply.Attribute.{Attribute}
+use Rattle.imap_types.specs.declared.reply.Attribute.TheVariants.{None as no_attribute, NoSelect, NonExistent}
+use Rattle.imap_types.specs.declared.reply.Bye as bye
+use Rattle.imap_types.specs.declared.reply.Bye.TheVariants.{Logout, Gone, Lost, LineTooLong, LiteralTooLong}
 use Rattle.mail_message.specs.Literals.{IsPlain, is_within}
 use Rattle.imap_reply.specs.Lines.{IsLine, after_text, after_byte}
 use Rattle.imap_reply.specs.SoundTexts.{IsSoundFlag}

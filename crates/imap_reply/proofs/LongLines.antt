@@ -6,8 +6,8 @@ use Rattle.std.proofs.lemmas.Bool.{and_parts}
 use Rattle.std.proofs.lemmas.List.Elements.{All-nil, All-cons, All-head, All-tail}
 use Rattle.mur_base.specs.Ascii.{crlf}
 use Rattle.mur_base.specs.Number.{is_digit}
-use Rattle.mur_model.specs.declared.command.Tag.{Tag}
-use Rattle.mur_model.specs.declared.command.Tag.TheVariants.{Star, Text}
+use Rattle.imap_types.specs.declared.command.Tag.{Tag}
+use Rattle.imap_types.specs.declared.command.Tag.TheVariants.{Star, Text}
 use Rattle.mail_message.specs.Literals.{IsPlain, IsPart, is_within}
 use Rattle.imap_reply.specs.Lines.{IsLine, is_announced, after_text, after_byte}
 use Rattle.imap_reply.specs.Lines.Announcing.{nothing}

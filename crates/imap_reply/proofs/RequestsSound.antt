@@ -8,10 +8,10 @@ use Rattle.imap_command.specs.Request.{IsRequest, IsTooBig, tag_or_star}
 use Rattle.imap_command.specs.Request.IsRequest.{spells, spells_nothing}
 use Rattle.imap_command.specs.Spells.{Spells, tags, tagged_command}
 use Rattle.imap_command.proofs.RuledLaw.{spelled_ruled}
-use Rattle.mur_model.specs.declared.command.Command.{Command}
-use Rattle.mur_model.specs.declared.command.Tag.{Tag}
-use Rattle.mur_model.specs.declared.command.Tag.TheVariants.{Text}
-use Rattle.mur_model.specs.declared.request.Request.{Request}
+use Rattle.imap_types.specs.declared.command.Command.{Command}
+use Rattle.imap_types.specs.declared.command.Tag.{Tag}
+use Rattle.imap_types.specs.declared.command.Tag.TheVariants.{Text}
+use Rattle.imap_types.specs.declared.request.Request.{Request}
 use Rattle.imap_reply.specs.SoundTexts.{IsTag, IsSoundTag}
 use Rattle.imap_reply.specs.SoundRequests.{IsSoundRequest}
 

@@ -4,17 +4,17 @@ use Rattle.std.proofs.Common.{Option, None, Some}
 use Rattle.std.specs.Prelude.{IfSome, unwrap_or}
 use Rattle.std.proofs.lemmas.List.Elements.{All-nil, All-cons}
 use Rattle.mail_message.specs.Literals.{IsPlain}
-use Rattle.mur_model.specs.declared.command.Command.{Command}
-use Rattle.mur_model.specs.declared.command.Command.TheVariants as command
+use Rattle.imap_types.specs.declared.command.Command.{Command}
+use Rattle.imap_types.specs.declared.command.Command.TheVariants as command
 use Rattle.mur_model.specs.declared.need.Need.{Need}
 use Rattle.mur_model.specs.declared.need.Need.TheVariants.{Refusal, Turned, Mailbox}
 use Rattle.mur_model.specs.declared.need.Work.{Work}
-use Rattle.mur_model.specs.declared.reply.Bye.TheVariants.{Logout as logout_bye}
-use Rattle.mur_model.specs.declared.reply.Reply.{Reply}
-use Rattle.mur_model.specs.declared.reply.ReplyLine.{ReplyLine}
-use Rattle.mur_model.specs.declared.reply.ReplyLine.TheVariants.{Bye, Capability, Enabled}
-use Rattle.mur_model.specs.declared.request.Request.{Request}
-use Rattle.mur_model.specs.declared.request.Request.TheVariants.{Command as a_command, Unknown as unknown, TooBig as too_big}
+use Rattle.imap_types.specs.declared.reply.Bye.TheVariants.{Logout as logout_bye}
+use Rattle.imap_types.specs.declared.reply.Reply.{Reply}
+use Rattle.imap_types.specs.declared.reply.ReplyLine.{ReplyLine}
+use Rattle.imap_types.specs.declared.reply.ReplyLine.TheVariants.{Bye, Capability, Enabled}
+use Rattle.imap_types.specs.declared.request.Request.{Request}
+use Rattle.imap_types.specs.declared.request.Request.TheVariants.{Command as a_command, Unknown as unknown, TooBig as too_big}
 use Rattle.mur_model.specs.declared.session.Sess.{Sess}
 use Rattle.mur_model.specs.declared.setting.Setting.{Setting}
 use Rattle.mur_model.specs.declared.store.Store.{Store}
@@ -23,7 +23,7 @@ use Rattle.mur_model.specs.Answer.{answer_of}
 use Rattle.mur_model.specs.Append.{append}
 use Rattle.mur_model.specs.AtOnce.{told_at_once}
 use Rattle.mur_model.specs.History.{Course}
-use Rattle.mur_model.specs.Reply.{completed}
+use Rattle.imap_types.specs.Reply.{completed}
 use Rattle.mur_model.specs.Select.{select}
 use Rattle.mur_model.specs.Status.{status}
 use Rattle.mur_model.specs.Store.{box_at, is_spent}
@@ -39,7 +39,7 @@ use Rattle.imap_reply.proofs.SoundStores.{box_is}
 use Rattle.imap_reply.proofs.SoundStores.{store_is}
 use Rattle.imap_reply.proofs.SoundWorks.{SoundReply, SoundWork, SoundWorked, left_sound, unselected_sound, work_sound}
 use Rattle.imap_reply.specs.ReadAsMeant.{IsReadAsMeant}
-use Rattle.mur_model.specs.declared.command.Tag.{Tag}
+use Rattle.imap_types.specs.declared.command.Tag.{Tag}
 
 abbrev SoundNeed : Need → Type 0
 SoundNeed (Refusal verdict) = IsSoundVerdict verdict

@@ -18,7 +18,7 @@ use Rattle.mail_store.specs.Append.{append_fault}
 use Rattle.mail_store.specs.Expunge.{expunged}
 use Rattle.mail_store.specs.Store.{stored, rows_stored, has_too_many_flags}
 use Rattle.mail_store.specs.declared.fault.StoreFault.{StoreFault}
-use Rattle.mur_model.specs.declared.command.StatusItem.{StatusItem}
+use Rattle.imap_types.specs.declared.command.StatusItem.{StatusItem}
 use Rattle.mur_model.specs.declared.fetch.Fetching.{Fetching}
 use Rattle.mur_model.specs.declared.need.NewsFor.{NewsFor}
 use Rattle.mur_model.specs.declared.need.NewsFor.TheVariants as news_for
@@ -26,14 +26,14 @@ use Rattle.mur_model.specs.declared.need.ViewWork.{ViewWork}
 use Rattle.mur_model.specs.declared.need.ViewWork.TheVariants as view_work
 use Rattle.mur_model.specs.declared.need.Work.{Work}
 use Rattle.mur_model.specs.declared.need.Work.TheVariants.{Make, Append as append_work, Status as status_work, Select as select_work, Viewed as viewed_work}
-use Rattle.mur_model.specs.declared.reply.Attribute.TheVariants.{None as no_attribute}
-use Rattle.mur_model.specs.declared.reply.NoText.{NoText}
-use Rattle.mur_model.specs.declared.reply.NoText.TheVariants.{NonExistent}
-use Rattle.mur_model.specs.declared.reply.Reply.{Reply}
-use Rattle.mur_model.specs.declared.reply.ReplyLine.{ReplyLine}
-use Rattle.mur_model.specs.declared.reply.ReplyLine.TheVariants.{Bye, Closed, Exists, Flags, Listed, Search, UidNext, UidValidity}
-use Rattle.mur_model.specs.declared.reply.Bye.TheVariants.{Gone}
-use Rattle.mur_model.specs.declared.reply.Verdict.{Verdict}
+use Rattle.imap_types.specs.declared.reply.Attribute.TheVariants.{None as no_attribute}
+use Rattle.imap_types.specs.declared.reply.NoText.{NoText}
+use Rattle.imap_types.specs.declared.reply.NoText.TheVariants.{NonExistent}
+use Rattle.imap_types.specs.declared.reply.Reply.{Reply}
+use Rattle.imap_types.specs.declared.reply.ReplyLine.{ReplyLine}
+use Rattle.imap_types.specs.declared.reply.ReplyLine.TheVariants.{Bye, Closed, Exists, Flags, Listed, Search, UidNext, UidValidity}
+use Rattle.imap_types.specs.declared.reply.Bye.TheVariants.{Gone}
+use Rattle.imap_types.specs.declared.reply.Verdict.{Verdict}
 use Rattle.mur_model.specs.declared.search.Searching.{Searching}
 use Rattle.mur_model.specs.declared.select.Opening.{Opening}
 use Rattle.mur_model.specs.declared.store_flags.FlagStore.{FlagStore}

@@ -10,9 +10,9 @@ use Rattle.std.proofs.lemmas.List.Elements.{All-nil, All-cons, All-append, All-h
 use Rattle.mur_base.specs.Number.{is_digit}
 use Rattle.imap_command.specs.Characters.{is_tag_byte}
 use Rattle.imap_wire.specs.Frames.{frames}
-use Rattle.mur_model.specs.declared.reply.Bye as bye
-use Rattle.mur_model.specs.declared.reply.Bye.TheVariants.{Lost}
-use Rattle.mur_model.specs.declared.request.Answer.{Answer}
+use Rattle.imap_types.specs.declared.reply.Bye as bye
+use Rattle.imap_types.specs.declared.reply.Bye.TheVariants.{Lost}
+use Rattle.imap_types.specs.declared.request.Answer.{Answer}
 use Rattle.mur_model.specs.declared.setting.Setting.{Setting}
 use Rattle.imap_reply.specs.declared.inputs.Continuation.{Continuation}
 use Rattle.imap_reply.specs.declared.inputs.Continuation.TheVariants.{Literal, Response, Done}

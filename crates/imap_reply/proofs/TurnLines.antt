@@ -10,8 +10,8 @@ use Rattle.mail_message.specs.RowOrder.{row_at, is_row_of}
 use Rattle.mail_message.specs.declared.message.Message.{Message}
 use Rattle.mail_message.specs.declared.message.Row.{Row}
 use Rattle.mur_model.specs.declared.fetch.Fetching.{Fetching}
-use Rattle.mur_model.specs.declared.reply.ReplyLine.{ReplyLine}
-use Rattle.mur_model.specs.declared.reply.ReplyLine.TheVariants.{Exists, Expunge, Fetch}
+use Rattle.imap_types.specs.declared.reply.ReplyLine.{ReplyLine}
+use Rattle.imap_types.specs.declared.reply.ReplyLine.TheVariants.{Exists, Expunge, Fetch}
 use Rattle.mur_model.specs.declared.store_flags.FlagStore.{FlagStore}
 use Rattle.mur_model.specs.Fetch.{items_told, number_in, fetch_line, fetch_lines}
 use Rattle.mur_model.specs.News.{news, told_of, has_row, is_among, expunge_lines, rows_there, rows_behind}

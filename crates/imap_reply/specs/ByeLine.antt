@@ -2,8 +2,8 @@
 use Rattle.std.specs.Prelude.{ℕ, List, ◌++◌, codes}
 use Rattle.imap_wire.specs.declared.frame.FrameFault.{FrameFault}
 use Rattle.imap_wire.specs.declared.frame.FrameFault.TheVariants.{LineTooLong as line_fault, PlusTooLong as literal_fault}
-use Rattle.mur_model.specs.declared.reply.Bye.{Bye}
-use Rattle.mur_model.specs.declared.reply.Bye.TheVariants.{Logout, Gone, Lost, LineTooLong, LiteralTooLong}
+use Rattle.imap_types.specs.declared.reply.Bye.{Bye}
+use Rattle.imap_types.specs.declared.reply.Bye.TheVariants.{Logout, Gone, Lost, LineTooLong, LiteralTooLong}
 
 unfoldable pub bye_text : Bye → List ℕ
 bye_text Logout = codes "bye"

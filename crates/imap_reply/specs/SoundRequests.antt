@@ -7,8 +7,8 @@ use Rattle.imap_wire.specs.declared.frame.Frame.TheVariants.{Whole}
 use Rattle.mail_message.specs.Boxes.{Content}
 use Rattle.mail_message.specs.FlagSets.{HasRuledKeywords}
 use Rattle.mail_message.specs.declared.message.Message.{Message}
-use Rattle.mur_model.specs.declared.request.Request.{Request}
-use Rattle.mur_model.specs.declared.request.Request.TheVariants.{Command as command, Unknown as unknown, TooBig as too_big}
+use Rattle.imap_types.specs.declared.request.Request.{Request}
+use Rattle.imap_types.specs.declared.request.Request.TheVariants.{Command as command, Unknown as unknown, TooBig as too_big}
 use Rattle.mur_model.specs.declared.store.Store.{Store}
 use Rattle.imap_reply.specs.SoundTexts.{IsSoundTag}
 

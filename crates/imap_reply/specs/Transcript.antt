@@ -4,12 +4,12 @@
 use Rattle.std.specs.Prelude.{ℕ, Bool, true, false, List, [], ◌∷◌, ◌++◌, Option, None, Some}
 use Rattle.std.specs.List.{list_any}
 use Rattle.imap_wire.specs.Frames.{frames}
-use Rattle.mur_model.specs.declared.reply.Bye as bye
-use Rattle.mur_model.specs.declared.reply.Bye.TheVariants.{Lost}
-use Rattle.mur_model.specs.declared.reply.Reply.{Reply}
-use Rattle.mur_model.specs.declared.reply.ReplyLine.{ReplyLine}
-use Rattle.mur_model.specs.declared.reply.ReplyLine.TheVariants.{Bye}
-use Rattle.mur_model.specs.declared.request.Answer.{Answer}
+use Rattle.imap_types.specs.declared.reply.Bye as bye
+use Rattle.imap_types.specs.declared.reply.Bye.TheVariants.{Lost}
+use Rattle.imap_types.specs.declared.reply.Reply.{Reply}
+use Rattle.imap_types.specs.declared.reply.ReplyLine.{ReplyLine}
+use Rattle.imap_types.specs.declared.reply.ReplyLine.TheVariants.{Bye}
+use Rattle.imap_types.specs.declared.request.Answer.{Answer}
 use Rattle.mur_model.specs.declared.setting.Setting.{Setting}
 use Rattle.imap_reply.specs.declared.inputs.Continuation.{Continuation}
 use Rattle.imap_reply.specs.declared.inputs.Input.{Input}

@@ -1,7 +1,7 @@
 -- What a client reads of all that it is given: the greeting, the continuations and the lines of its replies, each in its turn, and no other
 -- line, whatever the texts in them are.
 use Rattle.std.specs.Prelude.{◌≡◌, ℕ, false, List, [], ◌∷◌, Option, All}
-use Rattle.mur_model.specs.declared.request.Answer.{Answer}
+use Rattle.imap_types.specs.declared.request.Answer.{Answer}
 use Rattle.mur_model.specs.declared.setting.Setting.{Setting}
 use Rattle.imap_reply.specs.ByeLine.{bye_line}
 use Rattle.imap_reply.specs.Continuation.{continuation_line}

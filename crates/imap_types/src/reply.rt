@@ -1,6 +1,6 @@
 // What a client is answered (RFC 9051, 7.1).
 ghost use Rattle.std.specs.Prelude.{◌≡◌, IfOk};
-ghost use Rattle.mur_model.specs.Reply.{completed, refused};
+ghost use Rattle.imap_types.specs.Reply.{completed, refused};
 
 use crate::command::StatusItem;
 use mail_message::{FlagName, Uids};
