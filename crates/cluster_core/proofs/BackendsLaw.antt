@@ -20,7 +20,7 @@ use Rattle.cluster_core.specs.Backends.{IsBackendOf, IsBackend}
 use Rattle.cluster_core.specs.OpenAt.{IsOpenAt, OpensAtOneNode}
 use Rattle.cluster_core.specs.Shown.{held_at}
 use Rattle.cluster_core.specs.World.{or_backend, backends_of, home_of, home_at}
-use Rattle.cluster_core.proofs.FrontsOfStart.{head_apart, tail_apart}
+use Rattle.mur_config.proofs.NodesApart.{head_apart, tail_apart}
 use Rattle.cluster_core.proofs.HomesLaw.{started, all_named, holds_none}
 use Rattle.cluster_core.proofs.KeepsLaw.{AreNodesOf}
 use Rattle.cluster_core.proofs.NamesHeld.{bytes_itself}

@@ -25,7 +25,7 @@ use Rattle.schedule_text.specs.declared.event.Event.TheVariants.{Open, Data, Han
 use Rattle.cluster_core.specs.declared.world.Client.{Client}
 use Rattle.cluster_core.specs.declared.world.World.{World}
 use Rattle.cluster_core.specs.Flow.{run_steps}
-use Rattle.cluster_core.specs.Links.{on_link}
+use Rattle.link_queue.specs.Links.{on_link}
 use Rattle.cluster_core.specs.World.{no_world, start, with_node, with_nodes, home_of, setting_of, backends_of, client_at, front_at, home_at}
 use Rattle.cluster_core.specs.World.{given_more, carry, carry_all}
 use Rattle.cluster_core.specs.World.{with_front, with_home, with_client, open_at, opens, bytes_at, bytes_from, hang_at, hangs}

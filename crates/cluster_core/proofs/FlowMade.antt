@@ -8,7 +8,7 @@ use Rattle.mur_config.specs.declared.node.Link.{Link}
 use Rattle.schedule_text.specs.declared.event.Event.{Event}
 use Rattle.schedule_text.specs.declared.event.Event.TheVariants.{Deliver}
 use Rattle.cluster_core.specs.declared.world.World.{World}
-use Rattle.cluster_core.specs.Links.{on_link}
+use Rattle.link_queue.specs.Links.{on_link}
 use Rattle.cluster_core.specs.World.{steps_by}
 use Rattle.cluster_core.specs.Flow.{Flowing, turn_by, turn_of, round, rounds, rounds_by}
 

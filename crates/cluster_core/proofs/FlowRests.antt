@@ -19,17 +19,17 @@ use Rattle.cluster_core.specs.declared.world.World.{World}
 use Rattle.cluster_core.specs.Flow.{Flowing, delivered, turn_by, turn_of, round, rounds_by, rounds, flow, steps_of_event, happens, unrolled, run_steps}
 use Rattle.cluster_core.specs.FlowLaw.{DeliversFirst, IsFlow, AreStepsOf, AreStepsOfAll, AreItsSteps}
 use Rattle.cluster_core.specs.FlowLaw.AreStepsOfAll.{no_event, an_event}
-use Rattle.cluster_core.specs.Links.{on_link}
+use Rattle.link_queue.specs.Links.{on_link}
 use Rattle.cluster_core.specs.World.{front_at, home_at, input_of, home_takes, comes_to_home, comes_to, taken, deliver_first, takes, stepped, steps_by, start}
 use Rattle.cluster_core.proofs.LinkedNodes.{AreApart, pairs_apart}
 use Rattle.cluster_core.proofs.Load.{load}
 use Rattle.cluster_core.proofs.LoadFalls.{delivery_falls, start_load, step_load, steps_load}
-use Rattle.cluster_core.proofs.OncePairs.{times, pairs_once}
+use Rattle.mur_config.proofs.OncePairs.{times, pairs_once}
 use Rattle.cluster_core.proofs.OneNodeLaw.{carry_all_sends}
 use Rattle.cluster_core.proofs.NoneQuiet.{NoneQuiet, first_serves, run_keeps as keeps_none_quiet}
 use Rattle.cluster_core.proofs.OnPairs.{IsIdle, all_empty, pairs_stay, start_none_quiet}
 use Rattle.cluster_core.proofs.Unrolled.{event_made, run_steps-append}
-use Rattle.cluster_core.proofs.Wires.{same_itself, on_link-taken}
+use Rattle.link_queue.proofs.Wires.{same_itself, on_link-taken}
 
 -- a delivery takes the first message of its link, and nothing else changes there
 

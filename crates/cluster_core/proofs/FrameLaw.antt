@@ -22,7 +22,7 @@ use Rattle.imap_reply.specs.declared.inputs.Input.TheVariants.{GoesOn, Asks, Fau
 use Rattle.imap_reply.specs.declared.inputs.Continuation.{Continuation}
 use Rattle.imap_reply.specs.Inputs.{requests_in}
 use Rattle.imap_reply.proofs.InputLaws.{requests-append}
-use Rattle.cluster_core.proofs.Readings.{FaultsLast}
+use Rattle.front_core.proofs.Connection.Readings.{FaultsLast}
 use Rattle.link_msg.specs.declared.ask.FrontAsk.{FrontAsk}
 use Rattle.link_msg.specs.declared.counts.Counts.TheVariants.{Always}
 use Rattle.link_msg.specs.declared.message.LinkMsg.TheVariants.{Ask}
@@ -51,19 +51,20 @@ use Rattle.session_core.specs.Asking.{asked_for}
 use Rattle.mur_model.proofs.Numbered.{with_item, with_item-same, with_item-other, length_with_item}
 use Rattle.cluster_core.specs.declared.world.Client.{Client}
 use Rattle.cluster_core.specs.declared.world.World.{World}
-use Rattle.cluster_core.specs.Links.{sent}
+use Rattle.link_queue.specs.Links.{sent}
 use Rattle.cluster_core.specs.World.{client_at, given_more, carry, carry_all}
 use Rattle.cluster_core.proofs.ConnectionLaw.{Story, KeepsOthers, keeps_on, GoesOnAt, stories_follow, client_with}
 use Rattle.cluster_core.proofs.ConnectionLaw.{IsMade, ReadsOn, StandsOn, session_at, session_of_other}
-use Rattle.cluster_core.proofs.ConnectionLaw.OnItsWay.{there}
-use Rattle.cluster_core.proofs.ConnectionLaw.Stands.{reads, waits, faulted, finished}
-use Rattle.cluster_core.proofs.FrontAnswers.{IsTaken, request_taken}
-use Rattle.cluster_core.proofs.FrontAnswers.IsTaken.{here, finishes, asked}
+use Rattle.front_core.proofs.Connection.Standing.OnItsWay.{there}
+use Rattle.front_core.proofs.Connection.Standing.Stands.{reads, waits, faulted, finished}
+use Rattle.front_core.proofs.Connection.FrontAnswers.{IsTaken, request_taken}
+use Rattle.front_core.proofs.Connection.FrontAnswers.IsTaken.{here, finishes, asked}
 use Rattle.cluster_core.proofs.RequestsOf.{answered_lengths, next_request, replies_stop}
-use Rattle.cluster_core.proofs.LastAnswer.{all_go_on}
-use Rattle.cluster_core.proofs.ServedAlike.{IsStoreOf, apart}
+use Rattle.front_core.proofs.Connection.LastAnswer.{all_go_on}
+use Rattle.serve_law.proofs.HomeStore.{IsStoreOf}
+use Rattle.serve_law.proofs.ServedAlike.{apart}
 use Rattle.cluster_core.proofs.Told.{IsTold, having_said, next_course, told_push}
-use Rattle.cluster_core.proofs.Ways.{ask_sent, sent_for_another, ask_of_another}
+use Rattle.front_core.proofs.Connection.Ways.{ask_sent, sent_for_another, ask_of_another}
 
 pub carry_all-append : (node : List ℕ) (world : World) (one two : List Out) → carry_all node world (one ++ two) ≡ carry_all node (carry_all node world one) two
 unfolding carry_all

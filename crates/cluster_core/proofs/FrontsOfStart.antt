@@ -1,5 +1,5 @@
 -- A run begins with the frontends of its configuration, and with no others.
-use Rattle.std.proofs.Common.{◌≡◌, ◌≢◌, suc, Bool, true, false, cond, List, [], ◌∷◌, ℕ, None, Some, refl, sym, ◌∙◌, ap, subst, arith}
+use Rattle.std.proofs.Common.{◌≡◌, ◌≢◌, Bool, true, false, cond, List, [], ◌∷◌, ℕ, None, Some, refl, sym, ◌∙◌, ap, subst}
 use Rattle.std.specs.Prelude.{All, AllPairs, is_some}
 use Rattle.std.specs.Ordering.{nat_cmp}
 use Rattle.std.specs.Cmp.Lexicographic.{slice_cmp}
@@ -12,6 +12,7 @@ use Rattle.mur_config.specs.declared.config.Config.{Config}
 use Rattle.mur_config.specs.declared.node.Kind.{Kind}
 use Rattle.mur_config.specs.declared.node.Kind.TheVariants.{Master, Frontend, Backend as backend_kind}
 use Rattle.mur_config.specs.declared.node.Node.{Node}
+use Rattle.mur_config.proofs.NodesApart.{head_apart, tail_apart}
 use Rattle.mur_config.specs.Nodes.{AreNodes, is_node_named, is_node_of_kind, is_of_kind, node_named, links_of}
 use Rattle.mur_model.specs.declared.setting.Setting.{Setting}
 use Rattle.cluster_core.specs.declared.world.World.{World}
@@ -20,14 +21,6 @@ use Rattle.cluster_core.specs.World.{no_world, backends_of, home_of, setting_of,
 
 abbrev pub NoFrontend : List ℕ → Node → Type 0
 NoFrontend name node = node.kind ≡ Frontend → node.name ≢ name
-
-pub head_apart : (node : Node) (nodes : List Node) → AllPairs (λ (one other : Node). one.name ≢ other.name) (node ∷ nodes)
-    → All (λ (other : Node). node.name ≢ other.name) nodes
-head_apart node nodes pairs = λ k d h. pairs 0 (suc k) d (omega arith) (omega arith)
-
-pub tail_apart : (node : Node) (nodes : List Node) → AllPairs (λ (one other : Node). one.name ≢ other.name) (node ∷ nodes)
-    → AllPairs (λ (one other : Node). one.name ≢ other.name) nodes
-tail_apart node nodes pairs = λ i j d h k. pairs (suc i) (suc j) d (omega arith) (omega arith)
 
 pub apart_here : (name : List ℕ) (nodes : List Node) → All (λ (other : Node). name ≢ other.name) nodes → All (NoFrontend name) nodes
 apart_here name nodes all = λ k d h. λ kind. λ e. all k d h (sym e)

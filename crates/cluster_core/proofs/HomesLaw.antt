@@ -15,12 +15,13 @@ use Rattle.mur_config.specs.declared.node.Kind.TheVariants.{Master, Frontend, Ba
 use Rattle.mur_config.specs.declared.node.Node.{Node}
 use Rattle.mur_config.specs.Nodes.{AreNodes, links_of}
 use Rattle.cluster_core.specs.declared.world.World.{World}
-use Rattle.cluster_core.specs.OneStore.{open_content, or_else, box_among, box_of_home, HasBoxesOf}
+use Rattle.backend_core.specs.OpenBox.{open_content}
+use Rattle.cluster_core.specs.OneStore.{or_else, box_among, box_of_home, HasBoxesOf}
 use Rattle.cluster_core.specs.Shown.{held_by, row_if, rows_of}
 use Rattle.cluster_core.specs.World.{no_world, or_backend, backends_of, home_of, setting_of, start, home_at}
 use Rattle.cluster_core.proofs.KeepsLaw.{AreNodesOf}
-use Rattle.cluster_core.proofs.ServedAlike.{IsStoreOf}
-use Rattle.cluster_core.proofs.FrontsOfStart.{head_apart, tail_apart}
+use Rattle.serve_law.proofs.HomeStore.{IsStoreOf}
+use Rattle.mur_config.proofs.NodesApart.{head_apart, tail_apart}
 use Rattle.cluster_core.proofs.StartLaw.{first_backend, backends_stay}
 use Rattle.mur_model.specs.declared.store.Store.{Store}
 

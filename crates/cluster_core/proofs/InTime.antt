@@ -18,7 +18,7 @@ use Rattle.cluster_core.specs.declared.world.Client.{Client}
 use Rattle.cluster_core.specs.declared.world.Mark.{Mark}
 use Rattle.cluster_core.specs.declared.world.World.{World}
 use Rattle.cluster_core.specs.Flow.{run_steps}
-use Rattle.cluster_core.specs.Links.{on_link}
+use Rattle.link_queue.specs.Links.{on_link}
 use Rattle.cluster_core.specs.World.{client_at, front_at, home_at, given_more, carry, carry_all, with_front, with_client, open_at, opens, bytes_at}
 use Rattle.cluster_core.specs.World.{bytes_from, hang_at, hangs, input_of, home_takes, comes_to_home, comes_to, taken, deliver_first, takes, stepped}
 use Rattle.cluster_core.specs.World.{steps_by}

@@ -19,7 +19,7 @@ use Rattle.imap_reply.specs.declared.inputs.Input.{Input}
 use Rattle.imap_reply.specs.declared.inputs.Input.TheVariants.{Asks}
 use Rattle.imap_types.specs.declared.request.Request.{Request}
 use Rattle.imap_reply.specs.Inputs.{requests_in}
-use Rattle.cluster_core.proofs.Readings.{FaultsLast}
+use Rattle.front_core.proofs.Connection.Readings.{FaultsLast}
 use Rattle.link_msg.specs.declared.answer.AnswerBody.{AnswerBody}
 use Rattle.link_msg.specs.declared.answer.BackAnswer.{BackAnswer}
 use Rattle.link_msg.specs.declared.out.Out.TheVariants.{Client as to_client}
@@ -42,11 +42,11 @@ use Rattle.cluster_core.specs.declared.world.Client.{Client}
 use Rattle.cluster_core.specs.declared.world.World.{World}
 use Rattle.cluster_core.specs.World.{client_at, carry_all}
 use Rattle.cluster_core.proofs.ConnectionLaw.{Story, client_with, GoesOnAt, ReadsOn, StandsOn}
-use Rattle.cluster_core.proofs.ConnectionLaw.Stands.{finished}
+use Rattle.front_core.proofs.Connection.Standing.Stands.{finished}
 use Rattle.cluster_core.proofs.FrameLaw.{carry_all-append, line_carried, end_carried, given_keeps, inputs_kept}
 use Rattle.cluster_core.proofs.RequestsOf.{replies_stop}
 use Rattle.cluster_core.proofs.Told.{IsTold}
-use Rattle.cluster_core.proofs.Ways.{AreOnWay}
+use Rattle.front_core.proofs.Connection.Ways.{AreOnWay}
 
 abbrev told_more : Story → ℕ → AnswerOf → Story
 told_more story conn answer = record { talk = story.talk; told = with_item story.told conn answer; course = story.course }

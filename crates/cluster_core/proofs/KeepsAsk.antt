@@ -43,15 +43,16 @@ use Rattle.session_core.specs.Asking.{asked_for}
 use Rattle.session_core.specs.Finish.{turn_of}
 use Rattle.cluster_core.specs.declared.world.World.{World}
 use Rattle.cluster_core.specs.Heard.{Heard, frames_heard}
-use Rattle.cluster_core.specs.Links.{on_link, sent, without_first}
+use Rattle.link_queue.specs.Links.{on_link, sent, without_first}
 use Rattle.cluster_core.specs.World.{front_at, home_of, setting_of, with_home, taken, carry, carry_all}
 use Rattle.cluster_core.proofs.ConnectionLaw.{Story, told_of, session_at, session_of_other}
 use Rattle.cluster_core.proofs.KeepsLaw.{ConnectionIs, AreNodesOf, KeepsLaw, KeepsOn, connection_stays, same_front}
 use Rattle.cluster_core.proofs.RequestsOf.{requests_of}
-use Rattle.cluster_core.proofs.ServedAlike.{IsStoreOf, ServesAlike}
-use Rattle.cluster_core.proofs.ServeLaw.{plain_ask, serves_alike}
+use Rattle.serve_law.proofs.HomeStore.{IsStoreOf}
+use Rattle.serve_law.proofs.ServedAlike.{ServesAlike}
+use Rattle.serve_law.proofs.ServeLaw.{plain_ask, serves_alike}
 use Rattle.cluster_core.proofs.Told.{IsTold, having_said, next_course, told_push}
-use Rattle.cluster_core.proofs.Ways.{answer_of_another, ask_of_another, taken_for_another, sent_for_another}
+use Rattle.front_core.proofs.Connection.Ways.{answer_of_another, ask_of_another, taken_for_another, sent_for_another}
 
 -- the world behind the home's answer
 abbrev pub answered_world : World → List ℕ → List ℕ → Backend → FrontAsk → AnswerBody → Counts → World

@@ -45,23 +45,25 @@ use Rattle.front_core.specs.Reading.{Reading as Read, inputs_of_more, read_more}
 use Rattle.front_core.proofs.ReadingLaws.{ended_inputs, ended_reader}
 use Rattle.imap_reply.specs.Inputs.{inputs_from, requests_in}
 use Rattle.imap_reply.proofs.InputLaws.{requests-append}
-use Rattle.cluster_core.proofs.Readings.{FaultsLast, faults_after, inputs_in, inputs_with_more, reading_of, reading_with_more}
+use Rattle.front_core.proofs.Connection.Readings.{FaultsLast, faults_after, inputs_in, inputs_with_more, reading_of, reading_with_more}
 use Rattle.cluster_core.specs.declared.world.World.{World}
 use Rattle.cluster_core.specs.Heard.{Heard, nobody, elsewhere, client, hears, frames_heard}
 use Rattle.cluster_core.specs.World.{client_at, front_at, home_of, setting_of, with_front, bytes_at, bytes_from, carry_all}
-use Rattle.cluster_core.proofs.ConnectionLaw.{Story, told_of, client_with, keeps_all, same_story, HasBegunSo, OnItsWay, Stands, IsReading, IsStanding}
+use Rattle.cluster_core.proofs.ConnectionLaw.{Story, told_of, client_with, keeps_all, same_story, IsReading, IsStanding}
+use Rattle.front_core.proofs.Connection.Standing.{HasBegunSo, OnItsWay, Stands}
 use Rattle.cluster_core.proofs.ConnectionLaw.{StandsOn}
-use Rattle.cluster_core.proofs.ConnectionLaw.OnItsWay.{there, back}
-use Rattle.cluster_core.proofs.ConnectionLaw.Stands.{reads, waits, faulted, finished}
+use Rattle.front_core.proofs.Connection.Standing.OnItsWay.{there, back}
+use Rattle.front_core.proofs.Connection.Standing.Stands.{reads, waits, faulted, finished}
 use Rattle.cluster_core.proofs.FrameLaw.{inputs_kept, asked_waits}
 use Rattle.cluster_core.proofs.KeepsLaw.{ConnectionIs, IsAt, KeepsLaw, KeepsOn, LooksAlike, is_not_closed, looks_same, same_put, same_front, connection_stays}
 use Rattle.cluster_core.proofs.KeepsLaw.ConnectionIs.{is_nobody, is_elsewhere, is_open, is_closed}
 use Rattle.cluster_core.proofs.KeepsFront.{world_after, with_connection, front_keeps, is_at_after, standing_after}
 use Rattle.cluster_core.proofs.KeepsStill.{still_kept}
-use Rattle.cluster_core.proofs.Released.{begun_released, standing_released}
+use Rattle.front_core.proofs.Connection.Released.{begun_released}
+use Rattle.cluster_core.proofs.ConnectionLaw.{standing_released}
 use Rattle.cluster_core.proofs.RequestsOf.{requests_of, replies_stop}
 use Rattle.cluster_core.proofs.Told.{IsTold, told_asked}
-use Rattle.cluster_core.proofs.Ways.{AreOnWay}
+use Rattle.front_core.proofs.Connection.Ways.{AreOnWay}
 
 -- a frontend put in its own place
 pub looks_put : (world : World) (node : List ℕ) (front : Front) → front_at world node ≡ Some front → LooksAlike world (with_front world node (still front))

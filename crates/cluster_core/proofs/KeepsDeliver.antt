@@ -30,16 +30,17 @@ use Rattle.mur_model.specs.History.{numbered}
 use Rattle.mur_model.proofs.Numbered.{with_item, with_item-same}
 use Rattle.imap_reply.specs.Inputs.{requests_in}
 use Rattle.imap_reply.proofs.InputLaws.{requests-append}
-use Rattle.cluster_core.proofs.Readings.{inputs_in, reading_of}
+use Rattle.front_core.proofs.Connection.Readings.{inputs_in, reading_of}
 use Rattle.cluster_core.specs.declared.world.World.{World}
 use Rattle.cluster_core.specs.Heard.{Heard, client, frames_heard}
-use Rattle.cluster_core.specs.Links.{Links, on_link, sent, without_first}
+use Rattle.link_queue.specs.Links.{Links, on_link, sent, without_first}
 use Rattle.cluster_core.specs.World.{front_at, home_at, home_of, setting_of, with_front, with_home, taken, input_of, home_takes, comes_to_home}
 use Rattle.cluster_core.specs.World.{comes_to, carry_all}
-use Rattle.cluster_core.proofs.ConnectionLaw.{Story, told_of, HasBegunSo, Stands, IsLeft, IsStanding}
-use Rattle.cluster_core.proofs.ConnectionLaw.OnItsWay.{there, back}
-use Rattle.cluster_core.proofs.ConnectionLaw.Stands.{reads, waits, faulted, finished}
-use Rattle.cluster_core.proofs.ConnectionLaw.IsLeft.{nothing, its_ask, its_answer}
+use Rattle.cluster_core.proofs.ConnectionLaw.{Story, told_of, IsStanding}
+use Rattle.front_core.proofs.Connection.Standing.{HasBegunSo, Stands, IsLeft}
+use Rattle.front_core.proofs.Connection.Standing.OnItsWay.{there, back}
+use Rattle.front_core.proofs.Connection.Standing.Stands.{reads, waits, faulted, finished}
+use Rattle.front_core.proofs.Connection.Standing.IsLeft.{nothing, its_ask, its_answer}
 use Rattle.cluster_core.proofs.KeepsAsk.{IsAnswered, answers_ask, ask_kept, answered_world}
 use Rattle.cluster_core.proofs.KeepsData.{looks_put}
 use Rattle.cluster_core.proofs.KeepsFront.{world_after}
@@ -48,8 +49,8 @@ use Rattle.cluster_core.proofs.KeepsLaw.ConnectionIs.{is_nobody, is_elsewhere, i
 use Rattle.cluster_core.proofs.KeepsStill.{still_kept}
 use Rattle.cluster_core.proofs.RequestsOf.{requests_of, answered_lengths, next_request}
 use Rattle.cluster_core.proofs.Told.{having_said}
-use Rattle.cluster_core.proofs.Ways.{AreOnWay, IsOfAnother, taken_for_another, ask_taken, no_ask_first}
-use Rattle.cluster_core.proofs.Ways.{answer_sent, ask_in, answer_in}
+use Rattle.front_core.proofs.Connection.Ways.{AreOnWay, IsOfAnother, taken_for_another, ask_taken, no_ask_first}
+use Rattle.front_core.proofs.Connection.Ways.{answer_sent, ask_in, answer_in}
 
 -- a message that is neither an ask nor an answer changes nothing that can be looked up
 alike_taken : (world : World) (from to : List ℕ) (message : LinkMsg) (rest : List LinkMsg) → on_link world.links from to ≡ message ∷ rest
@@ -151,7 +152,7 @@ said_after config heard world law conn front connection tag name work ask done t
     ∙ ap (λ t. told ++ (record { tag = t; reply = done.reply.reply }) ∷ []) done.tagged
     ∙ ap (λ r. told ++ (record { tag = tag; reply = r }) ∷ []) done.replied
 
-way_after : (links : Links) (conn : ℕ) (node home from to : List ℕ) (ask : FrontAsk) (connection : Connection) (body : AnswerBody) → from ≡ node → to ≡ home
+way_after : (links : Links LinkMsg) (conn : ℕ) (node home from to : List ℕ) (ask : FrontAsk) (connection : Connection) (body : AnswerBody) → from ≡ node → to ≡ home
     → ask.id ≡ record { conn = conn; command = connection.answered + 1 }
     → AreOnWay (without_first links from to) conn node home [] []
     → AreOnWay (sent (without_first links node home) home node (Answer (record { id = ask.id; body = body }))) conn node home []

@@ -19,7 +19,8 @@ use Rattle.mur_model.specs.History.{Course, TalkGoesOn}
 use Rattle.mur_model.proofs.HistoryGrows.{talks_follow}
 use Rattle.cluster_core.specs.declared.world.World.{World}
 use Rattle.cluster_core.specs.Heard.{Heard, frames_heard, has_closed}
-use Rattle.cluster_core.specs.Links.{Links}
+use Rattle.link_msg.specs.declared.message.LinkMsg.{LinkMsg}
+use Rattle.link_queue.specs.Links.{Links}
 use Rattle.cluster_core.specs.World.{front_at, home_of, setting_of, carry_all}
 use Rattle.cluster_core.proofs.ConnectionLaw.{Story, told_of, IsMade, IsStanding}
 use Rattle.cluster_core.proofs.KeepsLaw.{ConnectionIs, IsAt, IsGone, KeepsLaw, KeepsOn, WaysOn, connection_stays}
@@ -35,7 +36,7 @@ world_after world node front conn connection outs =
     carry_all node (with_fronts world (with_value (slice_cmp nat_cmp) world.fronts node (with_connection front conn connection))) outs
 
 -- the outputs of a connection's step were carried out and made this story; the connection is so behind it
-pub front_keeps : (config : Config) (heard after : ℕ → Heard) (origin : World) (law : KeepsLaw config heard origin) (links : Links) (conn : ℕ) (node : List ℕ)
+pub front_keeps : (config : Config) (heard after : ℕ → Heard) (origin : World) (law : KeepsLaw config heard origin) (links : Links LinkMsg) (conn : ℕ) (node : List ℕ)
     (front : Front) (was connection : Connection) (outs : List Out) (told story : Story)
     → ((other : ℕ) → other ≢ conn → WaysOn origin.links links other)
     → front_at origin node ≡ Some front → connection_at front conn ≡ Some was

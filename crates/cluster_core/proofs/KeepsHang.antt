@@ -25,17 +25,19 @@ use Rattle.mur_model.proofs.HistoryGrows.{same_talk}
 use Rattle.schedule_text.specs.declared.event.Event.TheVariants.{Hang}
 use Rattle.imap_reply.specs.Inputs.{requests_in}
 use Rattle.imap_reply.proofs.InputLaws.{requests-append}
-use Rattle.cluster_core.proofs.Readings.{inputs_in}
+use Rattle.front_core.proofs.Connection.Readings.{inputs_in}
 use Rattle.cluster_core.specs.declared.world.World.{World}
 use Rattle.cluster_core.specs.Heard.{Heard, nobody, elsewhere, client, hears, frames_heard}
-use Rattle.cluster_core.specs.Links.{Links}
+use Rattle.link_msg.specs.declared.message.LinkMsg.{LinkMsg}
+use Rattle.link_queue.specs.Links.{Links}
 use Rattle.cluster_core.specs.World.{client_at, home_of, setting_of, hang_at, hangs, carry_all}
-use Rattle.cluster_core.proofs.ConnectionLaw.{told_of, keeps_all, same_story, Stands, IsLeft}
-use Rattle.cluster_core.proofs.ConnectionLaw.OnItsWay.{there, back}
-use Rattle.cluster_core.proofs.ConnectionLaw.Stands.{reads, waits, faulted, finished}
-use Rattle.cluster_core.proofs.ConnectionLaw.IsLeft.{nothing, its_ask, its_answer}
+use Rattle.cluster_core.proofs.ConnectionLaw.{told_of, keeps_all, same_story}
+use Rattle.front_core.proofs.Connection.Standing.{Stands, IsLeft}
+use Rattle.front_core.proofs.Connection.Standing.OnItsWay.{there, back}
+use Rattle.front_core.proofs.Connection.Standing.Stands.{reads, waits, faulted, finished}
+use Rattle.front_core.proofs.Connection.Standing.IsLeft.{nothing, its_ask, its_answer}
 use Rattle.cluster_core.proofs.KeepsFront.{world_after, with_connection, front_keeps, is_at_after, gone_after}
-use Rattle.cluster_core.proofs.LastAnswer.{stands_last}
+use Rattle.front_core.proofs.Connection.LastAnswer.{stands_last}
 use Rattle.cluster_core.proofs.KeepsLaw.{ConnectionIs, IsAt, IsGone, KeepsLaw, KeepsOn, looks_same}
 use Rattle.cluster_core.proofs.KeepsLaw.ConnectionIs.{is_nobody, is_elsewhere, is_open, is_closed}
 use Rattle.cluster_core.proofs.KeepsStill.{still_kept}
@@ -57,7 +59,7 @@ unfolding hears
 heard_closed config conn bytes heard e = let same : nat_eq conn conn ≡ true = grind (arith, nat_tests) in rw (e, same) refl
 
 -- what is left of a connection, whatever it was at
-left_by : (setting : Setting) (node home : List ℕ) (conn : ℕ) (all : List Input) (held : Option (List ℕ)) (connection : Connection) (links : Links)
+left_by : (setting : Setting) (node home : List ℕ) (conn : ℕ) (all : List Input) (held : Option (List ℕ)) (connection : Connection) (links : Links LinkMsg)
     (told said : List Answer) (session : Sess)
     → Stands setting node home conn all held connection links told said session
     → IsLeft setting node home conn (requests_in all) (hung_up connection) links told said session
@@ -82,7 +84,7 @@ left_by setting node home conn all held connection links told said session
     nothing [] (same ∙ sym (append-nil told)) (omega arith) way
 
 -- closing again changes nothing of what is left
-left_again : (setting : Setting) (node home : List ℕ) (conn : ℕ) (requests : _) (connection : Connection) (links : Links) (told said : List Answer)
+left_again : (setting : Setting) (node home : List ℕ) (conn : ℕ) (requests : _) (connection : Connection) (links : Links LinkMsg) (told said : List Answer)
     (session : Sess)
     → IsLeft setting node home conn requests connection links told said session
     → IsLeft setting node home conn requests (hung_up connection) links told said session

@@ -24,22 +24,24 @@ use Rattle.mur_model.specs.declared.session.Sess.TheVariants.{Off}
 use Rattle.mur_model.specs.declared.setting.Setting.{Setting}
 use Rattle.mur_model.specs.History.{Talk, TalkGoesOn}
 use Rattle.imap_reply.specs.Inputs.{requests_in}
-use Rattle.cluster_core.proofs.Readings.{inputs_in, reading_of}
+use Rattle.front_core.proofs.Connection.Readings.{inputs_in, reading_of}
 use Rattle.cluster_core.specs.declared.world.World.{World}
-use Rattle.cluster_core.specs.Ending.{EndsOnlyLast}
+use Rattle.front_core.specs.Ending.{EndsOnlyLast}
 use Rattle.cluster_core.specs.Heard.{Heard, nobody, elsewhere, client, is_frontend, frames_heard, has_closed}
-use Rattle.cluster_core.specs.Links.{Links}
+use Rattle.link_msg.specs.declared.message.LinkMsg.{LinkMsg}
+use Rattle.link_queue.specs.Links.{Links}
 use Rattle.cluster_core.specs.World.{start, client_at, front_at, home_at, home_of, setting_of}
-use Rattle.cluster_core.proofs.ConnectionLaw.{Story, told_of, client_with, HasBegunSo, OnItsWay, Stands, IsLeft, IsStanding}
-use Rattle.cluster_core.proofs.ConnectionLaw.OnItsWay.{there, back}
-use Rattle.cluster_core.proofs.ConnectionLaw.Stands.{reads, waits, faulted, finished}
-use Rattle.cluster_core.proofs.ConnectionLaw.IsLeft.{nothing, its_ask, its_answer}
+use Rattle.cluster_core.proofs.ConnectionLaw.{Story, told_of, client_with, IsStanding}
+use Rattle.front_core.proofs.Connection.Standing.{HasBegunSo, OnItsWay, Stands, IsLeft}
+use Rattle.front_core.proofs.Connection.Standing.OnItsWay.{there, back}
+use Rattle.front_core.proofs.Connection.Standing.Stands.{reads, waits, faulted, finished}
+use Rattle.front_core.proofs.Connection.Standing.IsLeft.{nothing, its_ask, its_answer}
 use Rattle.cluster_core.proofs.RequestsOf.{requests_of}
 use Rattle.cluster_core.proofs.Told.{IsTold}
-use Rattle.cluster_core.proofs.Ways.{AreOnWay}
+use Rattle.front_core.proofs.Connection.Ways.{AreOnWay}
 
 -- a connection that no frontend has
-pub record IsUntold (conn : ℕ) (links : Links) (story : Story) : Type 0 where
+pub record IsUntold (conn : ℕ) (links : Links LinkMsg) (story : Story) : Type 0 where
   pub told : story.told conn ≡ []
   pub said : story.talk.answers conn ≡ []
   pub session : story.course.sessions conn ≡ Off
@@ -109,17 +111,17 @@ same_put cmp apart entries key value at other = ⊎_elim
     (same_or_other cmp apart other key)
 
 -- what is on the way for a connection on other links
-abbrev pub WaysOn : Links → Links → ℕ → Type 0
+abbrev pub WaysOn : Links LinkMsg → Links LinkMsg → ℕ → Type 0
 WaysOn links next conn = (front home : List ℕ) (asks : List FrontAsk) (answers : List BackAnswer) → AreOnWay links conn front home asks answers
     → AreOnWay next conn front home asks answers
 
-way_on : (links next : Links) (conn : ℕ) (front home : List ℕ) (connection : Connection) (tag : _) (name : List ℕ) (work : _) (told said : List Answer)
+way_on : (links next : Links LinkMsg) (conn : ℕ) (front home : List ℕ) (connection : Connection) (tag : _) (name : List ℕ) (work : _) (told said : List Answer)
     (session : Sess) → WaysOn links next conn
     → OnItsWay links conn front home connection tag name work told said session → OnItsWay next conn front home connection tag name work told said session
 way_on links next conn front home connection tag name work told said session on (there a b way) = there a b (on front home _ _ way)
 way_on links next conn front home connection tag name work told said session on (back body turn a b c d way) = back body turn a b c d (on front home _ _ way)
 
-pub stands_on : (setting : Setting) (front home : List ℕ) (conn : ℕ) (all : List Input) (held : Option (List ℕ)) (connection : Connection) (links next : Links)
+pub stands_on : (setting : Setting) (front home : List ℕ) (conn : ℕ) (all : List Input) (held : Option (List ℕ)) (connection : Connection) (links next : Links LinkMsg)
     (told said : List Answer) (session : Sess)
     → WaysOn links next conn → Stands setting front home conn all held connection links told said session
     → Stands setting front home conn all held connection next told said session
@@ -130,7 +132,7 @@ stands_on setting front home conn all held connection links next told said sessi
 stands_on setting front home conn all held connection links next told said session on (finished passed more bytes before last a b c d e f way) =
     finished passed more bytes before last a b c d e f (on front home _ _ way)
 
-pub left_on : (setting : Setting) (front home : List ℕ) (conn : ℕ) (requests : List Request) (connection : Connection) (links next : Links)
+pub left_on : (setting : Setting) (front home : List ℕ) (conn : ℕ) (requests : List Request) (connection : Connection) (links next : Links LinkMsg)
     (told said : List Answer) (session : Sess)
     → WaysOn links next conn → IsLeft setting front home conn requests connection links told said session
     → IsLeft setting front home conn requests connection next told said session

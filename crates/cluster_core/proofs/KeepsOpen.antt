@@ -31,12 +31,12 @@ use Rattle.cluster_core.specs.declared.world.World.{World}
 use Rattle.cluster_core.specs.Heard.{Heard, nobody, elsewhere, client, hears, opened_at, is_frontend, frames_heard}
 use Rattle.cluster_core.specs.World.{client_at, front_at, home_of, setting_of, with_client, with_front, open_at, opens, given_more, carry, carry_all}
 use Rattle.cluster_core.proofs.ConnectionLaw.{Story, told_of}
-use Rattle.cluster_core.proofs.ConnectionLaw.Stands.{reads}
+use Rattle.front_core.proofs.Connection.Standing.Stands.{reads}
 use Rattle.cluster_core.proofs.KeepsLaw.{ConnectionIs, IsUntold, KeepsLaw, KeepsOn, connection_stays}
 use Rattle.cluster_core.proofs.KeepsLaw.{looks_same, same_front}
 use Rattle.cluster_core.proofs.KeepsLaw.ConnectionIs.{is_nobody, is_elsewhere, is_open, is_closed}
 use Rattle.cluster_core.proofs.KeepsStill.{still_kept, fronts_at_other, nodes_alike, nodes_with_front}
-use Rattle.cluster_core.proofs.Readings.{inputs_in, reading_of}
+use Rattle.front_core.proofs.Connection.Readings.{inputs_in, reading_of}
 use Rattle.cluster_core.proofs.RequestsOf.{requests_of}
 
 -- nothing is heard anew of a connection that was opened before, nor of another one

@@ -24,16 +24,17 @@ use Rattle.session_core.specs.Asking.{asked_for}
 use Rattle.session_core.specs.declared.asking.Awaited.{Awaited}
 use Rattle.imap_reply.specs.Inputs.{requests_in}
 use Rattle.front_core.specs.Reading.{Reading as Read}
-use Rattle.cluster_core.proofs.Readings.{inputs_in, reading_of}
+use Rattle.front_core.proofs.Connection.Readings.{inputs_in, reading_of}
 use Rattle.cluster_core.specs.declared.world.World.{World}
 use Rattle.cluster_core.specs.Heard.{Heard, client, frames_heard}
-use Rattle.cluster_core.specs.Links.{on_link, without_first}
+use Rattle.link_queue.specs.Links.{on_link, without_first}
 use Rattle.cluster_core.specs.World.{front_at, home_of, setting_of, taken, comes_to, deliver_first, delivers, carry_all}
-use Rattle.cluster_core.proofs.ConnectionLaw.{told_of, keeps_all, same_story, HasBegunSo, Stands, IsLeft, IsStanding}
+use Rattle.cluster_core.proofs.ConnectionLaw.{told_of, keeps_all, same_story, IsStanding}
+use Rattle.front_core.proofs.Connection.Standing.{HasBegunSo, Stands, IsLeft}
 use Rattle.cluster_core.proofs.ConnectionLaw.{StandsOn}
-use Rattle.cluster_core.proofs.ConnectionLaw.OnItsWay.{there, back}
-use Rattle.cluster_core.proofs.ConnectionLaw.Stands.{reads, waits, faulted, finished}
-use Rattle.cluster_core.proofs.ConnectionLaw.IsLeft.{nothing, its_ask, its_answer}
+use Rattle.front_core.proofs.Connection.Standing.OnItsWay.{there, back}
+use Rattle.front_core.proofs.Connection.Standing.Stands.{reads, waits, faulted, finished}
+use Rattle.front_core.proofs.Connection.Standing.IsLeft.{nothing, its_ask, its_answer}
 use Rattle.cluster_core.proofs.KeepsAnswer.{replied_turn, replied_stands, ended_turned, read_turned, fits, ended_drops_answer}
 use Rattle.cluster_core.proofs.KeepsData.{asked_reader, inputs_keep_reader}
 use Rattle.cluster_core.proofs.KeepsDeliver.{ask_by, to_front, quiet_keeps}
@@ -42,9 +43,10 @@ use Rattle.cluster_core.proofs.KeepsFront.{world_after, with_connection, front_k
 use Rattle.cluster_core.proofs.KeepsLaw.{ConnectionIs, IsAt, IsGone, KeepsLaw, KeepsOn, WaysOn, is_not_closed, looks_same}
 use Rattle.cluster_core.proofs.KeepsLaw.ConnectionIs.{is_nobody, is_elsewhere, is_open, is_closed}
 use Rattle.cluster_core.proofs.KeepsStill.{still_kept}
-use Rattle.cluster_core.proofs.Released.{released_count, released_ended, begun_released, standing_released}
+use Rattle.front_core.proofs.Connection.Released.{released_count, released_ended, begun_released}
+use Rattle.cluster_core.proofs.ConnectionLaw.{standing_released}
 use Rattle.cluster_core.proofs.RequestsOf.{requests_of}
-use Rattle.cluster_core.proofs.Ways.{AreOnWay, answer_of_another, taken_for_another, answer_taken, no_answer_first}
+use Rattle.front_core.proofs.Connection.Ways.{AreOnWay, answer_of_another, taken_for_another, answer_taken, no_answer_first}
 
 -- the ways of the others when the answer of a connection is taken
 others_on : (world : World) (from to : List ℕ) (answer : BackAnswer) (rest : List LinkMsg) (conn : ℕ) → on_link world.links from to ≡ Answer answer ∷ rest

@@ -48,9 +48,9 @@ use Rattle.session_core.specs.Begin.{begin}
 use Rattle.session_core.specs.Finish.{finished_by, turn_of}
 use Rattle.session_core.specs.Need.{told}
 use Rattle.cluster_core.specs.declared.world.World.{World}
-use Rattle.cluster_core.specs.Links.{Links, same_link, on_link, sent, without_first}
-use Rattle.cluster_core.proofs.OncePairs.{times}
-use Rattle.cluster_core.proofs.Wires.{same_itself, on_link-sent, on_link-taken}
+use Rattle.link_queue.specs.Links.{Links, same_link, on_link, sent, without_first}
+use Rattle.mur_config.proofs.OncePairs.{times}
+use Rattle.link_queue.proofs.Wires.{same_itself, on_link-sent, on_link-taken}
 
 unfoldable pub message_load : LinkMsg → ℕ
 message_load (Ask ask) = 2
@@ -73,7 +73,7 @@ unfoldable pub outs_load : List Out → ℕ
 outs_load [] = 0
 outs_load (out ∷ outs) = out_load out + outs_load outs
 
-unfoldable pub links_load : Links → List Link → ℕ
+unfoldable pub links_load : Links LinkMsg → List Link → ℕ
 links_load links [] = 0
 links_load links (pair ∷ pairs) = queue_load (on_link links pair.from pair.to) + links_load links pairs
 
@@ -134,7 +134,7 @@ unfolding queue_load
 queue_both [] two = omega arith
 queue_both (message ∷ one) two = omega (arith, queue_both one two)
 
-sent_here : (links : Links) (from to a b : List ℕ) (message : LinkMsg)
+sent_here : (links : Links LinkMsg) (from to a b : List ℕ) (message : LinkMsg)
     → queue_load (on_link (sent links from to message) a b)
     ≡ queue_load (on_link links a b) + queue_load (cond (same_link a b from to) (message ∷ []) [])
 sent_here links from to a b message =
@@ -145,7 +145,7 @@ unfolding queue_load
 send_none_by message true rest h = absurd (omega (arith, h))
 send_none_by message false rest h = (refl, omega (arith, h))
 
-send_none : (links : Links) (from to : List ℕ) (message : LinkMsg) (pairs : List Link) → times from to pairs ≡ 0
+send_none : (links : Links LinkMsg) (from to : List ℕ) (message : LinkMsg) (pairs : List Link) → times from to pairs ≡ 0
     → links_load (sent links from to message) pairs ≡ links_load links pairs
 unfolding links_load times
 send_none links from to message [] h = refl
@@ -153,7 +153,7 @@ send_none links from to message (pair ∷ pairs) h =
     let parts = send_none_by message (same_link pair.from pair.to from to) (times from to pairs) h in
     omega (arith, sent_here links from to pair.from pair.to message, parts.0, send_none links from to message pairs parts.1)
 
-send_by : (links : Links) (from to : List ℕ) (message : LinkMsg) (pairs : List Link) (same : Bool) → cond same 1 0 + times from to pairs ≤ 1
+send_by : (links : Links LinkMsg) (from to : List ℕ) (message : LinkMsg) (pairs : List Link) (same : Bool) → cond same 1 0 + times from to pairs ≤ 1
     → (times from to pairs ≤ 1 → links_load (sent links from to message) pairs ≤ links_load links pairs + message_load message)
     → queue_load (cond same (message ∷ []) []) + links_load (sent links from to message) pairs ≤ links_load links pairs + message_load message
 unfolding queue_load
@@ -161,7 +161,7 @@ send_by links from to message pairs true h later =
     let none : times from to pairs ≡ 0 = omega (arith, h) in omega (arith, send_none links from to message pairs none)
 send_by links from to message pairs false h later = let few : times from to pairs ≤ 1 = omega (arith, h) in omega (arith, later few)
 
-pub send_load : (links : Links) (from to : List ℕ) (message : LinkMsg) (pairs : List Link) → times from to pairs ≤ 1
+pub send_load : (links : Links LinkMsg) (from to : List ℕ) (message : LinkMsg) (pairs : List Link) → times from to pairs ≤ 1
     → links_load (sent links from to message) pairs ≤ links_load links pairs + message_load message
 unfolding links_load times
 send_load links from to message [] h = omega arith
@@ -178,7 +178,7 @@ drop_less true [] = omega arith
 drop_less true (message ∷ queue) = omega arith
 drop_less false queue = omega arith
 
-take_less : (links : Links) (from to : List ℕ) (pairs : List Link) → links_load (without_first links from to) pairs ≤ links_load links pairs
+take_less : (links : Links LinkMsg) (from to : List ℕ) (pairs : List Link) → links_load (without_first links from to) pairs ≤ links_load links pairs
 unfolding links_load
 take_less links from to [] = omega arith
 take_less links from to (pair ∷ pairs) =
@@ -189,7 +189,7 @@ take_less links from to (pair ∷ pairs) =
       take_less links from to pairs,
     )
 
-taken_queue : (links : Links) (from to : List ℕ) (message : LinkMsg) (rest : List LinkMsg) → on_link links from to ≡ message ∷ rest
+taken_queue : (links : Links LinkMsg) (from to : List ℕ) (message : LinkMsg) (rest : List LinkMsg) → on_link links from to ≡ message ∷ rest
     → on_link (without_first links from to) from to ≡ rest
 taken_queue links from to message rest e =
     on_link-taken links from to from to
@@ -200,7 +200,7 @@ first_load : (message : LinkMsg) (rest : List LinkMsg) → queue_load (message �
 unfolding queue_load
 first_load message rest = refl
 
-pub take_load : (links : Links) (from to : List ℕ) (message : LinkMsg) (rest : List LinkMsg) (pairs : List Link) → on_link links from to ≡ message ∷ rest
+pub take_load : (links : Links LinkMsg) (from to : List ℕ) (message : LinkMsg) (rest : List LinkMsg) (pairs : List Link) → on_link links from to ≡ message ∷ rest
     → (k : ℕ) → k < length pairs → slice_index_or pairs k (record { from = from; to = to }) ≡ record { from = from; to = to }
     → links_load (without_first links from to) pairs + message_load message ≤ links_load links pairs
 unfolding links_load

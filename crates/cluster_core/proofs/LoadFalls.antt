@@ -25,13 +25,13 @@ use Rattle.schedule_text.specs.Brings.{bytes_of, bytes_of_all}
 use Rattle.cluster_core.specs.declared.world.Client.{Client as ClientOf}
 use Rattle.cluster_core.specs.declared.world.World.{World}
 use Rattle.cluster_core.specs.Flow.{run_steps}
-use Rattle.cluster_core.specs.Links.{on_link}
+use Rattle.link_queue.specs.Links.{on_link}
 use Rattle.cluster_core.specs.World.{client_at, front_at, home_at, given_more, carry, carry_all, with_front, with_home, with_client, open_at, opens, bytes_at}
 use Rattle.cluster_core.specs.World.{bytes_from, hang_at, hangs, input_of, home_takes, comes_to_home, comes_to, taken, deliver_first, takes, stepped}
 use Rattle.cluster_core.specs.World.{steps_by, start, with_node, with_nodes}
 use Rattle.cluster_core.proofs.Load.{message_load, queue_load, out_load, outs_load, links_load, entries_load, front_load, load, set_load, enter_load}
 use Rattle.cluster_core.proofs.Load.{send_load, take_load, Brings, connect_brings, bytes_bring, hang_load, message_brings, plan_load}
-use Rattle.cluster_core.proofs.OncePairs.{times, pairs_once}
+use Rattle.mur_config.proofs.OncePairs.{times, pairs_once}
 use Rattle.cluster_core.proofs.OnPairs.{on_pairs}
 use Rattle.cluster_core.proofs.StartLaw.{start_links}
 use Rattle.cluster_core.proofs.Unrolled.{run_steps-append}

@@ -39,11 +39,11 @@ use Rattle.cluster_core.specs.declared.world.Client.{Client as ClientOf}
 use Rattle.cluster_core.specs.declared.world.World.{World}
 use Rattle.cluster_core.specs.Carried.{is_ask_or_answer}
 use Rattle.cluster_core.specs.Flow.{run_steps}
-use Rattle.cluster_core.specs.Links.{Links, on_link}
+use Rattle.link_queue.specs.Links.{Links, on_link}
 use Rattle.cluster_core.specs.World.{client_at, front_at, home_at, given_more, carry, carry_all, with_front, with_client, open_at, opens, bytes_at}
 use Rattle.cluster_core.specs.World.{bytes_from, hang_at, hangs, input_of, home_takes, comes_to_home, comes_to, taken, deliver_first, takes, stepped}
 use Rattle.cluster_core.specs.World.{steps_by}
-use Rattle.cluster_core.proofs.OnWay.{IsOnWay, another_sent, another_taken, none_first}
+use Rattle.link_queue.proofs.OnWay.{IsOnWay, another_sent, another_taken, none_first}
 
 -- a message that is neither an ask nor an answer
 unfoldable pub quiet_in : LinkMsg → List LinkMsg
@@ -54,7 +54,7 @@ quiet_in End = End ∷ []
 quiet_in (Line bytes) = Line bytes ∷ []
 
 -- no such message is on any link
-abbrev pub NoneQuiet : Links → Type 0
+abbrev pub NoneQuiet : Links LinkMsg → Type 0
 NoneQuiet links = IsOnWay quiet_in links [] [] []
 
 abbrev IsNotQuiet : Out → Type 0
@@ -263,7 +263,7 @@ comes_keep world from to message (Some front) = front_keeps world to (take_messa
 comes_keep world from to message None = to_home_keeps world from to message (home_at world to)
 
 -- the first message of a link is an ask or an answer
-first_not_quiet : (links : Links) (from to : List ℕ) (message : LinkMsg) (rest : List LinkMsg) → on_link links from to ≡ message ∷ rest → NoneQuiet links
+first_not_quiet : (links : Links LinkMsg) (from to : List ℕ) (message : LinkMsg) (rest : List LinkMsg) → on_link links from to ≡ message ∷ rest → NoneQuiet links
     → quiet_in message ≡ []
 unfolding quiet_in
 first_not_quiet links from to (Ask ask) rest e only = refl
@@ -280,7 +280,7 @@ asks_or_answers Up e = cc
 asks_or_answers End e = cc
 asks_or_answers (Line bytes) e = cc
 
-pub first_serves : (links : Links) (from to : List ℕ) (message : LinkMsg) (rest : List LinkMsg) → on_link links from to ≡ message ∷ rest → NoneQuiet links
+pub first_serves : (links : Links LinkMsg) (from to : List ℕ) (message : LinkMsg) (rest : List LinkMsg) → on_link links from to ≡ message ∷ rest → NoneQuiet links
     → is_ask_or_answer message ≡ true
 first_serves links from to message rest e only = asks_or_answers message (first_not_quiet links from to message rest e only)
 

@@ -25,40 +25,41 @@ use Rattle.schedule_text.specs.declared.event.Event.{Event}
 use Rattle.cluster_core.specs.declared.world.World.{World}
 use Rattle.cluster_core.specs.Flow.{run_steps}
 use Rattle.cluster_core.specs.Heard.{Heard, nobody, heard_from}
-use Rattle.cluster_core.specs.Links.{Links, same_link, on_link}
+use Rattle.link_queue.specs.Links.{Links, same_link, on_link}
 use Rattle.cluster_core.specs.OneStore.{AreEmpty}
 use Rattle.cluster_core.specs.World.{start, front_at, home_of, setting_of, with_node, with_nodes}
-use Rattle.cluster_core.proofs.ConnectionLaw.{Story, OnItsWay, Stands, IsLeft}
-use Rattle.cluster_core.proofs.ConnectionLaw.OnItsWay.{there, back}
-use Rattle.cluster_core.proofs.ConnectionLaw.Stands.{reads, waits, faulted, finished}
-use Rattle.cluster_core.proofs.ConnectionLaw.IsLeft.{nothing, its_ask, its_answer}
+use Rattle.cluster_core.proofs.ConnectionLaw.{Story}
+use Rattle.front_core.proofs.Connection.Standing.{OnItsWay, Stands, IsLeft}
+use Rattle.front_core.proofs.Connection.Standing.OnItsWay.{there, back}
+use Rattle.front_core.proofs.Connection.Standing.Stands.{reads, waits, faulted, finished}
+use Rattle.front_core.proofs.Connection.Standing.IsLeft.{nothing, its_ask, its_answer}
 use Rattle.cluster_core.proofs.Keeps.{run_keeps}
 use Rattle.cluster_core.proofs.KeepsLaw.{ConnectionIs, KeepsLaw}
 use Rattle.cluster_core.proofs.KeepsLaw.ConnectionIs.{is_nobody, is_elsewhere, is_open, is_closed}
 use Rattle.cluster_core.proofs.LinkedNodes.{to_the_home, from_the_home}
 use Rattle.cluster_core.proofs.NoneQuiet.{quiet_in, NoneQuiet, run_keeps as keeps_none_quiet}
-use Rattle.cluster_core.proofs.OnWay.{alike, own_first, none_first}
+use Rattle.link_queue.proofs.OnWay.{alike, own_first, none_first}
 use Rattle.cluster_core.proofs.FrontsOfStart.{frontends_at_start}
 use Rattle.cluster_core.proofs.StartLaw.{start_keeps, start_links, nothing_picked}
-use Rattle.cluster_core.proofs.Ways.{AreOnWay, ask_in, answer_in, own_ask, own_answer}
+use Rattle.front_core.proofs.Connection.Ways.{AreOnWay, ask_in, answer_in, own_ask, own_answer}
 
 -- what is on the way for a connection of this frontend
-record Way (links : Links) (conn : ℕ) (front home : List ℕ) : Type 0 where
+record Way (links : Links LinkMsg) (conn : ℕ) (front home : List ℕ) : Type 0 where
   asks : List FrontAsk
   answers : List BackAnswer
   way : AreOnWay links conn front home asks answers
 
-abbrev a_way : (links : Links) (conn : ℕ) (front home : List ℕ) (asks : List FrontAsk) (answers : List BackAnswer)
+abbrev a_way : (links : Links LinkMsg) (conn : ℕ) (front home : List ℕ) (asks : List FrontAsk) (answers : List BackAnswer)
     → AreOnWay links conn front home asks answers → Way links conn front home
 a_way links conn front home asks answers way = record { asks = asks; answers = answers; way = way }
 
-waiting_way : (links : Links) (conn : ℕ) (front home : List ℕ) (connection : Connection) (tag : Tag) (name : List ℕ) (work : Work)
+waiting_way : (links : Links LinkMsg) (conn : ℕ) (front home : List ℕ) (connection : Connection) (tag : Tag) (name : List ℕ) (work : Work)
     (told said : List AnswerOf) (session : Sess)
     → OnItsWay links conn front home connection tag name work told said session → Way links conn front home
 waiting_way links conn front home connection tag name work told said session (there a b way) = a_way links conn front home _ _ way
 waiting_way links conn front home connection tag name work told said session (back body turn a b c d way) = a_way links conn front home _ _ way
 
-standing_way : (setting : Setting) (front home : List ℕ) (conn : ℕ) (all : List Input) (held : _) (connection : Connection) (links : Links)
+standing_way : (setting : Setting) (front home : List ℕ) (conn : ℕ) (all : List Input) (held : _) (connection : Connection) (links : Links LinkMsg)
     (told said : List AnswerOf) (session : Sess)
     → Stands setting front home conn all held connection links told said session → Way links conn front home
 standing_way setting front home conn all held connection links told said session (reads a b c d e f way) = a_way links conn front home _ _ way
@@ -68,7 +69,7 @@ standing_way setting front home conn all held connection links told said session
 standing_way setting front home conn all held connection links told said session (finished passed more request before last a b c d e f way) =
     a_way links conn front home _ _ way
 
-left_way : (setting : Setting) (front home : List ℕ) (conn : ℕ) (requests : List Request) (connection : Connection) (links : Links)
+left_way : (setting : Setting) (front home : List ℕ) (conn : ℕ) (requests : List Request) (connection : Connection) (links : Links LinkMsg)
     (told said : List AnswerOf) (session : Sess)
     → IsLeft setting front home conn requests connection links told said session → Way links conn front home
 left_way setting front home conn requests connection links told said session (nothing rest a b way) = a_way links conn front home _ _ way

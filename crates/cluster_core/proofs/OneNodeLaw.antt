@@ -22,12 +22,12 @@ use Rattle.schedule_text.specs.declared.event.Event.TheVariants.{Open, Data, Han
 use Rattle.cluster_core.specs.declared.world.Client.{Client}
 use Rattle.cluster_core.specs.declared.world.World.{World}
 use Rattle.cluster_core.specs.Flow.{run_steps}
-use Rattle.cluster_core.specs.Links.{Links, same_link, on_link, without_first}
+use Rattle.link_queue.specs.Links.{Links, same_link, on_link, without_first}
 use Rattle.cluster_core.specs.OneNode.{node_of, worker, connected, leaves_on, WasSent, OnlyWorks, WorksBy, OneNodeWorks, OneNodeWorksEach}
 use Rattle.cluster_core.specs.World.{client_at, front_at, home_at, given_more, carry, carry_all, with_front, with_client, open_at, opens, bytes_at}
 use Rattle.cluster_core.specs.World.{bytes_from, hang_at, hangs, input_of, home_takes, comes_to_home, comes_to, taken, deliver_first, takes, stepped, steps_by}
 use Rattle.cluster_core.proofs.InTime.{takes_adds}
-use Rattle.cluster_core.proofs.Wires.{same_names, on_link-sent, on_link-taken}
+use Rattle.link_queue.proofs.Wires.{same_names, on_link-sent, on_link-taken}
 
 -- what a node's outputs do: messages stand behind those on its links, clients are given bytes, and nothing else of nodes and links changes
 pub record Sends (node : List ℕ) (before after : World) : Type 0 where
@@ -173,7 +173,7 @@ takes_first from to world = record {
   pairs = refl;
 }
 
-nothing_first : (links : Links) (from to one other : List ℕ) (same : Bool) → same_link one other from to ≡ same → on_link links from to ≡ []
+nothing_first : (links : Links LinkMsg) (from to one other : List ℕ) (same : Bool) → same_link one other from to ≡ same → on_link links from to ≡ []
     → on_link links one other ≡ cond same (drop 1 (on_link links one other)) (on_link links one other)
 nothing_first links from to one other true h none =
     let is = same_names one other from to h in

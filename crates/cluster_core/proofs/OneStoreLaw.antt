@@ -20,29 +20,30 @@ use Rattle.mur_model.specs.declared.store.Store.{Store}
 use Rattle.mur_model.specs.History.{Course, Talk, IsLegal, IsInOrder, EndsAtLoss, IsUnanswered, loses, reads}
 use Rattle.mur_model.proofs.HistoryGrows.{one_up_to}
 use Rattle.imap_reply.specs.Inputs.{inputs_of, requests_in}
-use Rattle.cluster_core.proofs.Readings.{inputs_in}
+use Rattle.front_core.proofs.Connection.Readings.{inputs_in}
 use Rattle.cluster_core.specs.declared.world.Client.{Client}
 use Rattle.cluster_core.specs.declared.world.Mark.{Mark}
 use Rattle.cluster_core.specs.declared.world.World.{World}
-use Rattle.cluster_core.specs.Ending.{EndsOnlyLast}
+use Rattle.front_core.specs.Ending.{EndsOnlyLast}
 use Rattle.cluster_core.specs.Heard.{Heard, bytes_heard, frames_heard, has_closed}
 use Rattle.cluster_core.specs.History.{answered_in, connection_in, connection_by, connection_of, answered_of, history_of}
 use Rattle.cluster_core.specs.OneStore.{AreEmpty, IsAnsweredThrough, first_course}
 use Rattle.cluster_core.specs.Points.{AreMadeBy, LosesTheNext}
 use Rattle.cluster_core.specs.Shown.{given_by, given_to}
 use Rattle.cluster_core.specs.World.{client_at, front_at}
-use Rattle.cluster_core.proofs.ConnectionLaw.{Story, told_of, client_with, Stands, IsLeft}
-use Rattle.cluster_core.proofs.ConnectionLaw.OnItsWay.{there, back}
-use Rattle.cluster_core.proofs.ConnectionLaw.Stands.{reads as it_reads, waits, faulted, finished}
-use Rattle.cluster_core.proofs.ConnectionLaw.IsLeft.{nothing, its_ask, its_answer}
+use Rattle.cluster_core.proofs.ConnectionLaw.{Story, told_of, client_with}
+use Rattle.front_core.proofs.Connection.Standing.{Stands, IsLeft}
+use Rattle.front_core.proofs.Connection.Standing.OnItsWay.{there, back}
+use Rattle.front_core.proofs.Connection.Standing.Stands.{reads as it_reads, waits, faulted, finished}
+use Rattle.front_core.proofs.Connection.Standing.IsLeft.{nothing, its_ask, its_answer}
 use Rattle.cluster_core.proofs.KeepsLaw.{ConnectionIs, IsAt}
 use Rattle.cluster_core.proofs.KeepsLaw.ConnectionIs.{is_nobody, is_elsewhere, is_open, is_closed}
 use Rattle.cluster_core.proofs.Marks.{conn_of, command_of, IsOf, all_points, pairs_of_points, marks_follow, answering_points, losing_points}
-use Rattle.cluster_core.proofs.LastAnswer.{none_given, stands_last}
+use Rattle.front_core.proofs.Connection.LastAnswer.{none_given, stands_last}
 use Rattle.cluster_core.proofs.Marks.{NoMore}
 use Rattle.cluster_core.proofs.RequestsOf.{requests_of, answered_lengths}
 use Rattle.cluster_core.proofs.Told.{IsTold, Later}
-use Rattle.cluster_core.proofs.Ways.{none_on_empty}
+use Rattle.front_core.proofs.Connection.Ways.{none_on_empty}
 
 -- what was replied is what was told and at most one more
 pub record IsToldSo (told said : List Answer) : Type 0 where

@@ -33,22 +33,23 @@ use Rattle.cluster_core.specs.declared.world.Client.{Client}
 use Rattle.cluster_core.specs.declared.world.World.{World}
 use Rattle.cluster_core.specs.Flow.{run_steps, steps_of_event}
 use Rattle.cluster_core.specs.Heard.{Heard, nobody, heard_from}
-use Rattle.cluster_core.specs.Links.{Links, on_link}
+use Rattle.link_queue.specs.Links.{Links, on_link}
 use Rattle.cluster_core.specs.OneNode.{node_of, ServesItsOwn, ServesItsOwnEach, ServesItsOwnBehind}
 use Rattle.cluster_core.specs.World.{start, home_of, setting_of, client_at, front_at, home_at, given_more, carry, carry_all, with_front, with_home, with_client}
 use Rattle.cluster_core.specs.World.{open_at, opens, bytes_at, bytes_from, hang_at, hangs, input_of, home_takes, comes_to_home, comes_to, taken, deliver_first}
 use Rattle.cluster_core.specs.World.{takes, stepped, steps_by}
-use Rattle.cluster_core.proofs.ConnectionLaw.{Story, OnItsWay, Stands, IsLeft}
-use Rattle.cluster_core.proofs.ConnectionLaw.OnItsWay.{there, back}
-use Rattle.cluster_core.proofs.ConnectionLaw.Stands.{reads, waits, faulted, finished}
-use Rattle.cluster_core.proofs.ConnectionLaw.IsLeft.{nothing, its_ask, its_answer}
+use Rattle.cluster_core.proofs.ConnectionLaw.{Story}
+use Rattle.front_core.proofs.Connection.Standing.{OnItsWay, Stands, IsLeft}
+use Rattle.front_core.proofs.Connection.Standing.OnItsWay.{there, back}
+use Rattle.front_core.proofs.Connection.Standing.Stands.{reads, waits, faulted, finished}
+use Rattle.front_core.proofs.Connection.Standing.IsLeft.{nothing, its_ask, its_answer}
 use Rattle.cluster_core.proofs.Keeps.{run_keeps}
 use Rattle.cluster_core.proofs.KeepsLaw.{ConnectionIs, KeepsLaw}
 use Rattle.cluster_core.proofs.KeepsLaw.ConnectionIs.{is_nobody, is_elsewhere, is_open, is_closed}
 use Rattle.cluster_core.proofs.OneNodeLaw.{one_more_step}
-use Rattle.cluster_core.proofs.OwnOuts.{IsFor, AreFor, answered_for, connect_for, bytes_for}
+use Rattle.front_core.proofs.Connection.OwnOuts.{IsFor, AreFor, answered_for, connect_for, bytes_for}
 use Rattle.cluster_core.proofs.StartLaw.{start_keeps}
-use Rattle.cluster_core.proofs.Ways.{answer_taken, no_answer_first}
+use Rattle.front_core.proofs.Connection.Ways.{answer_taken, no_answer_first}
 
 -- the clients of all other connections are as they were
 abbrev Serves : ℕ → World → World → Type 0
@@ -197,7 +198,7 @@ takes_own world (Deliver from to) own = λ other client at ne.
 takes_own world event own = λ other client at ne. at
 
 -- in a run an answer comes to the frontend of its connection
-on_way_own : (links : Links) (conn : ℕ) (node home from to : List ℕ) (answer : BackAnswer) (rest : List LinkMsg) (connection : _) (tag : _) (name : List ℕ)
+on_way_own : (links : Links LinkMsg) (conn : ℕ) (node home from to : List ℕ) (answer : BackAnswer) (rest : List LinkMsg) (connection : _) (tag : _) (name : List ℕ)
     (work : _) (told said : List AnswerOf) (session : Sess) → on_link links from to ≡ Answer answer ∷ rest → (answer.id).conn ≡ conn
     → OnItsWay links conn node home connection tag name work told said session → node ≡ to
 on_way_own links conn node home from to answer rest connection tag name work told said session first own (there a b way) =
@@ -205,7 +206,7 @@ on_way_own links conn node home from to answer rest connection tag name work tol
 on_way_own links conn node home from to answer rest connection tag name work told said session first own (back body turn a b c d way) =
     sym (answer_taken links conn node home from to answer rest _ _ first own way).1
 
-stands_own : (setting : Setting) (links : Links) (conn : ℕ) (node home from to : List ℕ) (answer : BackAnswer) (rest : List LinkMsg) (all : List Input)
+stands_own : (setting : Setting) (links : Links LinkMsg) (conn : ℕ) (node home from to : List ℕ) (answer : BackAnswer) (rest : List LinkMsg) (all : List Input)
     (held : Option (List ℕ)) (connection : _) (told said : List AnswerOf) (session : Sess) → on_link links from to ≡ Answer answer ∷ rest
     → (answer.id).conn ≡ conn → Stands setting node home conn all held connection links told said session → node ≡ to
 stands_own setting links conn node home from to answer rest all held connection told said session first own (reads a b c d e f way) =
@@ -219,7 +220,7 @@ stands_own setting links conn node home from to answer rest all held connection 
     (finished passed more asking before last a b c d e f way) =
     absurd (no_answer_first links conn node home from to answer rest _ first own way)
 
-left_own : (setting : Setting) (links : Links) (conn : ℕ) (node home from to : List ℕ) (answer : BackAnswer) (rest : List LinkMsg) (requests : List Request)
+left_own : (setting : Setting) (links : Links LinkMsg) (conn : ℕ) (node home from to : List ℕ) (answer : BackAnswer) (rest : List LinkMsg) (requests : List Request)
     (connection : _) (told said : List AnswerOf) (session : Sess) → on_link links from to ≡ Answer answer ∷ rest
     → (answer.id).conn ≡ conn → IsLeft setting node home conn requests connection links told said session → node ≡ to
 left_own setting links conn node home from to answer rest requests connection told said session first own (nothing more a b way) =

@@ -29,7 +29,7 @@ use Rattle.cluster_core.specs.World.{start, with_node, with_nodes, client_at, fr
 use Rattle.cluster_core.specs.World.{with_client}
 use Rattle.cluster_core.specs.World.{open_at, opens, bytes_at, bytes_from, hang_at, hangs, input_of, home_takes, comes_to_home, comes_to, taken, deliver_first}
 use Rattle.cluster_core.specs.World.{takes, stepped, steps_by}
-use Rattle.cluster_core.specs.Links.{on_link}
+use Rattle.link_queue.specs.Links.{on_link}
 use Rattle.cluster_core.specs.Room.{HaveCommands, HasRoom}
 use Rattle.cluster_core.proofs.InTime.{takes_adds}
 use Rattle.cluster_core.proofs.OneNodeLaw.{carry_all_sends}

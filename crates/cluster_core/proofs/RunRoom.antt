@@ -7,7 +7,7 @@ use Rattle.schedule_text.specs.declared.event.Event.{Event}
 use Rattle.schedule_text.specs.declared.event.Event.TheVariants.{Deliver, Flow}
 use Rattle.schedule_text.specs.Brings.{steps_of, bytes_of, steps_of_all, bytes_of_all}
 use Rattle.cluster_core.specs.declared.world.World.{World}
-use Rattle.cluster_core.specs.Links.{on_link}
+use Rattle.link_queue.specs.Links.{on_link}
 use Rattle.cluster_core.specs.World.{start, steps_by}
 use Rattle.cluster_core.specs.Flow.{Flowing, turn_by, turn_of, round, rounds, rounds_by, flow, happens, run}
 use Rattle.cluster_core.specs.Room.{HaveCommands, HasRoom}

@@ -24,7 +24,7 @@ use Rattle.cluster_core.specs.declared.world.World.{World}
 use Rattle.cluster_core.specs.Backends.{IsBackend}
 use Rattle.cluster_core.specs.HomeLaw.{is_writable_home}
 use Rattle.cluster_core.specs.Homes.{numbers_shown, numbers_of, IsHeldAt, ShowsBoxesOf}
-use Rattle.cluster_core.specs.OneStore.{open_box, open_content}
+use Rattle.backend_core.specs.OpenBox.{open_box, open_content}
 use Rattle.cluster_core.specs.Shown.{held_at, held_by, home_row, row_if, rows_of, rows_of_all, names_at, home_rows}
 use Rattle.cluster_core.specs.World.{home_of}
 use Rattle.cluster_core.proofs.BackendsLaw.{are_backends}
@@ -32,7 +32,7 @@ use Rattle.cluster_core.proofs.HomesLaw.{home_first, rows_here}
 use Rattle.cluster_core.proofs.KeepsLaw.{AreNodesOf}
 use Rattle.cluster_core.proofs.NamesHeld.{is_name, names_cons, same_bytes, once_among, names_rise, nothing_rises, one_here, first_listed, bytes_itself}
 use Rattle.cluster_core.proofs.NamesHeld.{key_has}
-use Rattle.cluster_core.proofs.ServedAlike.{IsStoreOf}
+use Rattle.serve_law.proofs.HomeStore.{IsStoreOf}
 
 kept_by : {X : Type 0} (b : Bool) (x : X) (us vs ws : List X) → us ≡ vs ++ ws → cond b (x ∷ us) us ≡ cond b (x ∷ vs) vs ++ ws
 kept_by true x us vs ws e = ap (λ l. x ∷ l) e

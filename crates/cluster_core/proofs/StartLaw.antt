@@ -24,11 +24,12 @@ use Rattle.mur_model.specs.Store.{empty_store, is_spent}
 use Rattle.mur_model.proofs.HistoryGrows.{one_up_to}
 use Rattle.cluster_core.specs.declared.world.World.{World}
 use Rattle.cluster_core.specs.Heard.{nobody, frames_heard}
-use Rattle.cluster_core.specs.Links.{same_link, on_link}
+use Rattle.link_queue.specs.Links.{same_link, on_link}
 use Rattle.cluster_core.specs.OneStore.{first_course}
 use Rattle.cluster_core.specs.World.{no_world, first_name, or_backend, backends_of, home_of, setting_of, with_node, with_nodes, start, front_at}
 use Rattle.cluster_core.specs.World.{home_at}
-use Rattle.cluster_core.proofs.FrontsOfStart.{NoFrontend, head_apart, tail_apart, apart_here, fronts_stay, frontends_at_start}
+use Rattle.cluster_core.proofs.FrontsOfStart.{NoFrontend, apart_here, fronts_stay, frontends_at_start}
+use Rattle.mur_config.proofs.NodesApart.{head_apart, tail_apart}
 use Rattle.cluster_core.proofs.KeepsLaw.{KeepsLaw}
 use Rattle.cluster_core.proofs.KeepsLaw.ConnectionIs.{is_nobody}
 use Rattle.cluster_core.proofs.Marks.{Carries, MarkedOnce, command_of}
@@ -37,9 +38,9 @@ use Rattle.cluster_core.proofs.Told.{Later}
 use Rattle.cluster_core.specs.declared.world.Mark.{Mark}
 use Rattle.imap_reply.specs.Inputs.{inputs_of, requests_in}
 use Rattle.cluster_core.proofs.RequestsOf.{requests_of}
-use Rattle.cluster_core.proofs.ServedAlike.{IsStoreOf}
-use Rattle.cluster_core.proofs.OnWay.{picked, alike}
-use Rattle.cluster_core.proofs.Ways.{ask_in, answer_in}
+use Rattle.serve_law.proofs.HomeStore.{IsStoreOf}
+use Rattle.link_queue.proofs.OnWay.{picked, alike}
+use Rattle.front_core.proofs.Connection.Ways.{ask_in, answer_in}
 
 -- nodes that have done nothing
 record IsFresh (home : List ℕ) (setting : Setting) (world : World) : Type 0 where

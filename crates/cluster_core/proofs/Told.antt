@@ -15,7 +15,7 @@ use Rattle.mur_model.proofs.Numbered.{with_item, with_item-other, length_with_it
 use Rattle.cluster_core.specs.declared.world.Mark.{Mark}
 use Rattle.cluster_core.specs.OneStore.{first_course}
 use Rattle.cluster_core.proofs.Marks.{Carries, carries_on, carries_push, MarkedOnce, marked_once_push, marks_push, conn_of, command_of}
-use Rattle.cluster_core.proofs.ServedAlike.{IsStoreOf}
+use Rattle.serve_law.proofs.HomeStore.{IsStoreOf}
 
 -- a later mark: of the same connection only of a later command
 abbrev pub Later : Mark → Mark → Type 0

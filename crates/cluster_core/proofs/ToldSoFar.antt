@@ -7,7 +7,7 @@ use Rattle.std.proofs.lemmas.List.{append-nil}
 use Rattle.std.proofs.lemmas.List.Elements.{All-append, All-nil, All-cons, All-weaker}
 use Rattle.std.proofs.lemmas.List.Sums.{sum_by-append}
 use Rattle.std.proofs.lemmas.Option.{slice_get_within}
-use Rattle.backend_core.specs.HomeLaws.{AreUidsBelowNext}
+use Rattle.mail_store.specs.Kept.{AreUidsBelowNext}
 use Rattle.mur_base.specs.declared.point.AskId.{AskId}
 use Rattle.imap_command.specs.Ruled.{IsDate}
 use Rattle.imap_reply.proofs.SoundStores.{empty_is}
@@ -28,25 +28,26 @@ use Rattle.cluster_core.specs.History.{history_of}
 use Rattle.cluster_core.specs.Homes.{ShowsBoxesOf}
 use Rattle.cluster_core.specs.OneStore.{first_course, HasBoxesOf, IsAnsweredThrough, StandsInTime, IsToldSoFar, IsToldByOneStore}
 use Rattle.cluster_core.specs.Requests.{AreRequests}
-use Rattle.cluster_core.specs.Serials.{GivesLowSerials}
+use Rattle.store_law.specs.Serials.{GivesLowSerials}
 use Rattle.cluster_core.specs.Shown.{given_to}
 use Rattle.cluster_core.specs.World.{start, home_of, setting_of}
-use Rattle.cluster_core.proofs.BegunLaw.{begins_as_read}
-use Rattle.cluster_core.proofs.AppendedThere.{keeps_appended}
+use Rattle.store_law.proofs.BegunLaw.{begins_as_read}
+use Rattle.store_law.proofs.AppendedThere.{keeps_appended}
 use Rattle.cluster_core.proofs.ConnectionLaw.{Story, told_of}
 use Rattle.cluster_core.proofs.HomesLaw.{has_boxes}
 use Rattle.cluster_core.proofs.InTime.{StandsBehind, run_behind}
 use Rattle.cluster_core.proofs.Keeps.{IsKeptAt, KeepsAll, run_keeps}
 use Rattle.cluster_core.proofs.KeepsLaw.{KeepsLaw}
-use Rattle.cluster_core.proofs.NoneLost.{both_hold, loses_none, store_below}
+use Rattle.store_law.proofs.NoneLost.{both_hold, loses_none}
+use Rattle.serve_law.proofs.HomeStore.{store_below}
 use Rattle.cluster_core.proofs.Marks.{Carries, conn_of, command_of, is_mark, all_points}
 use Rattle.cluster_core.proofs.Marks.Carries.{no_marks, a_mark}
-use Rattle.cluster_core.proofs.NoRelocation.{have_causes}
+use Rattle.store_law.proofs.NoRelocation.{have_causes}
 use Rattle.cluster_core.proofs.OneStoreLaw.{SaysOf, says_of, IsLegalTo, legal_history, loses_the_next, made_by_now, steps_rise, IsToldSo}
 use Rattle.cluster_core.proofs.ReadLaw.{heard_sound, read_of_legal}
 use Rattle.cluster_core.proofs.RequestsOf.{asks_all}
-use Rattle.cluster_core.proofs.ServedAlike.{low_serials}
-use Rattle.cluster_core.proofs.RisingStores.{Rises, box_rises, none_rises, points_rise, some_rising}
+use Rattle.serve_law.proofs.HomeStore.{low_serials}
+use Rattle.store_law.proofs.RisingStores.{Rises, box_rises, none_rises, points_rise, some_rising}
 use Rattle.cluster_core.proofs.ShownHomes.{shows_boxes}
 use Rattle.cluster_core.proofs.StartLaw.{start_keeps}
 use Rattle.cluster_core.proofs.StepsMade.{steps_made}

@@ -6,7 +6,7 @@ use Rattle.schedule_text.specs.declared.event.Event.{Event}
 use Rattle.schedule_text.specs.declared.event.Event.TheVariants.{Open, Data, Hang, Deliver, Cut, Join, Crash, Arm, Start, Flow, Heal}
 use Rattle.cluster_core.specs.declared.world.World.{World}
 use Rattle.cluster_core.specs.Flow.{Flowing, delivered, turn_by, turn_of, round, rounds_by, rounds, flow, steps_of_event, happens, run, unrolled, run_steps}
-use Rattle.cluster_core.specs.Links.{on_link}
+use Rattle.link_queue.specs.Links.{on_link}
 use Rattle.cluster_core.specs.World.{steps_by}
 
 pub run_steps-append : (world : World) (front back : List Event) → run_steps world (front ++ back) ≡ run_steps (run_steps world front) back

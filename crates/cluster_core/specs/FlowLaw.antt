@@ -10,7 +10,7 @@ use Rattle.schedule_text.specs.Brings.{bytes_of, bytes_of_all}
 use Rattle.cluster_core.specs.declared.world.World.{World}
 use Rattle.cluster_core.specs.Carried.{is_ask_or_answer}
 use Rattle.cluster_core.specs.Flow.{run_steps, steps_of_event}
-use Rattle.cluster_core.specs.Links.{on_link}
+use Rattle.link_queue.specs.Links.{on_link}
 use Rattle.cluster_core.specs.OneStore.{AreEmpty}
 use Rattle.cluster_core.specs.World.{start}
 

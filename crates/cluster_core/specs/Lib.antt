@@ -1,4 +1,3 @@
-pub mod Links
 pub mod World
 pub mod Flow
 pub mod Room
@@ -9,12 +8,7 @@ pub mod Shown
 pub mod OpenAt
 pub mod Backends
 pub mod LawSetting
-pub mod NoneLost
-pub mod Serials
 pub mod Points
-pub mod Begun
-pub mod Ending
-pub mod Appended
 pub mod OneStore
 pub mod Closed
 pub mod AtRest
@@ -23,5 +17,4 @@ pub mod FlowLaw
 pub mod OneNode
 pub mod HomeLaw
 pub mod Homes
-pub mod Refusals
 pub mod Headline

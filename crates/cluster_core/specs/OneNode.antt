@@ -8,7 +8,7 @@ use Rattle.schedule_text.specs.declared.event.Event.TheVariants.{Open, Data, Han
 use Rattle.cluster_core.specs.declared.world.Client.{Client}
 use Rattle.cluster_core.specs.declared.world.World.{World}
 use Rattle.cluster_core.specs.Flow.{run_steps, steps_of_event}
-use Rattle.cluster_core.specs.Links.{same_link, on_link}
+use Rattle.link_queue.specs.Links.{same_link, on_link}
 use Rattle.cluster_core.specs.World.{start, client_at, front_at, home_at}
 
 -- the node at which a client is connected

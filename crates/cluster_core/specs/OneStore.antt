@@ -3,14 +3,12 @@ use Rattle.std.specs.Prelude.{◌≡◌, ◌⊎◌, ℕ, ◌≤◌, true, false,
 use Rattle.std.specs.List.{list_any}
 use Rattle.std.specs.Ordering.{nat_cmp}
 use Rattle.std.specs.Cmp.Lexicographic.{slice_cmp}
-use Rattle.backend_core.specs.declared.held.Held.{Held}
-use Rattle.backend_core.specs.HomeLaws.{AreUidsBelowNext}
+use Rattle.backend_core.specs.OpenBox.{open_content}
+use Rattle.mail_store.specs.Kept.{AreUidsBelowNext}
 use Rattle.imap_reply.specs.Transcript.{transcript_of, ends}
 use Rattle.imap_reply.specs.TranscriptRead.{IsAllReadAsMeant}
 use Rattle.mail_message.specs.Boxes.{Content, IsRising}
 use Rattle.mur_base.specs.Map.{value_at}
-use Rattle.mur_base.specs.declared.home.Phase.{Phase}
-use Rattle.mur_base.specs.declared.home.Phase.TheVariants.{Creating, Open as open_here, Closing, Receiving, Ready, Pointer}
 use Rattle.mur_base.specs.declared.point.Point.{Point}
 use Rattle.mur_config.specs.declared.config.Config.{Config}
 use Rattle.imap_types.specs.declared.request.Answer.{Answer}
@@ -21,39 +19,26 @@ use Rattle.mur_model.specs.History.{Course, Talk, TalkGoesOn, IsLegal}
 use Rattle.mur_model.specs.Store.{empty_store, box_at}
 use Rattle.schedule_text.specs.declared.event.Event.{Event}
 use Rattle.cluster_core.specs.declared.world.World.{World}
-use Rattle.cluster_core.specs.Begun.{BeginsAsRead}
-use Rattle.cluster_core.specs.Ending.{EndsOnlyLast}
-use Rattle.cluster_core.specs.Appended.{KeepsAppended}
+use Rattle.store_law.specs.Begun.{BeginsAsRead}
+use Rattle.front_core.specs.Ending.{EndsOnlyLast}
+use Rattle.store_law.specs.Appended.{KeepsAppended}
 use Rattle.cluster_core.specs.Flow.{run_steps, unrolled}
 use Rattle.cluster_core.specs.Heard.{heard, bytes_heard, frames_heard, has_closed}
 use Rattle.cluster_core.specs.History.{history_of}
 use Rattle.cluster_core.specs.Homes.{ShowsBoxesOf}
 use Rattle.cluster_core.specs.LawSetting.{law_setting}
-use Rattle.cluster_core.specs.Links.{on_link}
-use Rattle.cluster_core.specs.Refusals.{HaveCauses}
-use Rattle.cluster_core.specs.NoneLost.{LosesNone}
+use Rattle.link_queue.specs.Links.{on_link}
+use Rattle.store_law.specs.Refusals.{HaveCauses}
+use Rattle.store_law.specs.NoneLost.{LosesNone}
 use Rattle.cluster_core.specs.Points.{AreMadeBy, LosesTheNext}
 use Rattle.cluster_core.specs.Requests.{AreRequests}
-use Rattle.cluster_core.specs.Serials.{GivesLowSerials}
+use Rattle.store_law.specs.Serials.{GivesLowSerials}
 use Rattle.cluster_core.specs.Shown.{given_to, held_at}
 use Rattle.cluster_core.specs.World.{start}
 
 -- the empty store, and no session begun
 abbrev pub first_course : Course
 first_course = record { store = empty_store; sessions = λ _. Off }
-
-unfoldable pub open_box : Phase → Content → Option Content
-open_box open_here content = Some content
-open_box Creating content = None
-open_box Closing content = None
-open_box Receiving content = None
-open_box Ready content = None
-open_box (Pointer server) content = None
-
--- the content of a mailbox that is open
-abbrev pub open_content : Option Held → Option Content
-open_content None = None
-open_content (Some held) = open_box held.phase held.content
 
 abbrev pub or_else : Option Content → Option Content → Option Content
 or_else None other = other

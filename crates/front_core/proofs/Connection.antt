@@ -1,0 +1,7 @@
+pub mod FrontAnswers
+pub mod OwnOuts
+pub mod Readings
+pub mod Ways
+pub mod Standing
+pub mod Released
+pub mod LastAnswer
