@@ -3,7 +3,7 @@ use Rattle.std.proofs.Common.{◌≡◌, ℕ, ◌<◌, ◌^◌, true, false, ◌
 use Rattle.std.specs.List.{list_all}
 use Rattle.std.proofs.lemmas.Bool.{and_parts}
 use Rattle.imap_command.specs.Bad.{IsFirstTag}
-use Rattle.imap_command.specs.Characters.{is_tag_byte}
+use Rattle.imap_text.specs.Characters.{is_tag_byte}
 use Rattle.imap_command.specs.Request.{IsRequest, IsTooBig, tag_or_star}
 use Rattle.imap_command.specs.Request.IsRequest.{spells, spells_nothing}
 use Rattle.imap_command.specs.Spells.{Spells, tags, tagged_command}

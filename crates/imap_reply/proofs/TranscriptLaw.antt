@@ -8,7 +8,7 @@ use Rattle.std.proofs.lemmas.List.{append-nil}
 use Rattle.std.proofs.lemmas.List.Folds.{concat-append}
 use Rattle.std.proofs.lemmas.List.Elements.{All-nil, All-cons, All-append, All-head, All-tail, All-weaker}
 use Rattle.mur_base.specs.Number.{is_digit}
-use Rattle.imap_command.specs.Characters.{is_tag_byte}
+use Rattle.imap_text.specs.Characters.{is_tag_byte}
 use Rattle.imap_wire.specs.Frames.{frames}
 use Rattle.imap_types.specs.declared.reply.Bye as bye
 use Rattle.imap_types.specs.declared.reply.Bye.TheVariants.{Lost}

@@ -3,7 +3,6 @@ pub mod Continuation
 pub mod ByeLine
 pub mod Spaced
 pub mod Sets
-pub mod Tags
 pub mod Mailbox
 pub mod Capability
 pub mod Enabled

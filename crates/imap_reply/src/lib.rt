@@ -25,7 +25,6 @@ mod sets;
 mod spaced;
 mod status;
 mod tagged;
-mod tags;
 
 pub use bye::put_bye;
 pub use continuation::put_continuation;

@@ -3,7 +3,7 @@ ghost use Rattle.std.specs.Prelude.{◌≡◌, ◌++◌, OnOk};
 ghost use Rattle.imap_reply.specs.SearchLine.{uid_text, all_text, search_line};
 
 use crate::sets::put_set;
-use crate::tags::put_tag;
+use imap_text::put_tag;
 use mur_base::{Bytes, Memory};
 use mur_model::Tag;
 

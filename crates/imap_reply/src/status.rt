@@ -3,7 +3,7 @@ ghost use Rattle.std.specs.Prelude.{◌≡◌, ◌++◌, OnOk};
 ghost use Rattle.imap_reply.specs.StatusLine.{count_text, more_counts_text, counts_text, status_line};
 
 use crate::mailbox::put_mailbox;
-use imap_command::put_item;
+use imap_text::put_item;
 use mur_base::{Bytes, Memory, put_number};
 use mur_model::StatusCount;
 

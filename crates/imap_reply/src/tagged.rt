@@ -1,10 +1,10 @@
 // The tagged line of a reply (RFC 9051, 7.1).
 ghost use Rattle.std.specs.Prelude.{◌≡◌, ◌++◌, OnOk, codes};
-ghost use Rattle.imap_reply.specs.Tags.{tag_text};
+ghost use Rattle.imap_text.specs.Tags.{tag_text};
 ghost use Rattle.imap_reply.specs.TaggedLine.{no_text, bad_text, ok_text, tagged_line};
 
 use crate::code::put_code;
-use crate::tags::put_tag;
+use imap_text::put_tag;
 use mur_base::{Bytes, Memory};
 use mur_model::{BadText, Code, NoText, Tag, Verdict};
 

@@ -8,8 +8,8 @@ use Rattle.grammar.specs.Forms.{Form, as_it_stands}
 use Rattle.grammar.specs.Words.{word}
 use Rattle.grammar.specs.Runs.{run, some}
 use Rattle.grammar.specs.Numbers.{value_of, decimal_text}
-use Rattle.imap_command.specs.Characters.{is_astring_char, is_atom_char, is_quoted_plain, is_quoted_special, is_text_char, is_char8}
-use Rattle.imap_command.specs.Utf8.{utf8_char}
+use Rattle.imap_text.specs.Characters.{is_astring_char, is_atom_char, is_quoted_plain, is_quoted_special, is_text_char, is_char8}
+use Rattle.imap_text.specs.Utf8.{utf8_char}
 
 -- CRLF
 unfoldable pub crlf_part : Part ℕ

@@ -8,11 +8,11 @@ use Rattle.grammar.specs.Words.{word}
 use Rattle.grammar.specs.Runs.{run}
 use Rattle.grammar.specs.Numbers.{value_of, decimal_text}
 use Rattle.grammar.proofs.Conditions.{and_left, and_right, and_both}
-use Rattle.imap_command.specs.Characters.{is_quoted_plain, is_quoted_special, is_text_char, is_char8}
-use Rattle.imap_command.specs.Strings.{crlf_part, quoted_char, is_no_quote, quoted, literal, string, astring, IsString, escaped, escaped_text, quoted_text}
-use Rattle.imap_command.specs.Strings.{literal_text, is_astring_atom, is_quotable, astring_text}
-use Rattle.imap_command.proofs.StringsLaw.{octets, behind_length}
-use Rattle.imap_command.proofs.StringsHold.{only_astring, only_literal}
+use Rattle.imap_text.specs.Characters.{is_quoted_plain, is_quoted_special, is_text_char, is_char8}
+use Rattle.imap_text.specs.Strings.{crlf_part, quoted_char, is_no_quote, quoted, literal, string, astring, IsString, escaped, escaped_text, quoted_text}
+use Rattle.imap_text.specs.Strings.{literal_text, is_astring_atom, is_quotable, astring_text}
+use Rattle.imap_text.proofs.StringsLaw.{octets, behind_length}
+use Rattle.imap_text.proofs.StringsHold.{only_astring, only_literal}
 use Rattle.grammar.proofs.NumeralLaw.{decimal_writes}
 use Rattle.grammar.proofs.Spelling.{spell_then, spell_map, spell_byte, spell_one, spell_exactly}
 

@@ -7,11 +7,11 @@ use Rattle.grammar.specs.Runs.{run}
 use Rattle.grammar.specs.Numbers.{value_of}
 use Rattle.grammar.proofs.Conditions.{and_left, and_right, and_both}
 use Rattle.grammar.proofs.RunLaw.{all_join}
-use Rattle.imap_command.specs.Characters.{is_astring_char, is_quoted_plain, is_quoted_special, is_char8, is_utf8_tail}
-use Rattle.imap_command.specs.Utf8.{led, utf8_2, utf8_3, utf8_4, utf8_char}
-use Rattle.imap_command.specs.Strings.{quoted_char, is_no_quote, quoted, literal, string, astring, IsString}
-use Rattle.imap_command.proofs.StringsLaw.{escaped, plain, unescaped}
-use Rattle.imap_command.proofs.Values.{Only, only_then, only_map, only_behind, only_choose, only_exactly, only_repeat}
+use Rattle.imap_text.specs.Characters.{is_astring_char, is_quoted_plain, is_quoted_special, is_char8, is_utf8_tail}
+use Rattle.imap_text.specs.Utf8.{led, utf8_2, utf8_3, utf8_4, utf8_char}
+use Rattle.imap_text.specs.Strings.{quoted_char, is_no_quote, quoted, literal, string, astring, IsString}
+use Rattle.imap_text.proofs.StringsLaw.{escaped, plain, unescaped}
+use Rattle.imap_text.proofs.Values.{Only, only_then, only_map, only_behind, only_choose, only_exactly, only_repeat}
 
 -- a set without NUL
 abbrev pub HasNoNul : (ℕ → Bool) → Type 0

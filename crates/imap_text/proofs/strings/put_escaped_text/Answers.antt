@@ -1,7 +1,7 @@
 use Rattle.std.proofs.Common.{◌++◌, ◌+◌, drop, get_or, sym, ap, ◌∙◌, append_assoc}
-use Rattle.imap_command.specs.Strings.{escaped, escaped_text}
-use Rattle.imap_command.proofs.StringsPrinted.{escaped_step}
-use Rattle.imap_command.proofs.strings.put_escaped_text.Goals as goal
+use Rattle.imap_text.specs.Strings.{escaped, escaped_text}
+use Rattle.imap_text.proofs.StringsPrinted.{escaped_step}
+use Rattle.imap_text.proofs.strings.put_escaped_text.Goals as goal
 
 pub loop-byte-preserved : goal.loop-byte-preserved
 loop-byte-preserved c =

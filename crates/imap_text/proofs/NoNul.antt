@@ -4,7 +4,7 @@ use Rattle.std.specs.List.{list_all}
 use Rattle.std.specs.Option.{unwrap_or}
 use Rattle.memchr.specs.Find.{IsFirstByte, is_byte}
 use Rattle.grammar.proofs.Conditions.{and_both, not_then_false}
-use Rattle.imap_command.specs.Characters.{is_char8}
+use Rattle.imap_text.specs.Characters.{is_char8}
 
 all_before : (bytes : List ℕ) (n : ℕ) → n ≤ length bytes → ((k : ℕ) → k < n → ¬ (get_or bytes k 0 == 0 ≡ true)) → list_all is_char8 (take n bytes) ≡ true
 unfolding is_char8

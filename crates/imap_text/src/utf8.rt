@@ -1,7 +1,7 @@
 // Characters of two to four bytes (RFC 3629, 4).
 ghost use Rattle.grammar.specs.Gives.{Gives};
-ghost use Rattle.imap_command.specs.Characters.{is_utf8_tail};
-ghost use Rattle.imap_command.specs.Utf8.{led, utf8_2, utf8_3, utf8_4, utf8_char};
+ghost use Rattle.imap_text.specs.Characters.{is_utf8_tail};
+ghost use Rattle.imap_text.specs.Utf8.{led, utf8_2, utf8_3, utf8_4, utf8_char};
 
 use grammar::{Between, Class, ReadError, begins, exactly_of};
 use mur_base::Bytes;

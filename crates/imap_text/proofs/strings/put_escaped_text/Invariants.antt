@@ -1,6 +1,6 @@
 use Rattle.std.proofs.Common.{◌≡◌, ◌++◌, drop}
-use Rattle.imap_command.specs.Strings.{escaped_text}
-use Rattle.imap_command.proofs.strings.put_escaped_text.Given as goal
+use Rattle.imap_text.specs.Strings.{escaped_text}
+use Rattle.imap_text.proofs.strings.put_escaped_text.Given as goal
 
 -- what is printed so far and the characters that are left make the whole text
 abbrev pub invariant-loop-byte : goal.invariant-loop-byte

@@ -3,9 +3,9 @@ ghost use Rattle.std.specs.Prelude.{◌≡◌, ◌++◌, OnOk};
 ghost use Rattle.std.specs.List.{list_all};
 ghost use Rattle.mur_base.specs.Ascii.{lf};
 ghost use Rattle.grammar.specs.Gives.{Finds, Gives};
-ghost use Rattle.imap_command.specs.Characters.{is_astring_char, is_atom_char, is_quoted_plain, is_quoted_special, is_text_char, is_char8};
-ghost use Rattle.imap_command.specs.Strings.{crlf_part, quoted_char, is_no_quote, quoted, literal, string, astring, atom, escaped, escaped_text};
-ghost use Rattle.imap_command.specs.Strings.{quoted_text, literal_text, is_astring_atom, is_atom, is_quotable, astring_text};
+ghost use Rattle.imap_text.specs.Characters.{is_astring_char, is_atom_char, is_quoted_plain, is_quoted_special, is_text_char, is_char8};
+ghost use Rattle.imap_text.specs.Strings.{crlf_part, quoted_char, is_no_quote, quoted, literal, string, astring, atom, escaped, escaped_text};
+ghost use Rattle.imap_text.specs.Strings.{quoted_text, literal_text, is_astring_atom, is_atom, is_quotable, astring_text};
 
 use crate::utf8::utf8_of;
 use grammar::{

@@ -1,7 +1,7 @@
 -- Characters of two to four bytes (RFC 3629, 4), put behind a text.
 use Rattle.std.specs.Prelude.{ℕ, List, ◌++◌}
 use Rattle.grammar.specs.Part.{Part, ◌then◌, map, choose, exactly, between}
-use Rattle.imap_command.specs.Characters.{is_utf8_tail}
+use Rattle.imap_text.specs.Characters.{is_utf8_tail}
 
 -- a first byte in a range, a second in a range, and tails
 unfoldable pub led : ℕ → ℕ → ℕ → ℕ → ℕ → List ℕ → Part (List ℕ)

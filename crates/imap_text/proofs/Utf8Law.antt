@@ -6,8 +6,8 @@ use Rattle.grammar.proofs.SequenceLaw.{good_then, good_map}
 use Rattle.grammar.proofs.RepetitionLaw.{good_exactly, begins_any}
 use Rattle.grammar.proofs.StartLaw.{starts_then, starts_exactly}
 use Rattle.grammar.proofs.RangeLaw.{Ranged, ranged_choose}
-use Rattle.imap_command.specs.Characters.{is_utf8_tail}
-use Rattle.imap_command.specs.Utf8.{led, utf8_2, utf8_3, utf8_4, utf8_char}
+use Rattle.imap_text.specs.Characters.{is_utf8_tail}
+use Rattle.imap_text.specs.Utf8.{led, utf8_2, utf8_3, utf8_4, utf8_char}
 
 module _ {V : Type 0} (after : ℕ → Bool) (so_far : List ℕ) where
   -- a first byte in a range, a second in a range, and tails

@@ -1,6 +1,6 @@
 use Rattle.std.proofs.Common.{◌≡◌, drop}
 use Rattle.std.specs.List.{list_all}
-use Rattle.imap_command.proofs.strings.are_all.Given as goal
+use Rattle.imap_text.proofs.strings.are_all.Given as goal
 
 -- the bytes that are left decide
 abbrev pub invariant-loop-byte : goal.invariant-loop-byte

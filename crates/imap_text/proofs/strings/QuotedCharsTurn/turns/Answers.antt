@@ -1,8 +1,8 @@
 use Rattle.std.proofs.Common.{arith}
 use Rattle.grammar.proofs.TakenSteps.{takes_one}
-use Rattle.imap_command.specs.Strings.{quoted_char, is_no_quote}
-use Rattle.imap_command.proofs.QuotedRuns.{takes_plain}
-use Rattle.imap_command.proofs.strings.QuotedCharsTurn.turns.Goals as goal
+use Rattle.imap_text.specs.Strings.{quoted_char, is_no_quote}
+use Rattle.imap_text.proofs.QuotedRuns.{takes_plain}
+use Rattle.imap_text.proofs.strings.QuotedCharsTurn.turns.Goals as goal
 
 pub returns-then-len-eq0-clause-taken : goal.returns-then-len-eq0-clause-taken
 returns-then-len-eq0-clause-taken c =

@@ -6,9 +6,9 @@ use Rattle.grammar.specs.Part.{◌>>=◌, exactly, turns}
 use Rattle.grammar.specs.Turns.{TakesTurns}
 use Rattle.grammar.proofs.Conditions.{and_left, and_right}
 use Rattle.grammar.proofs.TurnSteps.{turns_more}
-use Rattle.imap_command.specs.Characters.{is_quoted_plain}
-use Rattle.imap_command.specs.Strings.{quoted_char, is_no_quote}
-use Rattle.imap_command.proofs.StringsLaw.{plain_no_quote, plain_no_backslash}
+use Rattle.imap_text.specs.Characters.{is_quoted_plain}
+use Rattle.imap_text.specs.Strings.{quoted_char, is_no_quote}
+use Rattle.imap_text.proofs.StringsLaw.{plain_no_quote, plain_no_backslash}
 
 not_false : (b : Bool) → not b ≡ true → b ≡ false
 not_false true h = cc

@@ -1,6 +1,6 @@
 use Rattle.std.proofs.Common.{sym, subst}
-use Rattle.imap_command.proofs.NoNul.{StandBefore, found_before}
-use Rattle.imap_command.proofs.strings.Char8Class.passing_len.Goals as goal
+use Rattle.imap_text.proofs.NoNul.{StandBefore, found_before}
+use Rattle.imap_text.proofs.strings.Char8Class.passing_len.Goals as goal
 
 pub returns : goal.returns
 returns c =

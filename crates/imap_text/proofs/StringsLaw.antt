@@ -15,10 +15,10 @@ use Rattle.grammar.proofs.RunLaw.{lawful_run, apart_run}
 use Rattle.grammar.proofs.RepetitionLaw.{good_exactly, good_repeat, begins_any}
 use Rattle.grammar.proofs.StartLaw.{starts_then, starts_exactly, starts_byte, starts_word, starts_choose, starts_weaker, begins_from, without_from}
 use Rattle.grammar.proofs.ToolLaws.{good_byte, good_behind, good_optional, begins_optional, begins_then}
-use Rattle.imap_command.specs.Characters.{is_astring_char, is_quoted_plain, is_quoted_special, is_char8}
-use Rattle.imap_command.specs.Utf8.{utf8_char}
-use Rattle.imap_command.specs.Strings.{crlf_part, quoted_char, is_no_quote, quoted, literal, string, astring}
-use Rattle.imap_command.proofs.Utf8Law.{ranged_utf8}
+use Rattle.imap_text.specs.Characters.{is_astring_char, is_quoted_plain, is_quoted_special, is_char8}
+use Rattle.imap_text.specs.Utf8.{utf8_char}
+use Rattle.imap_text.specs.Strings.{crlf_part, quoted_char, is_no_quote, quoted, literal, string, astring}
+use Rattle.imap_text.proofs.Utf8Law.{ranged_utf8}
 
 -- the first byte of a character of more bytes than one is no byte of 7 bits
 above_seven : (c : ℕ) → between 194 244 c ≡ true → 127 < c
