@@ -10,7 +10,7 @@ use Rattle.front_core.specs.declared.connection.Connection.{Connection}
 use Rattle.front_core.specs.declared.connection.Stage.TheVariants.{Ended}
 use Rattle.front_core.specs.declared.front.Front.{Front}
 use Rattle.front_core.specs.Front.{connection_at}
-use Rattle.imap_reply.specs.declared.inputs.Input.{Input}
+use Rattle.imap_talk.specs.declared.inputs.Input.{Input}
 use Rattle.imap_wire.specs.Frames.{begun}
 use Rattle.link_msg.specs.declared.answer.BackAnswer.{BackAnswer}
 use Rattle.link_msg.specs.declared.ask.FrontAsk.{FrontAsk}
@@ -23,18 +23,19 @@ use Rattle.mur_model.specs.declared.session.Sess.{Sess}
 use Rattle.mur_model.specs.declared.session.Sess.TheVariants.{Off}
 use Rattle.mur_model.specs.declared.setting.Setting.{Setting}
 use Rattle.mur_model.specs.History.{Talk, TalkGoesOn}
-use Rattle.imap_reply.specs.Inputs.{requests_in}
+use Rattle.imap_talk.specs.Inputs.{requests_in}
 use Rattle.cluster_core.proofs.Readings.{inputs_in, reading_of}
 use Rattle.cluster_core.specs.declared.world.World.{World}
 use Rattle.cluster_core.specs.Ending.{EndsOnlyLast}
-use Rattle.cluster_core.specs.Heard.{Heard, nobody, elsewhere, client, is_frontend, frames_heard, has_closed}
+use Rattle.cluster_core.specs.Heard.{is_frontend}
+use Rattle.imap_talk.specs.Heard.{Heard, nobody, elsewhere, client, frames_heard, has_closed}
 use Rattle.cluster_core.specs.Links.{Links}
 use Rattle.cluster_core.specs.World.{start, client_at, front_at, home_at, home_of, setting_of}
 use Rattle.cluster_core.proofs.ConnectionLaw.{Story, told_of, client_with, HasBegunSo, OnItsWay, Stands, IsLeft, IsStanding}
 use Rattle.cluster_core.proofs.ConnectionLaw.OnItsWay.{there, back}
 use Rattle.cluster_core.proofs.ConnectionLaw.Stands.{reads, waits, faulted, finished}
 use Rattle.cluster_core.proofs.ConnectionLaw.IsLeft.{nothing, its_ask, its_answer}
-use Rattle.cluster_core.proofs.RequestsOf.{requests_of}
+use Rattle.imap_talk.proofs.RequestsOf.{requests_of}
 use Rattle.cluster_core.proofs.Told.{IsTold}
 use Rattle.cluster_core.proofs.Ways.{AreOnWay}
 

@@ -16,7 +16,6 @@ pub mod ServeLaw
 pub mod Marks
 pub mod Told
 pub mod Readings
-pub mod RequestsOf
 pub mod FrontAnswers
 pub mod ConnectionLaw
 pub mod LastAnswer
@@ -44,7 +43,6 @@ pub mod HomesLaw
 pub mod BackendsLaw
 pub mod NamesHeld
 pub mod ShownHomes
-pub mod ReadLaw
 pub mod NeedsNoCause
 pub mod NoRelocation
 pub mod StaysBegun

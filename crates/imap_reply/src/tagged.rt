@@ -5,8 +5,8 @@ ghost use Rattle.imap_reply.specs.TaggedLine.{no_text, bad_text, ok_text, tagged
 
 use crate::code::put_code;
 use imap_text::put_tag;
+use imap_types::{BadText, Code, NoText, Tag, Verdict};
 use mur_base::{Bytes, Memory};
-use mur_model::{BadText, Code, NoText, Tag, Verdict};
 
 /// Writes the line that ends a reply, if there is one.
 #[tactic(auto, unfolding(crate::specs::TaggedLine::tagged_line, crate::specs::TaggedLine::under))]

@@ -5,13 +5,14 @@ use Rattle.std.proofs.lemmas.List.{append-nil}
 use Rattle.imap_wire.specs.declared.frame.FrameFault.{FrameFault}
 use Rattle.imap_types.specs.declared.request.Answer.{Answer}
 use Rattle.imap_types.specs.declared.request.Request.{Request}
-use Rattle.imap_reply.specs.declared.inputs.Continuation.{Continuation}
-use Rattle.imap_reply.specs.declared.inputs.Input.{Input}
-use Rattle.imap_reply.specs.declared.inputs.Input.TheVariants.{GoesOn, Asks, Faults}
-use Rattle.imap_reply.specs.ByeLine.{bye_line, bye_of}
+use Rattle.imap_reply.specs.declared.continuation.Continuation.{Continuation}
+use Rattle.imap_talk.specs.declared.inputs.Input.{Input}
+use Rattle.imap_talk.specs.declared.inputs.Input.TheVariants.{GoesOn, Asks, Faults}
+use Rattle.imap_reply.specs.ByeLine.{bye_line}
+use Rattle.imap_talk.specs.FaultBye.{bye_of}
 use Rattle.imap_reply.specs.Continuation.{continuation_line}
-use Rattle.imap_reply.specs.Transcript.{answer_text, ends, behind, Stop, stop_text, told_till, replies_till}
-use Rattle.imap_reply.specs.Transcript.Stop.{silent}
+use Rattle.imap_talk.specs.Transcript.{answer_text, ends, behind, Stop, stop_text, told_till, replies_till}
+use Rattle.imap_talk.specs.Transcript.Stop.{silent}
 
 -- every request in the inputs has its answer, no answer ends the connection, and no input is a fault
 unfoldable pub AreAnswered : List Input → List Answer → Type 0

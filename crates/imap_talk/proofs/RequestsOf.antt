@@ -4,15 +4,15 @@ use Rattle.std.proofs.lemmas.List.{append-nil}
 use Rattle.imap_command.specs.Request.{request_of, too_big_request}
 use Rattle.imap_command.specs.Request.{IsRequest}
 use Rattle.imap_command.proofs.RequestLaws.{request_is, too_big_is}
-use Rattle.imap_reply.specs.declared.inputs.Before.{Before}
-use Rattle.imap_reply.specs.declared.inputs.Before.TheVariants.{Hears, Waits}
-use Rattle.imap_reply.specs.declared.inputs.Given.{Given}
-use Rattle.imap_reply.specs.declared.inputs.Input.{Input}
-use Rattle.imap_reply.specs.declared.inputs.Input.TheVariants.{GoesOn, Asks, Faults}
-use Rattle.imap_reply.specs.Inputs.{at_first, before_next, command_by, input_at, inputs_from, inputs_of, line_at, request_at, requests_in, too_big_at, whole_at}
-use Rattle.imap_reply.specs.Transcript.{stop_told, replies_to}
-use Rattle.imap_reply.specs.Transcript.Stop.{silent}
-use Rattle.imap_reply.proofs.TranscriptGrows.{AreAnswered, unanswered_told}
+use Rattle.imap_talk.specs.declared.inputs.Before.{Before}
+use Rattle.imap_talk.specs.declared.inputs.Before.TheVariants.{Hears, Waits}
+use Rattle.imap_talk.specs.declared.inputs.Given.{Given}
+use Rattle.imap_talk.specs.declared.inputs.Input.{Input}
+use Rattle.imap_talk.specs.declared.inputs.Input.TheVariants.{GoesOn, Asks, Faults}
+use Rattle.imap_talk.specs.Inputs.{at_first, before_next, command_by, input_at, inputs_from, inputs_of, line_at, request_at, requests_in, too_big_at, whole_at}
+use Rattle.imap_talk.specs.Transcript.{stop_told, replies_to}
+use Rattle.imap_talk.specs.Transcript.Stop.{silent}
+use Rattle.imap_talk.proofs.TranscriptGrows.{AreAnswered, unanswered_told}
 use Rattle.imap_wire.specs.declared.frame.Frame.{Frame}
 use Rattle.imap_wire.specs.declared.frame.Frame.TheVariants.{Whole, NeedLiteral, TooBig, Fault}
 use Rattle.imap_types.specs.declared.command.Command.{Command}
@@ -25,8 +25,8 @@ use Rattle.mur_model.specs.declared.wait.Wait.{Wait}
 use Rattle.mur_model.specs.History.{numbered}
 use Rattle.mur_model.specs.Waits.{wait_of}
 use Rattle.mur_model.proofs.Numbered.{numbered_more, numbered_last}
-use Rattle.cluster_core.specs.Requests.{AskFor, AreRequests, IsWhole, behind_request}
-use Rattle.cluster_core.specs.Requests.AskFor.{no_frames, a_request, a_front, a_line, a_big_line, a_big_one, a_literal, a_fault}
+use Rattle.imap_talk.specs.Requests.{AskFor, AreRequests, IsWhole, behind_request}
+use Rattle.imap_talk.specs.Requests.AskFor.{no_frames, a_request, a_front, a_line, a_big_line, a_big_one, a_literal, a_fault}
 
 abbrev pub requests_of : Setting → List Frame → List Request
 requests_of setting frames = requests_in (inputs_from setting frames)

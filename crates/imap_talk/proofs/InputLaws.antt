@@ -2,10 +2,10 @@
 use Rattle.std.proofs.Common.{◌≡◌, List, [], ◌∷◌, ◌++◌, length, refl, ap, arith}
 use Rattle.imap_wire.specs.declared.frame.Frame.{Frame}
 use Rattle.mur_model.specs.declared.setting.Setting.{Setting}
-use Rattle.imap_reply.specs.declared.inputs.Before.{Before}
-use Rattle.imap_reply.specs.declared.inputs.Input.{Input}
-use Rattle.imap_reply.specs.declared.inputs.Input.TheVariants.{GoesOn, Asks, Faults}
-use Rattle.imap_reply.specs.Inputs.{before_next, input_at, inputs_of, requests_in}
+use Rattle.imap_talk.specs.declared.inputs.Before.{Before}
+use Rattle.imap_talk.specs.declared.inputs.Input.{Input}
+use Rattle.imap_talk.specs.declared.inputs.Input.TheVariants.{GoesOn, Asks, Faults}
+use Rattle.imap_talk.specs.Inputs.{before_next, input_at, inputs_of, requests_in}
 
 pub inputs-append : (setting : Setting) (before : Before) (one two : List Frame)
     → inputs_of setting before (one ++ two) ≡ inputs_of setting before one ++ inputs_of setting (before_next setting before one) two

@@ -14,20 +14,21 @@ use Rattle.imap_types.specs.declared.reply.Bye as bye
 use Rattle.imap_types.specs.declared.reply.Bye.TheVariants.{Lost}
 use Rattle.imap_types.specs.declared.request.Answer.{Answer}
 use Rattle.mur_model.specs.declared.setting.Setting.{Setting}
-use Rattle.imap_reply.specs.declared.inputs.Continuation.{Continuation}
-use Rattle.imap_reply.specs.declared.inputs.Continuation.TheVariants.{Literal, Response, Done}
-use Rattle.imap_reply.specs.declared.inputs.Input.{Input}
-use Rattle.imap_reply.specs.declared.inputs.Input.TheVariants.{GoesOn, Asks, Faults}
-use Rattle.imap_reply.specs.ByeLine.{bye_line, bye_of}
+use Rattle.imap_reply.specs.declared.continuation.Continuation.{Continuation}
+use Rattle.imap_reply.specs.declared.continuation.Continuation.TheVariants.{Literal, Response, Done}
+use Rattle.imap_talk.specs.declared.inputs.Input.{Input}
+use Rattle.imap_talk.specs.declared.inputs.Input.TheVariants.{GoesOn, Asks, Faults}
+use Rattle.imap_reply.specs.ByeLine.{bye_line}
+use Rattle.imap_talk.specs.FaultBye.{bye_of}
 use Rattle.imap_reply.specs.Continuation.{challenge, continuation_line, idling, ready}
 use Rattle.imap_reply.specs.Greeting.{greeting}
-use Rattle.imap_reply.specs.Inputs.{inputs_from}
+use Rattle.imap_talk.specs.Inputs.{inputs_from}
 use Rattle.imap_reply.specs.Lines.{IsLine, after_text, after_byte}
 use Rattle.imap_reply.specs.ReadAsMeant.{begins_with, untagged_lines, meant_lines}
 use Rattle.imap_reply.specs.SoundTexts.{IsTag}
-use Rattle.imap_reply.specs.Transcript.{answer_text, ends, behind, Stop, Telling, stop_told, told_till, all_told_till, as_bytes, transcript_of}
-use Rattle.imap_reply.specs.Transcript.Stop.{silent, is_lost}
-use Rattle.imap_reply.specs.TranscriptRead.{as_lines, as_untagged, lines_of, untagged_of, IsAnswerReadAsMeant, IsAllReadAsMeant}
+use Rattle.imap_talk.specs.Transcript.{answer_text, ends, behind, Stop, Telling, stop_told, told_till, all_told_till, as_bytes, transcript_of}
+use Rattle.imap_talk.specs.Transcript.Stop.{silent, is_lost}
+use Rattle.imap_talk.specs.TranscriptRead.{as_lines, as_untagged, lines_of, untagged_of, IsAnswerReadAsMeant, IsAllReadAsMeant}
 use Rattle.imap_reply.proofs.EachLine.{bye_is_line}
 use Rattle.imap_reply.proofs.LineLaws.{line_of}
 use Rattle.imap_reply.proofs.NoForgery.{no_star}

@@ -16,7 +16,7 @@ use Rattle.imap_wire.specs.declared.literal.Admission.TheVariants.{Asked, Unaske
 use Rattle.imap_wire.specs.Frames.{PartialCommand, Cut, empty_command, unfinished, cut_literal, cut_announced, cut_after, cut_line, cut_lines, cut, frames}
 use Rattle.imap_wire.specs.Line.{least_length, split_line}
 use Rattle.imap_wire.specs.Literal.{sized, announced, admission_of}
-use Rattle.imap_reply.specs.SoundRequests.{IsShortFrame}
+use Rattle.imap_talk.specs.SoundRequests.{IsShortFrame}
 
 -- a line that announces a literal isn't short
 

@@ -55,11 +55,11 @@ use Rattle.mur_model.specs.StoreFlags.{stored_at, store_name, own_lines}
 use Rattle.mur_model.specs.Close.{close_at, left_by}
 use Rattle.mur_model.specs.Noop.{news_at, news_name}
 use Rattle.mur_model.specs.Viewing.{found_gone, viewed_on, work_there}
-use Rattle.imap_reply.specs.SoundRequests.{IsSoundMessage, IsSoundBox}
+use Rattle.imap_talk.specs.SoundRequests.{IsSoundMessage, IsSoundBox}
 use Rattle.imap_reply.specs.SoundTexts.{IsSoundFlag, IsSoundLine, IsSoundVerdict}
-use Rattle.imap_reply.proofs.SoundStores.{IsKeyword, IsSoundRow, IsSoundLeft, appended_is, changes_are, expunged_is, keywords_are, messages_found, rows_are}
-use Rattle.imap_reply.proofs.SoundStores.{stored_is}
-use Rattle.imap_reply.proofs.TurnLines.{OfLines, each_fetch, each_news, each_own, fetched}
+use Rattle.imap_talk.proofs.SoundStores.{IsKeyword, IsSoundRow, IsSoundLeft, appended_is, changes_are, expunged_is, keywords_are, messages_found, rows_are}
+use Rattle.imap_talk.proofs.SoundStores.{stored_is}
+use Rattle.imap_talk.proofs.TurnLines.{OfLines, each_fetch, each_news, each_own, fetched}
 
 pub record SoundReply (reply : Reply) : Type 0 where
   pub lines : All IsSoundLine reply.lines

@@ -29,8 +29,8 @@ use Rattle.mur_model.specs.Left.{Left, kept, made, changed, store_after}
 use Rattle.mur_model.specs.Select.{keywords_in}
 use Rattle.mur_model.specs.Selected.{rows_of}
 use Rattle.mur_model.specs.Store.{box_at, empty_store}
-use Rattle.imap_reply.specs.SoundRequests.{IsSoundMessage, IsSoundBox, IsSoundStore}
-use Rattle.imap_reply.proofs.TurnLines.{found}
+use Rattle.imap_talk.specs.SoundRequests.{IsSoundMessage, IsSoundBox, IsSoundStore}
+use Rattle.imap_talk.proofs.TurnLines.{found}
 
 abbrev pub IsKeyword : List ℕ → Type 0
 IsKeyword keyword = keyword_fault keyword ≡ None

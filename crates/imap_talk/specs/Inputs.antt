@@ -12,13 +12,13 @@ use Rattle.mur_model.specs.declared.setting.Setting.{Setting}
 use Rattle.mur_model.specs.declared.wait.Wait.{Wait}
 use Rattle.mur_model.specs.declared.wait.Wait.TheVariants.{Authenticate as response, Idle as done}
 use Rattle.mur_model.specs.Waits.{begun_behind, wait_of, waits_begun, with_line}
-use Rattle.imap_reply.specs.declared.inputs.Before.{Before}
-use Rattle.imap_reply.specs.declared.inputs.Before.TheVariants.{Hears, Waits}
-use Rattle.imap_reply.specs.declared.inputs.Continuation.{Continuation}
-use Rattle.imap_reply.specs.declared.inputs.Continuation.TheVariants.{Literal, Response, Done}
-use Rattle.imap_reply.specs.declared.inputs.Given.{Given}
-use Rattle.imap_reply.specs.declared.inputs.Input.{Input}
-use Rattle.imap_reply.specs.declared.inputs.Input.TheVariants.{GoesOn, Asks, Faults}
+use Rattle.imap_talk.specs.declared.inputs.Before.{Before}
+use Rattle.imap_talk.specs.declared.inputs.Before.TheVariants.{Hears, Waits}
+use Rattle.imap_reply.specs.declared.continuation.Continuation.{Continuation}
+use Rattle.imap_reply.specs.declared.continuation.Continuation.TheVariants.{Literal, Response, Done}
+use Rattle.imap_talk.specs.declared.inputs.Given.{Given}
+use Rattle.imap_talk.specs.declared.inputs.Input.{Input}
+use Rattle.imap_talk.specs.declared.inputs.Input.TheVariants.{GoesOn, Asks, Faults}
 
 unfoldable pub continuation_of : Wait → Continuation
 continuation_of response = Response

@@ -2,9 +2,9 @@
 -- line more is one request with the frame behind it, whatever that holds (RFC 9051, 6.2.2 and 6.3.13).
 use Rattle.std.specs.Prelude.{◌≡◌, ℕ, ⊤, Bool, List, [], ◌∷◌, ◌++◌, None, Some}
 use Rattle.imap_command.specs.Request.{IsRequest, IsTooBig}
-use Rattle.imap_reply.specs.declared.inputs.Before.{Before}
-use Rattle.imap_reply.specs.declared.inputs.Before.TheVariants.{Hears, Waits}
-use Rattle.imap_reply.specs.Inputs.{at_first, line_in}
+use Rattle.imap_talk.specs.declared.inputs.Before.{Before}
+use Rattle.imap_talk.specs.declared.inputs.Before.TheVariants.{Hears, Waits}
+use Rattle.imap_talk.specs.Inputs.{at_first, line_in}
 use Rattle.imap_wire.specs.declared.frame.Frame.{Frame}
 use Rattle.imap_wire.specs.declared.frame.FrameFault.{FrameFault}
 use Rattle.imap_wire.specs.declared.frame.Frame.TheVariants.{Whole, NeedLiteral, TooBig, Fault}

@@ -3,16 +3,16 @@ use Rattle.std.proofs.Common.{◌≡◌, ℕ, Bool, List, [], ◌∷◌, ◌++�
 use Rattle.std.specs.Prelude.{All, ⊤}
 use Rattle.std.proofs.lemmas.List.Elements.{All-nil, All-cons, All-head, All-tail, All-push}
 use Rattle.imap_command.specs.Ruled.{IsDate}
-use Rattle.imap_reply.specs.SoundRequests.{IsShortFrame, IsSoundRequest, IsSoundStore}
+use Rattle.imap_talk.specs.SoundRequests.{IsShortFrame, IsSoundRequest, IsSoundStore}
 use Rattle.imap_reply.specs.SoundTexts.{IsSoundTag}
-use Rattle.imap_reply.specs.declared.inputs.Before.{Before}
-use Rattle.imap_reply.specs.declared.inputs.Before.TheVariants.{Hears, Waits}
-use Rattle.imap_reply.specs.Transcript.{transcript_of}
-use Rattle.imap_reply.specs.TranscriptRead.{IsAnswerReadAsMeant, IsAllReadAsMeant}
-use Rattle.imap_reply.proofs.FrameSizes.{frames_short}
-use Rattle.imap_reply.proofs.RequestsSound.{request_sound, too_big_sound}
-use Rattle.imap_reply.proofs.SoundAnswers.{HasSoundStore, answers_read}
-use Rattle.imap_reply.proofs.TranscriptLaw.{all_read_as_meant}
+use Rattle.imap_talk.specs.declared.inputs.Before.{Before}
+use Rattle.imap_talk.specs.declared.inputs.Before.TheVariants.{Hears, Waits}
+use Rattle.imap_talk.specs.Transcript.{transcript_of}
+use Rattle.imap_talk.specs.TranscriptRead.{IsAnswerReadAsMeant, IsAllReadAsMeant}
+use Rattle.imap_talk.proofs.FrameSizes.{frames_short}
+use Rattle.imap_talk.proofs.RequestsSound.{request_sound, too_big_sound}
+use Rattle.imap_talk.proofs.SoundAnswers.{HasSoundStore, answers_read}
+use Rattle.imap_talk.proofs.TranscriptLaw.{all_read_as_meant}
 use Rattle.imap_wire.specs.declared.frame.Frame.{Frame}
 use Rattle.imap_wire.specs.declared.frame.Frame.TheVariants.{Whole, NeedLiteral, TooBig, Fault}
 use Rattle.mur_base.specs.declared.point.Point.{Point}
@@ -25,9 +25,9 @@ use Rattle.mur_model.specs.Waits.{waits_begun, with_line}
 use Rattle.mur_model.specs.declared.setting.Setting.{Setting}
 use Rattle.mur_model.specs.History.{Course, Talk, IsLegal}
 use Rattle.mur_model.proofs.EachAnswer.{each_answer}
-use Rattle.cluster_core.specs.Heard.{Heard, nobody, elsewhere, client, frames_heard}
-use Rattle.cluster_core.specs.Requests.{AskFor, AreRequests, behind_request, lined}
-use Rattle.cluster_core.specs.Requests.AskFor.{no_frames, a_request, a_front, a_line, a_big_line, a_big_one, a_literal, a_fault}
+use Rattle.imap_talk.specs.Heard.{Heard, nobody, elsewhere, client, frames_heard}
+use Rattle.imap_talk.specs.Requests.{AskFor, AreRequests, behind_request, lined}
+use Rattle.imap_talk.specs.Requests.AskFor.{no_frames, a_request, a_front, a_line, a_big_line, a_big_one, a_literal, a_fault}
 
 front_short : (frames more : List Frame) → All IsShortFrame (frames ++ more) → All IsShortFrame frames
 front_short [] more all = All-nil IsShortFrame

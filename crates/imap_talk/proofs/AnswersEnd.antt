@@ -62,9 +62,9 @@ use Rattle.mur_model.specs.Store.{box_at, is_spent}
 use Rattle.mur_model.specs.StoreFlags.{stored_at, store_told, store_refused, own_lines}
 use Rattle.mur_model.specs.Viewing.{found_gone, viewed_on, work_there}
 use Rattle.mur_model.proofs.EachNeed.{OfAnswers, OfNeeds, each_need}
-use Rattle.imap_reply.specs.SessionEnds.{has_ended, ends_session, TurnEnds}
-use Rattle.imap_reply.specs.Transcript.{is_bye, ends}
-use Rattle.imap_reply.proofs.TurnLines.{OfLines, each_news, each_own, each_fetch}
+use Rattle.imap_talk.specs.SessionEnds.{has_ended, ends_session, TurnEnds}
+use Rattle.imap_talk.specs.Transcript.{is_bye, ends}
+use Rattle.imap_talk.proofs.TurnLines.{OfLines, each_news, each_own, each_fetch}
 
 -- what is told of a mailbox
 

@@ -30,14 +30,14 @@ use Rattle.mur_model.specs.Store.{box_at, is_spent}
 use Rattle.mur_model.proofs.EachNeed.{OfAnswers, OfNeeds, each_need}
 use Rattle.mur_model.proofs.EachAnswer.{Keeps}
 use Rattle.imap_command.specs.Ruled.{IsDate, IsRuled}
-use Rattle.imap_reply.specs.SoundRequests.{IsSoundRequest, IsSoundStore}
+use Rattle.imap_talk.specs.SoundRequests.{IsSoundRequest, IsSoundStore}
 use Rattle.imap_reply.specs.SoundTexts.{IsSoundTag, IsSoundLine, IsSoundVerdict}
-use Rattle.imap_reply.specs.TranscriptRead.{IsAnswerReadAsMeant}
+use Rattle.imap_talk.specs.TranscriptRead.{IsAnswerReadAsMeant}
 use Rattle.imap_reply.proofs.NoForgery.{read_as_meant}
-use Rattle.imap_reply.proofs.PlainNames.{shown_plain}
-use Rattle.imap_reply.proofs.SoundStores.{box_is}
-use Rattle.imap_reply.proofs.SoundStores.{store_is}
-use Rattle.imap_reply.proofs.SoundWorks.{SoundReply, SoundWork, SoundWorked, left_sound, unselected_sound, work_sound}
+use Rattle.imap_talk.proofs.PlainNames.{shown_plain}
+use Rattle.imap_talk.proofs.SoundStores.{box_is}
+use Rattle.imap_talk.proofs.SoundStores.{store_is}
+use Rattle.imap_talk.proofs.SoundWorks.{SoundReply, SoundWork, SoundWorked, left_sound, unselected_sound, work_sound}
 use Rattle.imap_reply.specs.ReadAsMeant.{IsReadAsMeant}
 use Rattle.imap_types.specs.declared.command.Tag.{Tag}
 

@@ -1,24 +1,15 @@
 // What the frames of a connection are to its session.
 ghost use Rattle.std.specs.Prelude.{◌≡◌, IfOk};
-ghost use Rattle.imap_reply.specs.declared.inputs.Before.TheVariants.{Hears};
-ghost use Rattle.imap_reply.specs.Inputs.{asks_for, continuation_of, input_at, line_at, line_in, request_at, too_big_at, whole_at};
+ghost use Rattle.imap_talk.specs.declared.inputs.Before.TheVariants.{Hears};
+ghost use Rattle.imap_talk.specs.Inputs.{asks_for, continuation_of, input_at, line_at, line_in, request_at, too_big_at, whole_at};
 
 use imap_command::{read_request, too_big};
+use imap_reply::Continuation;
+use imap_types::{Request, Tag};
 use imap_wire::{Frame, FrameFault};
 use mur_base::{Bytes, Memory};
-use mur_model::{Request, Setting, Tag, Wait, begun_behind, wait_of, waits_begun, with_line};
+use mur_model::{Setting, Wait, begun_behind, wait_of, waits_begun, with_line};
 use std::alloc::Global;
-
-/// What a client is told to send on (RFC 9051, 7.6).
-#[derive(Clone, Copy, Debug, PartialEq, Eq)]
-pub enum Continuation {
-    /// A literal.
-    Literal,
-    /// The response of an AUTHENTICATE.
-    Response,
-    /// The line that ends an IDLE.
-    Done,
-}
 
 /// What a frame is to a session.
 #[derive(Drop)]

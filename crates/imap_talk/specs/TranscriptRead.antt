@@ -9,8 +9,8 @@ use Rattle.imap_reply.specs.Greeting.{greeting}
 use Rattle.imap_reply.specs.ReadAs.{IsReadAs}
 use Rattle.imap_reply.specs.ReadAsMeant.{begins_with, untagged_lines, meant_lines, IsReadAsMeant}
 use Rattle.imap_reply.specs.SoundTexts.{IsTag}
-use Rattle.imap_reply.specs.Transcript.{Telling, all_told_till}
-use Rattle.imap_reply.specs.Transcript.Stop.{silent}
+use Rattle.imap_talk.specs.Transcript.{Telling, all_told_till}
+use Rattle.imap_talk.specs.Transcript.Stop.{silent}
 
 abbrev pub with_lines : (Answer → List (List ℕ)) → Telling (List ℕ)
 with_lines answers = record { greets = greeting ∷ []; goes_on = λ why. continuation_line why ∷ []; answers = answers; ends_by = λ bye. bye_line bye ∷ [] }

@@ -3,7 +3,7 @@ use Rattle.std.specs.Prelude.{◌≡◌, Bool, true, false, Option, None, Some}
 use Rattle.mur_model.specs.declared.session.Sess.{Sess}
 use Rattle.mur_model.specs.declared.session.Sess.TheVariants.{Ended}
 use Rattle.mur_model.specs.declared.session.Turn.{Turn}
-use Rattle.imap_reply.specs.Transcript.{ends}
+use Rattle.imap_talk.specs.Transcript.{ends}
 
 abbrev pub has_ended : Sess → Bool
 has_ended Ended = true

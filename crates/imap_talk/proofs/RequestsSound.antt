@@ -13,7 +13,7 @@ use Rattle.imap_types.specs.declared.command.Tag.{Tag}
 use Rattle.imap_types.specs.declared.command.Tag.TheVariants.{Text}
 use Rattle.imap_types.specs.declared.request.Request.{Request}
 use Rattle.imap_reply.specs.SoundTexts.{IsTag, IsSoundTag}
-use Rattle.imap_reply.specs.SoundRequests.{IsSoundRequest}
+use Rattle.imap_talk.specs.SoundRequests.{IsSoundRequest}
 
 whole_tag : (text : List ℕ) → tags.whole text ≡ true → IsTag text
 whole_tag [] whole = absurd (let none : false ≡ true = whole in cc)
