@@ -7,12 +7,13 @@ use Rattle.schedule_text.specs.declared.event.Event.{Event}
 use Rattle.cluster_core.specs.declared.world.World.{World}
 use Rattle.cluster_core.specs.AtRest.{NothingWaits, NothingWaitsBehind}
 use Rattle.cluster_core.specs.Flow.{run_steps, steps_of_event}
-use Rattle.cluster_core.specs.Heard.{nobody, heard_from, frames_heard}
+use Rattle.cluster_core.specs.Heard.{heard_from}
+use Rattle.imap_talk.specs.Heard.{nobody, frames_heard}
 use Rattle.cluster_core.specs.World.{start, home_of, setting_of}
 use Rattle.cluster_core.proofs.Keeps.{run_keeps}
 use Rattle.cluster_core.proofs.KeepsLaw.{KeepsLaw}
 use Rattle.cluster_core.proofs.OneStoreLaw.{says_of}
-use Rattle.cluster_core.proofs.RequestsOf.{requests_of, asks_all}
+use Rattle.imap_talk.proofs.RequestsOf.{requests_of, asks_all}
 use Rattle.cluster_core.proofs.StartLaw.{start_keeps}
 use Rattle.cluster_core.proofs.Unrolled.{run_steps-append}
 

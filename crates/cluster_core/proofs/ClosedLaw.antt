@@ -1,13 +1,14 @@
 -- A client that has closed its connection is given nothing more: it is told no more answers, and nothing more is heard of it.
 use Rattle.std.proofs.Common.{◌≡◌, ℕ, true, false, List, [], ◌∷◌, ◌++◌, refl, sym, ◌∙◌, ap, append_assoc}
-use Rattle.imap_reply.specs.Transcript.{transcript_of}
+use Rattle.imap_talk.specs.Transcript.{transcript_of}
 use Rattle.mur_config.specs.declared.config.Config.{Config}
 use Rattle.mur_config.specs.Nodes.{AreNodes}
 use Rattle.schedule_text.specs.declared.event.Event.{Event}
 use Rattle.cluster_core.specs.declared.world.World.{World}
 use Rattle.cluster_core.specs.Closed.{GivesNoMore}
 use Rattle.cluster_core.specs.Flow.{run_steps}
-use Rattle.cluster_core.specs.Heard.{Heard, nobody, elsewhere, client, hears, heard_from, bytes_heard, has_closed}
+use Rattle.cluster_core.specs.Heard.{hears, heard_from}
+use Rattle.imap_talk.specs.Heard.{Heard, nobody, elsewhere, client, bytes_heard, has_closed}
 use Rattle.cluster_core.specs.Shown.{given_to}
 use Rattle.cluster_core.specs.World.{start, home_of, setting_of, steps_by}
 use Rattle.cluster_core.proofs.ConnectionLaw.{told_of}

@@ -7,10 +7,10 @@ use Rattle.backend_core.specs.declared.backend.Backend.{Backend}
 use Rattle.front_core.specs.declared.connection.Connection.{Connection}
 use Rattle.front_core.specs.declared.connection.Stage.TheVariants.{Reading}
 use Rattle.imap_reply.specs.Greeting.{greeting}
-use Rattle.imap_reply.specs.SessionEnds.{has_ended}
-use Rattle.imap_reply.specs.Transcript.{replies_to}
-use Rattle.imap_reply.proofs.TranscriptGrows.{AreAnswered}
-use Rattle.imap_reply.specs.declared.inputs.Input.{Input}
+use Rattle.imap_talk.specs.SessionEnds.{has_ended}
+use Rattle.imap_talk.specs.Transcript.{replies_to}
+use Rattle.imap_talk.proofs.TranscriptGrows.{AreAnswered}
+use Rattle.imap_talk.specs.declared.inputs.Input.{Input}
 use Rattle.link_msg.specs.declared.answer.BackAnswer.{BackAnswer}
 use Rattle.link_msg.specs.declared.ask.FrontAsk.{FrontAsk}
 use Rattle.imap_types.specs.declared.request.Answer.{Answer}

@@ -8,20 +8,21 @@ use Rattle.backend_core.specs.declared.backend.Backend.{Backend}
 use Rattle.front_core.specs.declared.connection.Connection.{Connection}
 use Rattle.front_core.specs.declared.connection.Stage.TheVariants.{Reading, Asked, Ended}
 use Rattle.front_core.specs.Taken.{Turned, answers, answers_last, asks, ask_with, input_in, comes_at, input_comes, inputs_come, behind_outs}
-use Rattle.imap_reply.specs.ByeLine.{bye_line, bye_of}
+use Rattle.imap_reply.specs.ByeLine.{bye_line}
+use Rattle.imap_talk.specs.FaultBye.{bye_of}
 use Rattle.imap_reply.specs.Continuation.{continuation_line}
 use Rattle.imap_reply.specs.Greeting.{greeting}
 use Rattle.imap_reply.specs.ReplyText.{reply_text}
-use Rattle.imap_reply.specs.SessionEnds.{has_ended}
-use Rattle.imap_reply.specs.Transcript.{answer_text, ends, replies_to}
-use Rattle.imap_reply.specs.Transcript.Stop.{silent}
-use Rattle.imap_reply.proofs.TranscriptGrows.{AreAnswered, Grows, request_answered, continued, fault_told, end_told}
-use Rattle.imap_reply.specs.declared.inputs.Input.{Input}
+use Rattle.imap_talk.specs.SessionEnds.{has_ended}
+use Rattle.imap_talk.specs.Transcript.{answer_text, ends, replies_to}
+use Rattle.imap_talk.specs.Transcript.Stop.{silent}
+use Rattle.imap_talk.proofs.TranscriptGrows.{AreAnswered, Grows, request_answered, continued, fault_told, end_told}
+use Rattle.imap_talk.specs.declared.inputs.Input.{Input}
 use Rattle.imap_wire.specs.declared.frame.FrameFault.{FrameFault}
-use Rattle.imap_reply.specs.declared.inputs.Input.TheVariants.{GoesOn, Asks, Faults}
-use Rattle.imap_reply.specs.declared.inputs.Continuation.{Continuation}
-use Rattle.imap_reply.specs.Inputs.{requests_in}
-use Rattle.imap_reply.proofs.InputLaws.{requests-append}
+use Rattle.imap_talk.specs.declared.inputs.Input.TheVariants.{GoesOn, Asks, Faults}
+use Rattle.imap_reply.specs.declared.continuation.Continuation.{Continuation}
+use Rattle.imap_talk.specs.Inputs.{requests_in}
+use Rattle.imap_talk.proofs.InputLaws.{requests-append}
 use Rattle.front_core.proofs.Connection.Readings.{FaultsLast}
 use Rattle.link_msg.specs.declared.ask.FrontAsk.{FrontAsk}
 use Rattle.link_msg.specs.declared.counts.Counts.TheVariants.{Always}
@@ -59,7 +60,7 @@ use Rattle.front_core.proofs.Connection.Standing.OnItsWay.{there}
 use Rattle.front_core.proofs.Connection.Standing.Stands.{reads, waits, faulted, finished}
 use Rattle.front_core.proofs.Connection.FrontAnswers.{IsTaken, request_taken}
 use Rattle.front_core.proofs.Connection.FrontAnswers.IsTaken.{here, finishes, asked}
-use Rattle.cluster_core.proofs.RequestsOf.{answered_lengths, next_request, replies_stop}
+use Rattle.imap_talk.proofs.RequestsOf.{answered_lengths, next_request, replies_stop}
 use Rattle.front_core.proofs.Connection.LastAnswer.{all_go_on}
 use Rattle.serve_law.proofs.HomeStore.{IsStoreOf}
 use Rattle.serve_law.proofs.ServedAlike.{apart}

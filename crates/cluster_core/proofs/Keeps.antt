@@ -7,7 +7,8 @@ use Rattle.schedule_text.specs.declared.event.Event.{Event}
 use Rattle.schedule_text.specs.declared.event.Event.TheVariants.{Open, Data, Hang, Deliver, Cut, Join, Crash, Arm, Start, Flow, Heal}
 use Rattle.cluster_core.specs.declared.world.World.{World}
 use Rattle.cluster_core.specs.Flow.{run_steps}
-use Rattle.cluster_core.specs.Heard.{Heard, nobody, elsewhere, client, at_first, of_client, hears, heard_from}
+use Rattle.cluster_core.specs.Heard.{at_first, of_client, hears, heard_from}
+use Rattle.imap_talk.specs.Heard.{Heard, nobody, elsewhere, client}
 use Rattle.cluster_core.specs.World.{client_at, stepped, takes, steps_by}
 use Rattle.cluster_core.proofs.ConnectionLaw.{told_of}
 use Rattle.cluster_core.proofs.KeepsData.{data_keeps}

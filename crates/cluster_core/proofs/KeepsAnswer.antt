@@ -10,15 +10,15 @@ use Rattle.front_core.specs.Answered.{answer_by, answer_comes, ends_with, finish
 use Rattle.front_core.specs.Taken.{Turned, inputs_come}
 use Rattle.imap_reply.specs.Greeting.{greeting}
 use Rattle.imap_reply.specs.ReplyText.{reply_text}
-use Rattle.imap_reply.specs.SessionEnds.{has_ended, ends_session, TurnEnds}
-use Rattle.imap_reply.specs.Transcript.{ends, replies_to}
-use Rattle.imap_reply.specs.Transcript.Stop.{silent}
-use Rattle.imap_reply.proofs.AnswersEnd.{ended_by}
-use Rattle.imap_reply.proofs.TranscriptGrows.{AreAnswered, request_answered, end_told}
-use Rattle.imap_reply.specs.declared.inputs.Input.{Input}
-use Rattle.imap_reply.specs.declared.inputs.Input.TheVariants.{Asks}
+use Rattle.imap_talk.specs.SessionEnds.{has_ended, ends_session, TurnEnds}
+use Rattle.imap_talk.specs.Transcript.{ends, replies_to}
+use Rattle.imap_talk.specs.Transcript.Stop.{silent}
+use Rattle.imap_talk.proofs.AnswersEnd.{ended_by}
+use Rattle.imap_talk.proofs.TranscriptGrows.{AreAnswered, request_answered, end_told}
+use Rattle.imap_talk.specs.declared.inputs.Input.{Input}
+use Rattle.imap_talk.specs.declared.inputs.Input.TheVariants.{Asks}
 use Rattle.imap_types.specs.declared.request.Request.{Request}
-use Rattle.imap_reply.specs.Inputs.{requests_in}
+use Rattle.imap_talk.specs.Inputs.{requests_in}
 use Rattle.front_core.proofs.Connection.Readings.{FaultsLast}
 use Rattle.link_msg.specs.declared.answer.AnswerBody.{AnswerBody}
 use Rattle.link_msg.specs.declared.answer.BackAnswer.{BackAnswer}
@@ -44,7 +44,7 @@ use Rattle.cluster_core.specs.World.{client_at, carry_all}
 use Rattle.cluster_core.proofs.ConnectionLaw.{Story, client_with, GoesOnAt, ReadsOn, StandsOn}
 use Rattle.front_core.proofs.Connection.Standing.Stands.{finished}
 use Rattle.cluster_core.proofs.FrameLaw.{carry_all-append, line_carried, end_carried, given_keeps, inputs_kept}
-use Rattle.cluster_core.proofs.RequestsOf.{replies_stop}
+use Rattle.imap_talk.proofs.RequestsOf.{replies_stop}
 use Rattle.cluster_core.proofs.Told.{IsTold}
 use Rattle.front_core.proofs.Connection.Ways.{AreOnWay}
 

@@ -14,8 +14,8 @@ use Rattle.backend_core.proofs.BelowNext.{step_stays_below}
 use Rattle.front_core.specs.declared.connection.Connection.{Connection}
 use Rattle.front_core.specs.Taken.{ask_with}
 use Rattle.session_core.specs.Begin.{user_of}
-use Rattle.imap_reply.specs.SessionEnds.{TurnEnds}
-use Rattle.imap_reply.proofs.AnswersEnd.{worked_ends}
+use Rattle.imap_talk.specs.SessionEnds.{TurnEnds}
+use Rattle.imap_talk.proofs.AnswersEnd.{worked_ends}
 use Rattle.link_msg.specs.declared.answer.AnswerBody.{AnswerBody}
 use Rattle.link_msg.specs.declared.ask.FrontAsk.{FrontAsk}
 use Rattle.link_msg.specs.declared.counts.Counts.{Counts}
@@ -42,12 +42,12 @@ use Rattle.mur_model.proofs.Numbered.{with_item-other}
 use Rattle.session_core.specs.Asking.{asked_for}
 use Rattle.session_core.specs.Finish.{turn_of}
 use Rattle.cluster_core.specs.declared.world.World.{World}
-use Rattle.cluster_core.specs.Heard.{Heard, frames_heard}
+use Rattle.imap_talk.specs.Heard.{Heard, frames_heard}
 use Rattle.link_queue.specs.Links.{on_link, sent, without_first}
 use Rattle.cluster_core.specs.World.{front_at, home_of, setting_of, with_home, taken, carry, carry_all}
 use Rattle.cluster_core.proofs.ConnectionLaw.{Story, told_of, session_at, session_of_other}
 use Rattle.cluster_core.proofs.KeepsLaw.{ConnectionIs, AreNodesOf, KeepsLaw, KeepsOn, connection_stays, same_front}
-use Rattle.cluster_core.proofs.RequestsOf.{requests_of}
+use Rattle.imap_talk.proofs.RequestsOf.{requests_of}
 use Rattle.serve_law.proofs.HomeStore.{IsStoreOf}
 use Rattle.serve_law.proofs.ServedAlike.{ServesAlike}
 use Rattle.serve_law.proofs.ServeLaw.{plain_ask, serves_alike}

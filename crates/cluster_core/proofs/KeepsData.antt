@@ -16,13 +16,13 @@ use Rattle.front_core.specs.Ended.{released}
 use Rattle.front_core.specs.Front.{connection_at, having_read, bytes_in, bytes_at as front_bytes_at, bytes_by, still, with_turned}
 use Rattle.front_core.specs.Taken.{Turned, input_comes, inputs_come}
 use Rattle.front_core.proofs.FrameLaws.{reader_kept}
-use Rattle.imap_reply.specs.SessionEnds.{has_ended}
-use Rattle.imap_reply.specs.Transcript.{ends, replies_to}
-use Rattle.imap_reply.specs.Transcript.Stop.{silent}
-use Rattle.imap_reply.proofs.TranscriptGrows.{AreAnswered, end_told}
+use Rattle.imap_talk.specs.SessionEnds.{has_ended}
+use Rattle.imap_talk.specs.Transcript.{ends, replies_to}
+use Rattle.imap_talk.specs.Transcript.Stop.{silent}
+use Rattle.imap_talk.proofs.TranscriptGrows.{AreAnswered, end_told}
 use Rattle.imap_reply.specs.Greeting.{greeting}
-use Rattle.imap_reply.specs.declared.inputs.Input.{Input}
-use Rattle.imap_reply.specs.declared.inputs.Input.TheVariants.{GoesOn as goes_on, Asks, Faults}
+use Rattle.imap_talk.specs.declared.inputs.Input.{Input}
+use Rattle.imap_talk.specs.declared.inputs.Input.TheVariants.{GoesOn as goes_on, Asks, Faults}
 use Rattle.imap_wire.specs.Frames.{begun}
 use Rattle.imap_wire.proofs.FeedLaws.{frames-ended, begun-ended}
 use Rattle.mur_base.proofs.MapLaws.{names_apart}
@@ -43,11 +43,12 @@ use Rattle.session_core.specs.declared.asking.Awaited.{Awaited}
 use Rattle.schedule_text.specs.declared.event.Event.TheVariants.{Data}
 use Rattle.front_core.specs.Reading.{Reading as Read, inputs_of_more, read_more}
 use Rattle.front_core.proofs.ReadingLaws.{ended_inputs, ended_reader}
-use Rattle.imap_reply.specs.Inputs.{inputs_from, requests_in}
-use Rattle.imap_reply.proofs.InputLaws.{requests-append}
+use Rattle.imap_talk.specs.Inputs.{inputs_from, requests_in}
+use Rattle.imap_talk.proofs.InputLaws.{requests-append}
 use Rattle.front_core.proofs.Connection.Readings.{FaultsLast, faults_after, inputs_in, inputs_with_more, reading_of, reading_with_more}
 use Rattle.cluster_core.specs.declared.world.World.{World}
-use Rattle.cluster_core.specs.Heard.{Heard, nobody, elsewhere, client, hears, frames_heard}
+use Rattle.imap_talk.specs.Heard.{Heard, nobody, elsewhere, client, frames_heard}
+use Rattle.cluster_core.specs.Heard.{hears}
 use Rattle.cluster_core.specs.World.{client_at, front_at, home_of, setting_of, with_front, bytes_at, bytes_from, carry_all}
 use Rattle.cluster_core.proofs.ConnectionLaw.{Story, told_of, client_with, keeps_all, same_story, IsReading, IsStanding}
 use Rattle.front_core.proofs.Connection.Standing.{HasBegunSo, OnItsWay, Stands}
@@ -61,7 +62,7 @@ use Rattle.cluster_core.proofs.KeepsFront.{world_after, with_connection, front_k
 use Rattle.cluster_core.proofs.KeepsStill.{still_kept}
 use Rattle.front_core.proofs.Connection.Released.{begun_released}
 use Rattle.cluster_core.proofs.ConnectionLaw.{standing_released}
-use Rattle.cluster_core.proofs.RequestsOf.{requests_of, replies_stop}
+use Rattle.imap_talk.proofs.RequestsOf.{requests_of, replies_stop}
 use Rattle.cluster_core.proofs.Told.{IsTold, told_asked}
 use Rattle.front_core.proofs.Connection.Ways.{AreOnWay}
 

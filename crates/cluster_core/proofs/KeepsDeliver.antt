@@ -12,7 +12,7 @@ use Rattle.front_core.specs.Ended.{released}
 use Rattle.front_core.specs.Front.{connection_at, deliver as take_message, answer_at, with_turned}
 use Rattle.front_core.specs.Taken.{Turned, ask_with}
 use Rattle.session_core.specs.Asking.{asked_for}
-use Rattle.imap_reply.specs.declared.inputs.Input.TheVariants.{Asks}
+use Rattle.imap_talk.specs.declared.inputs.Input.TheVariants.{Asks}
 use Rattle.imap_wire.specs.Frames.{begun}
 use Rattle.link_msg.specs.declared.answer.AnswerBody.{AnswerBody}
 use Rattle.link_msg.specs.declared.answer.BackAnswer.{BackAnswer}
@@ -28,11 +28,11 @@ use Rattle.imap_types.specs.declared.request.Request.TheVariants.{Command as a_c
 use Rattle.mur_model.specs.Act.{need_of, session_after}
 use Rattle.mur_model.specs.History.{numbered}
 use Rattle.mur_model.proofs.Numbered.{with_item, with_item-same}
-use Rattle.imap_reply.specs.Inputs.{requests_in}
-use Rattle.imap_reply.proofs.InputLaws.{requests-append}
+use Rattle.imap_talk.specs.Inputs.{requests_in}
+use Rattle.imap_talk.proofs.InputLaws.{requests-append}
 use Rattle.front_core.proofs.Connection.Readings.{inputs_in, reading_of}
 use Rattle.cluster_core.specs.declared.world.World.{World}
-use Rattle.cluster_core.specs.Heard.{Heard, client, frames_heard}
+use Rattle.imap_talk.specs.Heard.{Heard, client, frames_heard}
 use Rattle.link_queue.specs.Links.{Links, on_link, sent, without_first}
 use Rattle.cluster_core.specs.World.{front_at, home_at, home_of, setting_of, with_front, with_home, taken, input_of, home_takes, comes_to_home}
 use Rattle.cluster_core.specs.World.{comes_to, carry_all}
@@ -47,7 +47,7 @@ use Rattle.cluster_core.proofs.KeepsFront.{world_after}
 use Rattle.cluster_core.proofs.KeepsLaw.{ConnectionIs, IsAt, IsGone, KeepsLaw, KeepsOn, LooksAlike, looks_same, same_put}
 use Rattle.cluster_core.proofs.KeepsLaw.ConnectionIs.{is_nobody, is_elsewhere, is_open, is_closed}
 use Rattle.cluster_core.proofs.KeepsStill.{still_kept}
-use Rattle.cluster_core.proofs.RequestsOf.{requests_of, answered_lengths, next_request}
+use Rattle.imap_talk.proofs.RequestsOf.{requests_of, answered_lengths, next_request}
 use Rattle.cluster_core.proofs.Told.{having_said}
 use Rattle.front_core.proofs.Connection.Ways.{AreOnWay, IsOfAnother, taken_for_another, ask_taken, no_ask_first}
 use Rattle.front_core.proofs.Connection.Ways.{answer_sent, ask_in, answer_in}

@@ -11,21 +11,21 @@ use Rattle.link_msg.specs.declared.out.Out.{Out}
 use Rattle.mur_base.specs.Map.{with_value}
 use Rattle.mur_base.proofs.MapLaws.{names_apart, numbers_apart, value_at-with_value, value_at-with_value-other}
 use Rattle.mur_config.specs.declared.config.Config.{Config}
-use Rattle.imap_reply.specs.declared.inputs.Input.{Input}
+use Rattle.imap_talk.specs.declared.inputs.Input.{Input}
 use Rattle.imap_types.specs.declared.request.Answer.{Answer}
 use Rattle.imap_types.specs.declared.request.Request.{Request}
 use Rattle.mur_model.specs.declared.setting.Setting.{Setting}
 use Rattle.mur_model.specs.History.{Course, TalkGoesOn}
 use Rattle.mur_model.proofs.HistoryGrows.{talks_follow}
 use Rattle.cluster_core.specs.declared.world.World.{World}
-use Rattle.cluster_core.specs.Heard.{Heard, frames_heard, has_closed}
+use Rattle.imap_talk.specs.Heard.{Heard, frames_heard, has_closed}
 use Rattle.link_msg.specs.declared.message.LinkMsg.{LinkMsg}
 use Rattle.link_queue.specs.Links.{Links}
 use Rattle.cluster_core.specs.World.{front_at, home_of, setting_of, carry_all}
 use Rattle.cluster_core.proofs.ConnectionLaw.{Story, told_of, IsMade, IsStanding}
 use Rattle.cluster_core.proofs.KeepsLaw.{ConnectionIs, IsAt, IsGone, KeepsLaw, KeepsOn, WaysOn, connection_stays}
 use Rattle.cluster_core.proofs.KeepsStill.{fronts_at_other, nodes_with_front, with_fronts, carry_all_fronts}
-use Rattle.cluster_core.proofs.RequestsOf.{requests_of}
+use Rattle.imap_talk.proofs.RequestsOf.{requests_of}
 
 -- a frontend with another state of one connection
 abbrev pub with_connection : Front → ℕ → Connection → Front

@@ -10,8 +10,8 @@ use Rattle.std.proofs.lemmas.List.{append-nil}
 use Rattle.front_core.specs.declared.connection.Connection.{Connection}
 use Rattle.front_core.specs.declared.front.Front.{Front}
 use Rattle.front_core.specs.Front.{hang, hang_at as front_hang_at, hung_up}
-use Rattle.imap_reply.specs.declared.inputs.Input.{Input}
-use Rattle.imap_reply.specs.declared.inputs.Input.TheVariants.{Asks}
+use Rattle.imap_talk.specs.declared.inputs.Input.{Input}
+use Rattle.imap_talk.specs.declared.inputs.Input.TheVariants.{Asks}
 use Rattle.imap_wire.specs.Frames.{begun}
 use Rattle.mur_base.specs.Map.{with_value}
 use Rattle.mur_config.specs.declared.config.Config.{Config}
@@ -23,11 +23,12 @@ use Rattle.mur_model.specs.Act.{need_of}
 use Rattle.mur_model.specs.History.{numbered}
 use Rattle.mur_model.proofs.HistoryGrows.{same_talk}
 use Rattle.schedule_text.specs.declared.event.Event.TheVariants.{Hang}
-use Rattle.imap_reply.specs.Inputs.{requests_in}
-use Rattle.imap_reply.proofs.InputLaws.{requests-append}
+use Rattle.imap_talk.specs.Inputs.{requests_in}
+use Rattle.imap_talk.proofs.InputLaws.{requests-append}
 use Rattle.front_core.proofs.Connection.Readings.{inputs_in}
 use Rattle.cluster_core.specs.declared.world.World.{World}
-use Rattle.cluster_core.specs.Heard.{Heard, nobody, elsewhere, client, hears, frames_heard}
+use Rattle.imap_talk.specs.Heard.{Heard, nobody, elsewhere, client, frames_heard}
+use Rattle.cluster_core.specs.Heard.{hears}
 use Rattle.link_msg.specs.declared.message.LinkMsg.{LinkMsg}
 use Rattle.link_queue.specs.Links.{Links}
 use Rattle.cluster_core.specs.World.{client_at, home_of, setting_of, hang_at, hangs, carry_all}
@@ -41,7 +42,7 @@ use Rattle.front_core.proofs.Connection.LastAnswer.{stands_last}
 use Rattle.cluster_core.proofs.KeepsLaw.{ConnectionIs, IsAt, IsGone, KeepsLaw, KeepsOn, looks_same}
 use Rattle.cluster_core.proofs.KeepsLaw.ConnectionIs.{is_nobody, is_elsewhere, is_open, is_closed}
 use Rattle.cluster_core.proofs.KeepsStill.{still_kept}
-use Rattle.cluster_core.proofs.RequestsOf.{requests_of, answered_lengths, next_request}
+use Rattle.imap_talk.proofs.RequestsOf.{requests_of, answered_lengths, next_request}
 
 abbrev pub after_hang : Config → (ℕ → Heard) → ℕ → ℕ → Heard
 after_hang config heard conn other = hears config other (heard other) (Hang conn)

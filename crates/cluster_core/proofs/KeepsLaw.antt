@@ -10,7 +10,7 @@ use Rattle.front_core.specs.declared.connection.Connection.{Connection}
 use Rattle.front_core.specs.declared.connection.Stage.TheVariants.{Ended}
 use Rattle.front_core.specs.declared.front.Front.{Front}
 use Rattle.front_core.specs.Front.{connection_at}
-use Rattle.imap_reply.specs.declared.inputs.Input.{Input}
+use Rattle.imap_talk.specs.declared.inputs.Input.{Input}
 use Rattle.imap_wire.specs.Frames.{begun}
 use Rattle.link_msg.specs.declared.answer.BackAnswer.{BackAnswer}
 use Rattle.link_msg.specs.declared.ask.FrontAsk.{FrontAsk}
@@ -23,11 +23,12 @@ use Rattle.mur_model.specs.declared.session.Sess.{Sess}
 use Rattle.mur_model.specs.declared.session.Sess.TheVariants.{Off}
 use Rattle.mur_model.specs.declared.setting.Setting.{Setting}
 use Rattle.mur_model.specs.History.{Talk, TalkGoesOn}
-use Rattle.imap_reply.specs.Inputs.{requests_in}
+use Rattle.imap_talk.specs.Inputs.{requests_in}
 use Rattle.front_core.proofs.Connection.Readings.{inputs_in, reading_of}
 use Rattle.cluster_core.specs.declared.world.World.{World}
 use Rattle.front_core.specs.Ending.{EndsOnlyLast}
-use Rattle.cluster_core.specs.Heard.{Heard, nobody, elsewhere, client, is_frontend, frames_heard, has_closed}
+use Rattle.imap_talk.specs.Heard.{Heard, nobody, elsewhere, client, frames_heard, has_closed}
+use Rattle.cluster_core.specs.Heard.{is_frontend}
 use Rattle.link_msg.specs.declared.message.LinkMsg.{LinkMsg}
 use Rattle.link_queue.specs.Links.{Links}
 use Rattle.cluster_core.specs.World.{start, client_at, front_at, home_at, home_of, setting_of}
@@ -36,7 +37,7 @@ use Rattle.front_core.proofs.Connection.Standing.{HasBegunSo, OnItsWay, Stands, 
 use Rattle.front_core.proofs.Connection.Standing.OnItsWay.{there, back}
 use Rattle.front_core.proofs.Connection.Standing.Stands.{reads, waits, faulted, finished}
 use Rattle.front_core.proofs.Connection.Standing.IsLeft.{nothing, its_ask, its_answer}
-use Rattle.cluster_core.proofs.RequestsOf.{requests_of}
+use Rattle.imap_talk.proofs.RequestsOf.{requests_of}
 use Rattle.cluster_core.proofs.Told.{IsTold}
 use Rattle.front_core.proofs.Connection.Ways.{AreOnWay}
 

@@ -12,9 +12,9 @@ use Rattle.std.proofs.lemmas.List.{append-nil}
 use Rattle.front_core.specs.declared.front.Front.{Front}
 use Rattle.front_core.specs.Front.{connection_at, new_connection, connect, connect_at}
 use Rattle.imap_reply.specs.Greeting.{greeting}
-use Rattle.imap_reply.specs.SessionEnds.{has_ended}
-use Rattle.imap_reply.specs.Transcript.{replies_to, told_till}
-use Rattle.imap_reply.proofs.TranscriptGrows.{AreAnswered, none_answered}
+use Rattle.imap_talk.specs.SessionEnds.{has_ended}
+use Rattle.imap_talk.specs.Transcript.{replies_to, told_till}
+use Rattle.imap_talk.proofs.TranscriptGrows.{AreAnswered, none_answered}
 use Rattle.imap_wire.specs.Frames.{begun}
 use Rattle.imap_wire.proofs.FeedLaws.{frames-nil}
 use Rattle.mur_base.specs.Map.{with_value, with_entry}
@@ -25,10 +25,11 @@ use Rattle.mur_model.specs.declared.setting.Setting.{Setting}
 use Rattle.mur_model.proofs.HistoryGrows.{same_talk}
 use Rattle.schedule_text.specs.declared.event.Event.TheVariants.{Open}
 use Rattle.front_core.specs.Reading.{first_reading}
-use Rattle.imap_reply.specs.Inputs.{at_first, before_next, inputs_of}
+use Rattle.imap_talk.specs.Inputs.{at_first, before_next, inputs_of}
 use Rattle.cluster_core.specs.declared.world.Client.{Client}
 use Rattle.cluster_core.specs.declared.world.World.{World}
-use Rattle.cluster_core.specs.Heard.{Heard, nobody, elsewhere, client, hears, opened_at, is_frontend, frames_heard}
+use Rattle.imap_talk.specs.Heard.{Heard, nobody, elsewhere, client, frames_heard}
+use Rattle.cluster_core.specs.Heard.{hears, opened_at, is_frontend}
 use Rattle.cluster_core.specs.World.{client_at, front_at, home_of, setting_of, with_client, with_front, open_at, opens, given_more, carry, carry_all}
 use Rattle.cluster_core.proofs.ConnectionLaw.{Story, told_of}
 use Rattle.front_core.proofs.Connection.Standing.Stands.{reads}
@@ -37,7 +38,7 @@ use Rattle.cluster_core.proofs.KeepsLaw.{looks_same, same_front}
 use Rattle.cluster_core.proofs.KeepsLaw.ConnectionIs.{is_nobody, is_elsewhere, is_open, is_closed}
 use Rattle.cluster_core.proofs.KeepsStill.{still_kept, fronts_at_other, nodes_alike, nodes_with_front}
 use Rattle.front_core.proofs.Connection.Readings.{inputs_in, reading_of}
-use Rattle.cluster_core.proofs.RequestsOf.{requests_of}
+use Rattle.imap_talk.proofs.RequestsOf.{requests_of}
 
 -- nothing is heard anew of a connection that was opened before, nor of another one
 heard_before : (config : Config) (conn : ℕ) (heard : Heard) (node : List ℕ) (other : ℕ) → (heard ≡ nobody → conn ≢ other)

@@ -8,7 +8,7 @@ use Rattle.front_core.specs.Answered.{answer_comes, reading_again, unchanged}
 use Rattle.front_core.specs.Ended.{released}
 use Rattle.front_core.specs.Front.{connection_at}
 use Rattle.front_core.specs.Taken.{Turned}
-use Rattle.imap_reply.specs.SessionEnds.{ends_session}
+use Rattle.imap_talk.specs.SessionEnds.{ends_session}
 use Rattle.imap_wire.specs.Frames.{begun}
 use Rattle.link_msg.specs.declared.answer.BackAnswer.{BackAnswer}
 use Rattle.link_msg.specs.declared.message.LinkMsg.{LinkMsg}
@@ -22,11 +22,11 @@ use Rattle.mur_model.specs.Act.{session_after}
 use Rattle.mur_model.proofs.HistoryGrows.{same_talk}
 use Rattle.session_core.specs.Asking.{asked_for}
 use Rattle.session_core.specs.declared.asking.Awaited.{Awaited}
-use Rattle.imap_reply.specs.Inputs.{requests_in}
+use Rattle.imap_talk.specs.Inputs.{requests_in}
 use Rattle.front_core.specs.Reading.{Reading as Read}
 use Rattle.front_core.proofs.Connection.Readings.{inputs_in, reading_of}
 use Rattle.cluster_core.specs.declared.world.World.{World}
-use Rattle.cluster_core.specs.Heard.{Heard, client, frames_heard}
+use Rattle.imap_talk.specs.Heard.{Heard, client, frames_heard}
 use Rattle.link_queue.specs.Links.{on_link, without_first}
 use Rattle.cluster_core.specs.World.{front_at, home_of, setting_of, taken, comes_to, deliver_first, delivers, carry_all}
 use Rattle.cluster_core.proofs.ConnectionLaw.{told_of, keeps_all, same_story, IsStanding}
@@ -45,7 +45,7 @@ use Rattle.cluster_core.proofs.KeepsLaw.ConnectionIs.{is_nobody, is_elsewhere, i
 use Rattle.cluster_core.proofs.KeepsStill.{still_kept}
 use Rattle.front_core.proofs.Connection.Released.{released_count, released_ended, begun_released}
 use Rattle.cluster_core.proofs.ConnectionLaw.{standing_released}
-use Rattle.cluster_core.proofs.RequestsOf.{requests_of}
+use Rattle.imap_talk.proofs.RequestsOf.{requests_of}
 use Rattle.front_core.proofs.Connection.Ways.{AreOnWay, answer_of_another, taken_for_another, answer_taken, no_answer_first}
 
 -- the ways of the others when the answer of a connection is taken

@@ -15,12 +15,12 @@ use Rattle.mur_config.specs.declared.config.Config.{Config}
 use Rattle.mur_model.proofs.HistoryGrows.{same_talk}
 use Rattle.cluster_core.specs.declared.world.Client.{Client}
 use Rattle.cluster_core.specs.declared.world.World.{World}
-use Rattle.cluster_core.specs.Heard.{Heard, frames_heard}
+use Rattle.imap_talk.specs.Heard.{Heard, frames_heard}
 use Rattle.cluster_core.specs.World.{client_at, front_at, home_at, home_of, setting_of, given_more, carry, carry_all}
 use Rattle.cluster_core.proofs.ConnectionLaw.{told_of}
 use Rattle.cluster_core.proofs.KeepsLaw.{ConnectionIs, AreNodesOf, KeepsLaw, KeepsOn, LooksAlike, SameFront, same_front, connection_stays}
 use Rattle.cluster_core.proofs.KeepsLaw.SameFront.{both}
-use Rattle.cluster_core.proofs.RequestsOf.{requests_of}
+use Rattle.imap_talk.proofs.RequestsOf.{requests_of}
 use Rattle.cluster_core.proofs.Told.{IsTold, told_later}
 
 pub nodes_alike : (config : Config) (world next : World) (backend : Backend) → ((node : List ℕ) → front_at next node ≡ front_at world node)

@@ -1,6 +1,5 @@
 pub mod Marks
 pub mod Told
-pub mod RequestsOf
 pub mod ConnectionLaw
 pub mod FrameLaw
 pub mod KeepsLaw
@@ -25,7 +24,6 @@ pub mod HomesLaw
 pub mod BackendsLaw
 pub mod NamesHeld
 pub mod ShownHomes
-pub mod ReadLaw
 pub mod ToldSoFar
 pub mod ClosedLaw
 pub mod AtRestLaw

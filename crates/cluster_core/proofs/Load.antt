@@ -20,8 +20,8 @@ use Rattle.front_core.specs.Front.{hang_at, hang, hung_up, answer_at, deliver as
 use Rattle.front_core.specs.Reading.{inputs_of_more}
 use Rattle.front_core.specs.Taken.{Turned, answers, answers_last, need_in, request_in, input_in, comes_at, input_comes, inputs_come}
 use Rattle.front_core.proofs.ReadingLaws.{inputs_of_more-length}
-use Rattle.imap_reply.specs.declared.inputs.Input.{Input}
-use Rattle.imap_reply.specs.declared.inputs.Input.TheVariants.{GoesOn, Asks, Faults}
+use Rattle.imap_talk.specs.declared.inputs.Input.{Input}
+use Rattle.imap_talk.specs.declared.inputs.Input.TheVariants.{GoesOn, Asks, Faults}
 use Rattle.imap_wire.proofs.MoreLaws.{frames_of_more-length}
 use Rattle.link_msg.specs.declared.answer.AnswerBody.{AnswerBody}
 use Rattle.link_msg.specs.declared.answer.BackAnswer.{BackAnswer}

@@ -4,7 +4,7 @@ use Rattle.std.proofs.Math.Logic.{⊎_elim}
 use Rattle.std.proofs.lemmas.List.{append-nil}
 use Rattle.std.proofs.lemmas.List.Elements.{All-contains}
 use Rattle.front_core.specs.declared.connection.Connection.{Connection}
-use Rattle.imap_reply.specs.declared.inputs.Input.{Input}
+use Rattle.imap_talk.specs.declared.inputs.Input.{Input}
 use Rattle.link_msg.specs.declared.answer.BackAnswer.{BackAnswer}
 use Rattle.link_msg.specs.declared.ask.FrontAsk.{FrontAsk}
 use Rattle.link_msg.specs.declared.message.LinkMsg.{LinkMsg}
@@ -24,7 +24,8 @@ use Rattle.mur_model.specs.declared.setting.Setting.{Setting}
 use Rattle.schedule_text.specs.declared.event.Event.{Event}
 use Rattle.cluster_core.specs.declared.world.World.{World}
 use Rattle.cluster_core.specs.Flow.{run_steps}
-use Rattle.cluster_core.specs.Heard.{Heard, nobody, heard_from}
+use Rattle.imap_talk.specs.Heard.{Heard, nobody}
+use Rattle.cluster_core.specs.Heard.{heard_from}
 use Rattle.link_queue.specs.Links.{Links, same_link, on_link}
 use Rattle.cluster_core.specs.OneStore.{AreEmpty}
 use Rattle.cluster_core.specs.World.{start, front_at, home_of, setting_of, with_node, with_nodes}

@@ -10,7 +10,7 @@ use Rattle.std.proofs.lemmas.Bool.Decides.{nat_tests}
 use Rattle.std.proofs.lemmas.List.{append-nil}
 use Rattle.front_core.specs.declared.connection.Connection.{Connection}
 use Rattle.front_core.specs.declared.front.Front.{Front}
-use Rattle.imap_reply.specs.Transcript.{transcript_of, all_told_till, ends}
+use Rattle.imap_talk.specs.Transcript.{transcript_of, all_told_till, ends}
 use Rattle.imap_wire.specs.Frames.{begun}
 use Rattle.mur_base.specs.declared.point.AskId.{AskId}
 use Rattle.mur_base.specs.declared.point.Point.{Point}
@@ -19,13 +19,13 @@ use Rattle.mur_model.specs.declared.setting.Setting.{Setting}
 use Rattle.mur_model.specs.declared.store.Store.{Store}
 use Rattle.mur_model.specs.History.{Course, Talk, IsLegal, IsInOrder, EndsAtLoss, IsUnanswered, loses, reads}
 use Rattle.mur_model.proofs.HistoryGrows.{one_up_to}
-use Rattle.imap_reply.specs.Inputs.{inputs_of, requests_in}
+use Rattle.imap_talk.specs.Inputs.{inputs_of, requests_in}
 use Rattle.front_core.proofs.Connection.Readings.{inputs_in}
 use Rattle.cluster_core.specs.declared.world.Client.{Client}
 use Rattle.cluster_core.specs.declared.world.Mark.{Mark}
 use Rattle.cluster_core.specs.declared.world.World.{World}
 use Rattle.front_core.specs.Ending.{EndsOnlyLast}
-use Rattle.cluster_core.specs.Heard.{Heard, bytes_heard, frames_heard, has_closed}
+use Rattle.imap_talk.specs.Heard.{Heard, bytes_heard, frames_heard, has_closed}
 use Rattle.cluster_core.specs.History.{answered_in, connection_in, connection_by, connection_of, answered_of, history_of}
 use Rattle.cluster_core.specs.OneStore.{AreEmpty, IsAnsweredThrough, first_course}
 use Rattle.cluster_core.specs.Points.{AreMadeBy, LosesTheNext}
@@ -41,7 +41,7 @@ use Rattle.cluster_core.proofs.KeepsLaw.ConnectionIs.{is_nobody, is_elsewhere, i
 use Rattle.cluster_core.proofs.Marks.{conn_of, command_of, IsOf, all_points, pairs_of_points, marks_follow, answering_points, losing_points}
 use Rattle.front_core.proofs.Connection.LastAnswer.{none_given, stands_last}
 use Rattle.cluster_core.proofs.Marks.{NoMore}
-use Rattle.cluster_core.proofs.RequestsOf.{requests_of, answered_lengths}
+use Rattle.imap_talk.proofs.RequestsOf.{requests_of, answered_lengths}
 use Rattle.cluster_core.proofs.Told.{IsTold, Later}
 use Rattle.front_core.proofs.Connection.Ways.{none_on_empty}
 

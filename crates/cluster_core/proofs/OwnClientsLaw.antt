@@ -10,7 +10,7 @@ use Rattle.backend_core.specs.Plan.{plan_of, answer_outs}
 use Rattle.backend_core.specs.Step.{home_step}
 use Rattle.front_core.specs.declared.front.Front.{Front}
 use Rattle.front_core.specs.Front.{Stepped, connect, connection_at, bytes_in, deliver as take_message}
-use Rattle.imap_reply.specs.declared.inputs.Input.{Input}
+use Rattle.imap_talk.specs.declared.inputs.Input.{Input}
 use Rattle.link_msg.specs.declared.answer.AnswerBody.{AnswerBody}
 use Rattle.link_msg.specs.declared.answer.BackAnswer.{BackAnswer}
 use Rattle.link_msg.specs.declared.counts.Counts.{Counts}
@@ -32,7 +32,8 @@ use Rattle.schedule_text.specs.declared.event.Event.TheVariants.{Open, Data, Han
 use Rattle.cluster_core.specs.declared.world.Client.{Client}
 use Rattle.cluster_core.specs.declared.world.World.{World}
 use Rattle.cluster_core.specs.Flow.{run_steps, steps_of_event}
-use Rattle.cluster_core.specs.Heard.{Heard, nobody, heard_from}
+use Rattle.imap_talk.specs.Heard.{Heard, nobody}
+use Rattle.cluster_core.specs.Heard.{heard_from}
 use Rattle.link_queue.specs.Links.{Links, on_link}
 use Rattle.cluster_core.specs.OneNode.{node_of, ServesItsOwn, ServesItsOwnEach, ServesItsOwnBehind}
 use Rattle.cluster_core.specs.World.{start, home_of, setting_of, client_at, front_at, home_at, given_more, carry, carry_all, with_front, with_home, with_client}

@@ -23,7 +23,7 @@ use Rattle.mur_model.specs.declared.setting.Setting.{Setting}
 use Rattle.mur_model.specs.Store.{empty_store, is_spent}
 use Rattle.mur_model.proofs.HistoryGrows.{one_up_to}
 use Rattle.cluster_core.specs.declared.world.World.{World}
-use Rattle.cluster_core.specs.Heard.{nobody, frames_heard}
+use Rattle.imap_talk.specs.Heard.{nobody, frames_heard}
 use Rattle.link_queue.specs.Links.{same_link, on_link}
 use Rattle.cluster_core.specs.OneStore.{first_course}
 use Rattle.cluster_core.specs.World.{no_world, first_name, or_backend, backends_of, home_of, setting_of, with_node, with_nodes, start, front_at}
@@ -36,8 +36,8 @@ use Rattle.cluster_core.proofs.Marks.{Carries, MarkedOnce, command_of}
 use Rattle.cluster_core.proofs.Marks.Carries.{no_marks}
 use Rattle.cluster_core.proofs.Told.{Later}
 use Rattle.cluster_core.specs.declared.world.Mark.{Mark}
-use Rattle.imap_reply.specs.Inputs.{inputs_of, requests_in}
-use Rattle.cluster_core.proofs.RequestsOf.{requests_of}
+use Rattle.imap_talk.specs.Inputs.{inputs_of, requests_in}
+use Rattle.imap_talk.proofs.RequestsOf.{requests_of}
 use Rattle.serve_law.proofs.HomeStore.{IsStoreOf}
 use Rattle.link_queue.proofs.OnWay.{picked, alike}
 use Rattle.front_core.proofs.Connection.Ways.{ask_in, answer_in}

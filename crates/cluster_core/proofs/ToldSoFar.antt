@@ -10,7 +10,7 @@ use Rattle.std.proofs.lemmas.Option.{slice_get_within}
 use Rattle.mail_store.specs.Kept.{AreUidsBelowNext}
 use Rattle.mur_base.specs.declared.point.AskId.{AskId}
 use Rattle.imap_command.specs.Ruled.{IsDate}
-use Rattle.imap_reply.proofs.SoundStores.{empty_is}
+use Rattle.imap_talk.proofs.SoundStores.{empty_is}
 use Rattle.mur_base.specs.declared.point.Point.{Point}
 use Rattle.mur_config.specs.declared.config.Config.{Config}
 use Rattle.mur_config.specs.Nodes.{AreNodes}
@@ -23,11 +23,12 @@ use Rattle.schedule_text.specs.declared.event.Event.{Event}
 use Rattle.cluster_core.specs.declared.world.Mark.{Mark}
 use Rattle.cluster_core.specs.declared.world.World.{World}
 use Rattle.cluster_core.specs.Flow.{run_steps, unrolled}
-use Rattle.cluster_core.specs.Heard.{Heard, nobody, heard_from, bytes_heard, frames_heard}
+use Rattle.imap_talk.specs.Heard.{Heard, nobody, bytes_heard, frames_heard}
+use Rattle.cluster_core.specs.Heard.{heard_from}
 use Rattle.cluster_core.specs.History.{history_of}
 use Rattle.cluster_core.specs.Homes.{ShowsBoxesOf}
 use Rattle.cluster_core.specs.OneStore.{first_course, HasBoxesOf, IsAnsweredThrough, StandsInTime, IsToldSoFar, IsToldByOneStore}
-use Rattle.cluster_core.specs.Requests.{AreRequests}
+use Rattle.imap_talk.specs.Requests.{AreRequests}
 use Rattle.store_law.specs.Serials.{GivesLowSerials}
 use Rattle.cluster_core.specs.Shown.{given_to}
 use Rattle.cluster_core.specs.World.{start, home_of, setting_of}
@@ -44,8 +45,8 @@ use Rattle.cluster_core.proofs.Marks.{Carries, conn_of, command_of, is_mark, all
 use Rattle.cluster_core.proofs.Marks.Carries.{no_marks, a_mark}
 use Rattle.store_law.proofs.NoRelocation.{have_causes}
 use Rattle.cluster_core.proofs.OneStoreLaw.{SaysOf, says_of, IsLegalTo, legal_history, loses_the_next, made_by_now, steps_rise, IsToldSo}
-use Rattle.cluster_core.proofs.ReadLaw.{heard_sound, read_of_legal}
-use Rattle.cluster_core.proofs.RequestsOf.{asks_all}
+use Rattle.imap_talk.proofs.ReadLaw.{heard_sound, read_of_legal}
+use Rattle.imap_talk.proofs.RequestsOf.{asks_all}
 use Rattle.serve_law.proofs.HomeStore.{low_serials}
 use Rattle.store_law.proofs.RisingStores.{Rises, box_rises, none_rises, points_rise, some_rising}
 use Rattle.cluster_core.proofs.ShownHomes.{shows_boxes}

@@ -1,7 +1,7 @@
 -- Nothing waits on empty links: where no message is on its way, each whole command was answered, up to an answer that ended
 -- its connection.
 use Rattle.std.specs.Prelude.{◌≡◌, ℕ, false, List, ◌++◌}
-use Rattle.imap_reply.specs.Transcript.{transcript_of}
+use Rattle.imap_talk.specs.Transcript.{transcript_of}
 use Rattle.mur_config.specs.declared.config.Config.{Config}
 use Rattle.mur_config.specs.Nodes.{AreNodes}
 use Rattle.imap_types.specs.declared.request.Request.{Request}
@@ -9,10 +9,11 @@ use Rattle.imap_types.specs.declared.request.Answer.{Answer}
 use Rattle.schedule_text.specs.declared.event.Event.{Event}
 use Rattle.cluster_core.specs.declared.world.World.{World}
 use Rattle.cluster_core.specs.Flow.{run_steps, steps_of_event}
-use Rattle.cluster_core.specs.Heard.{heard, bytes_heard, frames_heard, has_closed}
+use Rattle.cluster_core.specs.Heard.{heard}
+use Rattle.imap_talk.specs.Heard.{bytes_heard, frames_heard, has_closed}
 use Rattle.cluster_core.specs.LawSetting.{law_setting}
 use Rattle.cluster_core.specs.OneStore.{AreEmpty, IsAnsweredThrough}
-use Rattle.cluster_core.specs.Requests.{AreRequests}
+use Rattle.imap_talk.specs.Requests.{AreRequests}
 use Rattle.cluster_core.specs.Shown.{given_to}
 use Rattle.cluster_core.specs.World.{start}
 

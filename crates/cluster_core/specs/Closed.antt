@@ -3,7 +3,8 @@ use Rattle.std.specs.Prelude.{◌≡◌, ℕ, true, List, ◌++◌}
 use Rattle.mur_config.specs.declared.config.Config.{Config}
 use Rattle.schedule_text.specs.declared.event.Event.{Event}
 use Rattle.cluster_core.specs.Flow.{run_steps, unrolled}
-use Rattle.cluster_core.specs.Heard.{heard, has_closed}
+use Rattle.cluster_core.specs.Heard.{heard}
+use Rattle.imap_talk.specs.Heard.{has_closed}
 use Rattle.cluster_core.specs.Shown.{given_to}
 use Rattle.cluster_core.specs.World.{start}
 

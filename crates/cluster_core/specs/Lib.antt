@@ -1,7 +1,6 @@
 pub mod World
 pub mod Flow
 pub mod Room
-pub mod Requests
 pub mod Heard
 pub mod History
 pub mod Shown

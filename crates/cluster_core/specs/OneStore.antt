@@ -5,8 +5,8 @@ use Rattle.std.specs.Ordering.{nat_cmp}
 use Rattle.std.specs.Cmp.Lexicographic.{slice_cmp}
 use Rattle.backend_core.specs.OpenBox.{open_content}
 use Rattle.mail_store.specs.Kept.{AreUidsBelowNext}
-use Rattle.imap_reply.specs.Transcript.{transcript_of, ends}
-use Rattle.imap_reply.specs.TranscriptRead.{IsAllReadAsMeant}
+use Rattle.imap_talk.specs.Transcript.{transcript_of, ends}
+use Rattle.imap_talk.specs.TranscriptRead.{IsAllReadAsMeant}
 use Rattle.mail_message.specs.Boxes.{Content, IsRising}
 use Rattle.mur_base.specs.Map.{value_at}
 use Rattle.mur_base.specs.declared.point.Point.{Point}
@@ -23,7 +23,8 @@ use Rattle.store_law.specs.Begun.{BeginsAsRead}
 use Rattle.front_core.specs.Ending.{EndsOnlyLast}
 use Rattle.store_law.specs.Appended.{KeepsAppended}
 use Rattle.cluster_core.specs.Flow.{run_steps, unrolled}
-use Rattle.cluster_core.specs.Heard.{heard, bytes_heard, frames_heard, has_closed}
+use Rattle.cluster_core.specs.Heard.{heard}
+use Rattle.imap_talk.specs.Heard.{bytes_heard, frames_heard, has_closed}
 use Rattle.cluster_core.specs.History.{history_of}
 use Rattle.cluster_core.specs.Homes.{ShowsBoxesOf}
 use Rattle.cluster_core.specs.LawSetting.{law_setting}
@@ -31,7 +32,7 @@ use Rattle.link_queue.specs.Links.{on_link}
 use Rattle.store_law.specs.Refusals.{HaveCauses}
 use Rattle.store_law.specs.NoneLost.{LosesNone}
 use Rattle.cluster_core.specs.Points.{AreMadeBy, LosesTheNext}
-use Rattle.cluster_core.specs.Requests.{AreRequests}
+use Rattle.imap_talk.specs.Requests.{AreRequests}
 use Rattle.store_law.specs.Serials.{GivesLowSerials}
 use Rattle.cluster_core.specs.Shown.{given_to, held_at}
 use Rattle.cluster_core.specs.World.{start}

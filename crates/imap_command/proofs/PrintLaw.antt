@@ -3,8 +3,9 @@ use Rattle.std.proofs.Common.{refl, sym, subst}
 use Rattle.grammar.specs.Part.{map}
 use Rattle.grammar.specs.Words.{word}
 use Rattle.grammar.proofs.Spelling.{spell_sp, spell_map}
-use Rattle.imap_command.specs.Print.{tag_text, printed}
+use Rattle.imap_command.specs.Print.{printed}
 use Rattle.imap_command.specs.Spells.{tags, commands, tagged_command, Spells, IsSpelled}
+use Rattle.imap_text.specs.Tags.{tag_text}
 use Rattle.imap_types.specs.declared.command.Command.{Command}
 use Rattle.imap_types.specs.declared.command.Tag.{Tag}
 use Rattle.imap_types.specs.declared.command.Tag.TheVariants.{Text}

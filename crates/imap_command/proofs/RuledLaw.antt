@@ -23,7 +23,7 @@ use Rattle.imap_command.specs.declared.verb.MailboxVerb.TheVariants as mailbox_v
 use Rattle.imap_command.specs.declared.verb.UidVerb.{UidVerb}
 use Rattle.imap_command.specs.declared.verb.UidVerb.TheVariants as uid
 use Rattle.imap_command.specs.Append.{Dated, append, dated, flagged, with_date, without_date, without_flags}
-use Rattle.imap_command.specs.Characters.{is_char8}
+use Rattle.imap_text.specs.Characters.{is_char8}
 use Rattle.imap_command.specs.Commands.{arguments, mailbox_command, uid_arguments}
 use Rattle.imap_command.specs.Date.{date_time}
 use Rattle.imap_command.specs.Flags.{any_keyword, flag_list, flag_list_part, store_flags, store_flags_part}
@@ -31,7 +31,7 @@ use Rattle.imap_command.specs.Ruled.{IsDate, IsRuled}
 use Rattle.imap_command.specs.Spells.{Spells, commands, line, tagged_command}
 use Rattle.imap_command.specs.Sets.{set}
 use Rattle.imap_command.specs.Store.{store, store_mode}
-use Rattle.imap_command.specs.Strings.{argument, literal, message}
+use Rattle.imap_text.specs.Strings.{argument, literal, message}
 use Rattle.imap_command.proofs.FlagSteps.{no_fault}
 use Rattle.imap_command.proofs.FlagsPrinted.{IsKept, only_list, only_store}
 

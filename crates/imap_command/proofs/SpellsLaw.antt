@@ -10,7 +10,7 @@ use Rattle.grammar.proofs.SequenceLaw.{good_map, exact_whole}
 use Rattle.grammar.proofs.WordLaw.{good_word}
 use Rattle.grammar.proofs.RunLaw.{lawful_run_upto, apart_run_upto}
 use Rattle.grammar.proofs.ToolLaws.{good_sp}
-use Rattle.imap_command.specs.Characters.{is_tag_byte}
+use Rattle.imap_text.specs.Characters.{is_tag_byte}
 use Rattle.imap_command.specs.LeftOut.{left_out}
 use Rattle.imap_command.specs.Spells.{tags, known, command_text, commands, tagged_command, Spells}
 use Rattle.imap_types.specs.declared.command.Command.{Command}

@@ -21,7 +21,7 @@ use Rattle.imap_command.specs.SetAcl.{set_acl}
 use Rattle.imap_command.specs.Sets.{set}
 use Rattle.imap_command.specs.Status.{status}
 use Rattle.imap_command.specs.Store.{store}
-use Rattle.imap_command.specs.Strings.{argument, atom}
+use Rattle.imap_text.specs.Strings.{argument, atom}
 use Rattle.imap_command.specs.Verbs.{is_uid, name_text, uid_verb_form, uid_verb_of, uid_name_text}
 
 -- SP sequence-set SP mailbox

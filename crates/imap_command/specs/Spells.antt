@@ -6,10 +6,10 @@ use Rattle.grammar.specs.Part.{Part, ◌then◌, ◌sp◌, map}
 use Rattle.grammar.specs.Forms.{Form, dispatch}
 use Rattle.grammar.specs.Words.{word, Words}
 use Rattle.grammar.specs.Runs.{run_upto}
-use Rattle.imap_command.specs.Characters.{is_tag_byte}
+use Rattle.imap_text.specs.Characters.{is_tag_byte}
 use Rattle.imap_command.specs.Commands.{arguments, verb_of}
 use Rattle.imap_command.specs.LeftOut.{left_out}
-use Rattle.imap_command.specs.Strings.{crlf_part}
+use Rattle.imap_text.specs.Strings.{crlf_part}
 use Rattle.imap_command.specs.Verbs.{verb_form}
 use Rattle.imap_types.specs.declared.command.Tag.{Tag}
 use Rattle.imap_types.specs.declared.command.Tag.TheVariants.{Text}

@@ -7,8 +7,8 @@ ghost use Rattle.imap_types.specs.declared.command.Tag.{Tag};
 use crate::fault::ReadFault;
 use crate::printer::print;
 use crate::reader::read;
-use mur_base::Memory;
 use imap_types::{Command, Tag};
+use mur_base::Memory;
 use std::alloc::Global;
 
 /// No frame spells two commands, nor one under two tags.

@@ -16,7 +16,7 @@ use Rattle.imap_reply.specs.Codes.{code_text}
 use Rattle.imap_reply.specs.Sets.{set_text}
 use Rattle.imap_reply.specs.SoundTexts.{IsSoundTag}
 use Rattle.imap_reply.specs.TaggedLine.{no_text, bad_text, ok_text, under}
-use Rattle.imap_reply.specs.Tags.{tag_text}
+use Rattle.imap_text.specs.Tags.{tag_text}
 use Rattle.imap_reply.proofs.LineLaws.{line_of, after_append}
 use Rattle.imap_reply.proofs.LongLines.{tag_plain}
 use Rattle.mail_message.proofs.PlainTexts.{decimal_plain, all_append}

@@ -14,7 +14,7 @@ use Rattle.imap_types.specs.declared.reply.Verdict.{Verdict}
 use Rattle.imap_types.specs.declared.reply.Verdict.TheVariants.{Nothing, Ok as ok_reply, No as no_reply, Bad as bad_reply}
 use Rattle.imap_reply.specs.ReadAsMeant.{begins_with, last_line}
 use Rattle.imap_reply.specs.TaggedLine.{tagged_line, under, ok_text, no_text, bad_text}
-use Rattle.imap_reply.specs.Tags.{tag_text}
+use Rattle.imap_text.specs.Tags.{tag_text}
 use Rattle.imap_reply.specs.VerdictBegins.{code_of, verdict_begins}
 
 -- what stands behind the tag, with the end of the line

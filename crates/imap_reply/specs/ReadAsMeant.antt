@@ -9,7 +9,7 @@ use Rattle.imap_reply.specs.ReadAs.{IsReadAs}
 use Rattle.imap_reply.specs.SoundTexts.{IsTag}
 use Rattle.imap_reply.specs.ReplyText.{line_text, reply_text}
 use Rattle.imap_reply.specs.TaggedLine.{tagged_line}
-use Rattle.imap_reply.specs.Tags.{tag_text}
+use Rattle.imap_text.specs.Tags.{tag_text}
 use Rattle.imap_reply.specs.VerdictBegins.{verdict_begins}
 
 unfoldable pub begins_with : List ℕ → List ℕ → Bool

@@ -2,7 +2,7 @@
 use Rattle.std.specs.Prelude.{ℕ, Bool, true, false, List, [], ◌∷◌, ◌++◌, codes}
 use Rattle.imap_types.specs.declared.command.Tag.{Tag}
 use Rattle.imap_reply.specs.Sets.{set_text}
-use Rattle.imap_reply.specs.Tags.{tag_text}
+use Rattle.imap_text.specs.Tags.{tag_text}
 
 unfoldable pub uid_text : Bool → List ℕ
 uid_text true = codes " UID"

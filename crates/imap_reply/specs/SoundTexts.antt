@@ -13,7 +13,7 @@ use Rattle.imap_types.specs.declared.reply.ReplyLine.TheVariants.{Capability, By
 use Rattle.imap_types.specs.declared.reply.ReplyLine.TheVariants.{UidNext, UidValidity, Status, Search, Expunge, Fetch, Acl, MyRights}
 use Rattle.imap_types.specs.declared.reply.Verdict.{Verdict}
 use Rattle.imap_types.specs.declared.reply.Verdict.TheVariants.{Nothing, Ok as ok_reply, No as no_reply, Bad as bad_reply}
-use Rattle.imap_command.specs.Characters.{is_tag_byte}
+use Rattle.imap_text.specs.Characters.{is_tag_byte}
 use Rattle.mail_message.specs.Literals.{IsPlain, IsPart, is_within}
 
 -- tag = 1*<any ASTRING-CHAR except "+"> (RFC 9051, 9)

@@ -2,7 +2,7 @@
 use Rattle.std.specs.Prelude.{ℕ, List, [], ◌∷◌, ◌++◌, codes, decimal}
 use Rattle.mur_base.specs.Ascii.{space}
 use Rattle.imap_types.specs.declared.reply.StatusCount.{StatusCount}
-use Rattle.imap_command.specs.Status.{item_text}
+use Rattle.imap_text.specs.StatusItems.{item_text}
 use Rattle.imap_reply.specs.Mailbox.{mailbox_text}
 
 unfoldable pub count_text : StatusCount → List ℕ

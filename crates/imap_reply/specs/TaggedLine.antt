@@ -10,7 +10,7 @@ use Rattle.imap_types.specs.declared.reply.NoText.TheVariants.{BeingMoved, NotRe
 use Rattle.imap_types.specs.declared.reply.BadText.{BadText}
 use Rattle.imap_types.specs.declared.reply.BadText.TheVariants.{Syntax, State, Message}
 use Rattle.imap_reply.specs.Codes.{code_text}
-use Rattle.imap_reply.specs.Tags.{tag_text}
+use Rattle.imap_text.specs.Tags.{tag_text}
 
 unfoldable pub no_text : NoText → List ℕ
 no_text AuthenticationFailed = codes "[AUTHENTICATIONFAILED] login failed"

@@ -20,9 +20,9 @@ use Rattle.mur_model.specs.declared.setting.Setting.{Setting}
 use Rattle.mur_model.specs.declared.store.Store.{Store}
 use Rattle.mur_model.specs.Act.{need_of, act_by, act_of, session_after, MayAct}
 use Rattle.mur_model.specs.Answer.{answer_of, MayTake}
-use Rattle.imap_reply.specs.SessionEnds.{has_ended, TurnEnds}
-use Rattle.imap_reply.specs.Transcript.{ends}
-use Rattle.imap_reply.proofs.AnswersEnd.{turned_ends}
+use Rattle.imap_talk.specs.SessionEnds.{has_ended, TurnEnds}
+use Rattle.imap_talk.specs.Transcript.{ends}
+use Rattle.imap_talk.proofs.AnswersEnd.{turned_ends}
 use Rattle.imap_types.specs.Reply.{reply_of, refused}
 use Rattle.session_core.specs.Asking.{asked_for}
 use Rattle.session_core.specs.Need.{begun_by, told}

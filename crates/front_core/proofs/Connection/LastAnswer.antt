@@ -3,10 +3,10 @@ use Rattle.std.proofs.Common.{◌≡◌, false, List, [], ◌∷◌, ◌++◌, �
 use Rattle.std.specs.Prelude.{All}
 use Rattle.std.proofs.lemmas.List.Elements.{All-cons, All-nil, All-head, All-tail}
 use Rattle.std.proofs.lemmas.List.Kept.{AllPairs-cons}
-use Rattle.imap_reply.specs.Transcript.{ends}
-use Rattle.imap_reply.specs.declared.inputs.Input.{Input}
-use Rattle.imap_reply.specs.declared.inputs.Input.TheVariants.{GoesOn, Asks, Faults}
-use Rattle.imap_reply.proofs.TranscriptGrows.{AreAnswered}
+use Rattle.imap_talk.specs.Transcript.{ends}
+use Rattle.imap_talk.specs.declared.inputs.Input.{Input}
+use Rattle.imap_talk.specs.declared.inputs.Input.TheVariants.{GoesOn, Asks, Faults}
+use Rattle.imap_talk.proofs.TranscriptGrows.{AreAnswered}
 use Rattle.front_core.specs.declared.connection.Connection.{Connection}
 use Rattle.imap_types.specs.declared.request.Answer.{Answer}
 use Rattle.mur_model.specs.declared.session.Sess.{Sess}

@@ -9,8 +9,8 @@ use Rattle.front_core.specs.Answered.{answer_comes, answer_by, need_behind, read
 use Rattle.front_core.specs.Front.{connect, connect_at, connection_at, bytes_in, bytes_at, bytes_by, having_read, answer_at}
 use Rattle.front_core.specs.Reading.{inputs_of_more}
 use Rattle.front_core.specs.Taken.{answers, answers_last, need_in, request_in, input_in, comes_at, input_comes, inputs_come}
-use Rattle.imap_reply.specs.declared.inputs.Input.{Input}
-use Rattle.imap_reply.specs.declared.inputs.Input.TheVariants.{GoesOn, Asks, Faults}
+use Rattle.imap_talk.specs.declared.inputs.Input.{Input}
+use Rattle.imap_talk.specs.declared.inputs.Input.TheVariants.{GoesOn, Asks, Faults}
 use Rattle.link_msg.specs.declared.answer.BackAnswer.{BackAnswer}
 use Rattle.link_msg.specs.declared.out.Out.{Out}
 use Rattle.link_msg.specs.declared.out.Out.TheVariants.{Client}

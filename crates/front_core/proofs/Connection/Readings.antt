@@ -3,12 +3,12 @@ use Rattle.std.proofs.Common.{◌≡◌, ℕ, Bool, List, [], ◌∷◌, ◌++�
 use Rattle.std.specs.Prelude.{⊤}
 use Rattle.front_core.specs.Reading.{Reading as Read, inputs_of_more, read_more}
 use Rattle.imap_command.specs.Request.{request_of, too_big_request}
-use Rattle.imap_reply.specs.declared.inputs.Before.{Before}
-use Rattle.imap_reply.specs.declared.inputs.Before.TheVariants.{Hears, Waits}
-use Rattle.imap_reply.specs.declared.inputs.Input.{Input}
-use Rattle.imap_reply.specs.declared.inputs.Input.TheVariants.{GoesOn, Asks, Faults}
-use Rattle.imap_reply.specs.Inputs.{at_first, before_next, command_by, input_at, inputs_from, inputs_of, line_at, request_at, too_big_at, whole_at}
-use Rattle.imap_reply.proofs.InputLaws.{before-append, inputs-append}
+use Rattle.imap_talk.specs.declared.inputs.Before.{Before}
+use Rattle.imap_talk.specs.declared.inputs.Before.TheVariants.{Hears, Waits}
+use Rattle.imap_talk.specs.declared.inputs.Input.{Input}
+use Rattle.imap_talk.specs.declared.inputs.Input.TheVariants.{GoesOn, Asks, Faults}
+use Rattle.imap_talk.specs.Inputs.{at_first, before_next, command_by, input_at, inputs_from, inputs_of, line_at, request_at, too_big_at, whole_at}
+use Rattle.imap_talk.proofs.InputLaws.{before-append, inputs-append}
 use Rattle.imap_wire.specs.declared.frame.Frame.{Frame}
 use Rattle.imap_wire.specs.declared.frame.Frame.TheVariants.{Whole, NeedLiteral, TooBig, Fault}
 use Rattle.imap_wire.specs.Frames.{frames, begun}

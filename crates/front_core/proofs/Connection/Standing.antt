@@ -3,13 +3,13 @@ use Rattle.std.proofs.Common.{◌≡◌, ◌⊎◌, ℕ, ◌+◌, ◌≤◌, tru
 use Rattle.front_core.specs.declared.connection.Connection.{Connection}
 use Rattle.front_core.specs.declared.connection.Stage.TheVariants.{Reading, Asked, Ended}
 use Rattle.front_core.specs.Taken.{ask_with}
-use Rattle.imap_reply.specs.SessionEnds.{has_ended, TurnEnds}
-use Rattle.imap_reply.specs.Transcript.{ends}
-use Rattle.imap_reply.proofs.TranscriptGrows.{AreAnswered}
-use Rattle.imap_reply.specs.declared.inputs.Input.{Input}
-use Rattle.imap_reply.specs.declared.inputs.Input.TheVariants.{Asks}
+use Rattle.imap_talk.specs.SessionEnds.{has_ended, TurnEnds}
+use Rattle.imap_talk.specs.Transcript.{ends}
+use Rattle.imap_talk.proofs.TranscriptGrows.{AreAnswered}
+use Rattle.imap_talk.specs.declared.inputs.Input.{Input}
+use Rattle.imap_talk.specs.declared.inputs.Input.TheVariants.{Asks}
 use Rattle.front_core.specs.Reading.{Reading as Read}
-use Rattle.imap_reply.specs.Inputs.{requests_in}
+use Rattle.imap_talk.specs.Inputs.{requests_in}
 use Rattle.front_core.proofs.Connection.Readings.{FaultsLast}
 use Rattle.link_msg.specs.declared.answer.AnswerBody.{AnswerBody}
 use Rattle.link_msg.specs.declared.answer.BackAnswer.{BackAnswer}
