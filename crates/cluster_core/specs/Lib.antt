@@ -4,16 +4,5 @@ pub mod Room
 pub mod Heard
 pub mod History
 pub mod Shown
-pub mod OpenAt
-pub mod Backends
 pub mod LawSetting
-pub mod Points
-pub mod OneStore
-pub mod Closed
-pub mod AtRest
-pub mod Carried
-pub mod FlowLaw
-pub mod OneNode
-pub mod HomeLaw
-pub mod Homes
 pub mod Headline

@@ -1,3 +1,4 @@
+-- The law of one connection, by its links and its client.
 pub mod FrontAnswers
 pub mod OwnOuts
 pub mod Readings
