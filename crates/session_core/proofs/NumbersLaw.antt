@@ -41,7 +41,7 @@ use Rattle.mur_model.specs.Left.{replied}
 use Rattle.mur_model.specs.News.{news}
 use Rattle.mur_model.specs.Search.{search_line}
 use Rattle.mur_model.specs.SearchRows.{bare_at}
-use Rattle.mur_model.specs.Select.{closed_lines, select_told}
+use Rattle.mur_model.specs.Select.{select_told}
 use Rattle.mur_model.specs.Status.{status_reply as reply_with_counts}
 use Rattle.mur_model.specs.Append.{append_reply as reply_with_uid}
 use Rattle.mur_model.specs.StoreFlags.{own_lines, stored_line, stored_lines}
@@ -169,11 +169,6 @@ view_leaves known session view work NotNow agrees = tt
 view_leaves known session view work body agrees = tt
 
 -- a mailbox that is selected: as many messages as its EXISTS says
-
-closed_still : (was_selected : Bool) → AreStill (closed_lines was_selected)
-unfolding known_after
-closed_still true known = refl
-closed_still false known = refl
 
 selected_leaves : (session : Sess) (it : Opening) (name : List ℕ) (seen : Snapshot) → TurnLeaves [] session (select_told it name seen)
 unfolding Knows known_after
