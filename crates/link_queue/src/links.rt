@@ -38,7 +38,12 @@ pub fn send<Message: Drop>(
 }
 
 #[tactic(auto, using(crate::proofs::Entries::entered_name))]
-fn send_way<Message: Drop>(alloc: Global, ways: &mut Ways<Message>, to: NodeName, message: Message) -> Result<(), Memory>
+fn send_way<Message: Drop>(
+    alloc: Global,
+    ways: &mut Ways<Message>,
+    to: NodeName,
+    message: Message,
+) -> Result<(), Memory>
     ensures { OnOk result (ways.new ≡ with_entry (slice_cmp nat_cmp) ways.old to (queue_to ways.old to ++ message ∷ [])) }
 {
     match ways.get_mut(&to) {
@@ -54,7 +59,11 @@ fn send_way<Message: Drop>(alloc: Global, ways: &mut Ways<Message>, to: NodeName
 
 /// Takes the first message on its way from one node to another, if there is one.
 #[tactic(auto, unfolding(crate::specs::Links::without_first, crate::specs::Links::on_link), using(crate::proofs::Entries::by_entry))]
-pub fn take_first<Message>(links: &mut Links<Message>, from: &NodeName, to: &NodeName) -> Option<Message>
+pub fn take_first<Message>(
+    links: &mut Links<Message>,
+    from: &NodeName,
+    to: &NodeName,
+) -> Option<Message>
     ensures empty { IfNone result ((on_link links.old from.now to.now ≡ []) × (links.new ≡ links.old)) }
     ensures first { IfSome result (λ message. on_link links.old from.now to.now ≡ message ∷ drop 1 (on_link links.old from.now to.now)) }
     ensures taken { IfSome result (λ message. links.new ≡ without_first links.old from.now to.now) }

@@ -1,5 +1,5 @@
 -- What operations on a mailbox keep of it.
-use Rattle.std.specs.Prelude.{◌≡◌, ℕ, ◌<◌, ◌≤◌, List, Some, All}
+use Rattle.std.specs.Prelude.{◌≡◌, ℕ, ◌<◌, ◌≤◌, Some, All}
 use Rattle.mail_message.specs.Boxes.{Content, message_at}
 use Rattle.mail_message.specs.declared.message.Message.{Message}
 

@@ -19,7 +19,6 @@ use Rattle.mur_model.specs.declared.session.Turn.{Turn}
 use Rattle.mur_model.specs.declared.store.Store.{Store}
 use Rattle.mur_model.specs.declared.view.View.{View}
 use Rattle.mur_model.specs.Act.{MayWork}
-use Rattle.mur_model.specs.Fetch.{is_body}
 use Rattle.mur_model.specs.Left.{Worked, store_after, kept}
 use Rattle.mur_model.specs.Selected.{gone}
 use Rattle.mur_model.specs.Viewing.{found_gone, viewed_on, work_there}
