@@ -34,10 +34,10 @@ use Rattle.mur_model.specs.declared.view.View.{View}
 use Rattle.mur_model.specs.Act.{idled, need_begun, need_in, need_of, need_off, need_selected, need_unselected, wants_selected}
 use Rattle.mur_model.specs.Append.{append, append_as, append_by, new_message}
 use Rattle.mur_model.specs.AtOnce.{capability, enable, is_done, logout}
-use Rattle.mur_model.specs.Close.{close, left_by}
+use Rattle.mur_model.specs.Close.{left_by}
 use Rattle.mur_model.specs.Create.{create, create_as, create_by, create_meant, is_inbox, without_separator}
 use Rattle.mur_model.specs.Expunge.{expunge, expunge_named}
-use Rattle.mur_model.specs.Fetch.{fetch, fetch_named}
+use Rattle.mur_model.specs.Fetch.{fetch_named}
 use Rattle.mur_model.specs.Keys.{have_all_numbers, keys_at}
 use Rattle.mur_model.specs.Left.{replied}
 use Rattle.mur_model.specs.Login.{begun_by, login, login_as, login_by, login_failed}
@@ -46,7 +46,6 @@ use Rattle.mur_model.specs.Need.{at_mailbox, no_such_number, read_only}
 use Rattle.mur_model.specs.Plain.{acts_as, authenticate, authenticate_as, authenticate_by, authenticate_with, cut_at_nul, decoded}
 use Rattle.imap_types.specs.Reply.{completed}
 use Rattle.mur_model.specs.Rights.{has_rights, may_create, user_named}
-use Rattle.mur_model.specs.Search.{search}
 use Rattle.mur_model.specs.Select.{opening, select, select_as, select_by, unselected}
 use Rattle.mur_model.specs.Status.{status, status_as, status_by}
 use Rattle.mur_model.specs.StoreFlags.{store, store_named}

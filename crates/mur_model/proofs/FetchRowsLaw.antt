@@ -7,7 +7,6 @@ use Rattle.std.proofs.lemmas.Bool.Decides.{nat_tests}
 use Rattle.std.proofs.lemmas.List.Folds.{list_all-append}
 use Rattle.mail_fetch.specs.Parts.{part_text}
 use Rattle.mail_message.specs.Boxes.{Content, message_at, messages_at, row_of}
-use Rattle.mail_message.specs.FlagSets.{Flags}
 use Rattle.mail_message.specs.RowOrder.{row_at}
 use Rattle.mail_message.specs.declared.item.Item.{Item}
 use Rattle.mail_message.specs.declared.item.Item.TheVariants as item
