@@ -7,4 +7,4 @@ pub mod WaitingLaws
 pub mod EndedLaw
 pub mod Counts
 pub mod ReadingLaws
-pub mod Connection
+pub mod OneConnection

@@ -19,13 +19,13 @@ use Rattle.mur_model.specs.declared.setting.Setting.{Setting}
 use Rattle.mur_model.specs.History.{Course, Talk, TalkGoesOn, with_session}
 use Rattle.mur_model.proofs.HistoryGrows.{same_talk, talks_follow}
 use Rattle.front_core.specs.Ended.{released}
-use Rattle.front_core.proofs.Connection.Released.{released_count, stands_released}
-use Rattle.front_core.proofs.Connection.Standing.{Stands}
+use Rattle.front_core.proofs.OneConnection.Released.{released_count, stands_released}
+use Rattle.front_core.proofs.OneConnection.Standing.{Stands}
 use Rattle.cluster_core.specs.declared.world.Client.{Client}
 use Rattle.cluster_core.specs.declared.world.World.{World}
 use Rattle.cluster_core.specs.World.{client_at}
 use Rattle.cluster_core.proofs.Histories.Told.{IsTold}
-use Rattle.front_core.proofs.Connection.Ways.{AreOnWay}
+use Rattle.front_core.proofs.OneConnection.Ways.{AreOnWay}
 
 -- what was asked, what the one store replied, how much of it the clients were told, and the store with its sessions
 pub record Story : Type 0 where

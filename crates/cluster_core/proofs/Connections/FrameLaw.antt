@@ -23,7 +23,7 @@ use Rattle.imap_talk.specs.declared.inputs.Input.TheVariants.{GoesOn, Asks, Faul
 use Rattle.imap_reply.specs.declared.continuation.Continuation.{Continuation}
 use Rattle.imap_talk.specs.Inputs.{requests_in}
 use Rattle.imap_talk.proofs.InputLaws.{requests-append}
-use Rattle.front_core.proofs.Connection.Readings.{FaultsLast}
+use Rattle.front_core.proofs.OneConnection.Readings.{FaultsLast}
 use Rattle.link_msg.specs.declared.ask.FrontAsk.{FrontAsk}
 use Rattle.link_msg.specs.declared.counts.Counts.TheVariants.{Always}
 use Rattle.link_msg.specs.declared.message.LinkMsg.TheVariants.{Ask}
@@ -56,16 +56,16 @@ use Rattle.link_queue.specs.Links.{sent}
 use Rattle.cluster_core.specs.World.{client_at, given_more, carry, carry_all}
 use Rattle.cluster_core.proofs.Connections.ConnectionLaw.{Story, KeepsOthers, keeps_on, GoesOnAt, stories_follow, client_with}
 use Rattle.cluster_core.proofs.Connections.ConnectionLaw.{IsMade, ReadsOn, StandsOn, session_at, session_of_other}
-use Rattle.front_core.proofs.Connection.Standing.OnItsWay.{there}
-use Rattle.front_core.proofs.Connection.Standing.Stands.{reads, waits, faulted, finished}
-use Rattle.front_core.proofs.Connection.FrontAnswers.{IsTaken, request_taken}
-use Rattle.front_core.proofs.Connection.FrontAnswers.IsTaken.{here, finishes, asked}
+use Rattle.front_core.proofs.OneConnection.Standing.OnItsWay.{there}
+use Rattle.front_core.proofs.OneConnection.Standing.Stands.{reads, waits, faulted, finished}
+use Rattle.front_core.proofs.OneConnection.FrontAnswers.{IsTaken, request_taken}
+use Rattle.front_core.proofs.OneConnection.FrontAnswers.IsTaken.{here, finishes, asked}
 use Rattle.imap_talk.proofs.RequestsOf.{answered_lengths, next_request, replies_stop}
-use Rattle.front_core.proofs.Connection.LastAnswer.{all_go_on}
+use Rattle.front_core.proofs.OneConnection.LastAnswer.{all_go_on}
 use Rattle.serve_law.proofs.HomeStore.{IsStoreOf}
 use Rattle.serve_law.proofs.ServedAlike.{apart}
 use Rattle.cluster_core.proofs.Histories.Told.{IsTold, having_said, next_course, told_push}
-use Rattle.front_core.proofs.Connection.Ways.{ask_sent, sent_for_another, ask_of_another}
+use Rattle.front_core.proofs.OneConnection.Ways.{ask_sent, sent_for_another, ask_of_another}
 
 pub carry_all-append : (node : List ℕ) (world : World) (one two : List Out) → carry_all node world (one ++ two) ≡ carry_all node (carry_all node world one) two
 unfolding carry_all

@@ -19,7 +19,7 @@ use Rattle.imap_talk.specs.declared.inputs.Input.{Input}
 use Rattle.imap_talk.specs.declared.inputs.Input.TheVariants.{Asks}
 use Rattle.imap_types.specs.declared.request.Request.{Request}
 use Rattle.imap_talk.specs.Inputs.{requests_in}
-use Rattle.front_core.proofs.Connection.Readings.{FaultsLast}
+use Rattle.front_core.proofs.OneConnection.Readings.{FaultsLast}
 use Rattle.link_msg.specs.declared.answer.AnswerBody.{AnswerBody}
 use Rattle.link_msg.specs.declared.answer.BackAnswer.{BackAnswer}
 use Rattle.link_msg.specs.declared.out.Out.TheVariants.{Client as to_client}
@@ -42,11 +42,11 @@ use Rattle.cluster_core.specs.declared.world.Client.{Client}
 use Rattle.cluster_core.specs.declared.world.World.{World}
 use Rattle.cluster_core.specs.World.{client_at, carry_all}
 use Rattle.cluster_core.proofs.Connections.ConnectionLaw.{Story, client_with, GoesOnAt, ReadsOn, StandsOn}
-use Rattle.front_core.proofs.Connection.Standing.Stands.{finished}
+use Rattle.front_core.proofs.OneConnection.Standing.Stands.{finished}
 use Rattle.cluster_core.proofs.Connections.FrameLaw.{carry_all-append, line_carried, end_carried, given_keeps, inputs_kept}
 use Rattle.imap_talk.proofs.RequestsOf.{replies_stop}
 use Rattle.cluster_core.proofs.Histories.Told.{IsTold}
-use Rattle.front_core.proofs.Connection.Ways.{AreOnWay}
+use Rattle.front_core.proofs.OneConnection.Ways.{AreOnWay}
 
 abbrev told_more : Story → ℕ → AnswerOf → Story
 told_more story conn answer = record { talk = story.talk; told = with_item story.told conn answer; course = story.course }

@@ -52,7 +52,7 @@ use Rattle.serve_law.proofs.HomeStore.{IsStoreOf}
 use Rattle.serve_law.proofs.ServedAlike.{ServesAlike}
 use Rattle.serve_law.proofs.ServeLaw.{plain_ask, serves_alike}
 use Rattle.cluster_core.proofs.Histories.Told.{IsTold, having_said, next_course, told_push}
-use Rattle.front_core.proofs.Connection.Ways.{answer_of_another, ask_of_another, taken_for_another, sent_for_another}
+use Rattle.front_core.proofs.OneConnection.Ways.{answer_of_another, ask_of_another, taken_for_another, sent_for_another}
 
 -- the world behind the home's answer
 abbrev pub answered_world : World → List ℕ → List ℕ → Backend → FrontAsk → AnswerBody → Counts → World

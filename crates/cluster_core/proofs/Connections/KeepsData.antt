@@ -45,26 +45,26 @@ use Rattle.front_core.specs.Reading.{Reading as Read, inputs_of_more, read_more}
 use Rattle.front_core.proofs.ReadingLaws.{ended_inputs, ended_reader}
 use Rattle.imap_talk.specs.Inputs.{inputs_from, requests_in}
 use Rattle.imap_talk.proofs.InputLaws.{requests-append}
-use Rattle.front_core.proofs.Connection.Readings.{FaultsLast, faults_after, inputs_in, inputs_with_more, reading_of, reading_with_more}
+use Rattle.front_core.proofs.OneConnection.Readings.{FaultsLast, faults_after, inputs_in, inputs_with_more, reading_of, reading_with_more}
 use Rattle.cluster_core.specs.declared.world.World.{World}
 use Rattle.imap_talk.specs.Heard.{Heard, nobody, elsewhere, client, frames_heard}
 use Rattle.cluster_core.specs.Heard.{hears}
 use Rattle.cluster_core.specs.World.{client_at, front_at, home_of, setting_of, with_front, bytes_at, bytes_from, carry_all}
 use Rattle.cluster_core.proofs.Connections.ConnectionLaw.{Story, told_of, client_with, keeps_all, same_story, IsReading, IsStanding}
-use Rattle.front_core.proofs.Connection.Standing.{HasBegunSo, OnItsWay, Stands}
+use Rattle.front_core.proofs.OneConnection.Standing.{HasBegunSo, OnItsWay, Stands}
 use Rattle.cluster_core.proofs.Connections.ConnectionLaw.{StandsOn}
-use Rattle.front_core.proofs.Connection.Standing.OnItsWay.{there, back}
-use Rattle.front_core.proofs.Connection.Standing.Stands.{reads, waits, faulted, finished}
+use Rattle.front_core.proofs.OneConnection.Standing.OnItsWay.{there, back}
+use Rattle.front_core.proofs.OneConnection.Standing.Stands.{reads, waits, faulted, finished}
 use Rattle.cluster_core.proofs.Connections.FrameLaw.{inputs_kept, asked_waits}
 use Rattle.cluster_core.proofs.Connections.KeepsLaw.{ConnectionIs, IsAt, KeepsLaw, KeepsOn, LooksAlike, is_not_closed, looks_same, same_put, same_front, connection_stays}
 use Rattle.cluster_core.proofs.Connections.KeepsLaw.ConnectionIs.{is_nobody, is_elsewhere, is_open, is_closed}
 use Rattle.cluster_core.proofs.Connections.KeepsFront.{world_after, with_connection, front_keeps, is_at_after, standing_after}
 use Rattle.cluster_core.proofs.Connections.KeepsStill.{still_kept}
-use Rattle.front_core.proofs.Connection.Released.{begun_released}
+use Rattle.front_core.proofs.OneConnection.Released.{begun_released}
 use Rattle.cluster_core.proofs.Connections.ConnectionLaw.{standing_released}
 use Rattle.imap_talk.proofs.RequestsOf.{requests_of, replies_stop}
 use Rattle.cluster_core.proofs.Histories.Told.{IsTold, told_asked}
-use Rattle.front_core.proofs.Connection.Ways.{AreOnWay}
+use Rattle.front_core.proofs.OneConnection.Ways.{AreOnWay}
 
 -- a frontend put in its own place
 pub looks_put : (world : World) (node : List ℕ) (front : Front) → front_at world node ≡ Some front → LooksAlike world (with_front world node (still front))

@@ -30,17 +30,17 @@ use Rattle.mur_model.specs.History.{numbered}
 use Rattle.mur_model.proofs.Numbered.{with_item, with_item-same}
 use Rattle.imap_talk.specs.Inputs.{requests_in}
 use Rattle.imap_talk.proofs.InputLaws.{requests-append}
-use Rattle.front_core.proofs.Connection.Readings.{inputs_in, reading_of}
+use Rattle.front_core.proofs.OneConnection.Readings.{inputs_in, reading_of}
 use Rattle.cluster_core.specs.declared.world.World.{World}
 use Rattle.imap_talk.specs.Heard.{Heard, client, frames_heard}
 use Rattle.link_queue.specs.Links.{Links, on_link, sent, without_first}
 use Rattle.cluster_core.specs.World.{front_at, home_at, home_of, setting_of, with_front, with_home, taken, input_of, home_takes, comes_to_home}
 use Rattle.cluster_core.specs.World.{comes_to, carry_all}
 use Rattle.cluster_core.proofs.Connections.ConnectionLaw.{Story, told_of, IsStanding}
-use Rattle.front_core.proofs.Connection.Standing.{HasBegunSo, Stands, IsLeft}
-use Rattle.front_core.proofs.Connection.Standing.OnItsWay.{there, back}
-use Rattle.front_core.proofs.Connection.Standing.Stands.{reads, waits, faulted, finished}
-use Rattle.front_core.proofs.Connection.Standing.IsLeft.{nothing, its_ask, its_answer}
+use Rattle.front_core.proofs.OneConnection.Standing.{HasBegunSo, Stands, IsLeft}
+use Rattle.front_core.proofs.OneConnection.Standing.OnItsWay.{there, back}
+use Rattle.front_core.proofs.OneConnection.Standing.Stands.{reads, waits, faulted, finished}
+use Rattle.front_core.proofs.OneConnection.Standing.IsLeft.{nothing, its_ask, its_answer}
 use Rattle.cluster_core.proofs.Connections.KeepsAsk.{IsAnswered, answers_ask, ask_kept, answered_world}
 use Rattle.cluster_core.proofs.Connections.KeepsData.{looks_put}
 use Rattle.cluster_core.proofs.Connections.KeepsFront.{world_after}
@@ -49,8 +49,8 @@ use Rattle.cluster_core.proofs.Connections.KeepsLaw.ConnectionIs.{is_nobody, is_
 use Rattle.cluster_core.proofs.Connections.KeepsStill.{still_kept}
 use Rattle.imap_talk.proofs.RequestsOf.{requests_of, answered_lengths, next_request}
 use Rattle.cluster_core.proofs.Histories.Told.{having_said}
-use Rattle.front_core.proofs.Connection.Ways.{AreOnWay, IsOfAnother, taken_for_another, ask_taken, no_ask_first}
-use Rattle.front_core.proofs.Connection.Ways.{answer_sent, ask_in, answer_in}
+use Rattle.front_core.proofs.OneConnection.Ways.{AreOnWay, IsOfAnother, taken_for_another, ask_taken, no_ask_first}
+use Rattle.front_core.proofs.OneConnection.Ways.{answer_sent, ask_in, answer_in}
 
 -- a message that is neither an ask nor an answer changes nothing that can be looked up
 alike_taken : (world : World) (from to : List ℕ) (message : LinkMsg) (rest : List LinkMsg) → on_link world.links from to ≡ message ∷ rest

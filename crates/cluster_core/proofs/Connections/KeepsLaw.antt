@@ -24,7 +24,7 @@ use Rattle.mur_model.specs.declared.session.Sess.TheVariants.{Off}
 use Rattle.mur_model.specs.declared.setting.Setting.{Setting}
 use Rattle.mur_model.specs.History.{Talk, TalkGoesOn}
 use Rattle.imap_talk.specs.Inputs.{requests_in}
-use Rattle.front_core.proofs.Connection.Readings.{inputs_in, reading_of}
+use Rattle.front_core.proofs.OneConnection.Readings.{inputs_in, reading_of}
 use Rattle.cluster_core.specs.declared.world.World.{World}
 use Rattle.front_core.specs.Ending.{EndsOnlyLast}
 use Rattle.imap_talk.specs.Heard.{Heard, nobody, elsewhere, client, frames_heard, has_closed}
@@ -33,13 +33,13 @@ use Rattle.link_msg.specs.declared.message.LinkMsg.{LinkMsg}
 use Rattle.link_queue.specs.Links.{Links}
 use Rattle.cluster_core.specs.World.{start, client_at, front_at, home_at, home_of, setting_of}
 use Rattle.cluster_core.proofs.Connections.ConnectionLaw.{Story, told_of, client_with, IsStanding}
-use Rattle.front_core.proofs.Connection.Standing.{HasBegunSo, OnItsWay, Stands, IsLeft}
-use Rattle.front_core.proofs.Connection.Standing.OnItsWay.{there, back}
-use Rattle.front_core.proofs.Connection.Standing.Stands.{reads, waits, faulted, finished}
-use Rattle.front_core.proofs.Connection.Standing.IsLeft.{nothing, its_ask, its_answer}
+use Rattle.front_core.proofs.OneConnection.Standing.{HasBegunSo, OnItsWay, Stands, IsLeft}
+use Rattle.front_core.proofs.OneConnection.Standing.OnItsWay.{there, back}
+use Rattle.front_core.proofs.OneConnection.Standing.Stands.{reads, waits, faulted, finished}
+use Rattle.front_core.proofs.OneConnection.Standing.IsLeft.{nothing, its_ask, its_answer}
 use Rattle.imap_talk.proofs.RequestsOf.{requests_of}
 use Rattle.cluster_core.proofs.Histories.Told.{IsTold}
-use Rattle.front_core.proofs.Connection.Ways.{AreOnWay}
+use Rattle.front_core.proofs.OneConnection.Ways.{AreOnWay}
 
 -- a connection that no frontend has
 pub record IsUntold (conn : ℕ) (links : Links LinkMsg) (story : Story) : Type 0 where

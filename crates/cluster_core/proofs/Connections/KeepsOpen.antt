@@ -32,12 +32,12 @@ use Rattle.imap_talk.specs.Heard.{Heard, nobody, elsewhere, client, frames_heard
 use Rattle.cluster_core.specs.Heard.{hears, opened_at, is_frontend}
 use Rattle.cluster_core.specs.World.{client_at, front_at, home_of, setting_of, with_client, with_front, open_at, opens, given_more, carry, carry_all}
 use Rattle.cluster_core.proofs.Connections.ConnectionLaw.{Story, told_of}
-use Rattle.front_core.proofs.Connection.Standing.Stands.{reads}
+use Rattle.front_core.proofs.OneConnection.Standing.Stands.{reads}
 use Rattle.cluster_core.proofs.Connections.KeepsLaw.{ConnectionIs, IsUntold, KeepsLaw, KeepsOn, connection_stays}
 use Rattle.cluster_core.proofs.Connections.KeepsLaw.{looks_same, same_front}
 use Rattle.cluster_core.proofs.Connections.KeepsLaw.ConnectionIs.{is_nobody, is_elsewhere, is_open, is_closed}
 use Rattle.cluster_core.proofs.Connections.KeepsStill.{still_kept, fronts_at_other, nodes_alike, nodes_with_front}
-use Rattle.front_core.proofs.Connection.Readings.{inputs_in, reading_of}
+use Rattle.front_core.proofs.OneConnection.Readings.{inputs_in, reading_of}
 use Rattle.imap_talk.proofs.RequestsOf.{requests_of}
 
 -- nothing is heard anew of a connection that was opened before, nor of another one

@@ -24,17 +24,17 @@ use Rattle.session_core.specs.Asking.{asked_for}
 use Rattle.session_core.specs.declared.asking.Awaited.{Awaited}
 use Rattle.imap_talk.specs.Inputs.{requests_in}
 use Rattle.front_core.specs.Reading.{Reading as Read}
-use Rattle.front_core.proofs.Connection.Readings.{inputs_in, reading_of}
+use Rattle.front_core.proofs.OneConnection.Readings.{inputs_in, reading_of}
 use Rattle.cluster_core.specs.declared.world.World.{World}
 use Rattle.imap_talk.specs.Heard.{Heard, client, frames_heard}
 use Rattle.link_queue.specs.Links.{on_link, without_first}
 use Rattle.cluster_core.specs.World.{front_at, home_of, setting_of, taken, comes_to, deliver_first, delivers, carry_all}
 use Rattle.cluster_core.proofs.Connections.ConnectionLaw.{told_of, keeps_all, same_story, IsStanding}
-use Rattle.front_core.proofs.Connection.Standing.{HasBegunSo, Stands, IsLeft}
+use Rattle.front_core.proofs.OneConnection.Standing.{HasBegunSo, Stands, IsLeft}
 use Rattle.cluster_core.proofs.Connections.ConnectionLaw.{StandsOn}
-use Rattle.front_core.proofs.Connection.Standing.OnItsWay.{there, back}
-use Rattle.front_core.proofs.Connection.Standing.Stands.{reads, waits, faulted, finished}
-use Rattle.front_core.proofs.Connection.Standing.IsLeft.{nothing, its_ask, its_answer}
+use Rattle.front_core.proofs.OneConnection.Standing.OnItsWay.{there, back}
+use Rattle.front_core.proofs.OneConnection.Standing.Stands.{reads, waits, faulted, finished}
+use Rattle.front_core.proofs.OneConnection.Standing.IsLeft.{nothing, its_ask, its_answer}
 use Rattle.cluster_core.proofs.Connections.KeepsAnswer.{replied_turn, replied_stands, ended_turned, read_turned, fits, ended_drops_answer}
 use Rattle.cluster_core.proofs.Connections.KeepsData.{asked_reader, inputs_keep_reader}
 use Rattle.cluster_core.proofs.Connections.KeepsDeliver.{ask_by, to_front, quiet_keeps}
@@ -43,10 +43,10 @@ use Rattle.cluster_core.proofs.Connections.KeepsFront.{world_after, with_connect
 use Rattle.cluster_core.proofs.Connections.KeepsLaw.{ConnectionIs, IsAt, IsGone, KeepsLaw, KeepsOn, WaysOn, is_not_closed, looks_same}
 use Rattle.cluster_core.proofs.Connections.KeepsLaw.ConnectionIs.{is_nobody, is_elsewhere, is_open, is_closed}
 use Rattle.cluster_core.proofs.Connections.KeepsStill.{still_kept}
-use Rattle.front_core.proofs.Connection.Released.{released_count, released_ended, begun_released}
+use Rattle.front_core.proofs.OneConnection.Released.{released_count, released_ended, begun_released}
 use Rattle.cluster_core.proofs.Connections.ConnectionLaw.{standing_released}
 use Rattle.imap_talk.proofs.RequestsOf.{requests_of}
-use Rattle.front_core.proofs.Connection.Ways.{AreOnWay, answer_of_another, taken_for_another, answer_taken, no_answer_first}
+use Rattle.front_core.proofs.OneConnection.Ways.{AreOnWay, answer_of_another, taken_for_another, answer_taken, no_answer_first}
 
 -- the ways of the others when the answer of a connection is taken
 others_on : (world : World) (from to : List ℕ) (answer : BackAnswer) (rest : List LinkMsg) (conn : ℕ) → on_link world.links from to ≡ Answer answer ∷ rest

@@ -20,7 +20,7 @@ use Rattle.mur_model.specs.declared.store.Store.{Store}
 use Rattle.mur_model.specs.History.{Course, Talk, IsLegal, IsInOrder, EndsAtLoss, IsUnanswered, loses, reads}
 use Rattle.mur_model.proofs.HistoryGrows.{one_up_to}
 use Rattle.imap_talk.specs.Inputs.{inputs_of, requests_in}
-use Rattle.front_core.proofs.Connection.Readings.{inputs_in}
+use Rattle.front_core.proofs.OneConnection.Readings.{inputs_in}
 use Rattle.cluster_core.specs.declared.world.Client.{Client}
 use Rattle.cluster_core.specs.declared.world.Mark.{Mark}
 use Rattle.cluster_core.specs.declared.world.World.{World}
@@ -32,18 +32,18 @@ use Rattle.cluster_core.specs.Headline.Points.{AreMadeBy, LosesTheNext}
 use Rattle.cluster_core.specs.Shown.{given_by, given_to}
 use Rattle.cluster_core.specs.World.{client_at, front_at}
 use Rattle.cluster_core.proofs.Connections.ConnectionLaw.{Story, told_of, client_with}
-use Rattle.front_core.proofs.Connection.Standing.{Stands, IsLeft}
-use Rattle.front_core.proofs.Connection.Standing.OnItsWay.{there, back}
-use Rattle.front_core.proofs.Connection.Standing.Stands.{reads as it_reads, waits, faulted, finished}
-use Rattle.front_core.proofs.Connection.Standing.IsLeft.{nothing, its_ask, its_answer}
+use Rattle.front_core.proofs.OneConnection.Standing.{Stands, IsLeft}
+use Rattle.front_core.proofs.OneConnection.Standing.OnItsWay.{there, back}
+use Rattle.front_core.proofs.OneConnection.Standing.Stands.{reads as it_reads, waits, faulted, finished}
+use Rattle.front_core.proofs.OneConnection.Standing.IsLeft.{nothing, its_ask, its_answer}
 use Rattle.cluster_core.proofs.Connections.KeepsLaw.{ConnectionIs, IsAt}
 use Rattle.cluster_core.proofs.Connections.KeepsLaw.ConnectionIs.{is_nobody, is_elsewhere, is_open, is_closed}
 use Rattle.cluster_core.proofs.Histories.Marks.{conn_of, command_of, IsOf, all_points, pairs_of_points, marks_follow, answering_points, losing_points}
-use Rattle.front_core.proofs.Connection.LastAnswer.{none_given, stands_last}
+use Rattle.front_core.proofs.OneConnection.LastAnswer.{none_given, stands_last}
 use Rattle.cluster_core.proofs.Histories.Marks.{NoMore}
 use Rattle.imap_talk.proofs.RequestsOf.{requests_of, answered_lengths}
 use Rattle.cluster_core.proofs.Histories.Told.{IsTold, Later}
-use Rattle.front_core.proofs.Connection.Ways.{none_on_empty}
+use Rattle.front_core.proofs.OneConnection.Ways.{none_on_empty}
 
 -- what was replied is what was told and at most one more
 pub record IsToldSo (told said : List Answer) : Type 0 where

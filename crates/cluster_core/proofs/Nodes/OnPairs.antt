@@ -30,10 +30,10 @@ use Rattle.link_queue.specs.Links.{Links, same_link, on_link}
 use Rattle.cluster_core.specs.Headline.OneStore.{AreEmpty}
 use Rattle.cluster_core.specs.World.{start, front_at, home_of, setting_of, with_node, with_nodes}
 use Rattle.cluster_core.proofs.Connections.ConnectionLaw.{Story}
-use Rattle.front_core.proofs.Connection.Standing.{OnItsWay, Stands, IsLeft}
-use Rattle.front_core.proofs.Connection.Standing.OnItsWay.{there, back}
-use Rattle.front_core.proofs.Connection.Standing.Stands.{reads, waits, faulted, finished}
-use Rattle.front_core.proofs.Connection.Standing.IsLeft.{nothing, its_ask, its_answer}
+use Rattle.front_core.proofs.OneConnection.Standing.{OnItsWay, Stands, IsLeft}
+use Rattle.front_core.proofs.OneConnection.Standing.OnItsWay.{there, back}
+use Rattle.front_core.proofs.OneConnection.Standing.Stands.{reads, waits, faulted, finished}
+use Rattle.front_core.proofs.OneConnection.Standing.IsLeft.{nothing, its_ask, its_answer}
 use Rattle.cluster_core.proofs.Connections.Keeps.{run_keeps}
 use Rattle.cluster_core.proofs.Connections.KeepsLaw.{ConnectionIs, KeepsLaw}
 use Rattle.cluster_core.proofs.Connections.KeepsLaw.ConnectionIs.{is_nobody, is_elsewhere, is_open, is_closed}
@@ -42,7 +42,7 @@ use Rattle.cluster_core.proofs.Nodes.NoneQuiet.{quiet_in, NoneQuiet, run_keeps a
 use Rattle.link_queue.proofs.OnWay.{alike, own_first, none_first}
 use Rattle.cluster_core.proofs.Run.FrontsOfStart.{frontends_at_start}
 use Rattle.cluster_core.proofs.Run.StartLaw.{start_keeps, start_links, nothing_picked}
-use Rattle.front_core.proofs.Connection.Ways.{AreOnWay, ask_in, answer_in, own_ask, own_answer}
+use Rattle.front_core.proofs.OneConnection.Ways.{AreOnWay, ask_in, answer_in, own_ask, own_answer}
 
 -- what is on the way for a connection of this frontend
 record Way (links : Links LinkMsg) (conn : ℕ) (front home : List ℕ) : Type 0 where

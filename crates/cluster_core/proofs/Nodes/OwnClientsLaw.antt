@@ -40,17 +40,17 @@ use Rattle.cluster_core.specs.World.{start, home_of, setting_of, client_at, fron
 use Rattle.cluster_core.specs.World.{open_at, opens, bytes_at, bytes_from, hang_at, hangs, input_of, home_takes, comes_to_home, comes_to, taken, deliver_first}
 use Rattle.cluster_core.specs.World.{takes, stepped, steps_by}
 use Rattle.cluster_core.proofs.Connections.ConnectionLaw.{Story}
-use Rattle.front_core.proofs.Connection.Standing.{OnItsWay, Stands, IsLeft}
-use Rattle.front_core.proofs.Connection.Standing.OnItsWay.{there, back}
-use Rattle.front_core.proofs.Connection.Standing.Stands.{reads, waits, faulted, finished}
-use Rattle.front_core.proofs.Connection.Standing.IsLeft.{nothing, its_ask, its_answer}
+use Rattle.front_core.proofs.OneConnection.Standing.{OnItsWay, Stands, IsLeft}
+use Rattle.front_core.proofs.OneConnection.Standing.OnItsWay.{there, back}
+use Rattle.front_core.proofs.OneConnection.Standing.Stands.{reads, waits, faulted, finished}
+use Rattle.front_core.proofs.OneConnection.Standing.IsLeft.{nothing, its_ask, its_answer}
 use Rattle.cluster_core.proofs.Connections.Keeps.{run_keeps}
 use Rattle.cluster_core.proofs.Connections.KeepsLaw.{ConnectionIs, KeepsLaw}
 use Rattle.cluster_core.proofs.Connections.KeepsLaw.ConnectionIs.{is_nobody, is_elsewhere, is_open, is_closed}
 use Rattle.cluster_core.proofs.Nodes.OneNodeLaw.{one_more_step}
-use Rattle.front_core.proofs.Connection.OwnOuts.{IsFor, AreFor, answered_for, connect_for, bytes_for}
+use Rattle.front_core.proofs.OneConnection.OwnOuts.{IsFor, AreFor, answered_for, connect_for, bytes_for}
 use Rattle.cluster_core.proofs.Run.StartLaw.{start_keeps}
-use Rattle.front_core.proofs.Connection.Ways.{answer_taken, no_answer_first}
+use Rattle.front_core.proofs.OneConnection.Ways.{answer_taken, no_answer_first}
 
 -- the clients of all other connections are as they were
 abbrev Serves : ℕ → World → World → Type 0

@@ -40,7 +40,7 @@ use Rattle.imap_talk.specs.Inputs.{inputs_of, requests_in}
 use Rattle.imap_talk.proofs.RequestsOf.{requests_of}
 use Rattle.serve_law.proofs.HomeStore.{IsStoreOf}
 use Rattle.link_queue.proofs.OnWay.{picked, alike}
-use Rattle.front_core.proofs.Connection.Ways.{ask_in, answer_in}
+use Rattle.front_core.proofs.OneConnection.Ways.{ask_in, answer_in}
 
 -- nodes that have done nothing
 record IsFresh (home : List ℕ) (setting : Setting) (world : World) : Type 0 where

@@ -14,8 +14,8 @@ use Rattle.mur_model.specs.declared.setting.Setting.{Setting}
 use Rattle.front_core.specs.Ending.{EndsOnlyLast}
 use Rattle.link_msg.specs.declared.message.LinkMsg.{LinkMsg}
 use Rattle.link_queue.specs.Links.{Links}
-use Rattle.front_core.proofs.Connection.Standing.{Stands}
-use Rattle.front_core.proofs.Connection.Standing.Stands.{reads, waits, faulted, finished}
+use Rattle.front_core.proofs.OneConnection.Standing.{Stands}
+use Rattle.front_core.proofs.OneConnection.Standing.Stands.{reads, waits, faulted, finished}
 
 abbrev GoesOnBehind : Answer → Type 0
 GoesOnBehind answer = ends answer.reply ≡ false

@@ -10,7 +10,7 @@ use Rattle.imap_talk.specs.declared.inputs.Input.{Input}
 use Rattle.imap_talk.specs.declared.inputs.Input.TheVariants.{Asks}
 use Rattle.front_core.specs.Reading.{Reading as Read}
 use Rattle.imap_talk.specs.Inputs.{requests_in}
-use Rattle.front_core.proofs.Connection.Readings.{FaultsLast}
+use Rattle.front_core.proofs.OneConnection.Readings.{FaultsLast}
 use Rattle.link_msg.specs.declared.answer.AnswerBody.{AnswerBody}
 use Rattle.link_msg.specs.declared.answer.BackAnswer.{BackAnswer}
 use Rattle.imap_types.specs.declared.command.Command.{Command}
@@ -30,7 +30,7 @@ use Rattle.session_core.specs.Finish.{turn_of}
 use Rattle.front_core.specs.Ending.{EndsOnlyLast}
 use Rattle.link_msg.specs.declared.message.LinkMsg.{LinkMsg}
 use Rattle.link_queue.specs.Links.{Links}
-use Rattle.front_core.proofs.Connection.Ways.{AreOnWay}
+use Rattle.front_core.proofs.OneConnection.Ways.{AreOnWay}
 
 -- the reader has begun so; one of a connection that has ended reads no more
 abbrev pub HasBegunSo : Connection → Read → Type 0

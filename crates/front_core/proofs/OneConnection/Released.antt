@@ -11,8 +11,8 @@ use Rattle.mur_model.specs.declared.session.Sess.{Sess}
 use Rattle.mur_model.specs.declared.setting.Setting.{Setting}
 use Rattle.link_msg.specs.declared.message.LinkMsg.{LinkMsg}
 use Rattle.link_queue.specs.Links.{Links}
-use Rattle.front_core.proofs.Connection.Standing.{HasBegunSo, Stands}
-use Rattle.front_core.proofs.Connection.Standing.Stands.{reads, waits, faulted, finished}
+use Rattle.front_core.proofs.OneConnection.Standing.{HasBegunSo, Stands}
+use Rattle.front_core.proofs.OneConnection.Standing.Stands.{reads, waits, faulted, finished}
 
 count_by : (connection : Connection) (stage : Stage) → (released_at connection stage).answered ≡ connection.answered
 unfolding released_at
