@@ -2,7 +2,6 @@
 pub mod Unrolled
 pub mod StepsMade
 pub mod CarryOn
-pub mod FirstBackend
 pub mod FrontsOfStart
 pub mod StartLaw
 pub mod RoomLaw

@@ -1,5 +1,5 @@
--- A run begins with the frontends of its configuration, and with no others.
-use Rattle.std.proofs.Common.{◌≡◌, ◌≢◌, Bool, true, false, cond, List, [], ◌∷◌, ℕ, None, Some, refl, sym, ◌∙◌, ap, subst}
+-- A run begins with the frontends of its configuration, and with no others; and there is a first backend.
+use Rattle.std.proofs.Common.{◌≡◌, ◌≢◌, Bool, true, false, cond, List, [], ◌∷◌, ℕ, None, Some, refl, sym, ◌∙◌, ap, subst, suc, ◌<◌, length, arith}
 use Rattle.std.specs.Prelude.{All, AllPairs, is_some}
 use Rattle.std.specs.Ordering.{nat_cmp}
 use Rattle.std.specs.Cmp.Lexicographic.{slice_cmp}
@@ -13,11 +13,11 @@ use Rattle.mur_config.specs.declared.node.Kind.{Kind}
 use Rattle.mur_config.specs.declared.node.Kind.TheVariants.{Master, Frontend, Backend as backend_kind}
 use Rattle.mur_config.specs.declared.node.Node.{Node}
 use Rattle.mur_config.proofs.NodesApart.{head_apart, tail_apart}
-use Rattle.mur_config.specs.Nodes.{AreNodes, is_node_named, is_node_of_kind, is_of_kind, node_named, links_of}
+use Rattle.mur_config.specs.Nodes.{AreNodes, is_node_named, is_node_of_kind, is_of_kind, node_named, links_of, count_of_kind}
 use Rattle.mur_model.specs.declared.setting.Setting.{Setting}
 use Rattle.cluster_core.specs.declared.world.World.{World}
 use Rattle.cluster_core.specs.Heard.{is_frontend_node, is_frontend}
-use Rattle.cluster_core.specs.World.{no_world, backends_of, home_of, setting_of, with_node, with_nodes, start, front_at}
+use Rattle.cluster_core.specs.World.{no_world, backends_of, home_of, setting_of, with_node, with_nodes, start, front_at, or_backend}
 
 abbrev pub NoFrontend : List ℕ → Node → Type 0
 NoFrontend name node = node.kind ≡ Frontend → node.name ≢ name
@@ -85,3 +85,24 @@ unfolding start
 frontends_at_start config are name =
     frontends_come (home_of config) (setting_of config) config.nodes
     (record no_world { backends = backends_of config.nodes; pairs = links_of config.nodes }) name are.names refl
+
+-- ---- the first backend
+
+count_by : (node : Node) (nodes : List Node) (kind : Kind) → node.kind ≡ kind → count_of_kind backend_kind nodes ≡ length (backends_of nodes)
+    → count_of_kind backend_kind (node ∷ nodes) ≡ length (or_backend kind node.name (backends_of nodes))
+unfolding count_of_kind is_node_of_kind is_of_kind or_backend
+count_by node nodes Master e ih = rw e ih
+count_by node nodes Frontend e ih = rw e ih
+count_by node nodes backend_kind e ih = rw e (ap suc ih)
+
+none_at_first : count_of_kind backend_kind [] ≡ 0
+unfolding count_of_kind
+none_at_first = refl
+
+counted : (nodes : List Node) → count_of_kind backend_kind nodes ≡ length (backends_of nodes)
+unfolding backends_of
+counted [] = none_at_first
+counted (node ∷ nodes) = count_by node nodes node.kind refl (counted nodes)
+
+pub some_backend : (nodes : List Node) → AreNodes nodes → 0 < length (backends_of nodes)
+some_backend nodes kept = omega (arith, kept.backends.0, counted nodes)
