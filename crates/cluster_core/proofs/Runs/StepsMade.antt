@@ -6,7 +6,7 @@ use Rattle.cluster_core.specs.declared.world.World.{World}
 use Rattle.cluster_core.specs.Flow.{run_steps}
 use Rattle.cluster_core.specs.World.{start, stepped, steps_by}
 use Rattle.cluster_core.proofs.Histories.InTime.{takes_adds}
-use Rattle.cluster_core.proofs.Run.StartLaw.{no_steps}
+use Rattle.cluster_core.proofs.Runs.StartLaw.{no_steps}
 
 step_more : (world : World) (event : Event) → (steps_by world event).steps ≡ world.steps + 1
 step_more world event = (takes_adds (stepped world) event).same_step

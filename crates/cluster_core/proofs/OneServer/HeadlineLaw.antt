@@ -15,13 +15,13 @@ use Rattle.cluster_core.specs.History.{history_of}
 use Rattle.cluster_core.specs.Headline.HomeLaw.{HasCause, RefusesForCause}
 use Rattle.cluster_core.specs.World.{start}
 use Rattle.cluster_core.proofs.Flows.FlowRests.{are_steps_of_all}
-use Rattle.cluster_core.proofs.Headline.ClosedLaw.{gives_no_more}
+use Rattle.cluster_core.proofs.OneServer.ClosedLaw.{gives_no_more}
 use Rattle.cluster_core.proofs.Histories.Marks.{IsOf, all_points}
 use Rattle.cluster_core.proofs.Nodes.OneNodeLaw.{one_node_each}
 use Rattle.cluster_core.proofs.Names.OneHome.{keeps_one_home_each}
 use Rattle.cluster_core.proofs.Nodes.OwnClientsLaw.{serves_its_own_each}
-use Rattle.cluster_core.proofs.Headline.ToldSoFar.{told_by_one_store}
-use Rattle.cluster_core.proofs.Run.Unrolled.{by_steps}
+use Rattle.cluster_core.proofs.OneServer.ToldSoFar.{told_by_one_store}
+use Rattle.cluster_core.proofs.Runs.Unrolled.{by_steps}
 
 has_cause : (world : World) (mark : Mark) (point : Point) → IsOf world mark point → HasCause point.what
 has_cause world mark point is = ⊎_elim (λ both. subst HasCause (sym both.0) tt) (λ lost. subst HasCause (sym lost) tt) is.either

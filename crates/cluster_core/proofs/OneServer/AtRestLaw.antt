@@ -12,10 +12,10 @@ use Rattle.imap_talk.specs.Heard.{nobody, frames_heard}
 use Rattle.cluster_core.specs.World.{start, home_of, setting_of}
 use Rattle.cluster_core.proofs.Connections.Keeps.{run_keeps}
 use Rattle.cluster_core.proofs.Connections.KeepsLaw.{KeepsLaw}
-use Rattle.cluster_core.proofs.Headline.OneStoreLaw.{says_of}
+use Rattle.cluster_core.proofs.OneServer.OneStoreLaw.{says_of}
 use Rattle.imap_talk.proofs.RequestsOf.{requests_of, asks_all}
-use Rattle.cluster_core.proofs.Run.StartLaw.{start_keeps}
-use Rattle.cluster_core.proofs.Run.Unrolled.{run_steps-append}
+use Rattle.cluster_core.proofs.Runs.StartLaw.{start_keeps}
+use Rattle.cluster_core.proofs.Runs.Unrolled.{run_steps-append}
 
 at_rest : (config : Config) (steps : List Event) (world : World) → KeepsLaw config (λ conn. heard_from config conn nobody steps) world
     → NothingWaits config steps world

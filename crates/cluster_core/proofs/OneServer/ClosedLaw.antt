@@ -14,9 +14,9 @@ use Rattle.cluster_core.specs.World.{start, home_of, setting_of, steps_by}
 use Rattle.cluster_core.proofs.Connections.ConnectionLaw.{told_of}
 use Rattle.cluster_core.proofs.Connections.Keeps.{step_keeps}
 use Rattle.cluster_core.proofs.Connections.KeepsLaw.{KeepsLaw, KeepsOn}
-use Rattle.cluster_core.proofs.Headline.OneStoreLaw.{says_of}
-use Rattle.cluster_core.proofs.Headline.ToldSoFar.{kept_all}
-use Rattle.cluster_core.proofs.Run.Unrolled.{run_steps-append}
+use Rattle.cluster_core.proofs.OneServer.OneStoreLaw.{says_of}
+use Rattle.cluster_core.proofs.OneServer.ToldSoFar.{kept_all}
+use Rattle.cluster_core.proofs.Runs.Unrolled.{run_steps-append}
 
 closed_hears : (config : Config) (conn : ℕ) (heard : Heard) (event : Event) → has_closed heard ≡ true → hears config conn heard event ≡ heard
 unfolding hears has_closed

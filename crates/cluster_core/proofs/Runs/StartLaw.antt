@@ -28,7 +28,7 @@ use Rattle.link_queue.specs.Links.{same_link, on_link}
 use Rattle.cluster_core.specs.Headline.OneStore.{first_course}
 use Rattle.cluster_core.specs.World.{no_world, first_name, or_backend, backends_of, home_of, setting_of, with_node, with_nodes, start, front_at}
 use Rattle.cluster_core.specs.World.{home_at}
-use Rattle.cluster_core.proofs.Run.FrontsOfStart.{NoFrontend, apart_here, fronts_stay, frontends_at_start}
+use Rattle.cluster_core.proofs.Runs.FrontsOfStart.{NoFrontend, apart_here, fronts_stay, frontends_at_start}
 use Rattle.mur_config.proofs.NodesApart.{head_apart, tail_apart}
 use Rattle.cluster_core.proofs.Connections.KeepsLaw.{KeepsLaw}
 use Rattle.cluster_core.proofs.Connections.KeepsLaw.ConnectionIs.{is_nobody}

@@ -44,16 +44,16 @@ use Rattle.serve_law.proofs.HomeStore.{store_below}
 use Rattle.cluster_core.proofs.Histories.Marks.{Carries, conn_of, command_of, is_mark, all_points}
 use Rattle.cluster_core.proofs.Histories.Marks.Carries.{no_marks, a_mark}
 use Rattle.store_law.proofs.NoRelocation.{have_causes}
-use Rattle.cluster_core.proofs.Headline.OneStoreLaw.{SaysOf, says_of, IsLegalTo, legal_history, loses_the_next, made_by_now, steps_rise, IsToldSo}
+use Rattle.cluster_core.proofs.OneServer.OneStoreLaw.{SaysOf, says_of, IsLegalTo, legal_history, loses_the_next, made_by_now, steps_rise, IsToldSo}
 use Rattle.imap_talk.proofs.ReadLaw.{heard_sound, read_of_legal}
 use Rattle.imap_talk.proofs.RequestsOf.{asks_all}
 use Rattle.serve_law.proofs.HomeStore.{low_serials}
 use Rattle.store_law.proofs.RisingStores.{Rises, box_rises, none_rises, points_rise, some_rising}
 use Rattle.cluster_core.proofs.Names.ShownHomes.{shows_boxes}
-use Rattle.cluster_core.proofs.Run.StartLaw.{start_keeps}
-use Rattle.cluster_core.proofs.Run.StepsMade.{steps_made}
+use Rattle.cluster_core.proofs.Runs.StartLaw.{start_keeps}
+use Rattle.cluster_core.proofs.Runs.StepsMade.{steps_made}
 use Rattle.cluster_core.proofs.Histories.Told.{IsTold}
-use Rattle.cluster_core.proofs.Run.Unrolled.{run_steps-append}
+use Rattle.cluster_core.proofs.Runs.Unrolled.{run_steps-append}
 
 numbered_within : {T : Type 0} (items : List T) (number : ℕ) (item : T) → numbered items number ≡ Some item → number ≤ length items
 unfolding numbered

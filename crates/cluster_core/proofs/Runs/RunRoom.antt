@@ -11,7 +11,7 @@ use Rattle.link_queue.specs.Links.{on_link}
 use Rattle.cluster_core.specs.World.{start, steps_by}
 use Rattle.cluster_core.specs.Flow.{Flowing, turn_by, turn_of, round, rounds, rounds_by, flow, happens, run}
 use Rattle.cluster_core.specs.Room.{HaveCommands, HasRoom}
-use Rattle.cluster_core.proofs.Run.RoomLaw.{more_commands, step_commands, step_steps, one_step, start_commands, start_steps}
+use Rattle.cluster_core.proofs.Runs.RoomLaw.{more_commands, step_commands, step_steps, one_step, start_commands, start_steps}
 
 -- a flow brings no command, and each delivery is one of those that may follow
 pub record IsWithin (most total : ℕ) (flowing : Flowing) : Type 0 where
