@@ -1,3 +1,7 @@
 pub mod AppendLaws
 mod RisingLaw
-mod TouchedLaws
+pub mod TouchedLaws
+pub mod FollowsLaws
+pub mod UidsBelow
+pub mod AppendKeeps
+pub mod RisingUids
