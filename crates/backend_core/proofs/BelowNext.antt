@@ -12,13 +12,14 @@ use Rattle.backend_core.specs.declared.held.Held.{Held}
 use Rattle.backend_core.specs.declared.input.BackInput.{BackInput}
 use Rattle.backend_core.specs.declared.input.BackInput.TheVariants.{Up, End, FromFront}
 use Rattle.backend_core.specs.HomeStep.{held_at}
-use Rattle.backend_core.specs.HomeLaws.{AreUidsBelowNext, HasUidsBelowNext}
+use Rattle.mail_store.specs.Kept.{AreUidsBelowNext}
+use Rattle.backend_core.specs.HomeLaws.{HasUidsBelowNext}
 use Rattle.backend_core.specs.Create.{new_held}
 use Rattle.backend_core.specs.Plan.{booted, plan_of}
 use Rattle.backend_core.specs.Step.{home_step}
 use Rattle.backend_core.proofs.Leaves.{Leaves, stays, makes, turns, leaves}
 use Rattle.backend_core.proofs.Others.{others_stay}
-use Rattle.backend_core.proofs.StaysBelow.{IsBelow}
+use Rattle.mail_store.proofs.UidsBelow.{IsBelow}
 
 pub booted_below : (me : Location) → HasUidsBelowNext (booted me)
 booted_below me = λ name held there. let no : None ≡ Some held = there in cc

@@ -9,7 +9,8 @@ use Rattle.backend_core.specs.declared.backend.Backend.{Backend}
 use Rattle.backend_core.specs.declared.held.Held.{Held}
 use Rattle.backend_core.specs.declared.response.Response.{Response}
 use Rattle.backend_core.specs.HomeStep.{HomeStep, BoxStep, held_at, with_content}
-use Rattle.backend_core.specs.HomeLaws.{is_open, Follows, AreUidsBelowNext}
+use Rattle.backend_core.specs.HomeLaws.{is_open}
+use Rattle.mail_store.specs.Kept.{Follows, AreUidsBelowNext}
 use Rattle.backend_core.specs.Refusal.{refusal, refusal_in, is_other}
 use Rattle.backend_core.specs.Create.{create_step, make, with_new}
 use Rattle.backend_core.specs.Served.{served, served_unless}

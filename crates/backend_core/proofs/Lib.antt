@@ -9,5 +9,4 @@ pub mod GivenSerials
 pub mod NewUids
 pub mod NotServed
 pub mod Others
-pub mod RisingUids
 pub mod StoreTold

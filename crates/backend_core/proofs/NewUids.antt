@@ -25,7 +25,7 @@ use Rattle.backend_core.specs.Refusal.{refusal, refusal_in, is_other}
 use Rattle.backend_core.specs.Append.{append_step, append_to}
 use Rattle.backend_core.specs.Served.{served, served_unless}
 use Rattle.backend_core.specs.Step.{home_step, op_step}
-use Rattle.backend_core.proofs.RisingUids.{rising-uids}
+use Rattle.mail_store.proofs.RisingUids.{rising-uids}
 
 -- a step that answers with UIDs gives new ones
 unfoldable GivesNew : List ℕ → Held → HomeStep → Type 0

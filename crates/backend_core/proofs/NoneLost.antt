@@ -1,20 +1,18 @@
 -- An APPEND puts its messages where none stood, and loses none.
 use Rattle.std.proofs.Math.Logic.{⊎_elim}
-use Rattle.std.proofs.Common.{◌≡◌, ◌≢◌, ℕ, ◌+◌, ◌<◌, ◌≤◌, ◌==◌, nat_lt, Bool, true, false, List, [], ◌∷◌, Option, None, Some}
-use Rattle.std.proofs.Common.{refl, sym, ◌∙◌, ap, subst, arith}
+use Rattle.std.proofs.Common.{◌≡◌, ◌≢◌, ℕ, ◌<◌, ◌≤◌, List, Option, None, Some}
+use Rattle.std.proofs.Common.{sym, ◌∙◌, ap, subst}
 use Rattle.std.specs.Prelude.{All}
-use Rattle.std.specs.List.{list_any}
 use Rattle.std.specs.Ordering.{nat_cmp}
 use Rattle.std.specs.Cmp.Lexicographic.{slice_cmp}
-use Rattle.std.proofs.lemmas.Bool.Decides.{nat_tests}
-use Rattle.std.proofs.lemmas.List.Elements.{All-head, All-tail, All-weaker}
+use Rattle.std.proofs.lemmas.List.Elements.{All-weaker}
 use Rattle.mur_base.proofs.MapLaws.{names_apart, same_or_other, value_at-with_value}
 use Rattle.mail_message.specs.declared.message.Message.{Message}
 use Rattle.mail_message.specs.declared.message.Snapshot.{Snapshot}
-use Rattle.mail_message.specs.Boxes.{Content, message_at, is_touched}
-use Rattle.mail_message.proofs.OtherLaws.{other-after_all}
+use Rattle.mail_message.specs.Boxes.{message_at}
+use Rattle.mail_store.proofs.AppendKeeps.{none_from, appended_keeps}
 use Rattle.mail_store.specs.declared.fault.StoreFault.{StoreFault}
-use Rattle.mail_store.specs.Append.{append_fault, appended, puts_from}
+use Rattle.mail_store.specs.Append.{append_fault, appended}
 use Rattle.link_msg.specs.declared.answer.AnswerBody.TheVariants.{Done}
 use Rattle.link_msg.specs.declared.ask.FrontAsk.{FrontAsk}
 use Rattle.link_msg.specs.declared.op.Op.TheVariants.{Append}
@@ -23,21 +21,14 @@ use Rattle.backend_core.specs.declared.backend.Backend.{Backend}
 use Rattle.backend_core.specs.declared.held.Held.{Held}
 use Rattle.backend_core.specs.declared.response.Response.{Response}
 use Rattle.backend_core.specs.HomeStep.{HomeStep, held_at, changes}
-use Rattle.backend_core.specs.HomeLaws.{AreNewUids, AreUidsBelowNext, HasUidsBelowNext, KeepsMessages, LosesNoMessage}
+use Rattle.backend_core.specs.HomeLaws.{AreNewUids, HasUidsBelowNext, LosesNoMessage}
+use Rattle.mail_store.specs.Kept.{AreUidsBelowNext, KeepsMessages}
 use Rattle.backend_core.specs.Refusal.{refusal}
 use Rattle.backend_core.specs.Append.{append_step, append_to}
 use Rattle.backend_core.specs.Served.{served, served_unless}
 use Rattle.backend_core.specs.Step.{home_step, op_step}
 use Rattle.backend_core.proofs.NewUids.{append_gives_new}
 use Rattle.backend_core.proofs.Others.{others_stay}
-use Rattle.backend_core.proofs.StaysBelow.{IsBelow}
-
-none_from : (limit uid : ℕ) (messages : List Message) → limit ≤ uid → All (IsBelow limit) messages → message_at messages uid ≡ None
-none_from limit uid [] le all = refl
-none_from limit uid (message ∷ messages) le all =
-    let one : message.uid < limit = All-head (IsBelow limit) message messages all in
-    let apart : (message.uid == uid) ≡ false = grind (arith, nat_tests, one, le) in
-    rw apart (none_from limit uid messages le (All-tail (IsBelow limit) message messages all))
 
 free_by : (uids : List ℕ) (held : Held) (found : Option Held) → AreUidsBelowNext held.content → AreNewUids uids held found
     → All (λ uid. message_at held.content.messages uid ≡ None) uids
@@ -52,24 +43,6 @@ pub append_finds_free : (home : Backend) (ask : FrontAsk) (messages : List Messa
 append_finds_free home ask messages held uids seen below is there says =
     free_by uids held (held_at (home_step home ask).home ask.name) (below ask.name held there)
     (append_gives_new home ask messages held uids seen is there says)
-
--- messages that are put from a UID on name no lower one
-untouched : (lower uid : ℕ) (messages : List Message) → lower < uid → list_any (is_touched lower) (puts_from uid messages) ≡ false
-untouched lower uid [] lt = refl
-untouched lower uid (message ∷ messages) lt =
-    let apart : (uid == lower) ≡ false = grind (arith, nat_tests, lt) in rw apart (untouched lower (uid + 1) messages (omega (arith, lt)))
-
-keeps_by : (box : Content) (messages : List Message) (uid : ℕ) (message : Message) → AreUidsBelowNext box → message_at box.messages uid ≡ Some message
-    → (lower : Bool) → nat_lt uid box.next ≡ lower → message_at (appended box messages).messages uid ≡ Some message
-keeps_by box messages uid message below there true h =
-    let lt : uid < box.next = grind (arith, nat_tests, h) in
-    other-after_all box (puts_from box.next messages) uid (untouched uid box.next messages lt) ∙ there
-keeps_by box messages uid message below there false h =
-    let le : box.next ≤ uid = grind (arith, nat_tests, h) in
-    let no : None ≡ Some message = sym (none_from box.next uid box.messages le below) ∙ there in cc
-
-pub appended_keeps : (box : Content) (messages : List Message) → AreUidsBelowNext box → KeepsMessages box (appended box messages)
-appended_keeps box messages below = λ uid message there. keeps_by box messages uid message below there (nat_lt uid box.next) refl
 
 goes_on : (held later : Held) (found : Option Held) → found ≡ Some later → KeepsMessages held.content later.content → LosesNoMessage held found
 goes_on held later found is keeps = subst (LosesNoMessage held) (sym is) keeps

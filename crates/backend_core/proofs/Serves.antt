@@ -7,7 +7,7 @@ use Rattle.link_msg.specs.declared.op.Op.{Op}
 use Rattle.link_msg.specs.declared.op.Op.TheVariants.{Look, Read, Flags, Expunge, Append, Create}
 use Rattle.backend_core.specs.declared.backend.Backend.{Backend}
 use Rattle.backend_core.specs.HomeStep.{HomeStep, BoxStep, held_at}
-use Rattle.backend_core.specs.HomeLaws.{Follows, AreUidsBelowNext}
+use Rattle.mail_store.specs.Kept.{Follows, AreUidsBelowNext}
 use Rattle.backend_core.specs.Append.{append_step, append_to}
 use Rattle.backend_core.specs.Create.{create_step}
 use Rattle.backend_core.specs.Expunge.{expunge_step, expunge_to}

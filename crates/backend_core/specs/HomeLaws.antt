@@ -6,8 +6,7 @@ use Rattle.std.specs.Cmp.Lexicographic.{slice_cmp}
 use Rattle.mur_base.specs.Map.{IsInOrder}
 use Rattle.mur_base.specs.declared.home.Phase.{Phase}
 use Rattle.mur_base.specs.declared.home.Phase.TheVariants.{Open}
-use Rattle.mail_message.specs.Boxes.{Content, message_at}
-use Rattle.mail_message.specs.declared.message.Message.{Message}
+use Rattle.mail_store.specs.Kept.{Follows, AreUidsBelowNext, KeepsMessages}
 use Rattle.backend_core.specs.declared.backend.Backend.{Backend}
 use Rattle.backend_core.specs.declared.held.Held.{Held}
 use Rattle.backend_core.specs.HomeStep.{held_at}
@@ -25,10 +24,6 @@ is_open_here (Some held) = is_open held.phase
 abbrev pub HasNamesInOrder : Backend → Type 0
 HasNamesInOrder home = IsInOrder (slice_cmp nat_cmp) home.held
 
--- a mailbox's content may become this: UIDVALIDITY stays, and UIDNEXT doesn't fall (RFC 9051, 2.3.1.1)
-abbrev pub Follows : Content → Content → Type 0
-Follows content later = (later.serial ≡ content.serial) × (content.next ≤ later.next)
-
 -- a mailbox goes on
 abbrev pub GoesOn : Held → Option Held → Type 0
 GoesOn held None = ⊥
@@ -39,18 +34,9 @@ abbrev pub AreNewUids : List ℕ → Held → Option Held → Type 0
 AreNewUids uids held None = ⊥
 AreNewUids uids held (Some later) = All (λ uid. (held.content.next ≤ uid) × (uid < later.content.next)) uids × IsStrictlySortedBy nat_cmp uids
 
--- each message has a UID below UIDNEXT, as each new UID is above all that are there (RFC 9051, 2.3.1.1)
-abbrev pub AreUidsBelowNext : Content → Type 0
-AreUidsBelowNext content = All (λ (message : Message). message.uid < content.next) content.messages
-
 -- in each mailbox here
 abbrev pub HasUidsBelowNext : Backend → Type 0
 HasUidsBelowNext home = (name : List ℕ) (held : Held) → held_at home name ≡ Some held → AreUidsBelowNext held.content
-
--- each message stays at its UID, as it was
-abbrev pub KeepsMessages : Content → Content → Type 0
-KeepsMessages content later =
-    (uid : ℕ) (message : Message) → message_at content.messages uid ≡ Some message → message_at later.messages uid ≡ Some message
 
 -- a mailbox goes on with all its messages
 abbrev pub LosesNoMessage : Held → Option Held → Type 0

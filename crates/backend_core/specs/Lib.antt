@@ -11,3 +11,4 @@ pub mod Refusal
 pub mod Response
 pub mod Served
 pub mod Step
+pub mod OpenBox

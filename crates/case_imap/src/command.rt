@@ -3,8 +3,8 @@ ghost use Rattle.imap_command.specs.Spells.{IsSpelled};
 
 use case_base::{Fault, bytes_of, put_field};
 use imap_command::{Bad, ReadFault, print, read, reread};
+use imap_types::{Command, Tag};
 use mur_base::{Bytes, Memory};
-use mur_model::{Command, Tag};
 use std::alloc::Global;
 
 /// Prints the command of a frame; or `bad`, how many bytes of the frame begin some command, and the tag of the frame, if it has one.

@@ -1,8 +1,8 @@
 // Replies that no command is given yet: what a client is told of access lists, listings, copies, and mailboxes that have moved.
 use case_base::{Fault, bytes_of, number_of, put_field};
 use imap_reply::write;
+use imap_types::{Attribute, Bye, Code, NoText, Reply, ReplyLine, Tag, Verdict, refused};
 use mur_base::{Bytes, Items, Memory};
-use mur_model::{Attribute, Bye, Code, NoText, Reply, ReplyLine, Tag, Verdict, refused};
 use std::alloc::Global;
 
 /// Prints the reply that tells a client of something under a tag.

@@ -2,8 +2,8 @@
 use case_base::{Fault, bytes_of};
 use imap_command::read_request;
 use imap_reply::write;
+use imap_types::{Command, Reply, Request, Tag};
 use mur_base::{Bytes, Memory};
-use mur_model::{Command, Reply, Request, Tag};
 use schedule_text::put_text;
 use std::alloc::Global;
 

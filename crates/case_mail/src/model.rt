@@ -2,9 +2,10 @@
 use crate::line::{command_of, put_reply};
 use crate::steps::{Steps, put_steps};
 use case_base::Fault;
+use imap_types::{Command, Reply};
 use mail_message::date;
 use mur_base::{Bytes, Items, Map, Memory, User, Users, user_name};
-use mur_model::{Command, Reply, Sess, Setting, Store, act};
+use mur_model::{Sess, Setting, Store, act};
 use std::alloc::Global;
 
 /// A store, and a session of it.

@@ -5,9 +5,10 @@ use crate::model::setting;
 use crate::steps::{Steps, put_steps};
 use backend_core::{BackInput, Backend};
 use case_base::Fault;
+use imap_types::Command;
 use link_msg::{AnswerBody, LinkMsg, Out};
 use mur_base::{Bytes, MailName, What, node_name};
-use mur_model::{Command, Setting};
+use mur_model::Setting;
 use session_core::{Asking, Awaited, Need, Session};
 use std::alloc::Global;
 

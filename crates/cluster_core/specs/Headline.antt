@@ -1,14 +1,25 @@
 -- The headline, of a run of the cluster.
+pub mod OneStore
+pub mod Points
+pub mod Homes
+pub mod HomeLaw
+pub mod OpenAt
+pub mod Backends
+pub mod OneNode
+pub mod FlowLaw
+pub mod Carried
+pub mod Closed
+pub mod AtRest
 use Rattle.std.specs.Prelude.{◌≡◌, List}
 use Rattle.mur_config.specs.declared.config.Config.{Config}
 use Rattle.mur_config.specs.Nodes.{links_of}
 use Rattle.schedule_text.specs.declared.event.Event.{Event}
-use Rattle.cluster_core.specs.Closed.{GivesNoMore}
+use Rattle.cluster_core.specs.Headline.Closed.{GivesNoMore}
 use Rattle.cluster_core.specs.Flow.{run, run_steps, unrolled}
-use Rattle.cluster_core.specs.FlowLaw.{AreStepsOfAll}
-use Rattle.cluster_core.specs.HomeLaw.{KeepsOneHomeEach, RefusesForCause}
-use Rattle.cluster_core.specs.OneNode.{OneNodeWorksEach, ServesItsOwnEach}
-use Rattle.cluster_core.specs.OneStore.{IsToldByOneStore}
+use Rattle.cluster_core.specs.Headline.FlowLaw.{AreStepsOfAll}
+use Rattle.cluster_core.specs.Headline.HomeLaw.{KeepsOneHomeEach, RefusesForCause}
+use Rattle.cluster_core.specs.Headline.OneNode.{OneNodeWorksEach, ServesItsOwnEach}
+use Rattle.cluster_core.specs.Headline.OneStore.{IsToldByOneStore}
 use Rattle.cluster_core.specs.World.{start}
 
 -- what the clients were given is what one mailbox store replies to the printed history, one command at a time, in each session's order;

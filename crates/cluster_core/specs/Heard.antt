@@ -1,19 +1,12 @@
--- What came from the client of a connection.
+-- What came from the client of a connection, event by event.
 use Rattle.std.specs.Prelude.{ℕ, ◌==◌, Bool, true, false, if◌then◌else◌, List, [], ◌∷◌, ◌++◌, Option, None, Some}
-use Rattle.imap_wire.specs.declared.frame.Frame.{Frame}
-use Rattle.imap_wire.specs.Frames.{frames}
+use Rattle.imap_talk.specs.Heard.{Heard, nobody, elsewhere, client}
 use Rattle.mur_config.specs.declared.config.Config.{Config}
 use Rattle.mur_config.specs.declared.node.Kind.TheVariants.{Frontend}
 use Rattle.mur_config.specs.declared.node.Node.{Node}
 use Rattle.mur_config.specs.Nodes.{is_node_of_kind, node_named}
 use Rattle.schedule_text.specs.declared.event.Event.{Event}
 use Rattle.schedule_text.specs.declared.event.Event.TheVariants.{Open, Data, Hang}
-
--- the connection wasn't opened yet; it was opened at a node that is no frontend; or these bytes came, and whether it was closed
-pub data Heard : Type 0 where
-  nobody : Heard
-  elsewhere : Heard
-  client : List ℕ → Bool → Heard
 
 abbrev pub is_frontend_node : Option Node → Bool
 is_frontend_node None = false
@@ -48,20 +41,3 @@ heard_from config conn heard (event ∷ events) = heard_from config conn (hears 
 
 abbrev pub heard : Config → ℕ → List Event → Heard
 heard config conn events = heard_from config conn nobody events
-
--- the bytes that came from a client, if there is one
-unfoldable pub bytes_heard : Heard → Option (List ℕ)
-bytes_heard nobody = None
-bytes_heard elsewhere = None
-bytes_heard (client bytes closed) = Some bytes
-
-unfoldable pub frames_heard : Heard → List Frame
-frames_heard nobody = []
-frames_heard elsewhere = []
-frames_heard (client bytes closed) = frames bytes
-
--- the client closed its connection
-unfoldable pub has_closed : Heard → Bool
-has_closed nobody = false
-has_closed elsewhere = false
-has_closed (client bytes closed) = closed

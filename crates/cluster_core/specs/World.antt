@@ -23,7 +23,7 @@ use Rattle.schedule_text.specs.declared.event.Event.{Event}
 use Rattle.schedule_text.specs.declared.event.Event.TheVariants.{Open, Data, Hang, Deliver}
 use Rattle.cluster_core.specs.declared.world.Client.{Client}
 use Rattle.cluster_core.specs.declared.world.World.{World}
-use Rattle.cluster_core.specs.Links.{on_link, sent, without_first}
+use Rattle.link_queue.specs.Links.{on_link, sent, without_first}
 
 -- before any node
 abbrev pub no_world : World

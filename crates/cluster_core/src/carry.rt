@@ -2,9 +2,9 @@
 ghost use Rattle.std.specs.Prelude.{◌≡◌, OnOk};
 ghost use Rattle.cluster_core.specs.World.{carry, carry_all, given_more, client_at};
 
-use crate::links::send;
 use crate::world::{Mark, World};
 use link_msg::{Out, Outs};
+use link_queue::send;
 use mur_base::{Bytes, Memory, NodeName};
 use std::alloc::Global;
 

@@ -5,12 +5,12 @@ ghost use Rattle.imap_command.specs.Ruled.{IsDate};
 ghost use Rattle.mur_config.specs.Nodes.{AreNodes};
 ghost use Rattle.schedule_text.specs.declared.event.Event.{Event};
 ghost use Rattle.schedule_text.specs.Brings.{steps_of_all, bytes_of_all};
-ghost use Rattle.cluster_core.specs.AtRest.{NothingWaitsBehind};
+ghost use Rattle.cluster_core.specs.Headline.AtRest.{NothingWaitsBehind};
 ghost use Rattle.cluster_core.specs.Flow.{happens, run, run_steps, steps_of_event};
-ghost use Rattle.cluster_core.specs.FlowLaw.{AreItsSteps};
+ghost use Rattle.cluster_core.specs.Headline.FlowLaw.{AreItsSteps};
 ghost use Rattle.cluster_core.specs.Headline.{IsOneServer};
 ghost use Rattle.cluster_core.specs.History.{history_of};
-ghost use Rattle.cluster_core.specs.OneNode.{OneNodeWorksEach, ServesItsOwnBehind};
+ghost use Rattle.cluster_core.specs.Headline.OneNode.{OneNodeWorksEach, ServesItsOwnBehind};
 ghost use Rattle.cluster_core.specs.Room.{HasRoom};
 ghost use Rattle.cluster_core.specs.Shown.{given_to, home_rows};
 ghost use Rattle.cluster_core.specs.World.{start};
@@ -80,7 +80,7 @@ impl Cluster {
     }
 
     /// Takes one event, in single steps, in each of which one node works, for its own clients alone. For want of memory the cluster is spent: drop it.
-    #[tactic(auto, using(crate::proofs::Unrolled::event_made))]
+    #[tactic(auto, using(crate::proofs::Runs::Unrolled::event_made))]
     pub fn step(&mut self, event: Event) -> Result<(), Memory>
         requires { HasRoom self.old event }
         ensures event { OnOk result (self.new ≡ happens self.old event) }

@@ -5,8 +5,8 @@ ghost use Rattle.cluster_core.specs.Room.{HasRoom};
 ghost use Rattle.cluster_core.specs.Flow.{flow, round, turn_of};
 
 use crate::happens::deliver;
-use crate::links::is_empty;
 use crate::world::World;
+use link_queue::is_empty;
 use mur_base::{Copied, Items, Memory};
 use mur_config::{Link, Links};
 use std::alloc::Global;

@@ -9,10 +9,10 @@ ghost use Rattle.cluster_core.specs.Flow.{happens};
 
 use crate::carry::carry_out;
 use crate::flow::flow;
-use crate::links::take_first;
 use crate::world::{Client, World};
 use backend_core::BackInput;
 use link_msg::LinkMsg;
+use link_queue::take_first;
 use mur_base::{Bytes, Copied, Memory, NodeName};
 use schedule_text::Event;
 use std::alloc::Global;

@@ -8,9 +8,8 @@ mod flow;
 mod happens;
 mod history;
 mod homes;
-mod links;
 mod start;
 mod world;
 
 pub use cluster::{Cluster, HomeRow, HomeRows, Points, headline, run};
-pub use world::{Client, Links, Mark, Ways, World};
+pub use world::{Client, Mark, World};

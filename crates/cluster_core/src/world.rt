@@ -2,7 +2,8 @@
 use backend_core::Backend;
 use front_core::Front;
 use link_msg::{Counts, LinkMsg};
-use mur_base::{AskId, Bytes, Items, Map, NodeName, Queue};
+use link_queue::Links;
+use mur_base::{AskId, Bytes, Items, Map, NodeName};
 use mur_config::Link;
 
 /// A client: the node that it connected to, and all bytes that it was given.
@@ -21,12 +22,6 @@ pub struct Mark {
     pub counts: Counts,
 }
 
-/// What is on its way from one node, by the node that it goes to.
-pub type Ways = Map<NodeName, Queue<LinkMsg>>;
-
-/// What is on its way, by the node that it comes from.
-pub type Links = Map<NodeName, Ways>;
-
 /// The cluster: its nodes, what is on its way between them, its clients, and what its steps did.
 #[derive(Drop)]
 pub struct World {
@@ -41,7 +36,7 @@ pub struct World {
     /// The clients, by the numbers of their connections.
     pub clients: Map<u64, Client>,
     /// The messages on their way.
-    pub links: Links,
+    pub links: Links<LinkMsg>,
     /// The steps that count as points, in order.
     pub marks: Items<Mark>,
     /// How many steps were taken, and so the number of the last one.

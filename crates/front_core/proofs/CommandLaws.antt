@@ -1,12 +1,12 @@
 -- How many commands a connection may have, behind inputs and answers.
 use Rattle.std.proofs.Common.{◌≡◌, ℕ, ◌+◌, ◌≤◌, Bool, true, false, List, [], ◌∷◌, length, Option, None, Some, refl, ap, arith, length-append}
 use Rattle.std.specs.Prelude.{◌==◌}
-use Rattle.imap_reply.specs.declared.inputs.Input.{Input}
-use Rattle.imap_reply.specs.declared.inputs.Input.TheVariants.{GoesOn, Asks, Faults}
+use Rattle.imap_talk.specs.declared.inputs.Input.{Input}
+use Rattle.imap_talk.specs.declared.inputs.Input.TheVariants.{GoesOn, Asks, Faults}
 use Rattle.link_msg.specs.declared.answer.BackAnswer.{BackAnswer}
-use Rattle.mur_model.specs.declared.command.Tag.{Tag}
-use Rattle.mur_model.specs.declared.request.Request.{Request}
-use Rattle.mur_model.specs.declared.request.Request.TheVariants.{Command as a_command, Unknown as unknown, TooBig as too_big}
+use Rattle.imap_types.specs.declared.command.Tag.{Tag}
+use Rattle.imap_types.specs.declared.request.Request.{Request}
+use Rattle.imap_types.specs.declared.request.Request.TheVariants.{Command as a_command, Unknown as unknown, TooBig as too_big}
 use Rattle.mur_model.specs.declared.setting.Setting.{Setting}
 use Rattle.front_core.specs.declared.connection.Connection.{Connection}
 use Rattle.front_core.specs.declared.connection.Stage.{Stage}
@@ -14,7 +14,7 @@ use Rattle.front_core.specs.declared.connection.Stage.TheVariants.{Reading, Aske
 use Rattle.front_core.specs.Answered.{answer_comes, answer_by, need_behind, reading_again}
 use Rattle.front_core.specs.Front.{is_asked}
 use Rattle.front_core.specs.Room.{commands_of}
-use Rattle.front_core.specs.Taken.{answers, answers_last, asks, need_in, request_in, input_in, comes_at, input_comes, inputs_come}
+use Rattle.front_core.specs.Taken.{answers, answers_last, need_in, request_in, input_in, comes_at, input_comes, inputs_come}
 use Rattle.session_core.specs.declared.asking.Awaited.{Awaited}
 use Rattle.session_core.specs.declared.need.Need.{Need}
 use Rattle.session_core.specs.declared.need.Need.TheVariants.{Reply, Leave, Home}

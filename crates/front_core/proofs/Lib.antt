@@ -7,3 +7,4 @@ pub mod WaitingLaws
 pub mod EndedLaw
 pub mod Counts
 pub mod ReadingLaws
+pub mod OneConnection

@@ -1,10 +1,10 @@
 -- What more bytes bring a reader.
 use Rattle.std.proofs.Common.{◌≡◌, List, ℕ, [], ◌++◌, length, true, Option, None, Some, sym, ◌∙◌, ap}
 use Rattle.std.specs.Option.{option_to_list, is_none}
-use Rattle.imap_reply.proofs.InputLaws.{before-append, inputs-append, inputs-length}
-use Rattle.imap_reply.specs.declared.inputs.Before.{Before}
-use Rattle.imap_reply.specs.declared.inputs.Input.{Input}
-use Rattle.imap_reply.specs.Inputs.{before_next, inputs_of}
+use Rattle.imap_talk.proofs.InputLaws.{before-append, inputs-append, inputs-length}
+use Rattle.imap_talk.specs.declared.inputs.Before.{Before}
+use Rattle.imap_talk.specs.declared.inputs.Input.{Input}
+use Rattle.imap_talk.specs.Inputs.{before_next, inputs_of}
 use Rattle.imap_wire.specs.declared.frame.Frame.{Frame}
 use Rattle.imap_wire.specs.More.{frames_of_more, begun_by_more}
 use Rattle.imap_wire.proofs.MoreLaws.{none_ended, ended_stays, no_more, begun_by_nothing}

@@ -3,7 +3,7 @@ use Rattle.std.specs.Prelude.{ℕ, ◌+◌, Bool, true, ◌==◌, List, [], ◌�
 use Rattle.imap_reply.specs.ReplyText.{reply_text}
 use Rattle.link_msg.specs.declared.answer.BackAnswer.{BackAnswer}
 use Rattle.link_msg.specs.declared.out.Out.TheVariants.{Client, Close}
-use Rattle.mur_model.specs.declared.command.Tag.{Tag}
+use Rattle.imap_types.specs.declared.command.Tag.{Tag}
 use Rattle.mur_model.specs.declared.setting.Setting.{Setting}
 use Rattle.front_core.specs.declared.connection.Connection.{Connection}
 use Rattle.front_core.specs.declared.connection.Stage.{Stage}

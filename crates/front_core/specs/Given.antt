@@ -1,8 +1,8 @@
 -- What a frame is that the framer gave, if it gave one.
 use Rattle.std.specs.Prelude.{◌≡◌, Option, None, Some}
-use Rattle.imap_reply.specs.declared.inputs.Before.{Before}
-use Rattle.imap_reply.specs.declared.inputs.Input.{Input}
-use Rattle.imap_reply.specs.Inputs.{input_at}
+use Rattle.imap_talk.specs.declared.inputs.Before.{Before}
+use Rattle.imap_talk.specs.declared.inputs.Input.{Input}
+use Rattle.imap_talk.specs.Inputs.{input_at}
 use Rattle.imap_wire.specs.declared.frame.Frame.{Frame}
 use Rattle.mur_model.specs.declared.setting.Setting.{Setting}
 

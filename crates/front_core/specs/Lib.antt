@@ -6,3 +6,4 @@ pub mod Ended
 pub mod Front
 pub mod Room
 pub mod Stages
+pub mod Ending

@@ -1,8 +1,8 @@
 -- What a connection has read: its bytes are cut into frames, and these are its inputs.
 use Rattle.std.specs.Prelude.{ℕ, List, [], Option}
-use Rattle.imap_reply.specs.declared.inputs.Before.{Before}
-use Rattle.imap_reply.specs.declared.inputs.Input.{Input}
-use Rattle.imap_reply.specs.Inputs.{at_first, before_next, inputs_of}
+use Rattle.imap_talk.specs.declared.inputs.Before.{Before}
+use Rattle.imap_talk.specs.declared.inputs.Input.{Input}
+use Rattle.imap_talk.specs.Inputs.{at_first, before_next, inputs_of}
 use Rattle.imap_wire.specs.Frames.{begun}
 use Rattle.imap_wire.specs.More.{frames_of_more, begun_by_more}
 use Rattle.mur_model.specs.declared.setting.Setting.{Setting}

@@ -4,7 +4,7 @@ ghost use Rattle.front_core.specs.Ended.{ended, released};
 ghost use Rattle.front_core.specs.Stages.{is_reading, has_ended};
 
 use crate::reader::Reader;
-use imap_reply::Input;
+use imap_talk::Input;
 use mur_base::Queue;
 use mur_model::Tag;
 use session_core::{Awaited, Session};

@@ -9,7 +9,7 @@ ghost use Rattle.front_core.specs.Taken.{inputs_come, behind_outs};
 
 use crate::connection::Connection;
 use crate::taken::input_comes;
-use imap_reply::Input;
+use imap_talk::Input;
 use link_msg::Outs;
 use mur_base::{Memory, NodeName};
 use mur_model::Setting;

@@ -4,7 +4,7 @@ ghost use Rattle.std.specs.Option.{option_to_list};
 ghost use Rattle.front_core.specs.Given.{IsGiven};
 ghost use Rattle.front_core.specs.Reading.{first_reading, inputs_of_more, read_more};
 
-use imap_reply::{Before, Input, input_at};
+use imap_talk::{Before, Input, input_at};
 use imap_wire::{Frame, Framer};
 use mur_base::Memory;
 use mur_model::Setting;

@@ -3,16 +3,18 @@
 ghost use Rattle.std.specs.Prelude.{◌≡◌, ◌+◌, ◌<◌, ◌^◌, [], ◌∷◌, ◌++◌, IfOk, OnOk};
 ghost use Rattle.link_msg.specs.declared.out.Out.TheVariants.{Client, Close};
 ghost use Rattle.front_core.specs.declared.connection.Stage.TheVariants.{Ended};
-ghost use Rattle.imap_reply.specs.ByeLine.{bye_of, bye_line};
+ghost use Rattle.imap_reply.specs.ByeLine.{bye_line};
+ghost use Rattle.imap_talk.specs.FaultBye.{bye_of};
 ghost use Rattle.imap_reply.specs.Continuation.{continuation_line};
 ghost use Rattle.imap_reply.specs.ReplyText.{reply_text};
-ghost use Rattle.mur_model.specs.Reply.{reply_of};
+ghost use Rattle.imap_types.specs.Reply.{reply_of};
 ghost use Rattle.session_core.specs.Begin.{MayNeed};
 ghost use Rattle.front_core.specs.Taken.{input_comes, input_in, request_in, need_in, answers, answers_last, behind_outs};
 
 use crate::asks::asks;
 use crate::connection::{Connection, Stage};
-use imap_reply::{Continuation, Input, put_bye, put_continuation, write};
+use imap_reply::{Continuation, put_bye, put_continuation, write};
+use imap_talk::Input;
 use imap_wire::FrameFault;
 use link_msg::{Counts, Out, Outs};
 use mur_base::{AskId, Bytes, Memory, NodeName};
@@ -103,7 +105,7 @@ fn bye_line(alloc: Global, fault: FrameFault) -> Result<Bytes, Memory>
     Ok(line)
 }
 
-#[tactic(auto, unfolding(imap_reply::specs::ByeLine::bye_of))]
+#[tactic(auto, unfolding(imap_talk::specs::FaultBye::bye_of))]
 fn bye_of(fault: FrameFault) -> Bye
     ensures { result ≡ bye_of fault }
 {

@@ -11,7 +11,7 @@ use Rattle.mail_message.specs.FlagSets.{Flags, no_flags}
 use Rattle.imap_command.specs.Append.{Dated, dated_text, with_date, without_date, dated, flagged_text, without_flags, flagged, append}
 use Rattle.imap_command.specs.Date.{date_time}
 use Rattle.imap_command.specs.Flags.{flag_list, flag_list_part, flags_text}
-use Rattle.imap_command.specs.Strings.{literal, message, argument}
+use Rattle.imap_text.specs.Strings.{literal, message, argument}
 use Rattle.imap_command.proofs.ArgumentsLaw.{ends_atom, ends_line, law_argument, law_message, arguments_behind}
 use Rattle.imap_command.proofs.DateLaw.{law_date_time}
 use Rattle.imap_command.proofs.FlagsPrinted.{law_flag_list, no_flags_printed}

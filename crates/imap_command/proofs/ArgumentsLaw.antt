@@ -10,10 +10,10 @@ use Rattle.grammar.proofs.RunLaw.{lawful_run, apart_run}
 use Rattle.grammar.proofs.SeveralLaw.{law_several}
 use Rattle.grammar.proofs.WordLaw.{good_word}
 use Rattle.imap_command.specs.Arguments.{one_string, two_strings, optional_string}
-use Rattle.imap_command.specs.Characters.{is_astring_char, is_atom_char}
-use Rattle.imap_command.specs.Strings.{astring, literal, argument, message, atom}
-use Rattle.imap_command.proofs.StringsLaw.{good_astring, good_literal}
-use Rattle.imap_command.proofs.StringsPrinted.{prints_argument, prints_message}
+use Rattle.imap_text.specs.Characters.{is_astring_char, is_atom_char}
+use Rattle.imap_text.specs.Strings.{astring, literal, argument, message, atom}
+use Rattle.imap_text.proofs.StringsLaw.{good_astring, good_literal}
+use Rattle.imap_text.proofs.StringsPrinted.{prints_argument, prints_message}
 
 -- a space or the end of the line
 abbrev pub ends_atom : ℕ → Bool

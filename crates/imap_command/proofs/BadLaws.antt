@@ -6,8 +6,8 @@ use Rattle.grammar.specs.Words.{scan}
 use Rattle.grammar.specs.Exact.{Stops}
 use Rattle.grammar.proofs.Reading.{ok_parts}
 use Rattle.grammar.proofs.WordLaw.{good_word, word_reads}
-use Rattle.mur_model.specs.declared.command.Tag.{Tag}
-use Rattle.mur_model.specs.declared.command.Command.{Command}
+use Rattle.imap_types.specs.declared.command.Tag.{Tag}
+use Rattle.imap_types.specs.declared.command.Command.{Command}
 use Rattle.imap_command.specs.Spells.{Spells, tags}
 use Rattle.imap_command.specs.Bad.{IsLongest, IsFirstTag, IsBad}
 use Rattle.imap_command.specs.declared.fault.Bad.{Bad}

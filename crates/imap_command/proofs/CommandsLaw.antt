@@ -5,9 +5,9 @@ use Rattle.grammar.specs.Forms.{Law, behind, dispatch, nothing, several}
 use Rattle.grammar.proofs.FormLaw.{Branch, branch, one_byte, apart_byte, law_and, law_closed, law_dispatch, law_nothing, law_spaced, law_weaker}
 use Rattle.grammar.proofs.NamesLaw.{law_table}
 use Rattle.grammar.proofs.SeveralLaw.{law_several}
-use Rattle.mur_model.specs.declared.command.Command.{Command}
-use Rattle.mur_model.specs.declared.command.Command.TheVariants as command
-use Rattle.mur_model.specs.declared.command.StatusItem.TheVariants.{Messages}
+use Rattle.imap_types.specs.declared.command.Command.{Command}
+use Rattle.imap_types.specs.declared.command.Command.TheVariants as command
+use Rattle.imap_types.specs.declared.command.StatusItem.TheVariants.{Messages}
 use Rattle.imap_command.specs.declared.verb.Verb.{Verb}
 use Rattle.imap_command.specs.declared.verb.Verb.TheVariants as verb
 use Rattle.imap_command.specs.declared.verb.MailboxVerb.{MailboxVerb}
@@ -23,9 +23,10 @@ use Rattle.imap_command.specs.List.{list}
 use Rattle.imap_command.specs.Search.{search}
 use Rattle.imap_command.specs.SetAcl.{set_acl}
 use Rattle.imap_command.specs.Sets.{set}
-use Rattle.imap_command.specs.Status.{item_rows, item_text, status_item, status_items, status}
+use Rattle.imap_command.specs.Status.{status_items, status}
+use Rattle.imap_text.specs.StatusItems.{item_rows, item_text, status_item}
 use Rattle.imap_command.specs.Store.{store}
-use Rattle.imap_command.specs.Strings.{argument, atom}
+use Rattle.imap_text.specs.Strings.{argument, atom}
 use Rattle.imap_command.specs.Verbs.{uid_name_text, uid_verb_form, uid_verb_of, uid_verbs}
 use Rattle.imap_command.proofs.ArgumentsLaw.{ends_atom, ends_line, line_ends_atom, law_argument, arguments_behind, law_one_string}
 use Rattle.imap_command.proofs.ArgumentsLaw.{law_two_strings, law_strings, law_optional_string, law_atoms}

@@ -22,7 +22,8 @@ use Rattle.mail_message.specs.FlagSets.{Flags, no_flags}
 use Rattle.mail_message.specs.declared.flag_name.FlagName.TheVariants.{System, Keyword}
 use Rattle.mail_message.specs.declared.system_flags.SystemFlag.TheVariants.{Answered}
 use Rattle.mail_message.specs.Keywords.{is_atom_byte}
-use Rattle.imap_command.specs.Flags.{system_rows, system_text, system_flag, any_keyword, is_full, keywords_beside, put_flag, flag, some_flags}
+use Rattle.imap_text.specs.FlagNames.{system_text}
+use Rattle.imap_command.specs.Flags.{system_rows, system_flag, any_keyword, is_full, keywords_beside, put_flag, flag, some_flags}
 use Rattle.imap_command.specs.Flags.{flag_list_part, store_flags_part}
 
 -- a space, a closing parenthesis or the end of the line

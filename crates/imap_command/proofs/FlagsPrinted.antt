@@ -29,12 +29,13 @@ use Rattle.mail_message.specs.declared.system_flags.SystemFlag.{SystemFlag}
 use Rattle.mail_message.specs.declared.system_flags.SystemFlag.TheVariants.{Answered, Flagged, Deleted, Seen, Draft}
 use Rattle.mail_message.specs.declared.system_flags.SystemFlags.{SystemFlags}
 use Rattle.mail_message.specs.Keywords.{is_atom_byte}
-use Rattle.imap_command.specs.Flags.{system_rows, system_text, system_flag, any_keyword, is_full, keywords_beside, put_flag, flag, some_flags}
+use Rattle.imap_text.specs.FlagNames.{system_text}
+use Rattle.imap_command.specs.Flags.{system_rows, system_flag, any_keyword, is_full, keywords_beside, put_flag, flag, some_flags}
 use Rattle.imap_command.specs.Flags.{flag_list_part, text_if, system_texts, flags_text, flag_list, store_flags_part, store_flags}
 use Rattle.imap_command.proofs.ArgumentsLaw.{ends_line}
 use Rattle.imap_command.proofs.FlagsLaw.{ends_flag, is_space, are_keywords, good_list, good_store}
 use Rattle.imap_command.proofs.KeywordsKept.{all_insert, length_insert, sorted_insert, insert_present, insert_last}
-use Rattle.imap_command.proofs.Values.{Only, only_then, only_map, only_behind, only_choose, only_repeat}
+use Rattle.imap_text.proofs.Values.{Only, only_then, only_map, only_behind, only_choose, only_repeat}
 
 -- keywords in order, at most 16 of them, all of which are keywords
 pub record IsKept (flags : Flags) : Type 0 where

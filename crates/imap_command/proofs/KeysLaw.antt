@@ -29,7 +29,8 @@ use Rattle.imap_command.specs.declared.keys.KeyName.TheVariants as deep
 use Rattle.imap_command.specs.Dates.{date}
 use Rattle.imap_command.specs.Fetch.{number64_most}
 use Rattle.imap_command.specs.Flags.{any_keyword}
-use Rattle.imap_command.specs.Keys.{flag_text, keyword, size, text_by, key_text, flat_rows, flat_name_text, behind_flat, flat_name, flat_key}
+use Rattle.imap_text.specs.FlagNames.{flag_text}
+use Rattle.imap_command.specs.Keys.{keyword, size, text_by, key_text, flat_rows, flat_name_text, behind_flat, flat_name, flat_key}
 use Rattle.imap_command.specs.Keys.{numbers_or, key_rows, key_name_text, behind_key, key_name, group, deep_key, key, keys}
 use Rattle.imap_command.specs.Sets.{is_set_start, set}
 use Rattle.imap_command.proofs.DatesLaw.{law_date}

@@ -13,17 +13,17 @@ use Rattle.grammar.proofs.Spelling.{spell_then, spell_map}
 use Rattle.grammar.proofs.StartLaw.{starts_then, starts_byte}
 use Rattle.grammar.proofs.ToolLaws.{begins_then}
 use Rattle.imap_command.specs.Commands.{arguments, printed_as, uid_arguments, uid_command, verb_of}
-use Rattle.imap_command.specs.Strings.{crlf_part}
+use Rattle.imap_text.specs.Strings.{crlf_part}
 use Rattle.imap_command.specs.Spells.{line, known}
 use Rattle.imap_command.specs.Verbs.{is_uid, verbs, verb_form, name_text, uid_verbs}
 use Rattle.imap_command.specs.declared.verb.Verb.{Verb}
 use Rattle.imap_command.specs.declared.verb.Verb.TheVariants as verb
-use Rattle.mur_model.specs.declared.command.Command.{Command}
-use Rattle.mur_model.specs.declared.command.Command.TheVariants as command
+use Rattle.imap_types.specs.declared.command.Command.{Command}
+use Rattle.imap_types.specs.declared.command.Command.TheVariants as command
 use Rattle.imap_command.proofs.ArgumentsLaw.{ends_atom, ends_line}
 use Rattle.imap_command.proofs.CommandsLaw.{branch_of, uid_branch}
-use Rattle.imap_command.proofs.StringsLaw.{good_crlf}
-use Rattle.imap_command.proofs.StringsPrinted.{spell_crlf}
+use Rattle.imap_text.proofs.StringsLaw.{good_crlf}
+use Rattle.imap_text.proofs.StringsPrinted.{spell_crlf}
 
 pub starts_crlf : {A : Type 0} (a : A) → StartsWith ends_line (map (λ _. a) crlf_part)
 unfolding crlf_part

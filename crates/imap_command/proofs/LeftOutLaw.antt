@@ -14,15 +14,15 @@ use Rattle.grammar.proofs.StartLaw.{starts_then, starts_byte, starts_choose, sta
 use Rattle.grammar.proofs.TableLaw.{lawful_any_case}
 use Rattle.grammar.proofs.ToolLaws.{good_behind}
 use Rattle.grammar.proofs.WordLaw.{good_word}
-use Rattle.mur_model.specs.declared.command.Command.{Command}
-use Rattle.mur_model.specs.declared.command.Command.TheVariants as command
+use Rattle.imap_types.specs.declared.command.Command.{Command}
+use Rattle.imap_types.specs.declared.command.Command.TheVariants as command
 use Rattle.imap_command.specs.LeftOut.{left_out_names, to_the_end, left_out}
 use Rattle.imap_command.specs.Spells.{known, command_text}
-use Rattle.imap_command.specs.Strings.{crlf_part}
+use Rattle.imap_text.specs.Strings.{crlf_part}
 use Rattle.imap_command.specs.Verbs.{is_uid}
 use Rattle.imap_command.proofs.ArgumentsLaw.{ends_atom, ends_line, line_ends_atom}
 use Rattle.imap_command.proofs.KnownLaw.{BeginsWith, begins_by, known_begins, known_names, starts_crlf}
-use Rattle.imap_command.proofs.StringsLaw.{good_crlf}
+use Rattle.imap_text.proofs.StringsLaw.{good_crlf}
 
 lawful_names : Lawful (any_case left_out_names)
 lawful_names = lawful_any_case left_out_names refl

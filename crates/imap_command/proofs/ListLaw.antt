@@ -12,13 +12,13 @@ use Rattle.grammar.proofs.RepetitionLaw.{begins_any}
 use Rattle.grammar.proofs.RunLaw.{lawful_run, apart_run}
 use Rattle.grammar.proofs.StartLaw.{starts_word, without_from}
 use Rattle.grammar.proofs.WordLaw.{good_word}
-use Rattle.imap_command.specs.Characters.{is_astring_char, is_char8}
+use Rattle.imap_text.specs.Characters.{is_astring_char, is_char8}
 use Rattle.imap_command.specs.List.{is_list_char, list_mailbox, pattern, list}
-use Rattle.imap_command.specs.Strings.{astring, string, argument, IsString, astring_text}
+use Rattle.imap_text.specs.Strings.{astring, string, argument, IsString, astring_text}
 use Rattle.imap_command.proofs.ArgumentsLaw.{ends_atom, ends_line, law_argument, arguments_behind}
-use Rattle.imap_command.proofs.StringsHold.{HasNoNul, all_char8, atom_char8, only_string}
-use Rattle.imap_command.proofs.StringsLaw.{string_starts, starts_string, good_string}
-use Rattle.imap_command.proofs.StringsPrinted.{spell_astring}
+use Rattle.imap_text.proofs.StringsHold.{HasNoNul, all_char8, atom_char8, only_string}
+use Rattle.imap_text.proofs.StringsLaw.{string_starts, starts_string, good_string}
+use Rattle.imap_text.proofs.StringsPrinted.{spell_astring}
 
 list_char8 : HasNoNul is_list_char
 unfolding is_list_char is_char8

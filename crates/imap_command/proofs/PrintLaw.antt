@@ -3,11 +3,12 @@ use Rattle.std.proofs.Common.{refl, sym, subst}
 use Rattle.grammar.specs.Part.{map}
 use Rattle.grammar.specs.Words.{word}
 use Rattle.grammar.proofs.Spelling.{spell_sp, spell_map}
-use Rattle.imap_command.specs.Print.{tag_text, printed}
+use Rattle.imap_command.specs.Print.{printed}
 use Rattle.imap_command.specs.Spells.{tags, commands, tagged_command, Spells, IsSpelled}
-use Rattle.mur_model.specs.declared.command.Command.{Command}
-use Rattle.mur_model.specs.declared.command.Tag.{Tag}
-use Rattle.mur_model.specs.declared.command.Tag.TheVariants.{Text}
+use Rattle.imap_text.specs.Tags.{tag_text}
+use Rattle.imap_types.specs.declared.command.Command.{Command}
+use Rattle.imap_types.specs.declared.command.Tag.{Tag}
+use Rattle.imap_types.specs.declared.command.Tag.TheVariants.{Text}
 use Rattle.imap_command.proofs.SpellsLaw.{law_commands}
 
 pub spell_printed : (tag : Tag) (it : Command) → IsSpelled tag it → Spells (printed tag it) (tag, it)

@@ -4,9 +4,9 @@ use Rattle.grammar.specs.Exact.{whole_at}
 use Rattle.grammar.specs.Part.{starts}
 use Rattle.grammar.specs.Words.{scan}
 use Rattle.grammar.proofs.Reading.{ok_parts}
-use Rattle.mur_model.specs.declared.command.Command.{Command}
-use Rattle.mur_model.specs.declared.command.Tag.{Tag}
-use Rattle.mur_model.specs.declared.command.Tag.TheVariants.{Text}
+use Rattle.imap_types.specs.declared.command.Command.{Command}
+use Rattle.imap_types.specs.declared.command.Tag.{Tag}
+use Rattle.imap_types.specs.declared.command.Tag.TheVariants.{Text}
 use Rattle.imap_command.specs.Bad.{IsFirstTag}
 use Rattle.imap_command.specs.Request.{is_space, tag_before, tag_in, first_tag, request_by, request_of, too_big_request, IsRequest, IsTooBig}
 use Rattle.imap_command.specs.Request.IsRequest.{spells, spells_nothing}

@@ -13,9 +13,9 @@ use Rattle.mail_message.specs.FlagSets.{Flags, HasRuledKeywords, no_flags}
 use Rattle.mail_message.specs.Keywords.{keyword_fault}
 use Rattle.mail_message.specs.declared.mode.Mode.{Mode}
 use Rattle.mail_message.specs.declared.set.SetPart.{SetPart}
-use Rattle.mur_model.specs.declared.command.Command.{Command}
-use Rattle.mur_model.specs.declared.command.Command.TheVariants as command
-use Rattle.mur_model.specs.declared.command.Tag.{Tag}
+use Rattle.imap_types.specs.declared.command.Command.{Command}
+use Rattle.imap_types.specs.declared.command.Command.TheVariants as command
+use Rattle.imap_types.specs.declared.command.Tag.{Tag}
 use Rattle.imap_command.specs.declared.verb.Verb.{Verb}
 use Rattle.imap_command.specs.declared.verb.Verb.TheVariants as verb
 use Rattle.imap_command.specs.declared.verb.MailboxVerb.{MailboxVerb}
@@ -23,7 +23,7 @@ use Rattle.imap_command.specs.declared.verb.MailboxVerb.TheVariants as mailbox_v
 use Rattle.imap_command.specs.declared.verb.UidVerb.{UidVerb}
 use Rattle.imap_command.specs.declared.verb.UidVerb.TheVariants as uid
 use Rattle.imap_command.specs.Append.{Dated, append, dated, flagged, with_date, without_date, without_flags}
-use Rattle.imap_command.specs.Characters.{is_char8}
+use Rattle.imap_text.specs.Characters.{is_char8}
 use Rattle.imap_command.specs.Commands.{arguments, mailbox_command, uid_arguments}
 use Rattle.imap_command.specs.Date.{date_time}
 use Rattle.imap_command.specs.Flags.{any_keyword, flag_list, flag_list_part, store_flags, store_flags_part}
@@ -31,7 +31,7 @@ use Rattle.imap_command.specs.Ruled.{IsDate, IsRuled}
 use Rattle.imap_command.specs.Spells.{Spells, commands, line, tagged_command}
 use Rattle.imap_command.specs.Sets.{set}
 use Rattle.imap_command.specs.Store.{store, store_mode}
-use Rattle.imap_command.specs.Strings.{argument, literal, message}
+use Rattle.imap_text.specs.Strings.{argument, literal, message}
 use Rattle.imap_command.proofs.FlagSteps.{no_fault}
 use Rattle.imap_command.proofs.FlagsPrinted.{IsKept, only_list, only_store}
 

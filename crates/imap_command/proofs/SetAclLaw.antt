@@ -5,7 +5,7 @@ use Rattle.grammar.specs.Forms.{Law, ◌spaced◌}
 use Rattle.grammar.proofs.FormLaw.{law_made, law_spaced}
 use Rattle.mail_message.specs.declared.mode.Mode.TheVariants.{Replace, Add, Remove}
 use Rattle.imap_command.specs.SetAcl.{rights_of, signed, mod_rights, set_acl}
-use Rattle.imap_command.specs.Strings.{argument, astring_text}
+use Rattle.imap_text.specs.Strings.{argument, astring_text}
 use Rattle.imap_command.proofs.ArgumentsLaw.{ends_atom, ends_line, law_argument, arguments_behind}
 
 -- a sign and the rights behind it are what was there

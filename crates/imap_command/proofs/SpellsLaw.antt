@@ -10,13 +10,13 @@ use Rattle.grammar.proofs.SequenceLaw.{good_map, exact_whole}
 use Rattle.grammar.proofs.WordLaw.{good_word}
 use Rattle.grammar.proofs.RunLaw.{lawful_run_upto, apart_run_upto}
 use Rattle.grammar.proofs.ToolLaws.{good_sp}
-use Rattle.imap_command.specs.Characters.{is_tag_byte}
+use Rattle.imap_text.specs.Characters.{is_tag_byte}
 use Rattle.imap_command.specs.LeftOut.{left_out}
 use Rattle.imap_command.specs.Spells.{tags, known, command_text, commands, tagged_command, Spells}
-use Rattle.mur_model.specs.declared.command.Command.{Command}
-use Rattle.mur_model.specs.declared.command.Command.TheVariants as command
-use Rattle.mur_model.specs.declared.command.Tag.{Tag}
-use Rattle.mur_model.specs.declared.command.Tag.TheVariants.{Text}
+use Rattle.imap_types.specs.declared.command.Command.{Command}
+use Rattle.imap_types.specs.declared.command.Command.TheVariants as command
+use Rattle.imap_types.specs.declared.command.Tag.{Tag}
+use Rattle.imap_types.specs.declared.command.Tag.TheVariants.{Text}
 use Rattle.imap_command.proofs.KnownLaw.{law_known, not_known}
 use Rattle.imap_command.proofs.LeftOutLaw.{good_left_out, known_apart, left_out_text}
 

@@ -5,7 +5,7 @@ use Rattle.grammar.specs.Forms.{Form, behind, ◌spaced◌, made, choice}
 use Rattle.mail_message.specs.FlagSets.{Flags, no_flags}
 use Rattle.imap_command.specs.Date.{date_time}
 use Rattle.imap_command.specs.Flags.{flag_list, flags_text}
-use Rattle.imap_command.specs.Strings.{argument, message}
+use Rattle.imap_text.specs.Strings.{argument, message}
 
 -- a message with its date, where one is given
 abbrev pub Dated : Type 0

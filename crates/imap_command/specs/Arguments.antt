@@ -2,7 +2,7 @@
 use Rattle.std.specs.Prelude.{ℕ, List, Option}
 use Rattle.mur_base.specs.Ascii.{space}
 use Rattle.grammar.specs.Forms.{Form, behind, maybe, ◌spaced◌}
-use Rattle.imap_command.specs.Strings.{argument}
+use Rattle.imap_text.specs.Strings.{argument}
 
 -- SP mailbox
 abbrev pub one_string : Form (List ℕ)

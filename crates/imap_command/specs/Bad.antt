@@ -1,9 +1,9 @@
 -- What is told of a frame that spells no command.
 use Rattle.std.specs.Prelude.{◌≡◌, ℕ, ◌<◌, ◌≤◌, List, ◌∷◌, ◌++◌, length, take, Option, None, Some, true}
 use Rattle.mur_base.specs.Ascii.{space}
-use Rattle.mur_model.specs.declared.command.Tag.{Tag}
-use Rattle.mur_model.specs.declared.command.Tag.TheVariants.{Text}
-use Rattle.mur_model.specs.declared.command.Command.{Command}
+use Rattle.imap_types.specs.declared.command.Tag.{Tag}
+use Rattle.imap_types.specs.declared.command.Tag.TheVariants.{Text}
+use Rattle.imap_types.specs.declared.command.Command.{Command}
 use Rattle.imap_command.specs.declared.fault.Bad.{Bad}
 use Rattle.imap_command.specs.Spells.{Spells, tags}
 

@@ -3,8 +3,8 @@ use Rattle.std.specs.Prelude.{ℕ, Bool, true, false, List, [], ◌∷◌, ◌++
 use Rattle.mur_base.specs.Ascii.{space}
 use Rattle.grammar.specs.Forms.{Form, ◌and◌, behind, constant, dispatch, made, several, ◌spaced◌}
 use Rattle.mail_message.specs.declared.set.SetPart.{SetPart}
-use Rattle.mur_model.specs.declared.command.Command.{Command}
-use Rattle.mur_model.specs.declared.command.Command.TheVariants as command
+use Rattle.imap_types.specs.declared.command.Command.{Command}
+use Rattle.imap_types.specs.declared.command.Command.TheVariants as command
 use Rattle.imap_command.specs.declared.verb.Verb.{Verb}
 use Rattle.imap_command.specs.declared.verb.Verb.TheVariants as verb
 use Rattle.imap_command.specs.declared.verb.MailboxVerb.{MailboxVerb}
@@ -21,7 +21,7 @@ use Rattle.imap_command.specs.SetAcl.{set_acl}
 use Rattle.imap_command.specs.Sets.{set}
 use Rattle.imap_command.specs.Status.{status}
 use Rattle.imap_command.specs.Store.{store}
-use Rattle.imap_command.specs.Strings.{argument, atom}
+use Rattle.imap_text.specs.Strings.{argument, atom}
 use Rattle.imap_command.specs.Verbs.{is_uid, name_text, uid_verb_form, uid_verb_of, uid_name_text}
 
 -- SP sequence-set SP mailbox

@@ -8,6 +8,7 @@ use Rattle.grammar.specs.Members.{members}
 use Rattle.grammar.specs.Part.{Part, ◌then◌, byte, choose, map, repeat, spaced}
 use Rattle.grammar.specs.Runs.{run_upto}
 use Rattle.grammar.specs.Words.{Words, word}
+use Rattle.imap_text.specs.FlagNames.{system_text}
 use Rattle.mail_message.specs.FlagSets.{Flags, no_flags, with_flag, has_too_many}
 use Rattle.mail_message.specs.declared.flag_name.FlagName.{FlagName}
 use Rattle.mail_message.specs.declared.flag_name.FlagName.TheVariants.{System, Keyword}
@@ -18,13 +19,6 @@ use Rattle.mail_message.specs.Keywords.{is_atom_byte}
 
 abbrev pub system_rows : List (Row SystemFlag)
 system_rows = (codes "Answered", Answered) ∷ (codes "Flagged", Flagged) ∷ (codes "Deleted", Deleted) ∷ (codes "Seen", Seen) ∷ (codes "Draft", Draft) ∷ []
-
-unfoldable pub system_text : SystemFlag → List ℕ
-system_text Answered = codes "Answered"
-system_text Flagged = codes "Flagged"
-system_text Deleted = codes "Deleted"
-system_text Seen = codes "Seen"
-system_text Draft = codes "Draft"
 
 -- a system flag, behind its backslash
 abbrev pub system_flag : Form SystemFlag

@@ -1,11 +1,11 @@
 -- search-key (RFC 9051, 6.4.4 and 9): how each key is spelled and printed, to the depth to which keys nest.
 use Rattle.std.specs.Prelude.{ℕ, zero, suc, true, ◌==◌, List, [], ◌∷◌, ◌++◌, map, codes}
-use Rattle.mur_base.specs.Ascii.{space, open_paren, close_paren, backslash}
+use Rattle.mur_base.specs.Ascii.{space, open_paren, close_paren}
 use Rattle.grammar.specs.Forms.{Form, Row, as_it_stands, behind, closed, made, numeral, one_more, several, ◌spaced◌, table, list_text}
 use Rattle.grammar.specs.Nested.{nested, told}
 use Rattle.grammar.specs.Part.{Part, choose, give, map as map_part, repeat}
 use Rattle.mail_message.specs.declared.flag_name.FlagName.{FlagName}
-use Rattle.mail_message.specs.declared.flag_name.FlagName.TheVariants.{System, Keyword}
+use Rattle.mail_message.specs.declared.flag_name.FlagName.TheVariants.{Keyword}
 use Rattle.mail_message.specs.declared.key.Key.{Key}
 use Rattle.mail_message.specs.declared.key.Key.TheVariants as key_is
 use Rattle.mail_message.specs.declared.key.Key.TheOpen.{Key-F}
@@ -16,15 +16,11 @@ use Rattle.imap_command.specs.declared.keys.KeyName.{KeyName}
 use Rattle.imap_command.specs.declared.keys.KeyName.TheVariants as deep
 use Rattle.imap_command.specs.Dates.{date}
 use Rattle.imap_command.specs.Fetch.{number64_most}
-use Rattle.imap_command.specs.Flags.{any_keyword, system_text}
+use Rattle.imap_command.specs.Flags.{any_keyword}
+use Rattle.imap_text.specs.FlagNames.{flag_text}
 use Rattle.imap_command.specs.Sets.{is_set_start, set}
 
--- how a flag is printed; no key is spelled with a system flag
-abbrev pub flag_text : FlagName → List ℕ
-flag_text (System flag) = backslash ∷ system_text flag
-flag_text (Keyword keyword) = keyword
-
--- flag-keyword
+-- flag-keyword; no key is spelled with a system flag
 abbrev pub keyword : Form FlagName
 keyword = made Keyword flag_text (as_it_stands any_keyword)
 

@@ -6,9 +6,9 @@ use Rattle.grammar.specs.Ends.{all_before}
 use Rattle.grammar.specs.Part.{Part, ◌then◌, map, byte, choose}
 use Rattle.grammar.specs.Tables.{any_case}
 use Rattle.grammar.specs.Words.{word}
-use Rattle.mur_model.specs.declared.command.Command.{Command}
-use Rattle.mur_model.specs.declared.command.Command.TheVariants as command
-use Rattle.imap_command.specs.Strings.{crlf_part}
+use Rattle.imap_types.specs.declared.command.Command.{Command}
+use Rattle.imap_types.specs.declared.command.Command.TheVariants as command
+use Rattle.imap_text.specs.Strings.{crlf_part}
 
 abbrev pub left_out_names : List (List ℕ)
 left_out_names =

@@ -1,7 +1,6 @@
 pub mod Append
 pub mod Arguments
 pub mod Bad
-pub mod Characters
 pub mod Commands
 pub mod Date
 pub mod Print
@@ -10,8 +9,6 @@ pub mod Ruled
 pub mod Sets
 pub mod Spells
 pub mod Status
-pub mod Strings
-pub mod Utf8
 pub mod Verbs
 pub mod LeftOut
 pub mod List

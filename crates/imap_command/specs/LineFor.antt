@@ -1,9 +1,9 @@
 -- A line of a client, and the command that it is.
 use Rattle.std.specs.Prelude.{◌≡◌, ℕ, List, ◌++◌, codes}
 use Rattle.mur_base.specs.Ascii.{crlf}
-use Rattle.mur_model.specs.declared.command.Command.{Command}
-use Rattle.mur_model.specs.declared.command.Tag.TheVariants.{Text}
-use Rattle.mur_model.specs.declared.request.Request.TheVariants.{Command as a_command}
+use Rattle.imap_types.specs.declared.command.Command.{Command}
+use Rattle.imap_types.specs.declared.command.Tag.TheVariants.{Text}
+use Rattle.imap_types.specs.declared.request.Request.TheVariants.{Command as a_command}
 use Rattle.imap_command.specs.Request.{request_of}
 
 -- behind the tag `a` and a space, and before CRLF

@@ -5,8 +5,8 @@ use Rattle.grammar.specs.Forms.{Form, behind, ◌spaced◌}
 use Rattle.grammar.specs.Part.{Part, choose}
 use Rattle.grammar.specs.Runs.{run}
 use Rattle.grammar.specs.Words.{word}
-use Rattle.imap_command.specs.Characters.{is_astring_char}
-use Rattle.imap_command.specs.Strings.{argument, string, astring_text}
+use Rattle.imap_text.specs.Characters.{is_astring_char}
+use Rattle.imap_text.specs.Strings.{argument, string, astring_text}
 
 -- list-char = ATOM-CHAR / list-wildcards / resp-specials
 unfoldable pub is_list_char : ℕ → Bool

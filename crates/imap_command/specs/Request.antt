@@ -5,11 +5,11 @@ use Rattle.mur_base.specs.Ascii.{space}
 use Rattle.grammar.specs.Exact.{whole_at}
 use Rattle.grammar.specs.Part.{starts}
 use Rattle.grammar.specs.Words.{scan}
-use Rattle.mur_model.specs.declared.command.Command.{Command}
-use Rattle.mur_model.specs.declared.command.Tag.{Tag}
-use Rattle.mur_model.specs.declared.command.Tag.TheVariants.{Star, Text}
-use Rattle.mur_model.specs.declared.request.Request.{Request}
-use Rattle.mur_model.specs.declared.request.Request.TheVariants.{Command as a_command, Unknown as unknown, TooBig as too_big}
+use Rattle.imap_types.specs.declared.command.Command.{Command}
+use Rattle.imap_types.specs.declared.command.Tag.{Tag}
+use Rattle.imap_types.specs.declared.command.Tag.TheVariants.{Star, Text}
+use Rattle.imap_types.specs.declared.request.Request.{Request}
+use Rattle.imap_types.specs.declared.request.Request.TheVariants.{Command as a_command, Unknown as unknown, TooBig as too_big}
 use Rattle.imap_command.specs.Bad.{IsFirstTag}
 use Rattle.imap_command.specs.Spells.{Spells, tags, tagged_command}
 

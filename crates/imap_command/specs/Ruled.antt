@@ -3,8 +3,8 @@
 use Rattle.std.specs.Prelude.{◌≡◌, ℕ, ◌<◌, ⊤, true, List, length, IfSome}
 use Rattle.mail_message.specs.Date.{is_date}
 use Rattle.mail_message.specs.FlagSets.{HasRuledKeywords}
-use Rattle.mur_model.specs.declared.command.Command.{Command}
-use Rattle.mur_model.specs.declared.command.Command.TheVariants.{Append, Store}
+use Rattle.imap_types.specs.declared.command.Command.{Command}
+use Rattle.imap_types.specs.declared.command.Command.TheVariants.{Append, Store}
 
 abbrev pub IsDate : List ℕ → Type 0
 IsDate date = is_date date ≡ true

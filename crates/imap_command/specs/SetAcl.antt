@@ -4,7 +4,7 @@ use Rattle.mur_base.specs.Ascii.{space, plus, dash}
 use Rattle.grammar.specs.Forms.{Form, behind, made, ◌spaced◌}
 use Rattle.mail_message.specs.declared.mode.Mode.{Mode}
 use Rattle.mail_message.specs.declared.mode.Mode.TheVariants.{Replace, Add, Remove}
-use Rattle.imap_command.specs.Strings.{argument, astring_text}
+use Rattle.imap_text.specs.Strings.{argument, astring_text}
 
 -- mod-rights = ["+" / "-"] rights
 abbrev pub rights_of : List ℕ → Mode × List ℕ

@@ -6,15 +6,15 @@ use Rattle.grammar.specs.Part.{Part, ◌then◌, ◌sp◌, map}
 use Rattle.grammar.specs.Forms.{Form, dispatch}
 use Rattle.grammar.specs.Words.{word, Words}
 use Rattle.grammar.specs.Runs.{run_upto}
-use Rattle.imap_command.specs.Characters.{is_tag_byte}
+use Rattle.imap_text.specs.Characters.{is_tag_byte}
 use Rattle.imap_command.specs.Commands.{arguments, verb_of}
 use Rattle.imap_command.specs.LeftOut.{left_out}
-use Rattle.imap_command.specs.Strings.{crlf_part}
+use Rattle.imap_text.specs.Strings.{crlf_part}
 use Rattle.imap_command.specs.Verbs.{verb_form}
-use Rattle.mur_model.specs.declared.command.Tag.{Tag}
-use Rattle.mur_model.specs.declared.command.Tag.TheVariants.{Text}
-use Rattle.mur_model.specs.declared.command.Command.{Command}
-use Rattle.mur_model.specs.declared.command.Command.TheVariants as command
+use Rattle.imap_types.specs.declared.command.Tag.{Tag}
+use Rattle.imap_types.specs.declared.command.Tag.TheVariants.{Text}
+use Rattle.imap_types.specs.declared.command.Command.{Command}
+use Rattle.imap_types.specs.declared.command.Command.TheVariants as command
 
 -- tag = 1*<any ASTRING-CHAR except "+">, of at most 32 bytes
 abbrev pub tags : Words

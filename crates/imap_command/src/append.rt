@@ -5,8 +5,8 @@ ghost use Rattle.imap_command.specs.Append.{dated, dated_text, flagged, append};
 
 use crate::date::{date_named, date_time_of, put_date_time};
 use crate::flags::{flag_list_of, put_flags};
-use crate::strings::{astring_of, literal_of, put_astring, put_literal};
 use grammar::{Only, ReadError, begins, byte_of};
+use imap_text::{astring_of, literal_of, put_astring, put_literal};
 use mail_message::{DateText, FlagSet};
 use mur_base::{Bytes, Memory};
 use std::alloc::Global;

@@ -3,8 +3,8 @@ ghost use Rattle.std.specs.Prelude.{◌≡◌, ◌++◌, OnOk};
 ghost use Rattle.grammar.specs.Gives.{Gives};
 ghost use Rattle.imap_command.specs.Arguments.{one_string, two_strings, optional_string};
 
-use crate::strings::{astring_of, put_astring};
 use grammar::{Only, ReadError, begins, byte_of};
+use imap_text::{astring_of, put_astring};
 use mur_base::{Bytes, Memory};
 use std::alloc::Global;
 

@@ -13,11 +13,11 @@ use crate::set_acl::set_acl_of;
 use crate::sets::set_of;
 use crate::status::status_of;
 use crate::store::store_of;
-use crate::strings::Atom;
 use crate::verb::{MailboxVerb, UID_VERBS, UidVerb, Verb};
 use grammar::{ReadError, byte_of, several_of, table_of};
+use imap_text::Atom;
+use imap_types::Command;
 use mur_base::Bytes;
-use mur_model::Command;
 use std::alloc::Global;
 
 #[tactic(auto, unfolding(crate::specs::Commands::arguments))]

@@ -2,8 +2,8 @@
 ghost use Rattle.std.specs.Prelude.{◌≡◌};
 ghost use Rattle.imap_command.specs.declared.fault.ReadFault.TheVariants.{Memory as OutOfMemory};
 
+use imap_types::Tag;
 use mur_base::Memory;
-use mur_model::Tag;
 use std::fmt;
 use thiserror::Error;
 

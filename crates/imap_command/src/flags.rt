@@ -1,19 +1,19 @@
 // Flags (RFC 9051, 9: flag-list).
-ghost use Rattle.std.specs.Prelude.{◌≡◌, ◌==◌, ◌∷◌, ◌++◌, true, OnOk, IfOk, map};
+ghost use Rattle.std.specs.Prelude.{◌≡◌, ◌==◌, ◌++◌, true, OnOk, IfOk, map};
 ghost use Rattle.std.specs.List.{list_all};
-ghost use Rattle.mur_base.specs.Ascii.{backslash, space};
+ghost use Rattle.mur_base.specs.Ascii.{space};
 ghost use Rattle.grammar.specs.Forms.{more_text, list_text};
 ghost use Rattle.grammar.specs.Gives.{Finds, Gives};
 ghost use Rattle.grammar.specs.Words.{word};
 ghost use Rattle.mail_message.specs.Keywords.{is_atom_byte};
-ghost use Rattle.imap_command.specs.Flags.{system_flag, system_text, any_keyword, is_full, keywords_beside, put_flag, flag, some_flags, flag_list_part};
+ghost use Rattle.imap_command.specs.Flags.{system_flag, any_keyword, is_full, keywords_beside, put_flag, flag, some_flags, flag_list_part};
 ghost use Rattle.imap_command.specs.Flags.{store_flags_part, text_if, system_texts, flags_text};
 
-use crate::strings::are_all;
 use grammar::{
     Class, Members, Only, ReadError, RunUpTo, Stop, Turn, begins, byte_of, repeated_of, table_of,
     word_of,
 };
+use imap_text::{are_all, system_name};
 use mail_message::{FlagFault, FlagName, FlagSet, Keyword, Keywords, SystemFlag, SystemFlags};
 use mur_base::limits::{KEYWORD_LIMIT, MESSAGE_KEYWORD_LIMIT};
 use mur_base::{Bytes, Items, Memory, NameFault};
@@ -239,20 +239,6 @@ pub fn store_flags_of(alloc: Global, bytes: &[u8]) -> Result<(FlagSet, &[u8]), R
         flag_list_of(alloc, bytes)
     } else {
         some_flags_of(alloc, bytes)
-    }
-}
-
-/// The name of a system flag, with its backslash.
-#[tactic(auto, unfolding(crate::specs::Flags::system_text))]
-pub fn system_name(flag: SystemFlag) -> &'static [u8]
-    ensures { result.now ≡ backslash ∷ system_text flag }
-{
-    match flag {
-        SystemFlag::Answered => b"\\Answered",
-        SystemFlag::Flagged => b"\\Flagged",
-        SystemFlag::Deleted => b"\\Deleted",
-        SystemFlag::Seen => b"\\Seen",
-        SystemFlag::Draft => b"\\Draft",
     }
 }
 

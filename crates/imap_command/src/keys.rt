@@ -9,10 +9,11 @@ ghost use Rattle.imap_command.specs.Keys.{more_keys, keys, separator};
 ghost use Rattle.imap_command.specs.Sets.{set as set_form};
 
 use crate::dates::{date_of, put_date};
-use crate::flags::{lone_keyword_of, system_name};
+use crate::flags::lone_keyword_of;
 use crate::items::NUMBER64_MOST;
 use crate::sets::{SetStart, put_set, set_of};
 use grammar::{Only, ReadError, Stop, begins, byte_of, number_of, put_decimal, table_of};
+use imap_text::put_flag;
 use mail_message::{Day, FlagName, Key, Keys, SetParts};
 use mur_base::{Boxed, Bytes, Memory};
 use std::alloc::Global;
@@ -315,15 +316,12 @@ fn next_key_of(
 
 /// Prints the name of a key, and a flag behind a space.
 #[tactic(auto, using(std::proofs::lemmas::Grind::common_steps))]
-fn put_flag(name: &[u8], flag: &FlagName, out: &mut Bytes) -> Result<(), Memory>
+fn put_keyword(name: &[u8], flag: &FlagName, out: &mut Bytes) -> Result<(), Memory>
     ensures { OnOk result (out.new ≡ out.old ++ (name.now ++ (behind space keyword).text flag.now)) }
 {
     out.extend_from_slice(name)?;
     out.push(b' ')?;
-    match flag {
-        FlagName::System(flag) => out.extend_from_slice(system_name(*flag)),
-        FlagName::Keyword(keyword) => out.extend_from_slice(keyword.as_bytes()),
-    }
+    put_flag(flag, out)
 }
 
 #[tactic(auto, using(std::proofs::lemmas::Grind::common_steps))]
@@ -370,8 +368,8 @@ fn put_key(key: &Key, out: &mut Bytes) -> Result<(), Memory>
         Key::Undraft => out.extend_from_slice(b"UNDRAFT"),
         Key::Unflagged => out.extend_from_slice(b"UNFLAGGED"),
         Key::Unseen => out.extend_from_slice(b"UNSEEN"),
-        Key::Keyword(flag) => put_flag(b"KEYWORD", flag, out),
-        Key::Unkeyword(flag) => put_flag(b"UNKEYWORD", flag, out),
+        Key::Keyword(flag) => put_keyword(b"KEYWORD", flag, out),
+        Key::Unkeyword(flag) => put_keyword(b"UNKEYWORD", flag, out),
         Key::Larger(size) => put_size(b"LARGER", *size, out),
         Key::Smaller(size) => put_size(b"SMALLER", *size, out),
         Key::Before(day) => put_day(b"BEFORE", *day, out),

@@ -9,12 +9,12 @@ ghost use Rattle.mail_message.specs.declared.mode.Mode.TheVariants.{Replace, Add
 ghost use Rattle.mail_message.specs.declared.set.SetEnd.TheVariants.{Number, Last};
 ghost use Rattle.mail_message.specs.declared.set.SetPart.TheVariants.{One, Range};
 ghost use Rattle.mail_message.specs.declared.system_flags.SystemFlag.TheVariants.{Seen};
-ghost use Rattle.mur_model.specs.declared.command.Command.TheVariants.{Append, List as ListNames, Authenticate, Capability, Close, Copy, Create, Delete};
-ghost use Rattle.mur_model.specs.declared.command.Command.TheVariants.{Enable, Examine, Expunge, Fetch, Idle, LeftOut, Login, Logout, Noop, Search};
-ghost use Rattle.mur_model.specs.declared.command.Command.TheVariants.{Select, Status, Store, Unselect, Xfer};
-ghost use Rattle.mur_model.specs.declared.command.StatusItem.TheVariants.{Messages, UidNext};
-ghost use Rattle.mur_model.specs.declared.command.Tag.TheVariants.{Text};
-ghost use Rattle.mur_model.specs.declared.request.Request.TheVariants.{Unknown};
+ghost use Rattle.imap_types.specs.declared.command.Command.TheVariants.{Append, List as ListNames, Authenticate, Capability, Close, Copy, Create, Delete};
+ghost use Rattle.imap_types.specs.declared.command.Command.TheVariants.{Enable, Examine, Expunge, Fetch, Idle, LeftOut, Login, Logout, Noop, Search};
+ghost use Rattle.imap_types.specs.declared.command.Command.TheVariants.{Select, Status, Store, Unselect, Xfer};
+ghost use Rattle.imap_types.specs.declared.command.StatusItem.TheVariants.{Messages, UidNext};
+ghost use Rattle.imap_types.specs.declared.command.Tag.TheVariants.{Text};
+ghost use Rattle.imap_types.specs.declared.request.Request.TheVariants.{Unknown};
 ghost use Rattle.imap_command.specs.LineFor.{IsLineFor};
 ghost use Rattle.imap_command.specs.Request.{request_of};
 

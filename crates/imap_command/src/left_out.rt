@@ -2,10 +2,10 @@
 ghost use Rattle.grammar.specs.Gives.{Gives};
 ghost use Rattle.imap_command.specs.LeftOut.{left_out};
 
-use crate::strings::crlf_of;
 use grammar::{AnyCase, Only, ReadError, all_before, begins, byte_of, word_of};
+use imap_text::crlf_of;
+use imap_types::Command;
 use mur_base::Bytes;
-use mur_model::Command;
 use std::alloc::Global;
 
 /// Their names.

@@ -35,8 +35,6 @@ mod set_acl;
 mod sets;
 mod status;
 mod store;
-mod strings;
-mod utf8;
 mod verb;
 
 pub use fault::{Bad, ReadFault};
@@ -45,5 +43,3 @@ pub use printer::print;
 pub use reader::read;
 pub use request::{read_request, too_big};
 pub use round_trip::{a_frame_spells_one_command, reread};
-pub use status::put_item;
-pub use strings::{is_atom, put_quoted};

@@ -2,8 +2,8 @@
 ghost use Rattle.grammar.specs.Gives.{Gives};
 ghost use Rattle.imap_command.specs.List.{is_list_char, list_mailbox, list};
 
-use crate::strings::{AstringChar, astring_of, string_of};
 use grammar::{Class, ReadError, Run, begins, byte_of, word_of};
+use imap_text::{AstringChar, astring_of, string_of};
 use mur_base::Bytes;
 use std::alloc::Global;
 

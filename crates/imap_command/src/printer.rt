@@ -4,9 +4,9 @@ ghost use Rattle.mur_base.specs.Ascii.{space};
 ghost use Rattle.grammar.specs.Forms.{behind, several};
 ghost use Rattle.imap_command.specs.Commands.{arguments_text};
 ghost use Rattle.imap_command.specs.Sets.{set as set_form};
-ghost use Rattle.imap_command.specs.Strings.{atom};
+ghost use Rattle.imap_text.specs.Strings.{atom};
 ghost use Rattle.imap_command.specs.Spells.{Spells, IsSpelled, known, command_text};
-ghost use Rattle.imap_command.specs.Print.{tag_text, printed};
+ghost use Rattle.imap_command.specs.Print.{printed};
 
 use crate::append::put_append;
 use crate::arguments::{put_one_string, put_optional_string, put_two_strings};
@@ -17,12 +17,12 @@ use crate::set_acl::put_set_acl;
 use crate::sets::put_set;
 use crate::status::put_status;
 use crate::store::put_store;
-use crate::strings::Atom;
 use crate::verb::words_of;
 use grammar::put_several;
+use imap_text::{Atom, put_tag};
+use imap_types::{Atoms, Command, Tag};
 use mail_message::SetParts;
 use mur_base::{Bytes, Memory};
-use mur_model::{Atoms, Command, Tag};
 use std::alloc::Global;
 
 #[tactic(auto, using(std::proofs::lemmas::Grind::common_steps))]
@@ -111,17 +111,6 @@ fn put_command(alloc: Global, command: &Command, out: &mut Bytes) -> Result<(), 
             out.extend_from_slice(b"\r\n")
         }
         _ => put_known(alloc, command, out),
-    }
-}
-
-/// Prints a tag.
-#[tactic(auto, unfolding(crate::specs::Print::tag_text))]
-fn put_tag(tag: &Tag, out: &mut Bytes) -> Result<(), Memory>
-    ensures { OnOk result (out.new ≡ out.old ++ tag_text tag.now) }
-{
-    match tag {
-        Tag::Star => out.push(b'*'),
-        Tag::Text(text) => out.extend_from_slice(text.as_slice()),
     }
 }
 

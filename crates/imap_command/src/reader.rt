@@ -9,14 +9,14 @@ ghost use Rattle.imap_command.specs.Bad.{IsBad, IsFirstTag};
 use crate::commands::arguments_of;
 use crate::fault::{Bad, ReadFault};
 use crate::left_out::left_out_of;
-use crate::strings::crlf_of;
 use crate::verb::{VERBS, Verb};
 use grammar::{
     Class, Grammar, Only, ReadError, RunUpTo, Stop, begins, byte_of, ended, table_of, whole_of,
     word_of,
 };
+use imap_text::crlf_of;
+use imap_types::{Command, Tag};
 use mur_base::{Bytes, Memory};
-use mur_model::{Command, Tag};
 use std::alloc::Global;
 
 /// A byte of a tag.
@@ -24,11 +24,11 @@ use std::alloc::Global;
 struct TagByte;
 
 impl Class for TagByte {
-    ghost use Rattle.imap_command.specs.Characters.{is_tag_byte};
+    ghost use Rattle.imap_text.specs.Characters.{is_tag_byte};
 
     ghost test = { λ _. is_tag_byte };
 
-    #[tactic(auto, unfolding(crate::specs::Characters::is_tag_byte))]
+    #[tactic(auto, unfolding(imap_text::specs::Characters::is_tag_byte))]
     fn holds(&self, byte: u8) -> bool {
         byte.is_ascii_graphic()
             && !matches!(byte, b'(' | b')' | b'{' | b'%' | b'*' | b'"' | b'\\' | b'+')

@@ -4,8 +4,8 @@ ghost use Rattle.imap_command.specs.Request.{request_of, too_big_request, tag_or
 
 use crate::fault::ReadFault;
 use crate::reader::{first_tag, read};
+use imap_types::{Request, Tag};
 use mur_base::Memory;
-use mur_model::{Request, Tag};
 use std::alloc::Global;
 
 /// What a whole frame asks for: the command that it spells, or a refusal under its first word where that is a tag with a

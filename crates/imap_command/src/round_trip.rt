@@ -1,14 +1,14 @@
 // What a frame spells and what is printed: laws of the reader and the printer together.
 ghost use Rattle.std.specs.Prelude.{◌≡◌, ℕ, List, IfOk};
 ghost use Rattle.imap_command.specs.Spells.{Spells, IsSpelled};
-ghost use Rattle.mur_model.specs.declared.command.Command.{Command};
-ghost use Rattle.mur_model.specs.declared.command.Tag.{Tag};
+ghost use Rattle.imap_types.specs.declared.command.Command.{Command};
+ghost use Rattle.imap_types.specs.declared.command.Tag.{Tag};
 
 use crate::fault::ReadFault;
 use crate::printer::print;
 use crate::reader::read;
+use imap_types::{Command, Tag};
 use mur_base::Memory;
-use mur_model::{Command, Tag};
 use std::alloc::Global;
 
 /// No frame spells two commands, nor one under two tags.

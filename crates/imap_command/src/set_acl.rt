@@ -3,8 +3,8 @@ ghost use Rattle.std.specs.Prelude.{◌≡◌, ◌++◌, OnOk, IfOk};
 ghost use Rattle.grammar.specs.Gives.{Gives};
 ghost use Rattle.imap_command.specs.SetAcl.{rights_of, signed, mod_rights, set_acl};
 
-use crate::strings::{astring_of, put_astring};
 use grammar::{ReadError, byte_of};
+use imap_text::{astring_of, put_astring};
 use mail_message::Mode;
 use mur_base::{Bytes, Memory};
 use std::alloc::Global;

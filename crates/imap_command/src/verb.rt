@@ -2,7 +2,7 @@
 ghost use Rattle.std.specs.Prelude.{◌≡◌};
 ghost use Rattle.imap_command.specs.Commands.{words_text};
 
-use mur_model::Command;
+use imap_types::Command;
 
 /// What the first word of a command says.
 #[derive(Clone, Copy)]

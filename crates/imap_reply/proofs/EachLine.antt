@@ -8,14 +8,15 @@ use Rattle.mur_base.specs.Number.{is_digit}
 use Rattle.mail_message.specs.declared.flag_name.FlagName.{FlagName}
 use Rattle.mail_message.specs.declared.flag_name.FlagName.TheVariants.{System, Keyword}
 use Rattle.mail_message.specs.declared.system_flags.SystemFlag.TheVariants.{Answered, Flagged, Deleted, Seen, Draft}
-use Rattle.imap_command.specs.Status.{item_text}
-use Rattle.mur_model.specs.declared.command.StatusItem.{StatusItem}
-use Rattle.mur_model.specs.declared.command.StatusItem.TheVariants.{Messages, UidNext, UidValidity, Unseen, Deleted as deleted_item, Size}
-use Rattle.mur_model.specs.declared.reply.StatusCount.{StatusCount}
-use Rattle.mur_model.specs.declared.reply.Attribute.{Attribute}
-use Rattle.mur_model.specs.declared.reply.Attribute.TheVariants.{None as no_attribute, NoSelect, NonExistent}
-use Rattle.mur_model.specs.declared.reply.Bye as bye
-use Rattle.mur_model.specs.declared.reply.Bye.TheVariants.{Logout, Gone, Lost, LineTooLong, LiteralTooLong}
+use Rattle.imap_text.specs.FlagNames.{system_text, flag_text}
+use Rattle.imap_text.specs.StatusItems.{item_text}
+use Rattle.imap_types.specs.declared.command.StatusItem.{StatusItem}
+use Rattle.imap_types.specs.declared.command.StatusItem.TheVariants.{Messages, UidNext, UidValidity, Unseen, Deleted as deleted_item, Size}
+use Rattle.imap_types.specs.declared.reply.StatusCount.{StatusCount}
+use Rattle.imap_types.specs.declared.reply.Attribute.{Attribute}
+use Rattle.imap_types.specs.declared.reply.Attribute.TheVariants.{None as no_attribute, NoSelect, NonExistent}
+use Rattle.imap_types.specs.declared.reply.Bye as bye
+use Rattle.imap_types.specs.declared.reply.Bye.TheVariants.{Logout, Gone, Lost, LineTooLong, LiteralTooLong}
 use Rattle.mail_message.specs.Literals.{IsPlain, is_within}
 use Rattle.imap_reply.specs.Lines.{IsLine, after_text, after_byte}
 use Rattle.imap_reply.specs.SoundTexts.{IsSoundFlag}
@@ -24,7 +25,7 @@ use Rattle.imap_reply.specs.Capability.{capability_line}
 use Rattle.imap_reply.specs.Enabled.{enabled_line}
 use Rattle.imap_reply.specs.ExistsLine.{exists_line}
 use Rattle.imap_reply.specs.ExpungeLine.{expunge_line}
-use Rattle.imap_reply.specs.FlagsLine.{system_flag_text, flag_text, flags_text, flags_line}
+use Rattle.imap_reply.specs.FlagsLine.{flags_text, flags_line}
 use Rattle.imap_reply.specs.ListLine.{attribute_text, list_line}
 use Rattle.imap_reply.specs.Mailbox.{mailbox_text}
 use Rattle.imap_reply.specs.OkLines.{closed_line, new_keywords, permanent_texts, permanent_line, uid_next_line, uid_validity_line}
@@ -77,7 +78,7 @@ uid_validity_is_line serial = line_of (codes "* OK [UIDVALIDITY " ++ decimal ser
 -- flags
 
 flag_plain : (flag : FlagName) → IsSoundFlag flag → IsPlain (flag_text flag)
-unfolding flag_text system_flag_text IsSoundFlag
+unfolding system_text IsSoundFlag
 flag_plain (System Answered) sound = refl
 flag_plain (System Flagged) sound = refl
 flag_plain (System Deleted) sound = refl

@@ -1,4 +1,3 @@
-pub mod TranscriptGrows
 pub mod Joined
 pub mod SpacedLaws
 pub mod SetLaws
@@ -12,13 +11,3 @@ pub mod OneCut
 pub mod ReadParts
 pub mod VerdictLaws
 pub mod NoForgery
-pub mod TranscriptLaw
-pub mod PlainNames
-pub mod TurnLines
-pub mod AnswersEnd
-pub mod SoundStores
-pub mod SoundWorks
-pub mod SoundAnswers
-pub mod RequestsSound
-pub mod FrameSizes
-pub mod InputLaws

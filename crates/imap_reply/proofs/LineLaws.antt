@@ -8,7 +8,7 @@ use Rattle.std.specs.Prelude.{All}
 use Rattle.std.proofs.lemmas.List.Elements.{All-head, All-tail}
 use Rattle.mur_base.specs.Ascii.{crlf}
 use Rattle.mur_base.specs.Number.{is_digit}
-use Rattle.imap_command.specs.Strings.{escaped_text, quoted_text, is_atom}
+use Rattle.imap_text.specs.Strings.{escaped_text, quoted_text, is_atom}
 use Rattle.mail_message.specs.Literals.{IsPlain, literal, is_within, IsPart}
 use Rattle.imap_reply.specs.Lines.{Announcing, after_byte, after_text, is_announced, IsLine}
 use Rattle.imap_reply.specs.Lines.Announcing.{nothing}

@@ -6,8 +6,8 @@ use Rattle.std.proofs.lemmas.Bool.{and_parts}
 use Rattle.std.proofs.lemmas.List.Elements.{All-nil, All-cons, All-head, All-tail}
 use Rattle.mur_base.specs.Ascii.{crlf}
 use Rattle.mur_base.specs.Number.{is_digit}
-use Rattle.mur_model.specs.declared.command.Tag.{Tag}
-use Rattle.mur_model.specs.declared.command.Tag.TheVariants.{Star, Text}
+use Rattle.imap_types.specs.declared.command.Tag.{Tag}
+use Rattle.imap_types.specs.declared.command.Tag.TheVariants.{Star, Text}
 use Rattle.mail_message.specs.Literals.{IsPlain, IsPart, is_within}
 use Rattle.imap_reply.specs.Lines.{IsLine, is_announced, after_text, after_byte}
 use Rattle.imap_reply.specs.Lines.Announcing.{nothing}
@@ -17,7 +17,7 @@ use Rattle.imap_reply.specs.FetchLine.{fetch_line}
 use Rattle.imap_reply.specs.Mailbox.{mailbox_text}
 use Rattle.imap_reply.specs.SearchLine.{uid_text, all_text, search_line}
 use Rattle.imap_reply.specs.Spaced.{spaced}
-use Rattle.imap_reply.specs.Tags.{tag_text}
+use Rattle.imap_text.specs.Tags.{tag_text}
 use Rattle.mail_message.proofs.PlainTexts.{all_append, one_of}
 use Rattle.imap_reply.proofs.LineLaws.{line_of, fits_of, parts_fit, end_fits, mailbox_state, after_append, after_calm}
 use Rattle.imap_reply.proofs.Texts.{calm_plain, decimal_calm, set_calm, tag_calm, mailbox_calm, mailbox_plain}

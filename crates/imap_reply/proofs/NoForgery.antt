@@ -8,14 +8,14 @@ use Rattle.std.proofs.lemmas.Bool.Decides.{nat_tests}
 use Rattle.std.proofs.lemmas.List.{append-nil}
 use Rattle.std.proofs.lemmas.List.Folds.{concat-append}
 use Rattle.std.proofs.lemmas.List.Elements.{All-nil, All-cons, All-weaker, All-map, All-append}
-use Rattle.imap_command.specs.Characters.{is_tag_byte}
-use Rattle.mur_model.specs.declared.command.Tag.{Tag}
-use Rattle.mur_model.specs.declared.reply.Reply.{Reply}
-use Rattle.mur_model.specs.declared.reply.ReplyLine.{ReplyLine}
-use Rattle.mur_model.specs.declared.reply.ReplyLine.TheVariants.{Capability, Bye, Enabled, Closed, Flags, Exists, Listed, Permanent}
-use Rattle.mur_model.specs.declared.reply.ReplyLine.TheVariants.{UidNext, UidValidity, Status, Search, Expunge, Fetch, Acl, MyRights}
-use Rattle.mur_model.specs.declared.reply.Verdict.{Verdict}
-use Rattle.mur_model.specs.declared.reply.Verdict.TheVariants.{Nothing, Ok as ok_reply, No as no_reply, Bad as bad_reply}
+use Rattle.imap_text.specs.Characters.{is_tag_byte}
+use Rattle.imap_types.specs.declared.command.Tag.{Tag}
+use Rattle.imap_types.specs.declared.reply.Reply.{Reply}
+use Rattle.imap_types.specs.declared.reply.ReplyLine.{ReplyLine}
+use Rattle.imap_types.specs.declared.reply.ReplyLine.TheVariants.{Capability, Bye, Enabled, Closed, Flags, Exists, Listed, Permanent}
+use Rattle.imap_types.specs.declared.reply.ReplyLine.TheVariants.{UidNext, UidValidity, Status, Search, Expunge, Fetch, Acl, MyRights}
+use Rattle.imap_types.specs.declared.reply.Verdict.{Verdict}
+use Rattle.imap_types.specs.declared.reply.Verdict.TheVariants.{Nothing, Ok as ok_reply, No as no_reply, Bad as bad_reply}
 use Rattle.imap_reply.specs.Lines.{IsLine}
 use Rattle.imap_reply.specs.SoundTexts.{IsTag, IsSoundTag, IsSoundLine, IsSoundVerdict, IsSound}
 use Rattle.imap_reply.specs.ReadAsMeant.{begins_with, untagged_lines, last_line, meant_lines, IsReadAsMeant}

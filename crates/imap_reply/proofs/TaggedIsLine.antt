@@ -2,21 +2,21 @@
 use Rattle.std.proofs.Common.{◌≡◌, ℕ, false, List, [], ◌∷◌, ◌++◌, codes, decimal, refl, ap, subst, append_assoc}
 use Rattle.mur_base.specs.Ascii.{crlf}
 use Rattle.mur_base.specs.Number.{is_digit}
-use Rattle.mur_model.specs.declared.command.Tag.{Tag}
-use Rattle.mur_model.specs.declared.reply.Code.{Code}
-use Rattle.mur_model.specs.declared.reply.Code.TheVariants.{None as no_code, AppendUid, CopyUid, ExpungeIssued, ReadWrite, ReadOnly}
-use Rattle.mur_model.specs.declared.reply.NoText.{NoText}
-use Rattle.mur_model.specs.declared.reply.NoText.TheVariants.{AuthenticationFailed, AlreadyExists, NonExistent, TryCreate, NoPerm, Cannot, Limit}
-use Rattle.mur_model.specs.declared.reply.NoText.TheVariants.{BeingMoved, NotReached}
-use Rattle.mur_model.specs.declared.reply.BadText.{BadText}
-use Rattle.mur_model.specs.declared.reply.BadText.TheVariants.{Syntax, State, Message}
+use Rattle.imap_types.specs.declared.command.Tag.{Tag}
+use Rattle.imap_types.specs.declared.reply.Code.{Code}
+use Rattle.imap_types.specs.declared.reply.Code.TheVariants.{None as no_code, AppendUid, CopyUid, ExpungeIssued, ReadWrite, ReadOnly}
+use Rattle.imap_types.specs.declared.reply.NoText.{NoText}
+use Rattle.imap_types.specs.declared.reply.NoText.TheVariants.{AuthenticationFailed, AlreadyExists, NonExistent, TryCreate, NoPerm, Cannot, Limit}
+use Rattle.imap_types.specs.declared.reply.NoText.TheVariants.{BeingMoved, NotReached}
+use Rattle.imap_types.specs.declared.reply.BadText.{BadText}
+use Rattle.imap_types.specs.declared.reply.BadText.TheVariants.{Syntax, State, Message}
 use Rattle.mail_message.specs.Literals.{IsPlain, is_within}
 use Rattle.imap_reply.specs.Lines.{IsLine, is_announced, after_text, after_byte, Announcing}
 use Rattle.imap_reply.specs.Codes.{code_text}
 use Rattle.imap_reply.specs.Sets.{set_text}
 use Rattle.imap_reply.specs.SoundTexts.{IsSoundTag}
 use Rattle.imap_reply.specs.TaggedLine.{no_text, bad_text, ok_text, under}
-use Rattle.imap_reply.specs.Tags.{tag_text}
+use Rattle.imap_text.specs.Tags.{tag_text}
 use Rattle.imap_reply.proofs.LineLaws.{line_of, after_append}
 use Rattle.imap_reply.proofs.LongLines.{tag_plain}
 use Rattle.mail_message.proofs.PlainTexts.{decimal_plain, all_append}

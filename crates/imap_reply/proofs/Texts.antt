@@ -7,8 +7,8 @@ use Rattle.std.proofs.lemmas.Bool.{and_parts}
 use Rattle.std.proofs.lemmas.Bool.Decides.{nat_tests}
 use Rattle.std.proofs.lemmas.List.Elements.{All-head, All-tail}
 use Rattle.mur_base.specs.Number.{is_digit}
-use Rattle.imap_command.specs.Characters.{is_astring_char, is_atom_char, is_tag_byte, is_quoted_special}
-use Rattle.imap_command.specs.Strings.{escaped, escaped_text, quoted_text, is_atom}
+use Rattle.imap_text.specs.Characters.{is_astring_char, is_atom_char, is_tag_byte, is_quoted_special}
+use Rattle.imap_text.specs.Strings.{escaped, escaped_text, quoted_text, is_atom}
 use Rattle.mail_message.specs.Literals.{is_within, IsPlain}
 use Rattle.mail_message.proofs.PlainTexts.{all_append, all_weaker, one_of, decimal_digits}
 use Rattle.imap_reply.specs.Mailbox.{mailbox_text}

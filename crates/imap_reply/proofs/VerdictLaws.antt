@@ -4,17 +4,17 @@ use Rattle.std.specs.Prelude.{All}
 use Rattle.std.proofs.lemmas.Bool.Decides.{nat_tests}
 use Rattle.std.proofs.lemmas.List.{append_cancel_left}
 use Rattle.std.proofs.lemmas.List.Elements.{All-nil, All-cons}
-use Rattle.mur_model.specs.declared.command.Tag.{Tag}
-use Rattle.mur_model.specs.declared.reply.BadText.{BadText}
-use Rattle.mur_model.specs.declared.reply.Code.{Code}
-use Rattle.mur_model.specs.declared.reply.NoText.{NoText}
-use Rattle.mur_model.specs.declared.reply.NoText.TheVariants.{AuthenticationFailed, AlreadyExists, NonExistent, TryCreate, NoPerm, Cannot, Limit}
-use Rattle.mur_model.specs.declared.reply.NoText.TheVariants.{BeingMoved, NotReached}
-use Rattle.mur_model.specs.declared.reply.Verdict.{Verdict}
-use Rattle.mur_model.specs.declared.reply.Verdict.TheVariants.{Nothing, Ok as ok_reply, No as no_reply, Bad as bad_reply}
+use Rattle.imap_types.specs.declared.command.Tag.{Tag}
+use Rattle.imap_types.specs.declared.reply.BadText.{BadText}
+use Rattle.imap_types.specs.declared.reply.Code.{Code}
+use Rattle.imap_types.specs.declared.reply.NoText.{NoText}
+use Rattle.imap_types.specs.declared.reply.NoText.TheVariants.{AuthenticationFailed, AlreadyExists, NonExistent, TryCreate, NoPerm, Cannot, Limit}
+use Rattle.imap_types.specs.declared.reply.NoText.TheVariants.{BeingMoved, NotReached}
+use Rattle.imap_types.specs.declared.reply.Verdict.{Verdict}
+use Rattle.imap_types.specs.declared.reply.Verdict.TheVariants.{Nothing, Ok as ok_reply, No as no_reply, Bad as bad_reply}
 use Rattle.imap_reply.specs.ReadAsMeant.{begins_with, last_line}
 use Rattle.imap_reply.specs.TaggedLine.{tagged_line, under, ok_text, no_text, bad_text}
-use Rattle.imap_reply.specs.Tags.{tag_text}
+use Rattle.imap_text.specs.Tags.{tag_text}
 use Rattle.imap_reply.specs.VerdictBegins.{code_of, verdict_begins}
 
 -- what stands behind the tag, with the end of the line

@@ -1,9 +1,7 @@
 -- The line that says that a connection ends: with the reply that holds it, or at once where it stands alone (RFC 9051, 7.1.5).
 use Rattle.std.specs.Prelude.{ℕ, List, ◌++◌, codes}
-use Rattle.imap_wire.specs.declared.frame.FrameFault.{FrameFault}
-use Rattle.imap_wire.specs.declared.frame.FrameFault.TheVariants.{LineTooLong as line_fault, PlusTooLong as literal_fault}
-use Rattle.mur_model.specs.declared.reply.Bye.{Bye}
-use Rattle.mur_model.specs.declared.reply.Bye.TheVariants.{Logout, Gone, Lost, LineTooLong, LiteralTooLong}
+use Rattle.imap_types.specs.declared.reply.Bye.{Bye}
+use Rattle.imap_types.specs.declared.reply.Bye.TheVariants.{Logout, Gone, Lost, LineTooLong, LiteralTooLong}
 
 unfoldable pub bye_text : Bye → List ℕ
 bye_text Logout = codes "bye"
@@ -14,8 +12,3 @@ bye_text LiteralTooLong = codes "literal too long"
 
 unfoldable pub bye_line : Bye → List ℕ
 bye_line bye = codes "* BYE " ++ bye_text bye ++ codes "\r\n"
-
--- why a connection ends whose bytes no frame can hold
-unfoldable pub bye_of : FrameFault → Bye
-bye_of line_fault = LineTooLong
-bye_of literal_fault = LiteralTooLong

@@ -1,8 +1,8 @@
 -- The response code of a tagged OK, with its space, if there is one (RFC 9051, 7.1).
 use Rattle.std.specs.Prelude.{ℕ, List, [], ◌∷◌, ◌++◌, codes, decimal}
 use Rattle.mur_base.specs.Ascii.{space}
-use Rattle.mur_model.specs.declared.reply.Code.{Code}
-use Rattle.mur_model.specs.declared.reply.Code.TheVariants.{None as no_code, AppendUid, CopyUid, ExpungeIssued, ReadWrite, ReadOnly}
+use Rattle.imap_types.specs.declared.reply.Code.{Code}
+use Rattle.imap_types.specs.declared.reply.Code.TheVariants.{None as no_code, AppendUid, CopyUid, ExpungeIssued, ReadWrite, ReadOnly}
 use Rattle.imap_reply.specs.Sets.{set_text}
 
 abbrev pub appended_text : ℕ → ℕ → List ℕ

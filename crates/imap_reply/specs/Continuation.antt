@@ -1,7 +1,7 @@
 -- Lines that ask the client to go on (RFC 9051, 7.6).
 use Rattle.std.specs.Prelude.{ℕ, List, codes}
-use Rattle.imap_reply.specs.declared.inputs.Continuation.{Continuation}
-use Rattle.imap_reply.specs.declared.inputs.Continuation.TheVariants.{Literal, Response, Done}
+use Rattle.imap_reply.specs.declared.continuation.Continuation.{Continuation}
+use Rattle.imap_reply.specs.declared.continuation.Continuation.TheVariants.{Literal, Response, Done}
 
 -- before it sends a literal (RFC 9051, 4.3)
 unfoldable pub ready : List ℕ

@@ -3,7 +3,6 @@ pub mod Continuation
 pub mod ByeLine
 pub mod Spaced
 pub mod Sets
-pub mod Tags
 pub mod Mailbox
 pub mod Capability
 pub mod Enabled
@@ -20,12 +19,7 @@ pub mod Codes
 pub mod TaggedLine
 pub mod VerdictBegins
 pub mod ReplyText
-pub mod Inputs
-pub mod Transcript
-pub mod SessionEnds
 pub mod Lines
 pub mod SoundTexts
-pub mod SoundRequests
 pub mod ReadAs
 pub mod ReadAsMeant
-pub mod TranscriptRead

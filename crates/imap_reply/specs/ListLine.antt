@@ -1,7 +1,7 @@
 -- A name that a LIST found, and the separator of its levels (RFC 9051, 7.3.1).
 use Rattle.std.specs.Prelude.{ℕ, List, [], ◌++◌, codes}
-use Rattle.mur_model.specs.declared.reply.Attribute.{Attribute}
-use Rattle.mur_model.specs.declared.reply.Attribute.TheVariants.{None as no_attribute, NoSelect, NonExistent}
+use Rattle.imap_types.specs.declared.reply.Attribute.{Attribute}
+use Rattle.imap_types.specs.declared.reply.Attribute.TheVariants.{None as no_attribute, NoSelect, NonExistent}
 use Rattle.imap_reply.specs.Mailbox.{mailbox_text}
 
 unfoldable pub attribute_text : Attribute → List ℕ

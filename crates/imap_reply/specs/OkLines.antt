@@ -2,7 +2,7 @@
 use Rattle.std.specs.Prelude.{ℕ, Bool, true, false, List, [], ◌∷◌, ◌++◌, codes, decimal, map}
 use Rattle.mail_message.specs.declared.flag_name.FlagName.{FlagName}
 use Rattle.imap_reply.specs.Spaced.{spaced}
-use Rattle.imap_reply.specs.FlagsLine.{flag_text}
+use Rattle.imap_text.specs.FlagNames.{flag_text}
 
 unfoldable pub closed_line : List ℕ
 closed_line = codes "* OK [CLOSED] closed\r\n"

@@ -1,15 +1,15 @@
 -- What a client reads of a reply is what was meant, whatever the texts in it are (RFC 9051, 2.2.2).
 use Rattle.std.specs.Prelude.{◌≡◌, ℕ, Bool, true, false, ◌&&◌, ◌==◌, List, [], ◌∷◌, ◌++◌, codes, map, All}
-use Rattle.mur_model.specs.declared.command.Tag.{Tag}
-use Rattle.mur_model.specs.declared.reply.NoText.{NoText}
-use Rattle.mur_model.specs.declared.reply.Reply.{Reply}
-use Rattle.mur_model.specs.declared.reply.Verdict.{Verdict}
-use Rattle.mur_model.specs.declared.reply.Verdict.TheVariants.{Nothing, Ok as ok_reply, No as no_reply, Bad as bad_reply}
+use Rattle.imap_types.specs.declared.command.Tag.{Tag}
+use Rattle.imap_types.specs.declared.reply.NoText.{NoText}
+use Rattle.imap_types.specs.declared.reply.Reply.{Reply}
+use Rattle.imap_types.specs.declared.reply.Verdict.{Verdict}
+use Rattle.imap_types.specs.declared.reply.Verdict.TheVariants.{Nothing, Ok as ok_reply, No as no_reply, Bad as bad_reply}
 use Rattle.imap_reply.specs.ReadAs.{IsReadAs}
 use Rattle.imap_reply.specs.SoundTexts.{IsTag}
 use Rattle.imap_reply.specs.ReplyText.{line_text, reply_text}
 use Rattle.imap_reply.specs.TaggedLine.{tagged_line}
-use Rattle.imap_reply.specs.Tags.{tag_text}
+use Rattle.imap_text.specs.Tags.{tag_text}
 use Rattle.imap_reply.specs.VerdictBegins.{verdict_begins}
 
 unfoldable pub begins_with : List ℕ → List ℕ → Bool

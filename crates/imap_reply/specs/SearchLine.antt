@@ -1,8 +1,8 @@
 -- What a SEARCH found (RFC 9051, 7.3.4): the tag of its command, whether the numbers are UIDs, and the numbers, if there are any.
 use Rattle.std.specs.Prelude.{ℕ, Bool, true, false, List, [], ◌∷◌, ◌++◌, codes}
-use Rattle.mur_model.specs.declared.command.Tag.{Tag}
+use Rattle.imap_types.specs.declared.command.Tag.{Tag}
 use Rattle.imap_reply.specs.Sets.{set_text}
-use Rattle.imap_reply.specs.Tags.{tag_text}
+use Rattle.imap_text.specs.Tags.{tag_text}
 
 unfoldable pub uid_text : Bool → List ℕ
 uid_text true = codes " UID"

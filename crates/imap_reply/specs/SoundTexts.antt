@@ -5,15 +5,15 @@ use Rattle.mur_base.specs.Ascii.{open_brace}
 use Rattle.mail_message.specs.Keywords.{keyword_fault}
 use Rattle.mail_message.specs.declared.flag_name.FlagName.{FlagName}
 use Rattle.mail_message.specs.declared.flag_name.FlagName.TheVariants.{System, Keyword}
-use Rattle.mur_model.specs.declared.command.Tag.{Tag}
-use Rattle.mur_model.specs.declared.command.Tag.TheVariants.{Star, Text}
-use Rattle.mur_model.specs.declared.reply.Reply.{Reply}
-use Rattle.mur_model.specs.declared.reply.ReplyLine.{ReplyLine}
-use Rattle.mur_model.specs.declared.reply.ReplyLine.TheVariants.{Capability, Bye, Enabled, Closed, Flags, Exists, Listed, Permanent}
-use Rattle.mur_model.specs.declared.reply.ReplyLine.TheVariants.{UidNext, UidValidity, Status, Search, Expunge, Fetch, Acl, MyRights}
-use Rattle.mur_model.specs.declared.reply.Verdict.{Verdict}
-use Rattle.mur_model.specs.declared.reply.Verdict.TheVariants.{Nothing, Ok as ok_reply, No as no_reply, Bad as bad_reply}
-use Rattle.imap_command.specs.Characters.{is_tag_byte}
+use Rattle.imap_types.specs.declared.command.Tag.{Tag}
+use Rattle.imap_types.specs.declared.command.Tag.TheVariants.{Star, Text}
+use Rattle.imap_types.specs.declared.reply.Reply.{Reply}
+use Rattle.imap_types.specs.declared.reply.ReplyLine.{ReplyLine}
+use Rattle.imap_types.specs.declared.reply.ReplyLine.TheVariants.{Capability, Bye, Enabled, Closed, Flags, Exists, Listed, Permanent}
+use Rattle.imap_types.specs.declared.reply.ReplyLine.TheVariants.{UidNext, UidValidity, Status, Search, Expunge, Fetch, Acl, MyRights}
+use Rattle.imap_types.specs.declared.reply.Verdict.{Verdict}
+use Rattle.imap_types.specs.declared.reply.Verdict.TheVariants.{Nothing, Ok as ok_reply, No as no_reply, Bad as bad_reply}
+use Rattle.imap_text.specs.Characters.{is_tag_byte}
 use Rattle.mail_message.specs.Literals.{IsPlain, IsPart, is_within}
 
 -- tag = 1*<any ASTRING-CHAR except "+"> (RFC 9051, 9)

@@ -1,8 +1,8 @@
 -- The line of a STATUS (RFC 9051, 7.3.3): a mailbox, and how much of each item there is.
 use Rattle.std.specs.Prelude.{ℕ, List, [], ◌∷◌, ◌++◌, codes, decimal}
 use Rattle.mur_base.specs.Ascii.{space}
-use Rattle.mur_model.specs.declared.reply.StatusCount.{StatusCount}
-use Rattle.imap_command.specs.Status.{item_text}
+use Rattle.imap_types.specs.declared.reply.StatusCount.{StatusCount}
+use Rattle.imap_text.specs.StatusItems.{item_text}
 use Rattle.imap_reply.specs.Mailbox.{mailbox_text}
 
 unfoldable pub count_text : StatusCount → List ℕ

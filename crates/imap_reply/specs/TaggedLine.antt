@@ -1,16 +1,16 @@
 -- The line that ends a reply (RFC 9051, 7.1), if there is one.
 use Rattle.std.specs.Prelude.{ℕ, List, [], ◌++◌, codes}
-use Rattle.mur_model.specs.declared.command.Tag.{Tag}
-use Rattle.mur_model.specs.declared.reply.Verdict.{Verdict}
-use Rattle.mur_model.specs.declared.reply.Verdict.TheVariants.{Nothing, Ok as ok_reply, No as no_reply, Bad as bad_reply}
-use Rattle.mur_model.specs.declared.reply.Code.{Code}
-use Rattle.mur_model.specs.declared.reply.NoText.{NoText}
-use Rattle.mur_model.specs.declared.reply.NoText.TheVariants.{AuthenticationFailed, AlreadyExists, NonExistent, TryCreate, NoPerm, Cannot, Limit}
-use Rattle.mur_model.specs.declared.reply.NoText.TheVariants.{BeingMoved, NotReached}
-use Rattle.mur_model.specs.declared.reply.BadText.{BadText}
-use Rattle.mur_model.specs.declared.reply.BadText.TheVariants.{Syntax, State, Message}
+use Rattle.imap_types.specs.declared.command.Tag.{Tag}
+use Rattle.imap_types.specs.declared.reply.Verdict.{Verdict}
+use Rattle.imap_types.specs.declared.reply.Verdict.TheVariants.{Nothing, Ok as ok_reply, No as no_reply, Bad as bad_reply}
+use Rattle.imap_types.specs.declared.reply.Code.{Code}
+use Rattle.imap_types.specs.declared.reply.NoText.{NoText}
+use Rattle.imap_types.specs.declared.reply.NoText.TheVariants.{AuthenticationFailed, AlreadyExists, NonExistent, TryCreate, NoPerm, Cannot, Limit}
+use Rattle.imap_types.specs.declared.reply.NoText.TheVariants.{BeingMoved, NotReached}
+use Rattle.imap_types.specs.declared.reply.BadText.{BadText}
+use Rattle.imap_types.specs.declared.reply.BadText.TheVariants.{Syntax, State, Message}
 use Rattle.imap_reply.specs.Codes.{code_text}
-use Rattle.imap_reply.specs.Tags.{tag_text}
+use Rattle.imap_text.specs.Tags.{tag_text}
 
 unfoldable pub no_text : NoText → List ℕ
 no_text AuthenticationFailed = codes "[AUTHENTICATIONFAILED] login failed"

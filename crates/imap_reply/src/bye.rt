@@ -2,8 +2,8 @@
 ghost use Rattle.std.specs.Prelude.{◌≡◌, ◌++◌, OnOk};
 ghost use Rattle.imap_reply.specs.ByeLine.{bye_line, bye_text};
 
+use imap_types::Bye;
 use mur_base::{Bytes, Memory};
-use mur_model::Bye;
 
 /// Writes the line that says that a connection ends: with the reply that holds it, or at once where it stands alone.
 #[tactic(auto, unfolding(crate::specs::ByeLine::bye_line))]

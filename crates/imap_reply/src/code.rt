@@ -3,8 +3,8 @@ ghost use Rattle.std.specs.Prelude.{◌≡◌, ◌++◌, OnOk};
 ghost use Rattle.imap_reply.specs.Codes.{appended_text, copied_text, code_text};
 
 use crate::sets::put_set;
+use imap_types::Code;
 use mur_base::{Bytes, Memory, put_number};
-use mur_model::Code;
 
 /// Writes a response code with its space, if there is one.
 #[tactic(auto, unfolding(crate::specs::Codes::code_text))]

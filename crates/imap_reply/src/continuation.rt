@@ -2,8 +2,18 @@
 ghost use Rattle.std.specs.Prelude.{◌≡◌, ◌++◌, OnOk};
 ghost use Rattle.imap_reply.specs.Continuation.{challenge, continuation_line, idling, ready};
 
-use crate::inputs::Continuation;
 use mur_base::{Bytes, Memory};
+
+/// What a client is told to send on (RFC 9051, 7.6).
+#[derive(Clone, Copy, Debug, PartialEq, Eq)]
+pub enum Continuation {
+    /// A literal.
+    Literal,
+    /// The response of an AUTHENTICATE.
+    Response,
+    /// The line that ends an IDLE.
+    Done,
+}
 
 /// Writes the line by which a client is told to go on.
 #[tactic(auto, unfolding(crate::specs::Continuation::continuation_line))]

@@ -1,9 +1,11 @@
 // The flags of a mailbox (RFC 9051, 7.3.5).
 ghost use Rattle.std.specs.Prelude.{◌≡◌, ◌++◌, map, OnOk};
 ghost use Rattle.imap_reply.specs.Spaced.{more_spaced};
-ghost use Rattle.imap_reply.specs.FlagsLine.{system_flag_text, flag_text, flags_text, flags_line};
+ghost use Rattle.imap_reply.specs.FlagsLine.{flags_text, flags_line};
+ghost use Rattle.imap_text.specs.FlagNames.{flag_text};
 
-use mail_message::{FlagName, SystemFlag};
+use imap_text::put_flag;
+use mail_message::FlagName;
 use mur_base::{Bytes, Memory};
 
 /// Writes which flags a mailbox has.
@@ -40,28 +42,4 @@ pub fn put_more_flags(flags: &[FlagName], out: &mut Bytes) -> Result<(), Memory>
         put_flag(flag, out)?;
     }
     Ok(())
-}
-
-/// Writes the name of a flag.
-#[tactic(auto, unfolding(crate::specs::FlagsLine::flag_text))]
-pub fn put_flag(flag: &FlagName, out: &mut Bytes) -> Result<(), Memory>
-    ensures { OnOk result (out.new ≡ out.old ++ flag_text flag.now) }
-{
-    match flag {
-        FlagName::System(flag) => out.extend_from_slice(system_flag_text(*flag)),
-        FlagName::Keyword(keyword) => out.extend_from_slice(keyword.as_bytes()),
-    }
-}
-
-#[tactic(auto, unfolding(crate::specs::FlagsLine::system_flag_text))]
-fn system_flag_text(flag: SystemFlag) -> &'static [u8]
-    ensures { result.now ≡ system_flag_text flag }
-{
-    match flag {
-        SystemFlag::Answered => b"\\Answered",
-        SystemFlag::Flagged => b"\\Flagged",
-        SystemFlag::Deleted => b"\\Deleted",
-        SystemFlag::Seen => b"\\Seen",
-        SystemFlag::Draft => b"\\Draft",
-    }
 }

@@ -1,6 +1,6 @@
-//! The bytes that a mail client is given: the greeting, continuations, replies and BYE lines, a file for each kind of line,
-//! and as definitions the transcript of a connection (`specs/Transcript.antt`). Each call writes behind what is there; want
-//! of memory spends the list of bytes. And what the frames that a client sends are to its session (`input_at`).
+//! The bytes that a mail client is given: the greeting, continuations, replies and BYE lines, a file for each kind of line; and
+//! as definitions what a client reads of a reply (`specs/ReadAsMeant.antt`). Each call writes behind what is there; want of
+//! memory spends the list of bytes.
 #![tactic(auto)]
 
 mod access;
@@ -14,7 +14,6 @@ mod expunge;
 mod fetch;
 mod flags;
 mod greeting;
-mod inputs;
 mod list;
 mod mailbox;
 mod numbered;
@@ -25,10 +24,8 @@ mod sets;
 mod spaced;
 mod status;
 mod tagged;
-mod tags;
 
 pub use bye::put_bye;
-pub use continuation::put_continuation;
+pub use continuation::{Continuation, put_continuation};
 pub use greeting::put_greeting;
-pub use inputs::{Before, Continuation, Given, Input, input_at};
 pub use reply::write;

@@ -3,8 +3,8 @@ ghost use Rattle.std.specs.Prelude.{◌≡◌, ◌++◌, OnOk};
 ghost use Rattle.imap_reply.specs.ListLine.{attribute_text, list_line};
 
 use crate::mailbox::put_mailbox;
+use imap_types::Attribute;
 use mur_base::{Bytes, Memory};
-use mur_model::Attribute;
 
 /// Writes a name, what is told of it, and the separator of its levels.
 #[tactic(auto, using(std::proofs::lemmas::Grind::common_steps), unfolding(crate::specs::ListLine::list_line))]

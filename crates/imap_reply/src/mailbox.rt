@@ -2,7 +2,7 @@
 ghost use Rattle.std.specs.Prelude.{◌≡◌, ◌++◌, OnOk};
 ghost use Rattle.imap_reply.specs.Mailbox.{mailbox_text};
 
-use imap_command::{is_atom, put_quoted};
+use imap_text::{is_atom, put_quoted};
 use mur_base::{Bytes, Memory};
 
 /// Writes a mailbox's name as an atom where it is one, else in quotes.

@@ -1,11 +1,12 @@
 // Untagged lines OK about the mailbox that is selected (RFC 9051, 7.1 and 7.1.1).
 ghost use Rattle.std.specs.Prelude.{◌≡◌, [], ◌∷◌, ◌++◌, map, OnOk};
 ghost use Rattle.imap_reply.specs.Spaced.{spaced};
-ghost use Rattle.imap_reply.specs.FlagsLine.{flag_text};
+ghost use Rattle.imap_text.specs.FlagNames.{flag_text};
 ghost use Rattle.imap_reply.specs.OkLines.{closed_line, new_keywords, permanent_texts, permanent_line, uid_next_line, uid_validity_line};
 
-use crate::flags::{put_flag, put_flags, put_more_flags};
+use crate::flags::{put_flags, put_more_flags};
 use crate::numbered::put_numbered;
+use imap_text::put_flag;
 use mail_message::FlagName;
 use mur_base::{Bytes, Memory};
 

@@ -17,8 +17,8 @@ use crate::ok_lines::{put_closed, put_permanent, put_uid_next, put_uid_validity}
 use crate::search::put_search;
 use crate::status::put_status;
 use crate::tagged::put_tagged;
+use imap_types::{Reply, ReplyLine, Tag};
 use mur_base::{Bytes, Memory};
-use mur_model::{Reply, ReplyLine, Tag};
 
 /// Writes a reply under the tag of its command: its untagged lines in order, and then the tagged one. A client reads of it what
 /// was meant, whatever the texts in it are.

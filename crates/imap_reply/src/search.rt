@@ -3,9 +3,9 @@ ghost use Rattle.std.specs.Prelude.{◌≡◌, ◌++◌, OnOk};
 ghost use Rattle.imap_reply.specs.SearchLine.{uid_text, all_text, search_line};
 
 use crate::sets::put_set;
-use crate::tags::put_tag;
+use imap_text::put_tag;
+use imap_types::Tag;
 use mur_base::{Bytes, Memory};
-use mur_model::Tag;
 
 /// Writes the numbers that the command with this tag found, and whether they are UIDs.
 #[tactic(auto, using(std::proofs::lemmas::Grind::common_steps), unfolding(crate::specs::SearchLine::search_line))]

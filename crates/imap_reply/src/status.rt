@@ -3,9 +3,9 @@ ghost use Rattle.std.specs.Prelude.{◌≡◌, ◌++◌, OnOk};
 ghost use Rattle.imap_reply.specs.StatusLine.{count_text, more_counts_text, counts_text, status_line};
 
 use crate::mailbox::put_mailbox;
-use imap_command::put_item;
+use imap_text::put_item;
+use imap_types::StatusCount;
 use mur_base::{Bytes, Memory, put_number};
-use mur_model::StatusCount;
 
 /// Writes how much of each item a mailbox has.
 #[tactic(auto, using(std::proofs::lemmas::Grind::common_steps), unfolding(crate::specs::StatusLine::status_line))]

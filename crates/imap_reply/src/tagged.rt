@@ -1,12 +1,12 @@
 // The tagged line of a reply (RFC 9051, 7.1).
 ghost use Rattle.std.specs.Prelude.{◌≡◌, ◌++◌, OnOk, codes};
-ghost use Rattle.imap_reply.specs.Tags.{tag_text};
+ghost use Rattle.imap_text.specs.Tags.{tag_text};
 ghost use Rattle.imap_reply.specs.TaggedLine.{no_text, bad_text, ok_text, tagged_line};
 
 use crate::code::put_code;
-use crate::tags::put_tag;
+use imap_text::put_tag;
+use imap_types::{BadText, Code, NoText, Tag, Verdict};
 use mur_base::{Bytes, Memory};
-use mur_model::{BadText, Code, NoText, Tag, Verdict};
 
 /// Writes the line that ends a reply, if there is one.
 #[tactic(auto, unfolding(crate::specs::TaggedLine::tagged_line, crate::specs::TaggedLine::under))]

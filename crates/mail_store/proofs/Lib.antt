@@ -1,3 +1,8 @@
 pub mod AppendLaws
 mod RisingLaw
-mod TouchedLaws
+pub mod TouchedLaws
+pub mod FollowsLaws
+pub mod UidsBelow
+pub mod AppendKeeps
+pub mod RisingUids
+pub mod FoundUids

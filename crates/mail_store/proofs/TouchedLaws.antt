@@ -30,3 +30,7 @@ content-gone box (uid ∷ uids) = content-gone (content_after box (Gone uid)) ui
 pub next-flags : (box : Content) (rows : List Row) → (content_after_all box (flag_changes rows)).next ≡ box.next
 next-flags box [] = refl
 next-flags box (row ∷ rows) = next-flags (content_after box (SetFlags row.uid row.flags)) rows
+
+pub next-gone : (box : Content) (uids : List ℕ) → (content_after_all box (map (λ uid. Gone uid) uids)).next ≡ box.next
+next-gone box [] = refl
+next-gone box (uid ∷ uids) = next-gone (content_after box (Gone uid)) uids

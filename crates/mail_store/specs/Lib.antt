@@ -3,3 +3,4 @@ pub mod Expunge
 pub mod Faults
 pub mod Named
 pub mod Store
+pub mod Kept

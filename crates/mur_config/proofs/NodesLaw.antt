@@ -1,6 +1,6 @@
 -- Nodes that break no rule have names of their own, and the kinds that a cluster needs.
-use Rattle.std.proofs.Common.{◌≡◌, ◌≢◌, ℕ, ◌≤◌, Bool, true, false, ◌||◌, ◌&&◌, not, nat_eq, nat_lt, nat_le, is_none, List, [], ◌∷◌, length, Option}
-use Rattle.std.proofs.Common.{None, Some, refl, sym, arith}
+use Rattle.std.proofs.Common.{◌≡◌, ◌≢◌, ℕ, ◌≤◌, Bool, true, false, ◌&&◌, not, nat_eq, nat_lt, nat_le, is_none, List, [], ◌∷◌, length, Option}
+use Rattle.std.proofs.Common.{None, Some, refl, arith}
 use Rattle.std.specs.List.{All, AllPairs, list_any, list_all}
 use Rattle.std.proofs.lemmas.Bool.{and_parts, or_parts, eqb-true}
 use Rattle.std.proofs.lemmas.Bool.Decides.{nat_tests}
@@ -15,7 +15,7 @@ use Rattle.mur_config.specs.declared.node.Kind.{Kind}
 use Rattle.mur_config.specs.declared.node.Kind.TheVariants.{Master, Frontend, Backend}
 use Rattle.mur_config.specs.declared.node.Node.{Node}
 use Rattle.mur_config.specs.declared.nodes.NodesFault.TheVariants.{NameTwice, NodeCount, BadPartition}
-use Rattle.mur_config.specs.Nodes.{is_node_named, node_names_differ, is_of_kind, is_node_of_kind, count_of_kind, is_some_within, has_node_counts, fits_kind}
+use Rattle.mur_config.specs.Nodes.{is_node_named, node_names_differ, count_of_kind, is_some_within, has_node_counts, fits_kind}
 use Rattle.mur_config.specs.Nodes.{has_partition, nodes_fault, FitsKind, AreNodes}
 
 none_named : (name : List ℕ) (nodes : List Node) → list_any (is_node_named name) nodes ≡ false → All (λ (node : Node). name ≢ node.name) nodes

@@ -11,12 +11,12 @@ use Rattle.mail_store.specs.Append.{appended, append_fault}
 use Rattle.mail_store.specs.Faults.{IsAnswered}
 use Rattle.mail_store.specs.declared.fault.StoreFault.{StoreFault}
 use Rattle.mail_store.specs.declared.fault.StoreFault.TheVariants.{Memory}
-use Rattle.mur_model.specs.declared.reply.NoText.TheVariants.{Limit}
-use Rattle.mur_model.specs.declared.reply.Reply.{Reply}
+use Rattle.imap_types.specs.declared.reply.NoText.TheVariants.{Limit}
+use Rattle.imap_types.specs.declared.reply.Reply.{Reply}
 use Rattle.mur_model.specs.declared.store.Store.{Store}
 use Rattle.mur_model.specs.Append.{append_on, append_to, append_reply}
 use Rattle.mur_model.specs.Left.{Worked, replied, box_after, store_after}
-use Rattle.mur_model.specs.Reply.{refused}
+use Rattle.imap_types.specs.Reply.{refused}
 use Rattle.mur_model.specs.Store.{box_at, with_box}
 
 -- the mailbox is left so, and this is the reply

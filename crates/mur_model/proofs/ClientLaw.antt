@@ -5,8 +5,8 @@ use Rattle.std.proofs.Common.{append_assoc, append-nil, length-append}
 use Rattle.std.proofs.lemmas.Grind.{common_steps}
 use Rattle.std.proofs.lemmas.List.{length-map, map-append}
 use Rattle.mail_message.specs.declared.message.Row.{Row}
-use Rattle.mur_model.specs.declared.reply.ReplyLine.{ReplyLine}
-use Rattle.mur_model.specs.declared.reply.ReplyLine.TheVariants.{Expunge, Fetch}
+use Rattle.imap_types.specs.declared.reply.ReplyLine.{ReplyLine}
+use Rattle.imap_types.specs.declared.reply.ReplyLine.TheVariants.{Expunge, Fetch}
 use Rattle.mur_model.specs.declared.news.Told.{Told}
 use Rattle.mur_model.specs.ClientView.{Known, without_number, known_after, known_after_all, Agrees, uids}
 use Rattle.mur_model.specs.News.{news, told_of, has_row, is_among, expunge_lines, rows_there, rows_behind}

@@ -7,8 +7,8 @@ use Rattle.std.proofs.lemmas.List.Sums.{sum_by-append}
 use Rattle.std.proofs.lemmas.Option.{get_or_from_slice_get, slice_get_within}
 use Rattle.mur_base.specs.declared.point.Point.{Point}
 use Rattle.mur_base.specs.declared.point.What.TheVariants.{Reply as replied, Lost as lost}
-use Rattle.mur_model.specs.declared.request.Answer.{Answer}
-use Rattle.mur_model.specs.declared.request.Request.{Request}
+use Rattle.imap_types.specs.declared.request.Answer.{Answer}
+use Rattle.imap_types.specs.declared.request.Request.{Request}
 use Rattle.mur_model.specs.declared.setting.Setting.{Setting}
 use Rattle.mur_model.specs.History.{Course, Talk, after, numbered, point_of, carried_out, Follows, answers, is_about, IsLegal}
 use Rattle.mur_model.specs.History.Follows.{no_points, a_reply, a_loss}

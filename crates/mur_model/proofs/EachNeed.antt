@@ -10,9 +10,9 @@ use Rattle.mur_base.specs.Inbox.{shown_name, taken_name}
 use Rattle.mur_base.specs.Names.{mail_name_fault}
 use Rattle.mur_base.specs.declared.name.NameFault.{NameFault}
 use Rattle.mur_base.specs.declared.user.User.{User}
-use Rattle.mur_model.specs.declared.command.Command.{Command}
-use Rattle.mur_model.specs.declared.command.Command.TheVariants as command
-use Rattle.mur_model.specs.declared.command.StatusItem.{StatusItem}
+use Rattle.imap_types.specs.declared.command.Command.{Command}
+use Rattle.imap_types.specs.declared.command.Command.TheVariants as command
+use Rattle.imap_types.specs.declared.command.StatusItem.{StatusItem}
 use Rattle.mur_model.specs.declared.fetch.Fetching.{Fetching}
 use Rattle.mur_model.specs.declared.need.Need.{Need}
 use Rattle.mur_model.specs.declared.need.Need.TheVariants.{Refusal, Turned, Mailbox}
@@ -20,11 +20,11 @@ use Rattle.mur_model.specs.declared.need.NewsFor.{NewsFor}
 use Rattle.mur_model.specs.declared.need.NewsFor.TheVariants as news_for
 use Rattle.mur_model.specs.declared.need.ViewWork.TheVariants as view_work
 use Rattle.mur_model.specs.declared.need.Work.TheVariants.{Make, Append as append_work, Status as status_work, Select as select_work}
-use Rattle.mur_model.specs.declared.reply.BadText.{BadText}
-use Rattle.mur_model.specs.declared.reply.BadText.TheVariants.{State, Syntax, Message as no_message}
-use Rattle.mur_model.specs.declared.reply.NoText.{NoText}
-use Rattle.mur_model.specs.declared.reply.NoText.TheVariants.{AuthenticationFailed, Cannot, NonExistent, NoPerm, TryCreate}
-use Rattle.mur_model.specs.declared.reply.Verdict.TheVariants.{No as no_reply, Bad as bad_reply}
+use Rattle.imap_types.specs.declared.reply.BadText.{BadText}
+use Rattle.imap_types.specs.declared.reply.BadText.TheVariants.{State, Syntax, Message as no_message}
+use Rattle.imap_types.specs.declared.reply.NoText.{NoText}
+use Rattle.imap_types.specs.declared.reply.NoText.TheVariants.{AuthenticationFailed, Cannot, NonExistent, NoPerm, TryCreate}
+use Rattle.imap_types.specs.declared.reply.Verdict.TheVariants.{No as no_reply, Bad as bad_reply}
 use Rattle.mur_model.specs.declared.search.Searching.{Searching}
 use Rattle.mur_model.specs.declared.select.Opening.{Opening}
 use Rattle.mur_model.specs.declared.session.Sess.{Sess}
@@ -34,19 +34,18 @@ use Rattle.mur_model.specs.declared.view.View.{View}
 use Rattle.mur_model.specs.Act.{idled, need_begun, need_in, need_of, need_off, need_selected, need_unselected, wants_selected}
 use Rattle.mur_model.specs.Append.{append, append_as, append_by, new_message}
 use Rattle.mur_model.specs.AtOnce.{capability, enable, is_done, logout}
-use Rattle.mur_model.specs.Close.{close, left_by}
+use Rattle.mur_model.specs.Close.{left_by}
 use Rattle.mur_model.specs.Create.{create, create_as, create_by, create_meant, is_inbox, without_separator}
 use Rattle.mur_model.specs.Expunge.{expunge, expunge_named}
-use Rattle.mur_model.specs.Fetch.{fetch, fetch_named}
+use Rattle.mur_model.specs.Fetch.{fetch_named}
 use Rattle.mur_model.specs.Keys.{have_all_numbers, keys_at}
 use Rattle.mur_model.specs.Left.{replied}
 use Rattle.mur_model.specs.Login.{begun_by, login, login_as, login_by, login_failed}
 use Rattle.mur_model.specs.NamedRows.{last_uid, named_uids, names_messages}
 use Rattle.mur_model.specs.Need.{at_mailbox, no_such_number, read_only}
 use Rattle.mur_model.specs.Plain.{acts_as, authenticate, authenticate_as, authenticate_by, authenticate_with, cut_at_nul, decoded}
-use Rattle.mur_model.specs.Reply.{completed}
+use Rattle.imap_types.specs.Reply.{completed}
 use Rattle.mur_model.specs.Rights.{has_rights, may_create, user_named}
-use Rattle.mur_model.specs.Search.{search}
 use Rattle.mur_model.specs.Select.{opening, select, select_as, select_by, unselected}
 use Rattle.mur_model.specs.Status.{status, status_as, status_by}
 use Rattle.mur_model.specs.StoreFlags.{store, store_named}

@@ -1,7 +1,7 @@
 -- Lists of what was asked and answered that grow: the earlier ones stand in front of the later, and what had a number keeps it.
 use Rattle.std.proofs.Common.{◌≡◌, ℕ, Bool, true, false, ◌&&◌, cond, nat_eq, nat_lt, nat_le, List, [], ◌∷◌, ◌++◌, Some, refl, sym, ◌∙◌, ap}
 use Rattle.std.proofs.lemmas.List.{append-nil}
-use Rattle.mur_model.specs.declared.request.Request.{Request}
+use Rattle.imap_types.specs.declared.request.Request.{Request}
 use Rattle.mur_model.specs.declared.setting.Setting.{Setting}
 use Rattle.mur_model.specs.History.{Course, Talk, GoesOn, TalkGoesOn, Takes, numbered}
 use Rattle.mur_model.proofs.Numbered.{with_item, numbered_more}

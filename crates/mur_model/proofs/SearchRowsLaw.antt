@@ -13,8 +13,8 @@ use Rattle.mail_message.specs.declared.message.Message.{Message}
 use Rattle.mail_message.specs.declared.message.Row.{Row}
 use Rattle.mail_search.specs.Matching.{Test, all_match, key_matches, matches_by}
 use Rattle.mail_search.specs.Search.{Numbered, found}
-use Rattle.mur_model.specs.declared.reply.ReplyLine.TheVariants.{Search}
-use Rattle.mur_model.specs.declared.reply.Verdict.TheVariants.{Ok as ok_reply}
+use Rattle.imap_types.specs.declared.reply.ReplyLine.TheVariants.{Search}
+use Rattle.imap_types.specs.declared.reply.Verdict.TheVariants.{Ok as ok_reply}
 use Rattle.mur_model.specs.declared.search.Searching.{Searching}
 use Rattle.mur_model.specs.declared.view.View.{View}
 use Rattle.mur_model.specs.ClientView.{uids}

@@ -3,17 +3,17 @@
 -- EXAMINE leaves no mailbox selected, and a STORE that a limit refuses tells the news.
 use Rattle.std.specs.Prelude.{◌≡◌, ℕ, ⊤, Bool, true, false, if◌then◌else◌, List, Option, None, Some, codes}
 use Rattle.mail_message.specs.Boxes.{Content}
-use Rattle.mur_model.specs.declared.command.Command.{Command}
-use Rattle.mur_model.specs.declared.command.Command.TheVariants as command
+use Rattle.imap_types.specs.declared.command.Command.{Command}
+use Rattle.imap_types.specs.declared.command.Command.TheVariants as command
 use Rattle.mur_model.specs.declared.need.Need.{Need}
 use Rattle.mur_model.specs.declared.need.Need.TheVariants.{Refusal, Turned, Mailbox}
 use Rattle.mur_model.specs.declared.need.ViewWork.TheVariants as work
 use Rattle.mur_model.specs.declared.need.Work.{Work}
 use Rattle.mur_model.specs.declared.need.Work.TheVariants.{Make, Append as append_work, Status as status_work, Select as select_work, Viewed as viewed_work}
-use Rattle.mur_model.specs.declared.reply.BadText.TheVariants.{State, Syntax}
-use Rattle.mur_model.specs.declared.reply.NoText.TheVariants.{Cannot}
-use Rattle.mur_model.specs.declared.reply.Reply.{Reply}
-use Rattle.mur_model.specs.declared.reply.Verdict.TheVariants.{Bad as bad_reply, No as no_reply}
+use Rattle.imap_types.specs.declared.reply.BadText.TheVariants.{State, Syntax}
+use Rattle.imap_types.specs.declared.reply.NoText.TheVariants.{Cannot}
+use Rattle.imap_types.specs.declared.reply.Reply.{Reply}
+use Rattle.imap_types.specs.declared.reply.Verdict.TheVariants.{Bad as bad_reply, No as no_reply}
 use Rattle.mur_model.specs.declared.session.Sess.{Sess}
 use Rattle.mur_model.specs.declared.session.Sess.TheVariants.{Off, In, Selected as selected, Ended}
 use Rattle.mur_model.specs.declared.setting.Setting.{Setting}
@@ -30,7 +30,7 @@ use Rattle.mur_model.specs.Left.{Worked, replied, store_after}
 use Rattle.mur_model.specs.Login.{login}
 use Rattle.mur_model.specs.Need.{at_mailbox}
 use Rattle.mur_model.specs.Plain.{authenticate}
-use Rattle.mur_model.specs.Reply.{reply_of, completed}
+use Rattle.imap_types.specs.Reply.{reply_of, completed}
 use Rattle.mur_model.specs.Search.{search}
 use Rattle.mur_model.specs.Select.{select, select_on}
 use Rattle.mur_model.specs.Status.{status, status_on}

@@ -1,16 +1,16 @@
 -- What one request does to the store and its session, and its answer (RFC 9051, 2.2.2).
 use Rattle.std.specs.Prelude.{ℕ, ⊤}
-use Rattle.mur_model.specs.declared.reply.Verdict.TheVariants.{No as no_reply, Bad as bad_reply}
-use Rattle.mur_model.specs.declared.reply.BadText.TheVariants.{Syntax}
-use Rattle.mur_model.specs.declared.reply.NoText.TheVariants.{Limit}
-use Rattle.mur_model.specs.declared.request.Answer.{Answer}
-use Rattle.mur_model.specs.declared.request.Request.{Request}
-use Rattle.mur_model.specs.declared.request.Request.TheVariants.{Command as command, Unknown as unknown, TooBig as too_big}
+use Rattle.imap_types.specs.declared.reply.Verdict.TheVariants.{No as no_reply, Bad as bad_reply}
+use Rattle.imap_types.specs.declared.reply.BadText.TheVariants.{Syntax}
+use Rattle.imap_types.specs.declared.reply.NoText.TheVariants.{Limit}
+use Rattle.imap_types.specs.declared.request.Answer.{Answer}
+use Rattle.imap_types.specs.declared.request.Request.{Request}
+use Rattle.imap_types.specs.declared.request.Request.TheVariants.{Command as command, Unknown as unknown, TooBig as too_big}
 use Rattle.mur_model.specs.declared.session.Sess.{Sess}
 use Rattle.mur_model.specs.declared.store.Store.{Store}
 use Rattle.mur_model.specs.declared.setting.Setting.{Setting}
 use Rattle.mur_model.specs.Act.{act_of, MayGive}
-use Rattle.mur_model.specs.Reply.{reply_of}
+use Rattle.imap_types.specs.Reply.{reply_of}
 
 -- store, session and answer after a request
 pub record Answered : Type 0 where

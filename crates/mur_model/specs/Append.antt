@@ -11,13 +11,13 @@ use Rattle.mur_base.specs.declared.name.NameFault.{NameFault}
 use Rattle.mur_model.specs.declared.need.Need.{Need}
 use Rattle.mur_model.specs.declared.need.Need.TheVariants.{Refusal, Mailbox}
 use Rattle.mur_model.specs.declared.need.Work.TheVariants.{Append as append_work}
-use Rattle.mur_model.specs.declared.reply.Code.TheVariants.{AppendUid}
-use Rattle.mur_model.specs.declared.reply.NoText.TheVariants.{TryCreate, NoPerm, Limit}
-use Rattle.mur_model.specs.declared.reply.Reply.{Reply}
-use Rattle.mur_model.specs.declared.reply.Verdict.TheVariants.{Ok as ok_reply, No as no_reply}
+use Rattle.imap_types.specs.declared.reply.Code.TheVariants.{AppendUid}
+use Rattle.imap_types.specs.declared.reply.NoText.TheVariants.{TryCreate, NoPerm, Limit}
+use Rattle.imap_types.specs.declared.reply.Reply.{Reply}
+use Rattle.imap_types.specs.declared.reply.Verdict.TheVariants.{Ok as ok_reply, No as no_reply}
 use Rattle.mur_model.specs.declared.setting.Setting.{Setting}
 use Rattle.mur_model.specs.Left.{Worked, replied, kept, changed}
-use Rattle.mur_model.specs.Reply.{reply_of, refused}
+use Rattle.imap_types.specs.Reply.{reply_of, refused}
 use Rattle.mur_model.specs.Rights.{has_rights}
 
 -- the message that comes with these flags, and with this date or else the configuration's

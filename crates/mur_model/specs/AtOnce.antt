@@ -3,11 +3,11 @@ use Rattle.std.specs.Prelude.{ℕ, Bool, List, [], ◌∷◌, Some, codes}
 use Rattle.std.specs.Str.{str_eq_ignore_ascii_case}
 use Rattle.mur_model.specs.declared.need.Need.{Need}
 use Rattle.mur_model.specs.declared.need.Need.TheVariants.{Turned}
-use Rattle.mur_model.specs.declared.reply.Bye.TheVariants.{Logout as bye}
-use Rattle.mur_model.specs.declared.reply.Code.TheVariants.{None as no_code}
-use Rattle.mur_model.specs.declared.reply.ReplyLine.{ReplyLine}
-use Rattle.mur_model.specs.declared.reply.ReplyLine.TheVariants.{Bye, Capability, Enabled}
-use Rattle.mur_model.specs.declared.reply.Verdict.TheVariants.{Ok as ok_reply}
+use Rattle.imap_types.specs.declared.reply.Bye.TheVariants.{Logout as bye}
+use Rattle.imap_types.specs.declared.reply.Code.TheVariants.{None as no_code}
+use Rattle.imap_types.specs.declared.reply.ReplyLine.{ReplyLine}
+use Rattle.imap_types.specs.declared.reply.ReplyLine.TheVariants.{Bye, Capability, Enabled}
+use Rattle.imap_types.specs.declared.reply.Verdict.TheVariants.{Ok as ok_reply}
 use Rattle.mur_model.specs.declared.session.Sess.TheVariants.{Ended}
 use Rattle.mur_model.specs.declared.session.Turn.{Turn}
 use Rattle.mur_model.specs.Left.{replied}

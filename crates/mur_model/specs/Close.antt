@@ -10,7 +10,7 @@ use Rattle.mur_model.specs.declared.session.Turn.{Turn}
 use Rattle.mur_model.specs.declared.view.View.{View}
 use Rattle.mur_model.specs.Left.{Worked, changed}
 use Rattle.mur_model.specs.Need.{at_mailbox}
-use Rattle.mur_model.specs.Reply.{completed}
+use Rattle.imap_types.specs.Reply.{completed}
 
 -- no mailbox is selected any more
 abbrev pub left_by : View → List ℕ → Turn

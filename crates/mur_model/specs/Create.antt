@@ -12,11 +12,11 @@ use Rattle.mur_base.specs.declared.name.NameFault.{NameFault}
 use Rattle.mur_model.specs.declared.need.Need.{Need}
 use Rattle.mur_model.specs.declared.need.Need.TheVariants.{Refusal, Mailbox}
 use Rattle.mur_model.specs.declared.need.Work.TheVariants.{Make}
-use Rattle.mur_model.specs.declared.reply.NoText.TheVariants.{AlreadyExists, NonExistent, NoPerm, Cannot, Limit}
-use Rattle.mur_model.specs.declared.reply.Verdict.TheVariants.{No as no_reply}
+use Rattle.imap_types.specs.declared.reply.NoText.TheVariants.{AlreadyExists, NonExistent, NoPerm, Cannot, Limit}
+use Rattle.imap_types.specs.declared.reply.Verdict.TheVariants.{No as no_reply}
 use Rattle.mur_model.specs.declared.setting.Setting.{Setting}
 use Rattle.mur_model.specs.Left.{Worked, replied, kept, made}
-use Rattle.mur_model.specs.Reply.{completed, refused}
+use Rattle.imap_types.specs.Reply.{completed, refused}
 use Rattle.mur_model.specs.Rights.{may_create}
 
 -- the name that a CREATE spells may have one separator behind it

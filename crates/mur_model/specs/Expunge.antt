@@ -6,8 +6,8 @@ use Rattle.mail_message.specs.declared.set.SetPart.{SetPart}
 use Rattle.mail_store.specs.Expunge.{expunged}
 use Rattle.mur_model.specs.declared.need.Need.{Need}
 use Rattle.mur_model.specs.declared.need.ViewWork.TheVariants as work
-use Rattle.mur_model.specs.declared.reply.Code.TheVariants.{None as no_code}
-use Rattle.mur_model.specs.declared.reply.Verdict.TheVariants.{Ok as ok_reply}
+use Rattle.imap_types.specs.declared.reply.Code.TheVariants.{None as no_code}
+use Rattle.imap_types.specs.declared.reply.Verdict.TheVariants.{Ok as ok_reply}
 use Rattle.mur_model.specs.declared.session.Turn.{Turn}
 use Rattle.mur_model.specs.declared.view.View.{View}
 use Rattle.mur_model.specs.Left.{Worked, changed}

@@ -9,9 +9,9 @@ use Rattle.mail_message.specs.declared.item.Item.TheVariants as item
 use Rattle.mail_message.specs.declared.message.Row.{Row}
 use Rattle.mail_store.specs.Named.{set_of}
 use Rattle.mur_model.specs.declared.fetch.Fetching.{Fetching}
-use Rattle.mur_model.specs.declared.reply.ReplyLine.{ReplyLine}
-use Rattle.mur_model.specs.declared.reply.ReplyLine.TheVariants.{Fetch}
-use Rattle.mur_model.specs.declared.reply.Verdict.TheVariants.{Ok as ok_reply}
+use Rattle.imap_types.specs.declared.reply.ReplyLine.{ReplyLine}
+use Rattle.imap_types.specs.declared.reply.ReplyLine.TheVariants.{Fetch}
+use Rattle.imap_types.specs.declared.reply.Verdict.TheVariants.{Ok as ok_reply}
 use Rattle.mur_model.specs.declared.session.Turn.{Turn}
 use Rattle.mur_model.specs.declared.view.View.{View}
 use Rattle.mur_model.specs.Fetch.{fetch_name, is_flags, items_told, number_in}

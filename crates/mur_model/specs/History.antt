@@ -5,8 +5,8 @@ use Rattle.std.specs.Prelude.{Some, All, AllPairs, slice_get}
 use Rattle.mur_base.specs.declared.point.Point.{Point}
 use Rattle.mur_base.specs.declared.point.What.{What}
 use Rattle.mur_base.specs.declared.point.What.TheVariants.{Reply as replied, Read as read, Lost as lost, Reserved as reserved, Unreached as unreached}
-use Rattle.mur_model.specs.declared.request.Answer.{Answer}
-use Rattle.mur_model.specs.declared.request.Request.{Request}
+use Rattle.imap_types.specs.declared.request.Answer.{Answer}
+use Rattle.imap_types.specs.declared.request.Request.{Request}
 use Rattle.mur_model.specs.declared.session.Sess.{Sess}
 use Rattle.mur_model.specs.declared.setting.Setting.{Setting}
 use Rattle.mur_model.specs.declared.store.Store.{Store}

@@ -1,7 +1,7 @@
 -- What a command leaves of its mailbox.
 use Rattle.std.specs.Prelude.{◌≡◌, ℕ, List, None}
 use Rattle.mail_message.specs.Boxes.{Content}
-use Rattle.mur_model.specs.declared.reply.Reply.{Reply}
+use Rattle.imap_types.specs.declared.reply.Reply.{Reply}
 use Rattle.mur_model.specs.declared.session.Turn.{Turn}
 use Rattle.mur_model.specs.declared.store.Store.{Store}
 use Rattle.mur_model.specs.Store.{with_new_box, with_box}

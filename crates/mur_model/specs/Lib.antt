@@ -1,6 +1,5 @@
 pub mod Store
 pub mod Rights
-pub mod Reply
 pub mod Left
 pub mod Login
 pub mod Plain

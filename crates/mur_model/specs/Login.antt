@@ -4,11 +4,11 @@ use Rattle.std.specs.Str.{bytes_eq}
 use Rattle.mur_base.specs.declared.user.User.{User}
 use Rattle.mur_model.specs.declared.need.Need.{Need}
 use Rattle.mur_model.specs.declared.need.Need.TheVariants.{Refusal, Turned}
-use Rattle.mur_model.specs.declared.reply.NoText.TheVariants.{AuthenticationFailed}
-use Rattle.mur_model.specs.declared.reply.Verdict.TheVariants.{No as no_reply}
+use Rattle.imap_types.specs.declared.reply.NoText.TheVariants.{AuthenticationFailed}
+use Rattle.imap_types.specs.declared.reply.Verdict.TheVariants.{No as no_reply}
 use Rattle.mur_model.specs.declared.session.Sess.TheVariants.{In}
 use Rattle.mur_model.specs.declared.session.Turn.{Turn}
-use Rattle.mur_model.specs.Reply.{completed}
+use Rattle.imap_types.specs.Reply.{completed}
 use Rattle.mur_model.specs.Rights.{user_named}
 
 -- a session of this user begins with the command of this name

@@ -3,9 +3,9 @@ use Rattle.mur_model.specs.declared.need.Need.{Need}
 use Rattle.mur_model.specs.declared.need.Need.TheVariants.{Refusal, Mailbox}
 use Rattle.mur_model.specs.declared.need.ViewWork.{ViewWork}
 use Rattle.mur_model.specs.declared.need.Work.TheVariants.{Viewed}
-use Rattle.mur_model.specs.declared.reply.BadText.TheVariants.{Message}
-use Rattle.mur_model.specs.declared.reply.NoText.TheVariants.{Cannot}
-use Rattle.mur_model.specs.declared.reply.Verdict.TheVariants.{No as no_reply, Bad as bad_reply}
+use Rattle.imap_types.specs.declared.reply.BadText.TheVariants.{Message}
+use Rattle.imap_types.specs.declared.reply.NoText.TheVariants.{Cannot}
+use Rattle.imap_types.specs.declared.reply.Verdict.TheVariants.{No as no_reply, Bad as bad_reply}
 use Rattle.mur_model.specs.declared.view.View.{View}
 
 -- work at the mailbox of a view

@@ -10,8 +10,8 @@ use Rattle.mail_message.specs.declared.message.Row.{Row}
 use Rattle.mail_message.specs.RowOrder.{row_at}
 use Rattle.mur_model.specs.declared.news.Told.{Told}
 use Rattle.mur_model.specs.SameFlags.{is_same_flags}
-use Rattle.mur_model.specs.declared.reply.ReplyLine.{ReplyLine}
-use Rattle.mur_model.specs.declared.reply.ReplyLine.TheVariants.{Exists, Expunge, Fetch}
+use Rattle.imap_types.specs.declared.reply.ReplyLine.{ReplyLine}
+use Rattle.imap_types.specs.declared.reply.ReplyLine.TheVariants.{Exists, Expunge, Fetch}
 
 -- the mailbox has a message with the UID
 abbrev pub has_row : List Row → ℕ → Bool

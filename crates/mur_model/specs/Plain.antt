@@ -8,8 +8,8 @@ use Rattle.mur_base.specs.Ascii.{nul}
 use Rattle.mur_base.specs.declared.user.User.{User}
 use Rattle.mur_model.specs.declared.need.Need.{Need}
 use Rattle.mur_model.specs.declared.need.Need.TheVariants.{Refusal}
-use Rattle.mur_model.specs.declared.reply.BadText.TheVariants.{Syntax}
-use Rattle.mur_model.specs.declared.reply.Verdict.TheVariants.{Bad as bad_reply}
+use Rattle.imap_types.specs.declared.reply.BadText.TheVariants.{Syntax}
+use Rattle.imap_types.specs.declared.reply.Verdict.TheVariants.{Bad as bad_reply}
 use Rattle.mur_model.specs.Login.{login, login_failed}
 
 -- the bytes that a response stands for: base64 with its padding (RFC 4648, 4), and `=` is the empty response (RFC 9051, 6.2.2)

@@ -7,9 +7,9 @@ use Rattle.mail_message.specs.declared.message.Row.{Row}
 use Rattle.mail_search.specs.Search.{found}
 use Rattle.mur_model.specs.declared.need.Need.{Need}
 use Rattle.mur_model.specs.declared.need.ViewWork.TheVariants as work
-use Rattle.mur_model.specs.declared.reply.ReplyLine.{ReplyLine}
-use Rattle.mur_model.specs.declared.reply.ReplyLine.TheVariants.{Search}
-use Rattle.mur_model.specs.declared.reply.Verdict.TheVariants.{Ok as ok_reply}
+use Rattle.imap_types.specs.declared.reply.ReplyLine.{ReplyLine}
+use Rattle.imap_types.specs.declared.reply.ReplyLine.TheVariants.{Search}
+use Rattle.imap_types.specs.declared.reply.Verdict.TheVariants.{Ok as ok_reply}
 use Rattle.mur_model.specs.declared.search.Searching.{Searching}
 use Rattle.mur_model.specs.declared.session.Turn.{Turn}
 use Rattle.mur_model.specs.declared.view.View.{View}

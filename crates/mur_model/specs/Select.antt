@@ -14,14 +14,14 @@ use Rattle.mur_base.specs.declared.name.NameFault.{NameFault}
 use Rattle.mur_model.specs.declared.need.Need.{Need}
 use Rattle.mur_model.specs.declared.need.Need.TheVariants.{Turned, Mailbox}
 use Rattle.mur_model.specs.declared.need.Work.TheVariants.{Select as select_work}
-use Rattle.mur_model.specs.declared.reply.Attribute.TheVariants.{None as no_attribute}
-use Rattle.mur_model.specs.declared.reply.Code.{Code}
-use Rattle.mur_model.specs.declared.reply.Code.TheVariants.{ReadOnly, ReadWrite}
-use Rattle.mur_model.specs.declared.reply.NoText.{NoText}
-use Rattle.mur_model.specs.declared.reply.NoText.TheVariants.{NonExistent, NoPerm}
-use Rattle.mur_model.specs.declared.reply.ReplyLine.{ReplyLine}
-use Rattle.mur_model.specs.declared.reply.ReplyLine.TheVariants.{Closed, Exists, Flags, Listed, Permanent, UidNext, UidValidity}
-use Rattle.mur_model.specs.declared.reply.Verdict.TheVariants.{Ok as ok_reply, No as no_reply}
+use Rattle.imap_types.specs.declared.reply.Attribute.TheVariants.{None as no_attribute}
+use Rattle.imap_types.specs.declared.reply.Code.{Code}
+use Rattle.imap_types.specs.declared.reply.Code.TheVariants.{ReadOnly, ReadWrite}
+use Rattle.imap_types.specs.declared.reply.NoText.{NoText}
+use Rattle.imap_types.specs.declared.reply.NoText.TheVariants.{NonExistent, NoPerm}
+use Rattle.imap_types.specs.declared.reply.ReplyLine.{ReplyLine}
+use Rattle.imap_types.specs.declared.reply.ReplyLine.TheVariants.{Closed, Exists, Flags, Listed, Permanent, UidNext, UidValidity}
+use Rattle.imap_types.specs.declared.reply.Verdict.TheVariants.{Ok as ok_reply, No as no_reply}
 use Rattle.mur_model.specs.declared.select.Opening.{Opening}
 use Rattle.mur_model.specs.declared.session.Sess.TheVariants.{In, Selected}
 use Rattle.mur_model.specs.declared.session.Turn.{Turn}

@@ -6,20 +6,20 @@ use Rattle.mail_message.specs.declared.message.Snapshot.{Snapshot}
 use Rattle.mur_base.specs.Inbox.{taken_name, shown_name}
 use Rattle.mur_base.specs.Names.{mail_name_fault}
 use Rattle.mur_base.specs.declared.name.NameFault.{NameFault}
-use Rattle.mur_model.specs.declared.command.StatusItem.{StatusItem}
-use Rattle.mur_model.specs.declared.command.StatusItem.TheVariants.{Messages, UidNext, UidValidity, Unseen, Deleted, Size}
+use Rattle.imap_types.specs.declared.command.StatusItem.{StatusItem}
+use Rattle.imap_types.specs.declared.command.StatusItem.TheVariants.{Messages, UidNext, UidValidity, Unseen, Deleted, Size}
 use Rattle.mur_model.specs.declared.need.Need.{Need}
 use Rattle.mur_model.specs.declared.need.Need.TheVariants.{Refusal, Mailbox}
 use Rattle.mur_model.specs.declared.need.Work.TheVariants.{Status as status_work}
-use Rattle.mur_model.specs.declared.reply.Code.TheVariants.{None as no_code}
-use Rattle.mur_model.specs.declared.reply.NoText.TheVariants.{NonExistent, NoPerm}
-use Rattle.mur_model.specs.declared.reply.Reply.{Reply}
-use Rattle.mur_model.specs.declared.reply.ReplyLine.TheVariants.{Status as status_line}
-use Rattle.mur_model.specs.declared.reply.StatusCount.{StatusCount}
-use Rattle.mur_model.specs.declared.reply.Verdict.TheVariants.{Ok as ok_reply, No as no_reply}
+use Rattle.imap_types.specs.declared.reply.Code.TheVariants.{None as no_code}
+use Rattle.imap_types.specs.declared.reply.NoText.TheVariants.{NonExistent, NoPerm}
+use Rattle.imap_types.specs.declared.reply.Reply.{Reply}
+use Rattle.imap_types.specs.declared.reply.ReplyLine.TheVariants.{Status as status_line}
+use Rattle.imap_types.specs.declared.reply.StatusCount.{StatusCount}
+use Rattle.imap_types.specs.declared.reply.Verdict.TheVariants.{Ok as ok_reply, No as no_reply}
 use Rattle.mur_model.specs.declared.setting.Setting.{Setting}
 use Rattle.mur_model.specs.Left.{Worked, replied, kept}
-use Rattle.mur_model.specs.Reply.{refused}
+use Rattle.imap_types.specs.Reply.{refused}
 use Rattle.mur_model.specs.Rights.{has_rights}
 
 unfoldable pub status_by : List ℕ → List ℕ → List StatusItem → Bool → Need

@@ -1,7 +1,7 @@
 -- Commands that wait for one line more of their client: AUTHENTICATE without a response (RFC 9051, 6.2.2), and IDLE (RFC 9051, 6.3.13).
 use Rattle.std.specs.Prelude.{ℕ, Bool, true, false, ◌||◌, List, Option, None, Some, codes}
-use Rattle.mur_model.specs.declared.command.Command.{Command}
-use Rattle.mur_model.specs.declared.command.Command.TheVariants.{Authenticate, Idle, Login}
+use Rattle.imap_types.specs.declared.command.Command.{Command}
+use Rattle.imap_types.specs.declared.command.Command.TheVariants.{Authenticate, Idle, Login}
 use Rattle.mur_model.specs.declared.need.Need.{Need}
 use Rattle.mur_model.specs.declared.need.Need.TheVariants.{Turned}
 use Rattle.mur_model.specs.declared.session.Sess.{Sess}

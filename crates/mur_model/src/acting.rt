@@ -4,16 +4,15 @@ ghost use Rattle.mur_model.specs.Act.{worked_at, act_by, act_of, session_after};
 ghost use Rattle.mur_model.specs.Left.{replied, store_after};
 
 use crate::append::append_at;
-use crate::command::Command;
 use crate::create::make;
 use crate::need::{Need, Work, begin};
-use crate::reply::{Reply, ReplyLines};
 use crate::select::select_at;
 use crate::session::{Sess, Turn};
 use crate::setting::Setting;
 use crate::status::status_at;
 use crate::store::Store;
 use crate::viewing::viewed_at;
+use imap_types::{Command, Reply, ReplyLines};
 use mur_base::{MailName, Memory};
 use std::alloc::Global;
 

@@ -4,14 +4,14 @@ ghost use Rattle.mail_store.specs.Append.{append_fault};
 ghost use Rattle.mur_model.specs.Append.{new_message, append, append_by, append_on, append_to, append_reply};
 ghost use Rattle.mur_model.specs.Rights.{has_rights};
 ghost use Rattle.mur_model.specs.Left.{replied, store_after, box_after};
-ghost use Rattle.mur_model.specs.Reply.{refused};
+ghost use Rattle.imap_types.specs.Reply.{refused};
 ghost use Rattle.mur_model.specs.Store.{box_at};
 
 use crate::need::{Need, Work};
-use crate::reply::{Code, NoText, Reply, ReplyLines, Verdict, refused};
 use crate::rights::has_rights;
 use crate::setting::Setting;
 use crate::store::Store;
+use imap_types::{Code, NoText, Reply, ReplyLines, Verdict, refused};
 use mail_message::{DateText, FlagSet, MailBox, Message, Messages};
 use mail_store::{StoreFault, append_all};
 use mur_base::{Bytes, MailName, Memory, NameFault, UserName, taken};

@@ -3,8 +3,8 @@ ghost use Rattle.std.specs.Prelude.{◌≡◌, IfOk};
 ghost use Rattle.mur_model.specs.AtOnce.{capability, enable, is_done, logout, told_at_once};
 
 use crate::need::Need;
-use crate::reply::{Bye, Code, Reply, ReplyLine, ReplyLines, Verdict};
 use crate::session::{Sess, Turn};
+use imap_types::{Bye, Code, Reply, ReplyLine, ReplyLines, Verdict};
 use mur_base::{Bytes, Memory};
 use std::alloc::Global;
 

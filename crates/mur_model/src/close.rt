@@ -5,9 +5,9 @@ ghost use Rattle.mur_model.specs.Close.{close, close_at, left_by};
 ghost use Rattle.mur_model.specs.Left.{IsLeft};
 
 use crate::need::{Need, ViewWork, work_at_view};
-use crate::reply::completed;
 use crate::session::{Sess, Turn};
 use crate::view::View;
+use imap_types::completed;
 use mail_message::MailBox;
 use mail_store::expunge;
 use mur_base::{Copied, Memory};

@@ -8,10 +8,10 @@ ghost use Rattle.mur_model.specs.Rights.{may_create};
 ghost use Rattle.mur_model.specs.Store.{box_at, is_spent, with_new_box};
 
 use crate::need::{Need, Work};
-use crate::reply::{NoText, Reply, Verdict, completed, refused};
 use crate::rights::may_create;
 use crate::setting::Setting;
 use crate::store::{Pair, Store};
+use imap_types::{NoText, Reply, Verdict, completed, refused};
 use mail_message::{MailBox, first_acl};
 use mur_base::{Copied, MailName, Memory, NameFault, UserName, taken};
 use std::alloc::Global;

@@ -14,11 +14,11 @@ ghost use Rattle.mur_model.specs.Left.{IsLeft};
 use crate::named_rows::{named_uids, names_messages};
 use crate::need::{Need, ViewWork, no_such_number, work_at_view};
 use crate::news::{is_same_flags, news_of, number_of};
-use crate::reply::{Parts, ReplyLine, ReplyLines, Verdict};
 use crate::selected::with_news;
 use crate::session::Turn;
 use crate::store_flags::code_for;
 use crate::view::View;
+use imap_types::{Parts, ReplyLine, ReplyLines, Verdict};
 use mail_fetch::{flags_part, part};
 use mail_message::{
     FetchItems, FlagName, FlagSet, Item, MailBox, Message, Messages, Mode, OrderedRows, Partial,

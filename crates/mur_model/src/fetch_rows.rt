@@ -7,11 +7,11 @@ ghost use Rattle.mur_model.specs.News.{has_row};
 
 use crate::fetch::{Fetching, asks_flags, fetch_name, items_told};
 use crate::news::{news_of, number_of};
-use crate::reply::{Parts, ReplyLine, ReplyLines, Verdict};
 use crate::selected::with_news;
 use crate::session::Turn;
 use crate::store_flags::code_for;
 use crate::view::View;
+use imap_types::{Parts, ReplyLine, ReplyLines, Verdict};
 use mail_fetch::{flags_part, uid_part};
 use mail_message::{Item, OrderedRows, Row, Uids};
 use mail_store::set_of;

@@ -6,7 +6,6 @@ mod acting;
 mod append;
 mod at_once;
 mod close;
-mod command;
 mod create;
 mod expunge;
 mod fetch;
@@ -18,8 +17,6 @@ mod need;
 mod news;
 mod noop;
 mod plain;
-mod reply;
-mod request;
 mod rights;
 mod search;
 mod search_rows;
@@ -37,19 +34,18 @@ mod wait;
 pub use acting::act;
 pub use append::append_reply;
 pub use close::left_by;
-pub use command::{Atoms, Command, StatusItem, StatusItems, Tag};
 pub use expunge::expunge_told;
 pub use fetch::{Fetching, fetch_told, sees};
 pub use fetch_rows::{asks_rows, rows_told};
+pub use imap_types::{
+    Answer, Atoms, Attribute, BadText, Bye, Code, Command, FlagNames, NoText, Parts, Reply,
+    ReplyLine, ReplyLines, Request, StatusCount, StatusCounts, StatusItem, StatusItems, Tag,
+    Verdict, completed, refused,
+};
 pub use named_rows::uids_of;
 pub use need::{Need, NewsFor, ViewWork, Work, begin};
 pub use news::Told;
 pub use noop::news_told;
-pub use reply::{
-    Attribute, BadText, Bye, Code, FlagNames, NoText, Parts, Reply, ReplyLine, ReplyLines,
-    StatusCount, StatusCounts, Verdict, completed, refused,
-};
-pub use request::{Answer, Request};
 pub use search::{Searching, search_told};
 pub use search_rows::{are_keys_in_rows, rows_searched};
 pub use select::{Opening, select_told, unselected};

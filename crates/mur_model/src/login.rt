@@ -3,9 +3,9 @@ ghost use Rattle.std.specs.Prelude.{◌≡◌, IfOk};
 ghost use Rattle.mur_model.specs.Login.{login, login_failed, begun_by};
 
 use crate::need::Need;
-use crate::reply::{NoText, Verdict, completed};
 use crate::rights::user_named;
 use crate::session::{Sess, Turn};
+use imap_types::{NoText, Verdict, completed};
 use mur_base::{Copied, Memory, UserName, Users};
 use std::alloc::Global;
 

@@ -7,7 +7,7 @@ ghost use Rattle.mur_model.specs.News.{fresh_rows, exists_lines, changed_lines, 
 ghost use Rattle.mur_model.specs.SameFlags.{is_same_flags};
 ghost use Rattle.std.specs.Option.{option_copied};
 
-use crate::reply::{Parts, ReplyLine, ReplyLines};
+use imap_types::{Parts, ReplyLine, ReplyLines};
 use mail_fetch::{flags_part, uid_part};
 use mail_message::{FlagSet, OrderedRows, Row, Rows};
 use mur_base::{Copied, Memory};

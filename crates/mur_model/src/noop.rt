@@ -5,10 +5,10 @@ ghost use Rattle.mur_model.specs.Noop.{news_at, news_name, news_told};
 
 use crate::need::NewsFor;
 use crate::news::news_of;
-use crate::reply::{Code, ReplyLines, Verdict};
 use crate::selected::with_news;
 use crate::session::Turn;
 use crate::view::View;
+use imap_types::{Code, ReplyLines, Verdict};
 use mail_message::{MailBox, OrderedRows};
 use mur_base::{Bytes, Memory};
 use std::alloc::Global;

@@ -5,9 +5,9 @@ ghost use Rattle.mur_model.specs.Plain.{acts_as, authenticate, authenticate_as, 
 
 use crate::login::{login, login_failed};
 use crate::need::Need;
-use crate::reply::{BadText, Verdict};
 use base64::DecodeAllocError;
 use base64::engine::general_purpose::STANDARD;
+use imap_types::{BadText, Verdict};
 use mur_base::{Bytes, Memory, Users};
 use std::alloc::Global;
 

@@ -11,12 +11,12 @@ ghost use Rattle.mur_model.specs.Select.{keywords_in, flags_of, permanent_line, 
 
 use crate::need::{Need, Work};
 use crate::news::number_of;
-use crate::reply::{Attribute, Code, FlagNames, NoText, Reply, ReplyLine, ReplyLines, Verdict};
 use crate::rights::has_rights;
 use crate::session::{Sess, Turn};
 use crate::setting::Setting;
 use crate::store::Store;
 use crate::view::View;
+use imap_types::{Attribute, Code, FlagNames, NoText, Reply, ReplyLine, ReplyLines, Verdict};
 use mail_message::{FlagName, Keywords, Row, Snapshot, SystemFlag};
 use mur_base::{Bytes, Copied, MailName, Memory, NameFault, UserName, shown, taken};
 use std::alloc::Global;

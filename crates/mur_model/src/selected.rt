@@ -3,9 +3,9 @@ ghost use Rattle.std.specs.Prelude.{◌≡◌, ◌++◌, IfOk, OnOk};
 ghost use Rattle.mur_model.specs.Selected.{gone, with_news};
 
 use crate::news::Told;
-use crate::reply::{Bye, Reply, ReplyLine, ReplyLines, Verdict};
 use crate::session::{Sess, Turn};
 use crate::view::View;
+use imap_types::{Bye, Reply, ReplyLine, ReplyLines, Verdict};
 use mur_base::{Copied, Memory};
 use std::alloc::Global;
 

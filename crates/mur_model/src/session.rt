@@ -1,6 +1,6 @@
 // The session of a connection (RFC 9051, 3).
-use crate::reply::Reply;
 use crate::view::View;
+use imap_types::Reply;
 use mur_base::UserName;
 
 /// The state of a session.

@@ -5,14 +5,14 @@ ghost use Rattle.mur_model.specs.Store.{box_at};
 ghost use Rattle.mur_model.specs.Rights.{has_rights};
 ghost use Rattle.mur_model.specs.Status.{status, status_by, unseen as count_unseen, deleted as count_deleted, count_of, status_reply, status_on};
 
-use crate::command::{StatusItem, StatusItems};
 use crate::need::{Need, Work};
-use crate::reply::{
-    Code, NoText, Reply, ReplyLine, ReplyLines, StatusCount, StatusCounts, Verdict, refused,
-};
 use crate::rights::has_rights;
 use crate::setting::Setting;
 use crate::store::Store;
+use imap_types::{
+    Code, NoText, Reply, ReplyLine, ReplyLines, StatusCount, StatusCounts, StatusItem, StatusItems,
+    Verdict, refused,
+};
 use mail_message::{Row, Snapshot};
 use mur_base::{Bytes, MailName, Memory, NameFault, UserName, shown, taken};
 use std::alloc::Global;

@@ -9,10 +9,10 @@ ghost use Rattle.mur_model.specs.StoreFlags.{store_name, stored_line, stored_lin
 use crate::named_rows::{named_uids, names_messages, uids_of};
 use crate::need::{Need, ViewWork, no_such_number, read_only, work_at_view};
 use crate::news::{flag_parts, news_of};
-use crate::reply::{Code, NoText, ReplyLine, ReplyLines, Verdict};
 use crate::selected::with_news;
 use crate::session::Turn;
 use crate::view::View;
+use imap_types::{Code, NoText, ReplyLine, ReplyLines, Verdict};
 use mail_message::{FlagSet, MailBox, Mode, OrderedRows, Row, SetParts, Uids};
 use mail_store::{StoreFault, set_flags, set_of};
 use mur_base::{Bytes, Memory};

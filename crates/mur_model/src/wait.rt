@@ -2,12 +2,12 @@
 ghost use Rattle.std.specs.Prelude.{◌≡◌, IfOk, IsOkAnd};
 ghost use Rattle.mur_model.specs.Waits.{begins, begins_by, begun_behind, wait_of, waits_begun, with_line};
 
-use crate::command::Command;
 use crate::login::login;
 use crate::need::Need;
 use crate::plain::authenticate;
 use crate::session::{Sess, Turn};
 use crate::setting::Setting;
+use imap_types::Command;
 use mur_base::{Bytes, Memory};
 use std::alloc::Global;
 

@@ -1,4 +1,4 @@
-mod TextLaws
+pub mod TextLaws
 mod PutLaws
 mod CutLaws
 mod CutWords

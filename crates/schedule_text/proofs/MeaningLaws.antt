@@ -129,12 +129,6 @@ schedule_read config bytes events is =
     rw (le-ltb SCHEDULE_LIMIT (length bytes) is.short)
     (lines_read is.spell.lines events is.spell.spelled (cuts_of bytes) (lines_cut bytes is.spell.lines is.spell.cut) config 1 [] is.follow)
 
--- bytes are a schedule of one list of events at most
-pub one_meaning : (config : Config) (bytes : List ℕ) (events other : List Event) → IsSchedule config bytes events → IsSchedule config bytes other
-    → events ≡ other
-one_meaning config bytes events other is also =
-    let same : Ok events ≡ Ok other = sym (schedule_read config bytes events is) ∙ schedule_read config bytes other also in cc
-
 -- a refusal has its cause
 pub has_cause : (config : Config) (bytes : List ℕ) (result : Result (List Event) ScheduleError) → IsReadAsSchedule (schedule_of config bytes) result
     → IfErr result (HasCause config bytes)

@@ -52,7 +52,7 @@ spelling_by b rest h false false true feed e p r f = rw (e, p, r) (ap (λ (x : �
 spelling_by b rest h false false false true e p r f = rw (e, p, r, f) (ap (λ (x : ℕ). with_byte x (bytes_from rest Between)) (sym (eqb-true b 10 f)))
 spelling_by b rest h false false false false e p r f = rw (e, p, r, f) (hex_behind b rest h)
 
-spelling_behind : (b : ℕ) (rest : List ℕ) → b < 256 → bytes_from (spelling_of b ++ rest) Between ≡ with_byte b (bytes_from rest Between)
+pub spelling_behind : (b : ℕ) (rest : List ℕ) → b < 256 → bytes_from (spelling_of b ++ rest) Between ≡ with_byte b (bytes_from rest Between)
 spelling_behind b rest h = spelling_by b rest h (nat_eq b 92) (is_printed b) (nat_eq b 13) (nat_eq b 10) refl refl refl refl
 
 pub bytes_of_text : (bytes : List ℕ) → ((k : ℕ) → Fits w8 (get_or bytes k 0)) → bytes_of (text_of bytes) ≡ Some bytes

@@ -1,11 +1,11 @@
 -- What comes of a command at once, whatever mailboxes there are, leaves no mailbox selected or changes no number that its client knows.
 use Rattle.std.proofs.Common.{◌≡◌, List, Option, None, Some, refl}
 use Rattle.std.specs.Prelude.{⊤}
-use Rattle.mur_model.specs.declared.command.Command.{Command}
+use Rattle.imap_types.specs.declared.command.Command.{Command}
 use Rattle.mur_model.specs.declared.need.Need.{Need as Needed}
 use Rattle.mur_model.specs.declared.need.Need.TheVariants.{Refusal, Turned, Mailbox}
-use Rattle.mur_model.specs.declared.reply.Reply.{Reply}
-use Rattle.mur_model.specs.declared.reply.ReplyLine.{ReplyLine}
+use Rattle.imap_types.specs.declared.reply.Reply.{Reply}
+use Rattle.imap_types.specs.declared.reply.ReplyLine.{ReplyLine}
 use Rattle.mur_model.specs.declared.session.Sess.{Sess}
 use Rattle.mur_model.specs.declared.session.Sess.TheVariants.{Selected}
 use Rattle.mur_model.specs.declared.setting.Setting.{Setting}

@@ -2,12 +2,12 @@
 use Rattle.std.proofs.Common.{◌≡◌, Option, None, Some, sym, ◌∙◌, ap, subst, Result}
 use Rattle.std.proofs.lemmas.Result.{IfOk-weaker}
 use Rattle.mur_base.specs.declared.memory.Memory.{Memory}
-use Rattle.mur_model.specs.declared.command.Command.{Command}
+use Rattle.imap_types.specs.declared.command.Command.{Command}
 use Rattle.mur_model.specs.declared.need.Need.{Need as Needed}
 use Rattle.mur_model.specs.declared.need.Need.TheVariants.{Refusal, Turned, Mailbox}
-use Rattle.mur_model.specs.declared.reply.BadText.TheVariants.{State}
-use Rattle.mur_model.specs.declared.reply.Verdict.TheVariants.{Bad as bad_reply}
-use Rattle.mur_model.specs.declared.reply.Reply.{Reply}
+use Rattle.imap_types.specs.declared.reply.BadText.TheVariants.{State}
+use Rattle.imap_types.specs.declared.reply.Verdict.TheVariants.{Bad as bad_reply}
+use Rattle.imap_types.specs.declared.reply.Reply.{Reply}
 use Rattle.mur_model.specs.declared.session.Sess.{Sess}
 use Rattle.mur_model.specs.declared.session.Sess.TheVariants.{Off, In, Selected, Ended}
 use Rattle.mur_model.specs.declared.session.Turn.{Turn}

@@ -16,16 +16,16 @@ use Rattle.mail_message.specs.declared.message.Row.{Row}
 use Rattle.mail_message.specs.declared.message.Snapshot.{Snapshot}
 use Rattle.mail_message.specs.RowOrder.{row_at}
 use Rattle.mur_base.specs.declared.memory.Memory.{Memory}
-use Rattle.mur_model.specs.declared.command.Command.{Command}
-use Rattle.mur_model.specs.declared.command.StatusItem.{StatusItem}
+use Rattle.imap_types.specs.declared.command.Command.{Command}
+use Rattle.imap_types.specs.declared.command.StatusItem.{StatusItem}
 use Rattle.mur_model.specs.declared.need.Need.{Need as Needed}
 use Rattle.mur_model.specs.declared.need.Need.TheVariants.{Refusal, Turned, Mailbox}
 use Rattle.mur_model.specs.declared.setting.Setting.{Setting}
 use Rattle.mur_model.specs.declared.fetch.Fetching.{Fetching}
 use Rattle.mur_model.specs.declared.need.ViewWork.{ViewWork}
 use Rattle.mur_model.specs.declared.need.ViewWork.TheVariants.{News, Close, Expunge, Store, Fetch, Search}
-use Rattle.mur_model.specs.declared.reply.Reply.{Reply}
-use Rattle.mur_model.specs.declared.reply.ReplyLine.{ReplyLine}
+use Rattle.imap_types.specs.declared.reply.Reply.{Reply}
+use Rattle.imap_types.specs.declared.reply.ReplyLine.{ReplyLine}
 use Rattle.mur_model.specs.declared.search.Searching.{Searching}
 use Rattle.mur_model.specs.declared.select.Opening.{Opening}
 use Rattle.mur_model.specs.declared.session.Sess.{Sess}
@@ -41,7 +41,7 @@ use Rattle.mur_model.specs.Left.{replied}
 use Rattle.mur_model.specs.News.{news}
 use Rattle.mur_model.specs.Search.{search_line}
 use Rattle.mur_model.specs.SearchRows.{bare_at}
-use Rattle.mur_model.specs.Select.{closed_lines, select_told}
+use Rattle.mur_model.specs.Select.{select_told}
 use Rattle.mur_model.specs.Status.{status_reply as reply_with_counts}
 use Rattle.mur_model.specs.Append.{append_reply as reply_with_uid}
 use Rattle.mur_model.specs.StoreFlags.{own_lines, stored_line, stored_lines}
@@ -169,11 +169,6 @@ view_leaves known session view work NotNow agrees = tt
 view_leaves known session view work body agrees = tt
 
 -- a mailbox that is selected: as many messages as its EXISTS says
-
-closed_still : (was_selected : Bool) → AreStill (closed_lines was_selected)
-unfolding known_after
-closed_still true known = refl
-closed_still false known = refl
 
 selected_leaves : (session : Sess) (it : Opening) (name : List ℕ) (seen : Snapshot) → TurnLeaves [] session (select_told it name seen)
 unfolding Knows known_after

@@ -6,10 +6,10 @@ use Rattle.link_msg.specs.declared.answer.AnswerBody.TheVariants.{Done, NotNow}
 use Rattle.link_msg.specs.declared.outcome.Outcome.{Outcome}
 use Rattle.link_msg.specs.declared.outcome.Outcome.TheVariants.{Uids, Limit as full}
 use Rattle.mail_message.specs.declared.message.Snapshot.{Snapshot}
-use Rattle.mur_model.specs.declared.reply.NoText.TheVariants.{TryCreate, Limit}
-use Rattle.mur_model.specs.declared.reply.Reply.{Reply}
+use Rattle.imap_types.specs.declared.reply.NoText.TheVariants.{TryCreate, Limit}
+use Rattle.imap_types.specs.declared.reply.Reply.{Reply}
 use Rattle.mur_model.specs.Append.{append_reply as reply_with_uid}
-use Rattle.mur_model.specs.Reply.{refused}
+use Rattle.imap_types.specs.Reply.{refused}
 use Rattle.link_msg.specs.declared.op.Op.TheVariants.{Append as append_op}
 use Rattle.mail_message.specs.declared.message.Message.{Message}
 use Rattle.session_core.specs.declared.asking.Asking.{Asking}

@@ -1,6 +1,6 @@
 -- What a session needs behind a command. Only one that has begun asks a home.
 use Rattle.std.specs.Prelude.{⊤, ℕ, List, []}
-use Rattle.mur_model.specs.declared.command.Command.{Command}
+use Rattle.imap_types.specs.declared.command.Command.{Command}
 use Rattle.mur_model.specs.declared.session.Sess.{Sess}
 use Rattle.mur_model.specs.declared.session.Sess.TheVariants.{Off, In, Selected, Ended}
 use Rattle.mur_model.specs.declared.setting.Setting.{Setting}

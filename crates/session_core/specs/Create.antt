@@ -4,9 +4,9 @@ use Rattle.link_msg.specs.declared.answer.AnswerBody.{AnswerBody}
 use Rattle.link_msg.specs.declared.answer.AnswerBody.TheVariants.{Done}
 use Rattle.link_msg.specs.declared.outcome.Outcome.{Outcome}
 use Rattle.link_msg.specs.declared.outcome.Outcome.TheVariants.{None as nothing, Exists, Limit as full}
-use Rattle.mur_model.specs.declared.reply.NoText.TheVariants.{AlreadyExists, Limit}
-use Rattle.mur_model.specs.declared.reply.Reply.{Reply}
-use Rattle.mur_model.specs.Reply.{completed, refused}
+use Rattle.imap_types.specs.declared.reply.NoText.TheVariants.{AlreadyExists, Limit}
+use Rattle.imap_types.specs.declared.reply.Reply.{Reply}
+use Rattle.imap_types.specs.Reply.{completed, refused}
 use Rattle.link_msg.specs.declared.op.Op.TheVariants.{Create as create_op}
 use Rattle.session_core.specs.declared.asking.Asking.{Asking}
 use Rattle.session_core.specs.declared.asking.Awaited.TheVariants as awaited

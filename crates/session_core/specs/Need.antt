@@ -2,11 +2,11 @@
 use Rattle.std.specs.Prelude.{Option, Some}
 use Rattle.mur_model.specs.declared.need.Need.{Need as Needed}
 use Rattle.mur_model.specs.declared.need.Need.TheVariants.{Refusal, Turned, Mailbox}
-use Rattle.mur_model.specs.declared.reply.Reply.{Reply as ReplyOf}
+use Rattle.imap_types.specs.declared.reply.Reply.{Reply as ReplyOf}
 use Rattle.mur_model.specs.declared.session.Sess.{Sess}
 use Rattle.mur_model.specs.declared.session.Sess.TheVariants.{Ended}
 use Rattle.mur_model.specs.Act.{session_after}
-use Rattle.mur_model.specs.Reply.{reply_of}
+use Rattle.imap_types.specs.Reply.{reply_of}
 use Rattle.session_core.specs.declared.need.Need.{Need}
 use Rattle.session_core.specs.declared.need.Need.TheVariants.{Reply, Leave, Home}
 use Rattle.session_core.specs.Asking.{asked_for}

@@ -2,8 +2,8 @@
 -- a message sequence number means the same message at both ends.
 use Rattle.std.specs.Prelude.{◌≡◌, ⊤, false, List, [], ◌∷◌}
 use Rattle.mur_model.specs.declared.need.ViewWork.TheVariants as work
-use Rattle.mur_model.specs.declared.reply.ReplyLine.{ReplyLine}
-use Rattle.mur_model.specs.declared.reply.ReplyLine.TheVariants.{Expunge}
+use Rattle.imap_types.specs.declared.reply.ReplyLine.{ReplyLine}
+use Rattle.imap_types.specs.declared.reply.ReplyLine.TheVariants.{Expunge}
 use Rattle.mur_model.specs.declared.session.Sess.{Sess}
 use Rattle.mur_model.specs.declared.session.Sess.TheVariants.{Selected}
 use Rattle.mur_model.specs.ClientView.{Agrees, Known, known_after_all, uids}

@@ -6,7 +6,7 @@ use Rattle.link_msg.specs.declared.answer.AnswerBody.TheVariants.{Done, NotNow}
 use Rattle.link_msg.specs.declared.outcome.Outcome.{Outcome}
 use Rattle.link_msg.specs.declared.outcome.Outcome.TheVariants.{None as nothing}
 use Rattle.mail_message.specs.declared.message.Snapshot.{Snapshot}
-use Rattle.mur_model.specs.declared.reply.NoText.TheVariants.{NonExistent}
+use Rattle.imap_types.specs.declared.reply.NoText.TheVariants.{NonExistent}
 use Rattle.mur_model.specs.declared.select.Opening.{Opening}
 use Rattle.mur_model.specs.declared.session.Turn.{Turn}
 use Rattle.mur_model.specs.Select.{select_told, unselected}

@@ -6,10 +6,10 @@ use Rattle.link_msg.specs.declared.answer.AnswerBody.TheVariants.{Done, NotNow}
 use Rattle.link_msg.specs.declared.outcome.Outcome.{Outcome}
 use Rattle.link_msg.specs.declared.outcome.Outcome.TheVariants.{None as nothing}
 use Rattle.mail_message.specs.declared.message.Snapshot.{Snapshot}
-use Rattle.mur_model.specs.declared.command.StatusItem.{StatusItem}
-use Rattle.mur_model.specs.declared.reply.NoText.TheVariants.{NonExistent}
-use Rattle.mur_model.specs.declared.reply.Reply.{Reply}
-use Rattle.mur_model.specs.Reply.{refused}
+use Rattle.imap_types.specs.declared.command.StatusItem.{StatusItem}
+use Rattle.imap_types.specs.declared.reply.NoText.TheVariants.{NonExistent}
+use Rattle.imap_types.specs.declared.reply.Reply.{Reply}
+use Rattle.imap_types.specs.Reply.{refused}
 use Rattle.mur_model.specs.Status.{status_reply as reply_with_counts}
 use Rattle.link_msg.specs.declared.op.Op.TheVariants.{Look}
 use Rattle.session_core.specs.declared.asking.Asking.{Asking}

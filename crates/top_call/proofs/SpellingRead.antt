@@ -1,42 +1,19 @@
 -- What is printed of bytes, and of a name, is read back as these bytes.
-use Rattle.std.proofs.Common.{◌≡◌, ℕ, suc, ◌+◌, ◌*◌, ◌/◌, ◌%◌, ◌^◌, ◌<◌, Bool, true, false, nat_eq, List, [], ◌∷◌, ◌++◌, get_or, Option, Some, refl}
-use Rattle.std.proofs.Common.{sym, ap, ◌∙◌, append_assoc, arith}
+use Rattle.std.proofs.Common.{◌≡◌, ℕ, suc, ◌+◌, ◌^◌, ◌<◌, Bool, true, false, nat_eq, List, [], ◌∷◌, ◌++◌, get_or, Some, refl}
+use Rattle.std.proofs.Common.{sym, ap, ◌∙◌, arith}
 use Rattle.std.specs.List.{flat_map}
 use Rattle.std.proofs.lemmas.Bool.{eqb-true}
-use Rattle.std.proofs.lemmas.Bool.Decides.{nat_tests}
 use Rattle.schedule_text.specs.declared.text.Spelling.TheVariants.{Between}
 use Rattle.schedule_text.specs.Text.{bytes_of, bytes_from, with_byte, character_at, text_of, name_text_of, spelling_of, name_spelling_of, is_printed}
-use Rattle.schedule_text.specs.Text.{hex_digit, hex_value, between_spellings, behind_escape, first_digit, second_digit}
+use Rattle.schedule_text.specs.Text.{hex_value, between_spellings, behind_escape, first_digit, second_digit}
+use Rattle.schedule_text.proofs.TextLaws.{spelling_behind}
 
 -- in front of any text a spelling is read as its byte
 abbrev ReadsAs : List ℕ → ℕ → Type 0
 ReadsAs spelling b = (rest : List ℕ) → bytes_from (spelling ++ rest) Between ≡ with_byte b (bytes_from rest Between)
 
-hex_value-digit : (d : ℕ) → d < 16 → hex_value (hex_digit d) ≡ Some d
-unfolding hex_value hex_digit
-hex_value-digit d h = grind (arith, nat_tests)
-
-hex_behind : (b : ℕ) → b < 256 → ReadsAs (92 ∷ 120 ∷ hex_digit (b / 16) ∷ hex_digit (b % 16) ∷ []) b
-unfolding bytes_from character_at between_spellings behind_escape first_digit second_digit
-hex_behind b h rest =
-    let high = hex_value-digit (b / 16) (omega arith) in
-    let low = hex_value-digit (b % 16) (omega arith) in
-    let whole : 16 * (b / 16) + b % 16 ≡ b = omega arith in
-    rw (high, low, whole) refl
-
--- the tests of a spelling, in order
-spelling_by : (b : ℕ) (rest : List ℕ) → b < 256 → (escape printed return feed : Bool) → nat_eq b 92 ≡ escape → is_printed b ≡ printed
-    → nat_eq b 13 ≡ return → nat_eq b 10 ≡ feed
-    → bytes_from (spelling_of b ++ rest) Between ≡ with_byte b (bytes_from rest Between)
-unfolding bytes_from character_at between_spellings behind_escape spelling_of
-spelling_by b rest h true printed return feed e p r f = rw (e) (ap (λ (x : ℕ). with_byte x (bytes_from rest Between)) (sym (eqb-true b 92 e)))
-spelling_by b rest h false true return feed e p r f = rw (e, p, e, p) refl
-spelling_by b rest h false false true feed e p r f = rw (e, p, r) (ap (λ (x : ℕ). with_byte x (bytes_from rest Between)) (sym (eqb-true b 13 r)))
-spelling_by b rest h false false false true e p r f = rw (e, p, r, f) (ap (λ (x : ℕ). with_byte x (bytes_from rest Between)) (sym (eqb-true b 10 f)))
-spelling_by b rest h false false false false e p r f = rw (e, p, r, f) (hex_behind b h rest)
-
 spelling_read : (b : ℕ) → b < 256 → ReadsAs (spelling_of b) b
-spelling_read b h rest = spelling_by b rest h (nat_eq b 92) (is_printed b) (nat_eq b 13) (nat_eq b 10) refl refl refl refl
+spelling_read b h rest = spelling_behind b rest h
 
 name_spelling_by : (b : ℕ) (rest : List ℕ) → b < 256 → (space : Bool) → nat_eq b 32 ≡ space
     → bytes_from (name_spelling_of b ++ rest) Between ≡ with_byte b (bytes_from rest Between)

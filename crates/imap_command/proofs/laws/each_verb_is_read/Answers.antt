@@ -4,7 +4,7 @@ use Rattle.mur_base.specs.Number.{is_digit, digits_behind}
 use Rattle.grammar.specs.Nested.{nested_part}
 use Rattle.grammar.specs.Part.{exactly, optional, repeat, turns}
 use Rattle.imap_command.specs.Authenticate.{is_base64_char}
-use Rattle.imap_command.specs.Characters.{is_astring_char, is_atom_char, is_char8, is_tag_byte}
+use Rattle.imap_text.specs.Characters.{is_astring_char, is_atom_char, is_char8, is_tag_byte}
 use Rattle.imap_command.specs.Commands.{arguments, uid_arguments}
 use Rattle.imap_command.specs.Fetch.{item_of, single_of}
 use Rattle.imap_command.specs.Flags.{flag, flag_list_part, some_flags, store_flags_part}
@@ -12,7 +12,7 @@ use Rattle.imap_command.specs.Keys.{behind_flat, behind_key, deep_key}
 use Rattle.imap_command.specs.List.{is_list_char, list_mailbox}
 use Rattle.imap_command.specs.Request.{request_of, first_tag}
 use Rattle.imap_command.specs.Spells.{tagged_command}
-use Rattle.imap_command.specs.Strings.{astring, crlf_part, literal, string}
+use Rattle.imap_text.specs.Strings.{astring, crlf_part, literal, string}
 use Rattle.imap_command.proofs.laws.each_verb_is_read.Goals as goal
 
 pub returns-clause-capability : goal.returns-clause-capability

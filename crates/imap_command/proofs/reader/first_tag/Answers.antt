@@ -1,5 +1,5 @@
 use Rattle.std.proofs.Common.{sym, ap, ◌∙◌}
-use Rattle.mur_model.specs.declared.command.Tag.TheVariants.{Text}
+use Rattle.imap_types.specs.declared.command.Tag.TheVariants.{Text}
 use Rattle.imap_command.proofs.BadLaws.{tag_found, tag_unspaced, tag_stopped}
 use Rattle.imap_command.proofs.reader.first_tag.Goals as goal
 

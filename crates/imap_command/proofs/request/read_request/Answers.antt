@@ -1,7 +1,7 @@
 use Rattle.std.proofs.Common.{◌≡◌, Result, Ok, Err, sym, ap, ◌∙◌, ⊎_elim}
-use Rattle.mur_model.specs.declared.request.Request.TheVariants as asks
-use Rattle.mur_model.specs.declared.command.Command.{Command}
-use Rattle.mur_model.specs.declared.command.Tag.{Tag}
+use Rattle.imap_types.specs.declared.request.Request.TheVariants as asks
+use Rattle.imap_types.specs.declared.command.Command.{Command}
+use Rattle.imap_types.specs.declared.command.Tag.{Tag}
 use Rattle.imap_command.specs.declared.fault.Bad.{Bad}
 use Rattle.imap_command.specs.declared.fault.ReadFault.{ReadFault}
 use Rattle.imap_command.specs.declared.fault.ReadFault.TheVariants as fault

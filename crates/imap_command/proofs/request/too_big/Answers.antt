@@ -1,5 +1,5 @@
 use Rattle.std.proofs.Common.{ap, ◌∙◌}
-use Rattle.mur_model.specs.declared.request.Request.TheVariants as asks
+use Rattle.imap_types.specs.declared.request.Request.TheVariants as asks
 use Rattle.imap_command.specs.Request.{tag_or_star, first_tag, too_big_request}
 use Rattle.imap_command.proofs.RequestLaws.{first_tag_is, one_first_tag}
 use Rattle.imap_command.proofs.request.too_big.Goals as goal

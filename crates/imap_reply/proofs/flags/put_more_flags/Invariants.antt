@@ -1,7 +1,7 @@
 use Rattle.std.proofs.Common.{◌≡◌, ◌++◌, drop}
 use Rattle.std.specs.Prelude.{map}
 use Rattle.imap_reply.specs.Spaced.{more_spaced}
-use Rattle.imap_reply.specs.FlagsLine.{flag_text}
+use Rattle.imap_text.specs.FlagNames.{flag_text}
 use Rattle.imap_reply.proofs.flags.put_more_flags.Given as goal
 
 -- what is written so far and the flags that are left make the whole text

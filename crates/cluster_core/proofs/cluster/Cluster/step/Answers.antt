@@ -1,8 +1,8 @@
 use Rattle.cluster_core.specs.Flow.{steps_of_event}
-use Rattle.cluster_core.proofs.AtRestLaw.{nothing_waits}
-use Rattle.cluster_core.proofs.FlowRests.{are_its_steps}
-use Rattle.cluster_core.proofs.OneNodeLaw.{one_node_each}
-use Rattle.cluster_core.proofs.OwnClientsLaw.{serves_its_own_behind}
+use Rattle.cluster_core.proofs.OneServer.AtRestLaw.{nothing_waits}
+use Rattle.cluster_core.proofs.Flows.FlowRests.{are_its_steps}
+use Rattle.cluster_core.proofs.Nodes.OneNodeLaw.{one_node_each}
+use Rattle.cluster_core.proofs.Nodes.OwnClientsLaw.{serves_its_own_behind}
 use Rattle.cluster_core.proofs.cluster.Cluster.step.Goals as goal
 
 pub returns-clause-one_node : goal.returns-clause-one_node

@@ -1,0 +1,15 @@
+-- What holds of each connection, and each kind of event that keeps it.
+pub mod ConnectionLaw
+pub mod FrameLaw
+pub mod KeepsLaw
+pub mod KeepsStill
+pub mod KeepsFront
+pub mod KeepsOpen
+pub mod KeepsData
+pub mod KeepsHang
+pub mod KeepsAsk
+pub mod KeepsAnswer
+pub mod KeepsDeliver
+pub mod KeepsReply
+pub mod Keeps
+pub mod ClientsInOrder

@@ -1,0 +1,191 @@
+-- A client that closes its connection keeps the law.
+use Rattle.std.proofs.Common.{◌≡◌, ◌≢◌, ℕ, ◌+◌, true, false, nat_eq, List, [], ◌∷◌, ◌++◌, length, Option, Some, refl, sym, ◌∙◌, ap, subst}
+use Rattle.std.proofs.Common.{arith}
+use Rattle.std.specs.Ordering.{nat_cmp}
+use Rattle.std.specs.Cmp.Lexicographic.{slice_cmp}
+use Rattle.std.proofs.Math.Logic.{⊎_elim}
+use Rattle.std.proofs.lemmas.Bool.{cases_eq}
+use Rattle.std.proofs.lemmas.Bool.Decides.{nat_tests}
+use Rattle.std.proofs.lemmas.List.{append-nil}
+use Rattle.front_core.specs.declared.connection.Connection.{Connection}
+use Rattle.front_core.specs.declared.front.Front.{Front}
+use Rattle.front_core.specs.Front.{hang, hang_at as front_hang_at, hung_up}
+use Rattle.imap_talk.specs.declared.inputs.Input.{Input}
+use Rattle.imap_talk.specs.declared.inputs.Input.TheVariants.{Asks}
+use Rattle.imap_wire.specs.Frames.{begun}
+use Rattle.mur_base.specs.Map.{with_value}
+use Rattle.mur_config.specs.declared.config.Config.{Config}
+use Rattle.imap_types.specs.declared.request.Answer.{Answer}
+use Rattle.imap_types.specs.declared.request.Request.TheVariants.{Command as a_command}
+use Rattle.mur_model.specs.declared.session.Sess.{Sess}
+use Rattle.mur_model.specs.declared.setting.Setting.{Setting}
+use Rattle.mur_model.specs.Act.{need_of}
+use Rattle.mur_model.specs.History.{numbered}
+use Rattle.mur_model.proofs.HistoryGrows.{same_talk}
+use Rattle.schedule_text.specs.declared.event.Event.TheVariants.{Hang}
+use Rattle.imap_talk.specs.Inputs.{requests_in}
+use Rattle.imap_talk.proofs.InputLaws.{requests-append}
+use Rattle.front_core.proofs.OneConnection.Readings.{inputs_in}
+use Rattle.cluster_core.specs.declared.world.World.{World}
+use Rattle.imap_talk.specs.Heard.{Heard, nobody, elsewhere, client, frames_heard}
+use Rattle.cluster_core.specs.Heard.{hears}
+use Rattle.link_msg.specs.declared.message.LinkMsg.{LinkMsg}
+use Rattle.link_queue.specs.Links.{Links}
+use Rattle.cluster_core.specs.World.{client_at, home_of, setting_of, hang_at, hangs, carry_all}
+use Rattle.cluster_core.proofs.Connections.ConnectionLaw.{told_of, keeps_all, same_story}
+use Rattle.front_core.proofs.OneConnection.Standing.{Stands, IsLeft}
+use Rattle.front_core.proofs.OneConnection.Standing.OnItsWay.{there, back}
+use Rattle.front_core.proofs.OneConnection.Standing.Stands.{reads, waits, faulted, finished}
+use Rattle.front_core.proofs.OneConnection.Standing.IsLeft.{nothing, its_ask, its_answer}
+use Rattle.cluster_core.proofs.Connections.KeepsFront.{world_after, with_connection, front_keeps, is_at_after, gone_after}
+use Rattle.front_core.proofs.OneConnection.LastAnswer.{stands_last}
+use Rattle.cluster_core.proofs.Connections.KeepsLaw.{ConnectionIs, IsAt, IsGone, KeepsLaw, KeepsOn, looks_same}
+use Rattle.cluster_core.proofs.Connections.KeepsLaw.ConnectionIs.{is_nobody, is_elsewhere, is_open, is_closed}
+use Rattle.cluster_core.proofs.Connections.KeepsStill.{still_kept}
+use Rattle.imap_talk.proofs.RequestsOf.{requests_of, answered_lengths, next_request}
+
+abbrev pub after_hang : Config → (ℕ → Heard) → ℕ → ℕ → Heard
+after_hang config heard conn other = hears config other (heard other) (Hang conn)
+
+other_heard : (config : Config) (conn other : ℕ) (heard : Heard) → other ≢ conn → hears config other heard (Hang conn) ≡ heard
+unfolding hears
+other_heard config conn other nobody ne = refl
+other_heard config conn other elsewhere ne = refl
+other_heard config conn other (client b true) ne = refl
+other_heard config conn other (client b false) ne = let apart : nat_eq other conn ≡ false = grind (arith, nat_tests) in rw apart refl
+
+heard_closed : (config : Config) (conn : ℕ) (bytes : List ℕ) (heard : Heard) → heard ≡ client bytes false
+    → hears config conn heard (Hang conn) ≡ client bytes true
+unfolding hears
+heard_closed config conn bytes heard e = let same : nat_eq conn conn ≡ true = grind (arith, nat_tests) in rw (e, same) refl
+
+-- what is left of a connection, whatever it was at
+left_by : (setting : Setting) (node home : List ℕ) (conn : ℕ) (all : List Input) (held : Option (List ℕ)) (connection : Connection) (links : Links LinkMsg)
+    (told said : List Answer) (session : Sess)
+    → Stands setting node home conn all held connection links told said session
+    → IsLeft setting node home conn (requests_in all) (hung_up connection) links told said session
+unfolding requests_in
+left_by setting node home conn all held connection links told said session (reads stage waiting s lasts answered same way) =
+    nothing [] (same ∙ sym (append-nil told)) (omega arith) way
+left_by setting node home conn all held connection links told said session
+    (waits passed request tag it name work stage parts lasts answered is need last (there same s way)) =
+    its_ask connection tag it name work refl same
+    (subst (λ r. numbered r (length told + 1) ≡ Some (a_command tag it))
+    (sym (ap requests_in parts ∙ requests-append passed (Asks request ∷ connection.waiting)
+    ∙ ap (λ r. requests_in passed ++ r ∷ requests_in connection.waiting) is))
+    (next_request (requests_in passed) (requests_in connection.waiting) (a_command tag it) (length told) (answered_lengths passed told answered)))
+    (ap (λ x. need_of setting x it) (sym s) ∙ need) way
+left_by setting node home conn all held connection links told said session
+    (waits passed request tag it name work stage parts lasts answered is need last (back body turn same shown later turned way)) =
+    its_answer _ _ same (omega arith) way
+left_by setting node home conn all held connection links told said session (faulted stage none lengths same lasts way) =
+    nothing [] (same ∙ sym (append-nil told)) (omega arith) way
+left_by setting node home conn all held connection links told said session
+    (finished passed more request before final stage parts answered is_told is_end same way) =
+    nothing [] (same ∙ sym (append-nil told)) (omega arith) way
+
+-- closing again changes nothing of what is left
+left_again : (setting : Setting) (node home : List ℕ) (conn : ℕ) (requests : _) (connection : Connection) (links : Links LinkMsg) (told said : List Answer)
+    (session : Sess)
+    → IsLeft setting node home conn requests connection links told said session
+    → IsLeft setting node home conn requests (hung_up connection) links told said session
+left_again setting node home conn requests connection links told said session (nothing rest a b way) = nothing rest a b way
+left_again setting node home conn requests connection links told said session (its_ask asker tag it name work a b c d way) =
+    its_ask asker tag it name work a b c d way
+left_again setting node home conn requests connection links told said session (its_answer rest answer a b way) = its_answer rest answer a b way
+
+hangs_at : (world : World) (conn : ℕ) (node : List ℕ) (front : Front) (connection : Connection) (given : List ℕ)
+    → client_at world conn ≡ Some (record { at = node; given = given })
+    → IsAt world conn node front connection → hangs world conn (client_at world conn) ≡ world_after world node front conn (hung_up connection) []
+unfolding hangs hang_at hang front_hang_at carry_all
+hangs_at world conn node front connection given at is = ap (hangs world conn) at ∙ ap (hang_at world conn node) is.at
+    ∙ ap (λ f. record world { fronts = with_value (slice_cmp nat_cmp) world.fronts node (front_hang_at front conn f) }) is.has
+
+-- a connection at its frontend is closed
+closes : (config : Config) (heard : ℕ → Heard) (world : World) (conn : ℕ) (law : KeepsLaw config heard world) (bytes node : List ℕ) (front : Front)
+    (connection : Connection) → IsAt world conn node front connection
+    → law.story.talk.requests conn ≡ requests_in (inputs_in (setting_of config) bytes) → after_hang config heard conn conn ≡ client bytes true
+    → IsGone (setting_of config) node (home_of config) conn (inputs_in (setting_of config) bytes) (hung_up connection) world law.story
+    → KeepsOn config (told_of law.story) (after_hang config heard conn) (world_after world node front conn (hung_up connection) [])
+unfolding carry_all frames_heard
+closes config heard world conn law bytes node front connection at asked now gone =
+    front_keeps config heard (after_hang config heard conn) world law world.links conn node front connection (hung_up connection) [] law.story law.story
+    (λ other ne f h asks answers way. way) at.at at.has (same_talk (told_of law.story)) refl refl refl
+    (λ other. ⊎_elim
+    (λ (same : other ≡ conn). subst (λ c. law.story.talk.requests c ≡ requests_of (setting_of config) (frames_heard (after_hang config heard conn c)))
+    (sym same)
+    (asked ∙ sym (ap (λ h. requests_of (setting_of config) (frames_heard h)) now)))
+    (λ (ne : other ≢ conn). law.requests other ∙ ap (λ h. requests_of (setting_of config) (frames_heard h)) (sym (other_heard config conn other
+    (heard other) ne)))
+    (cases_eq other conn))
+    (λ other ne. other_heard config conn other (heard other) ne) (λ shut. refl)
+    (record { others = keeps_all conn world; goes_on = same_story conn law.story; is_told = law.is_told })
+    (subst (λ h. ConnectionIs (setting_of config) (home_of config) conn (world_after world node front conn (hung_up connection) []) law.story h) (sym now)
+    (is_closed bytes node (with_connection front conn (hung_up connection)) (hung_up connection)
+    (is_at_after world node front conn connection (hung_up connection) [] at.at at.has)
+    (gone_after world node front conn (hung_up connection) (setting_of config) (home_of config) (inputs_in (setting_of config) bytes) law.story gone)))
+
+still_heard : (config : Config) (heard : ℕ → Heard) (world : World) (conn : ℕ) (law : KeepsLaw config heard world)
+    → after_hang config heard conn conn ≡ heard conn
+    → KeepsOn config (told_of law.story) (after_hang config heard conn) world
+still_heard config heard world conn law same =
+    still_kept config heard (after_hang config heard conn) world world (looks_same world)
+    (λ other. ⊎_elim
+    (λ (e : other ≡ conn). subst (λ c. after_hang config heard conn c ≡ heard c) (sym e) same)
+    (λ (ne : other ≢ conn). other_heard config conn other (heard other) ne)
+    (cases_eq other conn)) law
+
+nothing_heard : (config : Config) (conn : ℕ) → hears config conn nobody (Hang conn) ≡ nobody
+unfolding hears
+nothing_heard config conn = refl
+
+elsewhere_heard : (config : Config) (conn : ℕ) → hears config conn elsewhere (Hang conn) ≡ elsewhere
+unfolding hears
+elsewhere_heard config conn = refl
+
+closed_heard : (config : Config) (conn : ℕ) (bytes : List ℕ) → hears config conn (client bytes true) (Hang conn) ≡ client bytes true
+unfolding hears
+closed_heard config conn bytes = refl
+
+hang_by : (config : Config) (heard : ℕ → Heard) (world : World) (conn : ℕ) (law : KeepsLaw config heard world) (was : Heard) → heard conn ≡ was
+    → ConnectionIs (setting_of config) (home_of config) conn world law.story was
+    → KeepsOn config (told_of law.story) (after_hang config heard conn) (hangs world conn (client_at world conn))
+unfolding hangs hang_at frames_heard
+hang_by config heard world conn law was e (is_nobody none fronts untold) =
+    subst (λ c. KeepsOn config (told_of law.story) (after_hang config heard conn) (hangs world conn c)) (sym none)
+    (still_heard config heard world conn law (ap (λ h. hears config conn h (Hang conn)) e ∙ nothing_heard config conn ∙ sym e))
+hang_by config heard world conn law was e (is_elsewhere node at none untold) =
+    subst (λ c. KeepsOn config (told_of law.story) (after_hang config heard conn) (hangs world conn c)) (sym at)
+    (subst (λ f. KeepsOn config (told_of law.story) (after_hang config heard conn) (hang_at world conn node f)) (sym none)
+    (still_heard config heard world conn law (ap (λ h. hears config conn h (Hang conn)) e ∙ elsewhere_heard config conn ∙ sym e)))
+hang_by config heard world conn law was e (is_open bytes node front connection at reader standing) =
+    subst (λ w. KeepsOn config (told_of law.story) (after_hang config heard conn) w) (sym (hangs_at world conn node front connection _ standing.client at))
+    (closes config heard world conn law bytes node front connection at (law.requests conn ∙ ap (λ h. requests_of (setting_of config) (frames_heard h)) e)
+    (heard_closed config conn bytes (heard conn) e)
+    (record {
+      stage_is = refl;
+      count = standing.count;
+      client = standing.client;
+      lasts = stands_last (setting_of config) node (home_of config) conn (inputs_in (setting_of config) bytes) (begun bytes) connection world.links
+          (law.story.told conn) (law.story.talk.answers conn) (law.story.course.sessions conn) standing.stands;
+      left = left_by (setting_of config) node (home_of config) conn (inputs_in (setting_of config) bytes) (begun bytes) connection world.links
+          (law.story.told conn)
+          (law.story.talk.answers conn) (law.story.course.sessions conn) standing.stands;
+    }))
+hang_by config heard world conn law was e (is_closed bytes node front connection at gone) =
+    subst (λ w. KeepsOn config (told_of law.story) (after_hang config heard conn) w) (sym (hangs_at world conn node front connection _ gone.client at))
+    (closes config heard world conn law bytes node front connection at (law.requests conn ∙ ap (λ h. requests_of (setting_of config) (frames_heard h)) e)
+    (ap (λ h. hears config conn h (Hang conn)) e ∙ closed_heard config conn bytes)
+    (record {
+      stage_is = refl;
+      count = gone.count;
+      lasts = gone.lasts;
+      client = gone.client;
+      left = left_again (setting_of config) node (home_of config) conn (requests_in (inputs_in (setting_of config) bytes)) connection world.links
+          (law.story.told conn)
+          (law.story.talk.answers conn) (law.story.course.sessions conn) gone.left;
+    }))
+
+pub hang_keeps : (config : Config) (heard : ℕ → Heard) (world : World) (conn : ℕ) (law : KeepsLaw config heard world)
+    → KeepsOn config (told_of law.story) (after_hang config heard conn) (hangs world conn (client_at world conn))
+hang_keeps config heard world conn law = hang_by config heard world conn law (heard conn) refl (law.connections conn)

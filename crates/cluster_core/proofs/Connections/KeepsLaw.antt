@@ -1,0 +1,261 @@
+-- The law that every step keeps: one case for each connection, by what was heard of its client.
+use Rattle.std.proofs.Common.{◌≡◌, ◌≢◌, ℕ, ◌≤◌, true, false, List, [], length, Option, None, Some, refl, sym, ◌∙◌, ap, subst}
+use Rattle.std.proofs.Common.{arith}
+use Rattle.std.specs.Prelude.{is_some}
+use Rattle.std.specs.declared.cmp.Ordering.{Ordering}
+use Rattle.std.proofs.Math.Logic.{⊎_elim}
+use Rattle.backend_core.specs.declared.backend.Backend.{Backend}
+use Rattle.backend_core.specs.HomeLaws.{HasUidsBelowNext}
+use Rattle.front_core.specs.declared.connection.Connection.{Connection}
+use Rattle.front_core.specs.declared.connection.Stage.TheVariants.{Ended}
+use Rattle.front_core.specs.declared.front.Front.{Front}
+use Rattle.front_core.specs.Front.{connection_at}
+use Rattle.imap_talk.specs.declared.inputs.Input.{Input}
+use Rattle.imap_wire.specs.Frames.{begun}
+use Rattle.link_msg.specs.declared.answer.BackAnswer.{BackAnswer}
+use Rattle.link_msg.specs.declared.ask.FrontAsk.{FrontAsk}
+use Rattle.mur_base.specs.Map.{value_at, with_value}
+use Rattle.mur_base.proofs.MapLaws.{TellsApart, same_or_other, value_at-with_value, value_at-with_value-other}
+use Rattle.mur_config.specs.declared.config.Config.{Config}
+use Rattle.imap_types.specs.declared.request.Answer.{Answer}
+use Rattle.imap_types.specs.declared.request.Request.{Request}
+use Rattle.mur_model.specs.declared.session.Sess.{Sess}
+use Rattle.mur_model.specs.declared.session.Sess.TheVariants.{Off}
+use Rattle.mur_model.specs.declared.setting.Setting.{Setting}
+use Rattle.mur_model.specs.History.{Talk, TalkGoesOn}
+use Rattle.imap_talk.specs.Inputs.{requests_in}
+use Rattle.front_core.proofs.OneConnection.Readings.{inputs_in, reading_of}
+use Rattle.cluster_core.specs.declared.world.World.{World}
+use Rattle.front_core.specs.Ending.{EndsOnlyLast}
+use Rattle.imap_talk.specs.Heard.{Heard, nobody, elsewhere, client, frames_heard, has_closed}
+use Rattle.cluster_core.specs.Heard.{is_frontend}
+use Rattle.link_msg.specs.declared.message.LinkMsg.{LinkMsg}
+use Rattle.link_queue.specs.Links.{Links}
+use Rattle.cluster_core.specs.World.{start, client_at, front_at, home_at, home_of, setting_of}
+use Rattle.cluster_core.proofs.Connections.ConnectionLaw.{Story, told_of, client_with, IsStanding}
+use Rattle.front_core.proofs.OneConnection.Standing.{HasBegunSo, OnItsWay, Stands, IsLeft}
+use Rattle.front_core.proofs.OneConnection.Standing.OnItsWay.{there, back}
+use Rattle.front_core.proofs.OneConnection.Standing.Stands.{reads, waits, faulted, finished}
+use Rattle.front_core.proofs.OneConnection.Standing.IsLeft.{nothing, its_ask, its_answer}
+use Rattle.imap_talk.proofs.RequestsOf.{requests_of}
+use Rattle.cluster_core.proofs.Histories.Told.{IsTold}
+use Rattle.front_core.proofs.OneConnection.Ways.{AreOnWay}
+
+-- a connection that no frontend has
+pub record IsUntold (conn : ℕ) (links : Links LinkMsg) (story : Story) : Type 0 where
+  pub told : story.told conn ≡ []
+  pub said : story.talk.answers conn ≡ []
+  pub session : story.course.sessions conn ≡ Off
+  pub way : (front home : List ℕ) → AreOnWay links conn front home [] []
+
+-- a connection at its frontend
+pub record IsAt (world : World) (conn : ℕ) (node : List ℕ) (front : Front) (connection : Connection) : Type 0 where
+  pub at : front_at world node ≡ Some front
+  pub has : connection_at front conn ≡ Some connection
+
+pub record IsGone (setting : Setting) (node home : List ℕ) (conn : ℕ) (inputs : List Input) (connection : Connection) (world : World)
+    (story : Story) : Type 0 where
+  pub stage_is : connection.stage ≡ Ended
+  pub count : connection.answered ≡ length (story.told conn)
+  pub lasts : EndsOnlyLast (story.told conn)
+  pub client : client_at world conn ≡ Some (client_with node inputs (story.told conn))
+  pub left : IsLeft setting node home conn (requests_in inputs) connection world.links (story.told conn) (story.talk.answers conn) (story.course.sessions conn)
+
+pub data ConnectionIs (setting : Setting) (home : List ℕ) (conn : ℕ) (world : World) (story : Story) : Heard → Type 0 where
+  is_nobody : client_at world conn ≡ None → ((node : List ℕ) (front : Front) → front_at world node ≡ Some front → connection_at front conn ≡ None)
+      → IsUntold conn world.links story → ConnectionIs setting home conn world story nobody
+  is_elsewhere : (node : List ℕ) → client_at world conn ≡ Some (record { at = node; given = [] }) → front_at world node ≡ None
+      → IsUntold conn world.links story → ConnectionIs setting home conn world story elsewhere
+  is_open : (bytes node : List ℕ) (front : Front) (connection : Connection) → IsAt world conn node front connection
+      → HasBegunSo connection (reading_of setting bytes)
+      → IsStanding setting node home conn (inputs_in setting bytes) (begun bytes) connection world story
+      → ConnectionIs setting home conn world story (client bytes false)
+  is_closed : (bytes node : List ℕ) (front : Front) (connection : Connection) → IsAt world conn node front connection
+      → IsGone setting node home conn (inputs_in setting bytes) connection world story → ConnectionIs setting home conn world story (client bytes true)
+
+-- the nodes of a run stay what they are: one home holds every mailbox
+pub record AreNodesOf (config : Config) (world : World) (backend : Backend) : Type 0 where
+  pub home_no_front : front_at world (home_of config) ≡ None
+  pub home_is : home_at world (home_of config) ≡ Some backend
+  pub fronts : (node : List ℕ) (front : Front) → front_at world node ≡ Some front → (front.home ≡ home_of config) × (front.setting ≡ setting_of config)
+  pub frontends : (node : List ℕ) → is_some (front_at world node) ≡ is_frontend config node
+  pub other_homes : (node : List ℕ) (other : Backend) → node ≢ home_of config → home_at world node ≡ Some other → other.held ≡ []
+  pub backends : world.backends ≡ (start config).backends
+
+pub record KeepsLaw (config : Config) (heard : ℕ → Heard) (world : World) : Type 0 where
+  pub backend : Backend
+  pub nodes : AreNodesOf config world backend
+  pub below_next : HasUidsBelowNext backend
+  pub story : Story
+  pub is_told : IsTold (setting_of config) world.steps world.marks backend story.talk story.course
+  pub requests : (conn : ℕ) → story.talk.requests conn ≡ requests_of (setting_of config) (frames_heard (heard conn))
+  pub connections : (conn : ℕ) → ConnectionIs (setting_of config) (home_of config) conn world story (heard conn)
+
+-- so it does behind a world in which so much was said; a client that has closed its connection was told no more
+pub record KeepsOn (config : Config) (before : Talk) (heard : ℕ → Heard) (world : World) : Type 0 where
+  pub law : KeepsLaw config heard world
+  pub more : TalkGoesOn before (told_of law.story)
+  pub closed : (conn : ℕ) → has_closed (heard conn) ≡ true → law.story.told conn ≡ before.answers conn
+
+pub is_not_closed : (heard : Heard) (bytes : List ℕ) → heard ≡ client bytes false → has_closed heard ≡ true → ⊥
+unfolding has_closed
+is_not_closed heard bytes e shut = (let both : false ≡ true = sym (ap has_closed e) ∙ shut in cc)
+
+-- one value put in its own place
+pub same_put : {K X : Type 0} (cmp : K → K → Ordering) (apart : TellsApart cmp) (entries : List (K × X)) (key : K) (value : X)
+    → value_at cmp entries key ≡ Some value
+    → (other : K) → value_at cmp (with_value cmp entries key value) other ≡ value_at cmp entries other
+same_put cmp apart entries key value at other = ⊎_elim
+    (λ (e : other ≡ key). subst (λ k. value_at cmp (with_value cmp entries key value) k ≡ value_at cmp entries k) (sym e)
+    (value_at-with_value cmp apart entries key value value at ∙ sym at))
+    (λ (ne : other ≢ key). value_at-with_value-other cmp apart entries key other value ne)
+    (same_or_other cmp apart other key)
+
+-- what is on the way for a connection on other links
+abbrev pub WaysOn : Links LinkMsg → Links LinkMsg → ℕ → Type 0
+WaysOn links next conn = (front home : List ℕ) (asks : List FrontAsk) (answers : List BackAnswer) → AreOnWay links conn front home asks answers
+    → AreOnWay next conn front home asks answers
+
+way_on : (links next : Links LinkMsg) (conn : ℕ) (front home : List ℕ) (connection : Connection) (tag : _) (name : List ℕ) (work : _) (told said : List Answer)
+    (session : Sess) → WaysOn links next conn
+    → OnItsWay links conn front home connection tag name work told said session → OnItsWay next conn front home connection tag name work told said session
+way_on links next conn front home connection tag name work told said session on (there a b way) = there a b (on front home _ _ way)
+way_on links next conn front home connection tag name work told said session on (back body turn a b c d way) = back body turn a b c d (on front home _ _ way)
+
+pub stands_on : (setting : Setting) (front home : List ℕ) (conn : ℕ) (all : List Input) (held : Option (List ℕ)) (connection : Connection) (links next : Links LinkMsg)
+    (told said : List Answer) (session : Sess)
+    → WaysOn links next conn → Stands setting front home conn all held connection links told said session
+    → Stands setting front home conn all held connection next told said session
+stands_on setting front home conn all held connection links next told said session on (reads a b c d e f way) = reads a b c d e f (on front home _ _ way)
+stands_on setting front home conn all held connection links next told said session on (waits passed bytes tag it name work a b c d e f g way) =
+    waits passed bytes tag it name work a b c d e f g (way_on links next conn front home connection tag name work told said session on way)
+stands_on setting front home conn all held connection links next told said session on (faulted a b c d e way) = faulted a b c d e (on front home _ _ way)
+stands_on setting front home conn all held connection links next told said session on (finished passed more bytes before last a b c d e f way) =
+    finished passed more bytes before last a b c d e f (on front home _ _ way)
+
+pub left_on : (setting : Setting) (front home : List ℕ) (conn : ℕ) (requests : List Request) (connection : Connection) (links next : Links LinkMsg)
+    (told said : List Answer) (session : Sess)
+    → WaysOn links next conn → IsLeft setting front home conn requests connection links told said session
+    → IsLeft setting front home conn requests connection next told said session
+left_on setting front home conn requests connection links next told said session on (nothing rest a b way) = nothing rest a b (on front home _ _ way)
+left_on setting front home conn requests connection links next told said session on (its_ask asker tag it name work a b c d way) =
+    its_ask asker tag it name work a b c d (on front home _ _ way)
+left_on setting front home conn requests connection links next told said session on (its_answer rest answer a b way) =
+    its_answer rest answer a b (on front home _ _ way)
+
+-- a frontend, as far as one connection goes
+pub data SameFront (conn : ℕ) : Option Front → Option Front → Type 0 where
+  both_none : SameFront conn None None
+  both : (front next : Front) → connection_at next conn ≡ connection_at front conn → SameFront conn (Some front) (Some next)
+
+-- what another connection's step leaves of a connection
+pub record StaysAt (conn : ℕ) (world next : World) (story later : Story) : Type 0 where
+  pub fronts : (node : List ℕ) → SameFront conn (front_at world node) (front_at next node)
+  pub client : client_at next conn ≡ client_at world conn
+  pub ways : WaysOn world.links next.links conn
+  pub told : later.told conn ≡ story.told conn
+  pub said : later.talk.answers conn ≡ story.talk.answers conn
+  pub session : later.course.sessions conn ≡ story.course.sessions conn
+
+record FrontNow (conn : ℕ) (now : Option Front) (was : Front) : Type 0 where
+  front : Front
+  is : now ≡ Some front
+  same : connection_at front conn ≡ connection_at was conn
+
+front_now : (conn : ℕ) (one now : Option Front) (front : Front) → SameFront conn one now → one ≡ Some front → FrontNow conn now front
+front_now conn one now front both_none e = cc
+front_now conn one now front (both was next same) e = let is : was ≡ front = cc in
+    record { front = next; is = refl; same = same ∙ ap (λ f. connection_at f conn) is }
+
+front_was : (conn : ℕ) (one now : Option Front) (front : Front) → SameFront conn one now → now ≡ Some front → FrontNow conn one front
+front_was conn one now front both_none e = cc
+front_was conn one now front (both was next same) e = let is : next ≡ front = cc in
+    record { front = was; is = refl; same = sym same ∙ ap (λ f. connection_at f conn) is }
+
+no_front : (conn : ℕ) (one now : Option Front) → SameFront conn one now → one ≡ None → now ≡ None
+no_front conn one now both_none e = refl
+no_front conn one now (both was next same) e = cc
+
+untold_stays : (conn : ℕ) (world next : World) (story later : Story) → StaysAt conn world next story later → IsUntold conn world.links story
+    → IsUntold conn next.links later
+untold_stays conn world next story later stays untold = record {
+  told = stays.told ∙ untold.told;
+  said = stays.said ∙ untold.said;
+  session = stays.session ∙ untold.session;
+  way = λ front home. stays.ways front home [] [] (untold.way front home);
+}
+
+pub connection_stays : (setting : Setting) (home : List ℕ) (conn : ℕ) (world next : World) (story later : Story) (heard : Heard)
+    → StaysAt conn world next story later
+    → ConnectionIs setting home conn world story heard → ConnectionIs setting home conn next later heard
+connection_stays setting home conn world next story later heard stays (is_nobody none fronts untold) =
+    is_nobody (stays.client ∙ none)
+    (λ node front at. let was = front_was conn (front_at world node) (front_at next node) front (stays.fronts node) at in sym was.same
+    ∙ fronts node was.front was.is)
+    (untold_stays conn world next story later stays untold)
+connection_stays setting home conn world next story later heard stays (is_elsewhere node at none untold) =
+    is_elsewhere node (stays.client ∙ at) (no_front conn (front_at world node) (front_at next node) (stays.fronts node) none)
+    (untold_stays conn world next story later stays untold)
+connection_stays setting home conn world next story later heard stays (is_open bytes node front connection at reader standing) =
+    let now = front_now conn (front_at world node) (front_at next node) front (stays.fronts node) at.at in
+    is_open bytes node now.front connection (record { at = now.is; has = now.same ∙ at.has }) reader
+    (record {
+      count = standing.count ∙ ap length (sym stays.told);
+      client = stays.client ∙ standing.client ∙ ap (λ t. Some (client_with node (inputs_in setting bytes) t)) (sym stays.told);
+      stands = subst (λ t. Stands setting node home conn (inputs_in setting bytes) (begun bytes) connection next.links t (later.talk.answers conn)
+          (later.course.sessions conn)) (sym stays.told)
+          (subst (λ s. Stands setting node home conn (inputs_in setting bytes) (begun bytes) connection next.links (story.told conn) s
+          (later.course.sessions conn))
+          (sym stays.said)
+          (subst (λ s. Stands setting node home conn (inputs_in setting bytes) (begun bytes) connection next.links (story.told conn)
+          (story.talk.answers conn) s)
+          (sym stays.session)
+          (stands_on setting node home conn (inputs_in setting bytes) (begun bytes) connection world.links next.links (story.told conn)
+          (story.talk.answers conn)
+          (story.course.sessions conn) stays.ways standing.stands)));
+    })
+connection_stays setting home conn world next story later heard stays (is_closed bytes node front connection at gone) =
+    let now = front_now conn (front_at world node) (front_at next node) front (stays.fronts node) at.at in
+    is_closed bytes node now.front connection (record { at = now.is; has = now.same ∙ at.has })
+    (record {
+      stage_is = gone.stage_is;
+      count = gone.count ∙ ap length (sym stays.told);
+      lasts = subst EndsOnlyLast (sym stays.told) gone.lasts;
+      client = stays.client ∙ gone.client ∙ ap (λ t. Some (client_with node (inputs_in setting bytes) t)) (sym stays.told);
+      left = subst (λ t. IsLeft setting node home conn (requests_in (inputs_in setting bytes)) connection next.links t (later.talk.answers conn)
+          (later.course.sessions conn)) (sym stays.told)
+          (subst (λ s. IsLeft setting node home conn (requests_in (inputs_in setting bytes)) connection next.links (story.told conn) s
+          (later.course.sessions conn))
+          (sym stays.said)
+          (subst (λ s. IsLeft setting node home conn (requests_in (inputs_in setting bytes)) connection next.links (story.told conn)
+          (story.talk.answers conn) s)
+          (sym stays.session)
+          (left_on setting node home conn (requests_in (inputs_in setting bytes)) connection world.links next.links (story.told conn) (story.talk.answers conn)
+          (story.course.sessions conn) stays.ways gone.left)));
+    })
+
+pub same_front : (conn : ℕ) (one now : Option Front) → now ≡ one → SameFront conn one now
+same_front conn None now e = subst (λ f. SameFront conn None f) (sym e) both_none
+same_front conn (Some front) now e = subst (λ f. SameFront conn (Some front) f) (sym e) (both front front refl)
+
+-- a world in which every look-up finds what it found
+pub record LooksAlike (world next : World) : Type 0 where
+  pub fronts : (node : List ℕ) → front_at next node ≡ front_at world node
+  pub homes : (node : List ℕ) → home_at next node ≡ home_at world node
+  pub clients : (conn : ℕ) → client_at next conn ≡ client_at world conn
+  pub ways : (conn : ℕ) → WaysOn world.links next.links conn
+  pub backends : next.backends ≡ world.backends
+  pub marks : next.marks ≡ world.marks
+  pub steps : world.steps ≤ next.steps
+
+-- every look-up finds what it found in the same world
+pub looks_same : (world : World) → LooksAlike world world
+looks_same world = record {
+  fronts = λ any. refl;
+  homes = λ any. refl;
+  clients = λ any. refl;
+  ways = λ c front home asks answers way. way;
+  backends = refl;
+  marks = refl;
+  steps = omega arith;
+}

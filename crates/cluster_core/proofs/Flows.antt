@@ -1,0 +1,5 @@
+-- A flow delivers in rounds, and ends.
+pub mod FlowMade
+pub mod FlowRests
+pub mod Load
+pub mod LoadFalls

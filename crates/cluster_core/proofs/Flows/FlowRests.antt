@@ -1,0 +1,336 @@
+-- A flow delivers as many messages as it may, and fewer only where none is on its way any more.
+use Rattle.std.proofs.Common.{◌≡◌, ◌≢◌, ℕ, zero, suc, ◌+◌, ◌*◌, ◌≤◌, ◌==◌, Bool, true, false, cond, List, [], ◌∷◌, ◌++◌, length, drop, None, Some, refl}
+use Rattle.std.proofs.Common.{sym, ◌∙◌, ap, subst, arith, length-append, Option, All, Contains}
+use Rattle.std.proofs.lemmas.Bool.{eqb-true, eq-eqb}
+use Rattle.std.proofs.lemmas.List.Elements.{All-nil, All-cons, All-contains, Contains-append_right}
+use Rattle.backend_core.specs.declared.backend.Backend.{Backend}
+use Rattle.backend_core.specs.declared.input.BackInput.{BackInput}
+use Rattle.backend_core.specs.Plan.{plan_of}
+use Rattle.front_core.specs.declared.front.Front.{Front}
+use Rattle.front_core.specs.Front.{deliver as take_message}
+use Rattle.link_msg.specs.declared.message.LinkMsg.{LinkMsg}
+use Rattle.mur_config.specs.declared.config.Config.{Config}
+use Rattle.mur_config.specs.declared.node.Link.{Link}
+use Rattle.mur_config.specs.Nodes.{AreNodes, links_of}
+use Rattle.schedule_text.specs.declared.event.Event.{Event}
+use Rattle.schedule_text.specs.declared.event.Event.TheVariants.{Deliver, Flow}
+use Rattle.schedule_text.specs.Brings.{bytes_of, bytes_of_all}
+use Rattle.cluster_core.specs.declared.world.World.{World}
+use Rattle.cluster_core.specs.Flow.{Flowing, delivered, turn_by, turn_of, round, rounds_by, rounds, flow, steps_of_event, happens, unrolled, run_steps}
+use Rattle.cluster_core.specs.Headline.FlowLaw.{DeliversFirst, IsFlow, AreStepsOf, AreStepsOfAll, AreItsSteps}
+use Rattle.cluster_core.specs.Headline.FlowLaw.AreStepsOfAll.{no_event, an_event}
+use Rattle.link_queue.specs.Links.{on_link}
+use Rattle.cluster_core.specs.World.{front_at, home_at, input_of, home_takes, comes_to_home, comes_to, taken, deliver_first, takes, stepped, steps_by, start}
+use Rattle.cluster_core.proofs.Nodes.LinkedNodes.{AreApart, pairs_apart}
+use Rattle.cluster_core.proofs.Flows.Load.{load}
+use Rattle.cluster_core.proofs.Flows.LoadFalls.{delivery_falls, start_load, step_load, steps_load}
+use Rattle.mur_config.proofs.OncePairs.{times, pairs_once}
+use Rattle.cluster_core.proofs.Nodes.OneNodeLaw.{carry_all_sends}
+use Rattle.cluster_core.proofs.Nodes.NoneQuiet.{NoneQuiet, first_serves, run_keeps as keeps_none_quiet}
+use Rattle.cluster_core.proofs.Nodes.OnPairs.{IsIdle, all_empty, pairs_stay, start_none_quiet}
+use Rattle.cluster_core.proofs.Runs.Unrolled.{event_made, run_steps-append}
+use Rattle.link_queue.proofs.Wires.{same_itself, on_link-taken}
+
+-- a delivery takes the first message of its link, and nothing else changes there
+
+home_leaves : (world : World) (node : List ℕ) (home : Backend) (input : Option BackInput) (from to : List ℕ) → from ≢ node
+    → on_link (home_takes world node home input).links from to ≡ on_link world.links from to
+unfolding home_takes
+home_leaves world node home None from to ne = refl
+home_leaves world node home (Some input) from to ne = (carry_all_sends node _ (plan_of home input).outs).others from to ne
+
+to_home_leaves : (world : World) (f t : List ℕ) (message : LinkMsg) (found : Option Backend) (from to : List ℕ) → from ≢ t
+    → on_link (comes_to_home world f t message found).links from to ≡ on_link world.links from to
+unfolding comes_to_home
+to_home_leaves world f t message None from to ne = refl
+to_home_leaves world f t message (Some home) from to ne = home_leaves world t home (input_of f message) from to ne
+
+comes_leaves : (world : World) (f t : List ℕ) (message : LinkMsg) (found : Option Front) (from to : List ℕ) → from ≢ t
+    → on_link (comes_to world f t message found).links from to ≡ on_link world.links from to
+unfolding comes_to
+comes_leaves world f t message (Some front) from to ne = (carry_all_sends t _ (take_message front message).outs).others from to ne
+comes_leaves world f t message None from to ne = to_home_leaves world f t message (home_at world t) from to ne
+
+takes_first : (world : World) (from to : List ℕ) (queue : List LinkMsg) → from ≢ to → on_link world.links from to ≡ queue
+    → on_link (deliver_first world from to queue).links from to ≡ drop 1 queue
+unfolding deliver_first
+takes_first world from to [] ne e = e
+takes_first world from to (message ∷ rest) ne e =
+    comes_leaves (taken world from to) from to message (front_at world to) from to ne
+    ∙ on_link-taken world.links from to from to
+    ∙ ap (λ same. cond same (drop 1 (on_link world.links from to)) (on_link world.links from to)) (same_itself from to)
+    ∙ ap (λ q. drop 1 q) e
+
+step_takes : (world : World) (from to : List ℕ) → from ≢ to
+    → on_link (steps_by world (Deliver from to)).links from to ≡ drop 1 (on_link world.links from to)
+unfolding takes
+step_takes world from to ne = takes_first (stepped world) from to (on_link world.links from to) ne refl
+
+delivers_first : (links : List Link) (world : World) (link : Link) (message : LinkMsg) (queue : List LinkMsg) → Contains links link → AreApart link
+    → on_link world.links link.from link.to ≡ message ∷ queue → NoneQuiet world.links
+    → DeliversFirst links world (Deliver link.from link.to) (steps_by world (Deliver link.from link.to))
+delivers_first links world link message queue among apart e only = record {
+  link = link;
+  among = among;
+  delivers = refl;
+  message = message;
+  serves = first_serves world.links link.from link.to message queue e only;
+  is_taken = e ∙ ap (λ q. message ∷ q) (sym (step_takes world link.from link.to apart ∙ ap (λ q. drop 1 q) e));
+}
+
+-- one delivery behind others
+
+abbrev DeliversEach : List Link → World → List Event → Type 0
+DeliversEach links world steps = (before : List Event) (step : Event) (later : List Event) → steps ≡ before ++ step ∷ later
+    → DeliversFirst links (run_steps world before) step (run_steps world (before ++ step ∷ []))
+
+not_none : (before : List Event) (step : Event) (later : List Event) → [] ≡ before ++ step ∷ later → ⊥
+not_none [] step later e = cc
+not_none (first ∷ before) step later e = cc
+
+one_more : (links : List Link) (world : World) (steps : List Event) (last : Event) → DeliversEach links world steps
+    → DeliversFirst links (run_steps world steps) last (steps_by (run_steps world steps) last)
+    → (before : List Event) (step : Event) (later : List Event) → steps ++ last ∷ [] ≡ before ++ step ∷ later
+    → DeliversFirst links (run_steps world before) step (run_steps world (before ++ step ∷ []))
+unfolding run_steps
+one_more links world [] last each is [] step later e =
+    let same : last ≡ step = cc in subst (λ s. DeliversFirst links world s (steps_by world s)) same is
+one_more links world [] last each is (first ∷ before) step later e =
+    absurd (let none : [] ≡ before ++ step ∷ later = cc in not_none before step later none)
+one_more links world (event ∷ steps) last each is [] step later e =
+    let same : event ≡ step = cc in subst (λ s. DeliversFirst links world s (steps_by world s)) same (each [] event steps refl)
+one_more links world (event ∷ steps) last each is (first ∷ before) step later e =
+    let same : event ≡ first = cc in
+    let rest : steps ++ last ∷ [] ≡ before ++ step ∷ later = cc in
+    subst (λ x. DeliversFirst links (run_steps (steps_by world x) before) step (run_steps (steps_by world x) (before ++ step ∷ []))) same
+    (one_more links (steps_by world event) steps last (λ b s l h. each (event ∷ b) s l (ap (λ x. event ∷ x) h)) is before step later rest)
+
+-- a flow that has begun here, so far
+record IsFlowing (links : List Link) (world : World) (count : ℕ) (flowing : Flowing) : Type 0 where
+  steps : flowing.world ≡ run_steps world flowing.made
+  counts : length flowing.made + flowing.left ≡ count
+  each : DeliversEach links world flowing.made
+  only : NoneQuiet world.links
+
+delivered_flows : (links : List Link) (world : World) (count : ℕ) (flowing : Flowing) (link : Link) (left : ℕ) (message : LinkMsg) (queue : List LinkMsg)
+    → Contains links link → AreApart link → flowing.left ≡ suc left → on_link flowing.world.links link.from link.to ≡ message ∷ queue
+    → IsFlowing links world count flowing → IsFlowing links world count (delivered flowing left (Deliver link.from link.to))
+unfolding run_steps
+delivered_flows links world count flowing link left message queue among apart l e is =
+    let event = Deliver link.from link.to in
+    let only : NoneQuiet flowing.world.links =
+    subst (λ (w : World). NoneQuiet w.links) (sym is.steps) ((keeps_none_quiet world flowing.made).none_quiet is.only) in
+    let here : DeliversFirst links (run_steps world flowing.made) event (steps_by (run_steps world flowing.made) event) =
+    subst (λ w. DeliversFirst links w event (steps_by w event)) is.steps
+    (delivers_first links flowing.world link message queue among apart e only) in
+    record {
+      steps = ap (λ w. steps_by w event) is.steps ∙ sym (run_steps-append world flowing.made (event ∷ []));
+      counts = omega (arith, length-append flowing.made (event ∷ []), is.counts, l);
+      each = one_more links world flowing.made event is.each here;
+      only = is.only;
+    }
+
+turn_flows : (links : List Link) (world : World) (count : ℕ) (flowing : Flowing) (link : Link) (left : ℕ) (queue : List LinkMsg)
+    → Contains links link → AreApart link → flowing.left ≡ left → on_link flowing.world.links link.from link.to ≡ queue
+    → IsFlowing links world count flowing → IsFlowing links world count (turn_by flowing link left queue)
+unfolding turn_by
+turn_flows links world count flowing link zero queue among apart l e is = is
+turn_flows links world count flowing link (suc left) [] among apart l e is = is
+turn_flows links world count flowing link (suc left) (message ∷ queue) among apart l e is =
+    delivered_flows links world count flowing link left message queue among apart l e is
+
+round_flows : (links : List Link) (world : World) (count : ℕ) → All AreApart links → (flowing : Flowing) (some : List Link)
+    → ((link : Link) → Contains some link → Contains links link)
+    → IsFlowing links world count flowing → IsFlowing links world count (round flowing some)
+unfolding round turn_of
+round_flows links world count apart flowing [] within is = is
+round_flows links world count apart flowing (link ∷ some) within is =
+    let among = within link (0, omega arith, refl) in
+    round_flows links world count apart (turn_of flowing link) some (λ other there. within other (Contains-append_right (link ∷ []) some other there))
+    (turn_flows links world count flowing link flowing.left (on_link flowing.world.links link.from link.to) among
+    (All-contains AreApart links link apart among) refl refl is)
+
+either_flows : (links : List Link) (world : World) (count : ℕ) (ends : Bool) (one more : Flowing) → IsFlowing links world count one
+    → IsFlowing links world count more → IsFlowing links world count (rounds_by ends one more)
+unfolding rounds_by
+either_flows links world count true one more a b = a
+either_flows links world count false one more a b = b
+
+rounds_flow : (links : List Link) (world : World) (count : ℕ) → All AreApart links → (n : ℕ) (flowing : Flowing)
+    → IsFlowing links world count flowing → IsFlowing links world count (rounds n links flowing)
+unfolding rounds
+rounds_flow links world count apart zero flowing is = is
+rounds_flow links world count apart (suc n) flowing is =
+    let next = round_flows links world count apart flowing links (λ link there. there) is in
+    either_flows links world count _ (round flowing links) (rounds n links (round flowing links)) next
+    (rounds_flow links world count apart n (round flowing links) next)
+
+-- how many deliveries may follow never grows
+
+turn_falls : (flowing : Flowing) (link : Link) (left : ℕ) (queue : List LinkMsg) → flowing.left ≡ left → (turn_by flowing link left queue).left ≤ flowing.left
+unfolding turn_by
+turn_falls flowing link zero queue l = omega arith
+turn_falls flowing link (suc left) [] l = omega arith
+turn_falls flowing link (suc left) (message ∷ queue) l = omega (arith, l)
+
+round_falls : (flowing : Flowing) (links : List Link) → (round flowing links).left ≤ flowing.left
+unfolding round turn_of
+round_falls flowing [] = omega arith
+round_falls flowing (link ∷ links) =
+    omega (arith, round_falls (turn_of flowing link) links, turn_falls flowing link flowing.left (on_link flowing.world.links link.from link.to) refl)
+
+-- a round that might have made a delivery and made none found nothing on its way, and changed nothing
+record IsStill (flowing : Flowing) (links : List Link) : Type 0 where
+  same : (round flowing links).world ≡ flowing.world
+  idle : All (IsIdle flowing.world) links
+
+still_by : (flowing : Flowing) (link : Link) (links : List Link) (left : ℕ) (queue : List LinkMsg) → flowing.left ≡ left
+    → on_link flowing.world.links link.from link.to ≡ queue → flowing.left ≢ 0 → (round (turn_by flowing link left queue) links).left ≡ flowing.left
+    → ((round flowing links).left ≡ flowing.left → IsStill flowing links)
+    → ((round (turn_by flowing link left queue) links).world ≡ flowing.world) × All (IsIdle flowing.world) (link ∷ links)
+unfolding turn_by
+still_by flowing link links zero queue l e some as_before still = absurd (some l)
+still_by flowing link links (suc left) [] l e some as_before still =
+    let is = still as_before in (is.same, All-cons (IsIdle flowing.world) link links e is.idle)
+still_by flowing link links (suc left) (message ∷ queue) l e some as_before still =
+    absurd (omega (arith, l, as_before, round_falls (delivered flowing left (Deliver link.from link.to)) links))
+
+still_round : (flowing : Flowing) (links : List Link) → flowing.left ≢ 0 → (round flowing links).left ≡ flowing.left → IsStill flowing links
+unfolding round turn_of
+still_round flowing [] some as_before = record { same = refl; idle = All-nil (IsIdle flowing.world) }
+still_round flowing (link ∷ links) some as_before =
+    let is = still_by flowing link links flowing.left (on_link flowing.world.links link.from link.to) refl refl some as_before
+    (λ h. still_round flowing links some h) in
+    record { same = is.0; idle = is.1 }
+
+-- so many rounds end where nothing is on its way, or with no delivery that may follow
+
+rest_by : (n : ℕ) (links : List Link) (flowing more : Flowing) (ends : Bool) → ((round flowing links).left == flowing.left) ≡ ends → flowing.left ≤ suc n
+    → (rounds_by ends (round flowing links) more).left ≢ 0
+    → ((round flowing links).left ≤ n → more.left ≢ 0 → All (IsIdle more.world) links)
+    → All (IsIdle (rounds_by ends (round flowing links) more).world) links
+unfolding rounds_by
+rest_by n links flowing more true e h some later =
+    let as_before : (round flowing links).left ≡ flowing.left = eqb-true _ _ e in
+    let is = still_round flowing links (λ none. some (as_before ∙ none)) as_before in
+    subst (λ w. All (IsIdle w) links) (sym is.same) is.idle
+rest_by n links flowing more false e h some later =
+    let differs : (round flowing links).left ≢ flowing.left = λ same. (let no : true ≡ false = sym (eq-eqb _ _ same) ∙ e in cc) in
+    later (omega (arith, h, round_falls flowing links, differs)) some
+
+rounds_rest : (n : ℕ) (links : List Link) (flowing : Flowing) → flowing.left ≤ n → (rounds n links flowing).left ≢ 0
+    → All (IsIdle (rounds n links flowing).world) links
+unfolding rounds
+rounds_rest zero links flowing h some = absurd (some (omega (arith, h)))
+rounds_rest (suc n) links flowing h some =
+    rest_by n links flowing (rounds n links (round flowing links)) _ refl h some (λ fewer left. rounds_rest n links (round flowing links) fewer left)
+
+flow_flows : (world : World) (count : ℕ) → All AreApart world.pairs → NoneQuiet world.links → IsFlowing world.pairs world count (flow world count)
+unfolding flow run_steps
+flow_flows world count apart only =
+    rounds_flow world.pairs world count apart count (record { world = world; made = []; left = count })
+    (record { steps = refl; counts = omega arith; each = λ before step later e. absurd (not_none before step later e); only = only })
+
+flow_rests : (world : World) (count : ℕ) → (flow world count).left ≢ 0 → All (IsIdle (flow world count).world) world.pairs
+unfolding flow
+flow_rests world count some = rounds_rest count world.pairs (record { world = world; made = []; left = count }) (omega arith) some
+
+flow_is : (config : Config) (steps : List Event) (count : ℕ) (world : World) → world ≡ run_steps (start config) steps
+    → IsFlowing (links_of config.nodes) world count (flow world count)
+flow_is config steps count world there =
+    let pairs : world.pairs ≡ links_of config.nodes = ap (λ (w : World). w.pairs) there ∙ pairs_stay config steps in
+    let only : NoneQuiet world.links =
+    subst (λ (w : World). NoneQuiet w.links) (sym there) ((keeps_none_quiet (start config) steps).none_quiet (start_none_quiet config)) in
+    subst (λ links. IsFlowing links world count (flow world count)) pairs
+    (flow_flows world count (subst (λ links. All AreApart links) (sym pairs) (pairs_apart config.nodes)) only)
+
+-- deliveries come to an end
+
+delivers_less : (links : List Link) → ((from to : List ℕ) → times from to links ≤ 1) → (world : World) (event : Event)
+    → DeliversFirst links world event (steps_by world event) → load links (steps_by world event) + 1 ≤ load links world
+delivers_less links once world event is =
+    subst (λ e. load links (steps_by world e) + 1 ≤ load links world) (sym is.delivers)
+    (delivery_falls links once world (is.link).from (is.link).to is.message _ is.among is.is_taken)
+
+deliveries_end : (links : List Link) → ((from to : List ℕ) → times from to links ≤ 1) → (world : World) (steps : List Event) → DeliversEach links world steps
+    → load links (run_steps world steps) + length steps ≤ load links world
+unfolding run_steps
+deliveries_end links once world [] each = omega arith
+deliveries_end links once world (event ∷ steps) each =
+    omega (
+      arith,
+      delivers_less links once world event (each [] event steps refl),
+      deliveries_end links once (steps_by world event) steps (λ before step later e. each (event ∷ before) step later (ap (λ l. event ∷ l) e)),
+    )
+
+flow_ends : (config : Config) (steps : List Event) (count : ℕ) (world : World) → AreNodes config.nodes → world ≡ run_steps (start config) steps
+    → load (links_of config.nodes) (flow world count).world + length (flow world count).made ≤ load (links_of config.nodes) world
+flow_ends config steps count world are there =
+    let flows = flow_is config steps count world there in
+    omega (
+      arith,
+      deliveries_end (links_of config.nodes) (pairs_once config.nodes are) world (flow world count).made flows.each,
+      ap (load (links_of config.nodes)) flows.steps,
+    )
+
+is_flow : (config : Config) (steps : List Event) (sent count : ℕ) (world : World) → AreNodes config.nodes → world ≡ run_steps (start config) steps
+    → load (links_of config.nodes) world ≤ 2 * sent → IsFlow (links_of config.nodes) sent count world (flow world count).made
+is_flow config steps sent count world are there few =
+    let pairs : world.pairs ≡ links_of config.nodes = ap (λ (w : World). w.pairs) there ∙ pairs_stay config steps in
+    let made = (flow world count).made in
+    let flows = flow_is config steps count world there in
+    let ends : (flow world count).world ≡ run_steps (start config) (steps ++ made) =
+    flows.steps ∙ ap (λ w. run_steps w made) there ∙ sym (run_steps-append (start config) steps made) in
+    record {
+      at_most = omega (arith, flows.counts);
+      each = flows.each;
+      fewer = λ fewer from to.
+          let some : (flow world count).left ≢ 0 = λ none. omega (arith, flows.counts, fewer, none) in
+          let idle = subst (λ links. All (IsIdle (flow world count).world) links) pairs (flow_rests world count some) in
+          ap (λ (w : World). on_link w.links from to) (sym flows.steps ∙ ends)
+          ∙ all_empty config (steps ++ made) are (subst (λ w. All (IsIdle w) (links_of config.nodes)) ends idle) from to;
+      ends = omega (arith, few, flow_ends config steps count world are there);
+    }
+
+are_steps : (config : Config) (steps : List Event) (sent : ℕ) (world : World) (event : Event) → AreNodes config.nodes → world ≡ run_steps (start config) steps
+    → load (links_of config.nodes) world ≤ 2 * sent → AreStepsOf (links_of config.nodes) sent world event (steps_of_event world event)
+unfolding steps_of_event
+are_steps config steps sent world (Flow count) are there few = is_flow config steps sent count world are there few
+are_steps config steps sent world event are there few = refl
+
+-- behind whatever steps
+pub are_its_steps : (world : World) (event : Event) → AreItsSteps world event
+unfolding run_steps
+are_its_steps world event = λ config steps are there.
+    let few : load (links_of config.nodes) (run_steps (start config) steps) ≤ 2 * (0 + bytes_of_all steps) =
+    steps_load config [] steps (start config) 0 are refl (start_load config (links_of config.nodes)) in
+    let here : load (links_of config.nodes) world ≤ 2 * bytes_of_all steps = omega (arith, few, ap (load (links_of config.nodes)) there) in
+    are_steps config steps (bytes_of_all steps) world event are there here
+
+happens_load : (config : Config) (steps : List Event) (world : World) (event : Event) → AreNodes config.nodes → world ≡ run_steps (start config) steps
+    → load (links_of config.nodes) (happens world event) ≤ load (links_of config.nodes) world + 2 * bytes_of event
+unfolding happens
+happens_load config steps world (Flow count) are there = omega (arith, flow_ends config steps count world are there)
+happens_load config steps world event are there = step_load config steps world event are there
+
+all_from : (config : Config) (steps : List Event) (sent : ℕ) (world : World) (events : List Event) → AreNodes config.nodes
+    → world ≡ run_steps (start config) steps → load (links_of config.nodes) world ≤ 2 * sent
+    → AreStepsOfAll (links_of config.nodes) sent world events (unrolled world events)
+unfolding unrolled
+all_from config steps sent world [] are there few = no_event sent world
+all_from config steps sent world (event ∷ events) are there few =
+    let its = steps_of_event world event in
+    let made = event_made world event in
+    let later : happens world event ≡ run_steps (start config) (steps ++ its) =
+    made ∙ ap (λ w. run_steps w its) there ∙ sym (run_steps-append (start config) steps its) in
+    let next : load (links_of config.nodes) (happens world event) ≤ 2 * (sent + bytes_of event) =
+    omega (arith, few, happens_load config steps world event are there) in
+    an_event sent world event events its (unrolled (happens world event) events) (are_steps config steps sent world event are there few)
+    (subst (λ w. AreStepsOfAll (links_of config.nodes) (sent + bytes_of event) w events (unrolled (happens world event) events)) made
+    (all_from config (steps ++ its) (sent + bytes_of event) (happens world event) events are later next))
+
+-- the steps of a run are those of its events
+pub are_steps_of_all : (config : Config) (events : List Event) → AreNodes config.nodes
+    → AreStepsOfAll (links_of config.nodes) 0 (start config) events (unrolled (start config) events)
+unfolding run_steps
+are_steps_of_all config events are = all_from config [] 0 (start config) events are refl (start_load config (links_of config.nodes))

@@ -1,0 +1,4 @@
+-- The marks of a run, and the points that its history shows for them.
+pub mod Marks
+pub mod Told
+pub mod InTime

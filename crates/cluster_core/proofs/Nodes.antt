@@ -1,0 +1,6 @@
+-- In each step one node works, for its own clients, and it sends on its own links.
+pub mod OneNodeLaw
+pub mod OwnClientsLaw
+pub mod LinkedNodes
+pub mod OnPairs
+pub mod NoneQuiet

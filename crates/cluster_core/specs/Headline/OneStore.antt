@@ -1,0 +1,119 @@
+-- The one-store law: what each client was given is what one mailbox store replies to the printed history, at every step.
+use Rattle.std.specs.Prelude.{◌≡◌, ◌⊎◌, ℕ, ◌≤◌, true, false, List, [], ◌∷◌, ◌++◌, length, Option, None, Some, IfSome, All, AllPairs}
+use Rattle.std.specs.List.{list_any}
+use Rattle.std.specs.Ordering.{nat_cmp}
+use Rattle.std.specs.Cmp.Lexicographic.{slice_cmp}
+use Rattle.backend_core.specs.OpenBox.{open_content}
+use Rattle.mail_store.specs.Kept.{AreUidsBelowNext}
+use Rattle.imap_talk.specs.Transcript.{transcript_of, ends}
+use Rattle.imap_talk.specs.TranscriptRead.{IsAllReadAsMeant}
+use Rattle.mail_message.specs.Boxes.{Content, IsRising}
+use Rattle.mur_base.specs.Map.{value_at}
+use Rattle.mur_base.specs.declared.point.Point.{Point}
+use Rattle.mur_config.specs.declared.config.Config.{Config}
+use Rattle.imap_types.specs.declared.request.Answer.{Answer}
+use Rattle.imap_types.specs.declared.request.Request.{Request}
+use Rattle.mur_model.specs.declared.session.Sess.TheVariants.{Off}
+use Rattle.mur_model.specs.declared.store.Store.{Store}
+use Rattle.mur_model.specs.History.{Course, Talk, TalkGoesOn, IsLegal}
+use Rattle.mur_model.specs.Store.{empty_store, box_at}
+use Rattle.schedule_text.specs.declared.event.Event.{Event}
+use Rattle.cluster_core.specs.declared.world.World.{World}
+use Rattle.store_law.specs.Begun.{BeginsAsRead}
+use Rattle.front_core.specs.Ending.{EndsOnlyLast}
+use Rattle.store_law.specs.Appended.{KeepsAppended}
+use Rattle.cluster_core.specs.Flow.{run_steps, unrolled}
+use Rattle.cluster_core.specs.Heard.{heard}
+use Rattle.imap_talk.specs.Heard.{bytes_heard, frames_heard, has_closed}
+use Rattle.cluster_core.specs.History.{history_of}
+use Rattle.cluster_core.specs.Headline.Homes.{ShowsBoxesOf}
+use Rattle.cluster_core.specs.LawSetting.{law_setting}
+use Rattle.link_queue.specs.Links.{on_link}
+use Rattle.store_law.specs.Refusals.{HaveCauses}
+use Rattle.store_law.specs.NoneLost.{LosesNone}
+use Rattle.cluster_core.specs.Headline.Points.{AreMadeBy, LosesTheNext}
+use Rattle.imap_talk.specs.Requests.{AreRequests}
+use Rattle.store_law.specs.Serials.{GivesLowSerials}
+use Rattle.cluster_core.specs.Shown.{given_to, held_at}
+use Rattle.cluster_core.specs.World.{start}
+
+-- the empty store, and no session begun
+abbrev pub first_course : Course
+first_course = record { store = empty_store; sessions = λ _. Off }
+
+abbrev pub or_else : Option Content → Option Content → Option Content
+or_else None other = other
+or_else (Some content) other = Some content
+
+unfoldable pub box_among : World → List ℕ → List (List ℕ) → Option Content
+box_among world name [] = None
+box_among world name (node ∷ nodes) =
+    or_else (open_content (value_at (slice_cmp nat_cmp) (held_at world node) name)) (box_among world name nodes)
+
+-- the mailbox of a name at its home, which is the node that has it open
+unfoldable pub box_of_home : World → List ℕ → Option Content
+box_of_home world name = box_among world name world.backends
+
+-- one content: the store has of each name the mailbox that its home has, and none where no home has one
+abbrev pub HasBoxesOf : Store → World → Type 0
+HasBoxesOf store world = (name : List ℕ) → box_at store name ≡ box_of_home world name
+
+-- no message is on its way
+abbrev pub AreEmpty : World → Type 0
+AreEmpty world = (from to : List ℕ) → on_link world.links from to ≡ []
+
+-- each request was answered, or an answer ended the connection: behind a BYE nothing is answered (RFC 9051, 7.1.5)
+abbrev pub IsAnsweredThrough : List Request → List Answer → Type 0
+IsAnsweredThrough requests answers = (length answers ≡ length requests) ⊎ (list_any (λ (answer : Answer). ends answer.reply) answers ≡ true)
+
+-- in time: of the whole history, the points up to this step stand behind their commands, and every command that was answered
+-- by now has its point here
+pub record StandsInTime (talk : Talk) (now : ℕ) (points : List Point) : Type 0 where
+  pub behind_command : All (λ (point : Point). point.step ≤ now → point.ask.command ≤ length (talk.requests point.ask.conn)) points
+  pub before_reply : All (λ (point : Point). point.ask.command ≤ length (talk.answers point.ask.conn) → point.step ≤ now) points
+
+-- after these steps of a run whose whole history is this: so far the clients asked and were answered a front of what they are
+-- in the whole run; each client was given its transcript; and one store that takes the requests of the points one at a time, in
+-- each session's order, gave these answers and has the mailboxes that the homes have
+pub record IsToldSoFar (config : Config) (talk : Talk) (points : List Point) (steps : List Event) (world : World) : Type 0 where
+  pub so_far : Talk
+  pub goes_on : TalkGoesOn so_far talk
+  pub asked : (conn : ℕ) → AreRequests (law_setting config) (frames_heard (heard config conn steps)) (so_far.requests conn)
+  pub given : (conn : ℕ) → given_to world conn ≡ transcript_of (law_setting config) (bytes_heard (heard config conn steps)) (so_far.answers conn)
+  -- no text of a user forges a reply: each client reads just the greeting, the continuations and the lines of these answers
+  pub read : (conn : ℕ) → IsAllReadAsMeant (law_setting config) (given_to world conn) (bytes_heard (heard config conn steps)) (so_far.answers conn)
+  pub ends_only_last : (conn : ℕ) → EndsOnlyLast (so_far.answers conn)
+  pub last : Course
+  pub legal : IsLegal (law_setting config) first_course so_far (history_of world) last
+  pub refusals : HaveCauses so_far (history_of world)
+  pub one_content : HasBoxesOf last.store world
+  pub homes_shown : ShowsBoxesOf config last.store world
+  -- each message has a UID of its own, below its mailbox's UIDNEXT (RFC 9051, 2.3.1.1), and no command, whoever sends it, loses one or
+  -- its flags, but where it is for that
+  pub below_next : (name : List ℕ) → IfSome (box_at last.store name) AreUidsBelowNext
+  pub uids_rise : (name : List ℕ) → IfSome (box_at last.store name) (λ box. IsRising box.messages)
+  pub none_lost : LosesNone (law_setting config) last.store
+  -- and what an APPEND was answered OK for is there
+  pub appended_there : KeepsAppended (law_setting config) last.store
+  pub low_serials : GivesLowSerials last.store
+  -- which points there may be
+  pub lost_next : LosesTheNext so_far (history_of world)
+  pub made_by_now : AreMadeBy world.steps (history_of world)
+  pub in_time : StandsInTime so_far world.steps points
+  -- steps count from 1: the last one has the number of the steps made
+  pub counted : world.steps ≡ length steps
+  -- nothing waits on empty links: then each whole command of a client that hasn't closed its connection was answered, up to an
+  -- answer that ended the connection
+  pub nothing_waits : AreEmpty world → (conn : ℕ) → has_closed (heard config conn steps) ≡ false
+      → IsAnsweredThrough (so_far.requests conn) (so_far.answers conn)
+
+-- at every step, each delivery of a flow being one; so a point stands at a step that is not before the one whose bytes
+-- completed its command, and not behind the one that gave its reply: a command that was answered before another one was sent
+-- stands before it, whoever sent them (linearizability)
+pub record IsToldByOneStore (config : Config) (events : List Event) : Type 0 where
+  pub begins_as_read : BeginsAsRead (law_setting config)
+  pub talk : Talk
+  pub at_each_step : (before later : List Event) → unrolled (start config) events ≡ before ++ later
+      → IsToldSoFar config talk (history_of (run_steps (start config) (unrolled (start config) events))) before (run_steps (start config) before)
+  pub steps_rise : AllPairs (λ (earlier later : Point). earlier.step ≤ later.step)
+      (history_of (run_steps (start config) (unrolled (start config) events)))

@@ -1,0 +1,8 @@
+-- The law of one connection, by its links and its client.
+pub mod FrontAnswers
+pub mod OwnOuts
+pub mod Readings
+pub mod Ways
+pub mod Standing
+pub mod Released
+pub mod LastAnswer

@@ -1,0 +1,56 @@
+-- A connection stands as it did when what it held is let go, since it has ended.
+use Rattle.std.proofs.Common.{◌≡◌, ℕ, List, Option, inl, refl, sym, ap, subst}
+use Rattle.front_core.specs.declared.connection.Connection.{Connection}
+use Rattle.front_core.specs.declared.connection.Stage.{Stage}
+use Rattle.front_core.specs.declared.connection.Stage.TheVariants.{Reading, Asked, Ended}
+use Rattle.front_core.specs.Ended.{released, released_at}
+use Rattle.front_core.specs.Reading.{Reading as Read}
+use Rattle.imap_talk.specs.declared.inputs.Input.{Input}
+use Rattle.imap_types.specs.declared.request.Answer.{Answer}
+use Rattle.mur_model.specs.declared.session.Sess.{Sess}
+use Rattle.mur_model.specs.declared.setting.Setting.{Setting}
+use Rattle.link_msg.specs.declared.message.LinkMsg.{LinkMsg}
+use Rattle.link_queue.specs.Links.{Links}
+use Rattle.front_core.proofs.OneConnection.Standing.{HasBegunSo, Stands}
+use Rattle.front_core.proofs.OneConnection.Standing.Stands.{reads, waits, faulted, finished}
+
+count_by : (connection : Connection) (stage : Stage) → (released_at connection stage).answered ≡ connection.answered
+unfolding released_at
+count_by connection Reading = refl
+count_by connection (Asked tag awaited) = refl
+count_by connection Ended = refl
+
+pub released_count : (connection : Connection) → (released connection).answered ≡ connection.answered
+released_count connection = count_by connection connection.stage
+
+pub released_ended : (connection : Connection) → connection.stage ≡ Ended → (released connection).stage ≡ Ended
+unfolding released_at
+released_ended connection stage = ap (λ s. (released_at connection s).stage) stage
+
+begun_by : (connection : Connection) (reading : Read) (stage : Stage) → HasBegunSo connection reading → HasBegunSo (released_at connection stage) reading
+unfolding released_at
+begun_by connection reading Reading is = is
+begun_by connection reading (Asked tag awaited) is = is
+begun_by connection reading Ended is = inl refl
+
+pub begun_released : (connection : Connection) (reading : Read) → HasBegunSo connection reading → HasBegunSo (released connection) reading
+begun_released connection reading is = begun_by connection reading connection.stage is
+
+pub stands_released : (setting : Setting) (front home : List ℕ) (conn : ℕ) (all : List Input) (held : Option (List ℕ)) (connection : Connection) (links : Links LinkMsg)
+    (told said : List Answer) (session : Sess) → Stands setting front home conn all held connection links told said session
+    → Stands setting front home conn all held (released connection) links told said session
+unfolding released_at
+stands_released setting front home conn all held connection links told said session (reads stage waiting s lasts answered same way) =
+    subst (λ c. Stands setting front home conn all held c links told said session) (sym (ap (released_at connection) stage))
+    (reads stage waiting s lasts answered same way)
+stands_released setting front home conn all held connection links told said session
+    (waits passed request tag it name work stage parts lasts answered is need last way) =
+    subst (λ c. Stands setting front home conn all held c links told said session) (sym (ap (released_at connection) stage))
+    (waits passed request tag it name work stage parts lasts answered is need last way)
+stands_released setting front home conn all held connection links told said session (faulted stage none lengths same lasts way) =
+    subst (λ c. Stands setting front home conn all held c links told said session) (sym (ap (released_at connection) stage))
+    (faulted refl none lengths same lasts way)
+stands_released setting front home conn all held connection links told said session
+    (finished passed more request before final stage parts answered is_told is_end same way) =
+    subst (λ c. Stands setting front home conn all held c links told said session) (sym (ap (released_at connection) stage))
+    (finished passed more request before final refl parts answered is_told is_end same way)

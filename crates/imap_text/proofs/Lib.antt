@@ -1,0 +1,7 @@
+pub mod StringsLaw
+pub mod StringsHold
+pub mod StringsPrinted
+pub mod QuotedRuns
+pub mod Utf8Law
+pub mod NoNul
+pub mod Values

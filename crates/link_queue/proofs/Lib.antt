@@ -1,0 +1,4 @@
+pub mod Wires
+pub mod OnWay
+mod Entries
+mod FirstTaken

@@ -1,0 +1,14 @@
+pub mod HomeStore
+pub mod ServedAlike
+pub mod CreateLaw
+pub mod AppendLaw
+pub mod StatusLaw
+pub mod SelectLaw
+pub mod ViewedAlike
+pub mod NewsLaw
+pub mod CloseLaw
+pub mod ExpungeLaw
+pub mod StoreLaw
+pub mod FetchLaw
+pub mod SearchLaw
+pub mod ServeLaw

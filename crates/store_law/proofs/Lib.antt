@@ -1,0 +1,9 @@
+pub mod RisingStores
+pub mod NeedsFit
+pub mod MessagesLeft
+pub mod NoneLost
+pub mod AppendedThere
+pub mod NeedsNoCause
+pub mod NoRelocation
+pub mod StaysBegun
+pub mod BegunLaw

@@ -1,0 +1,5 @@
+pub mod NoneLost
+pub mod Appended
+pub mod Begun
+pub mod Serials
+pub mod Refusals
