@@ -48,11 +48,17 @@ fn put_status(
     host: &mut MemHost,
     out: &mut Bytes,
 ) -> Result<(), Memory> {
+    let words = words_of(alloc, line)?;
+    let status = murder(alloc, host, &words);
+    put_value(alloc, &status.code(), out)
+}
+
+fn words_of(alloc: Global, line: &str) -> Result<Vec<String>, Memory> {
     let mut words = Vec::new(alloc);
     for word in line.split_whitespace() {
         words.push(String::from_str(alloc, word)?)?;
     }
-    put_value(alloc, &murder(alloc, host, &words).code(), out)
+    Ok(words)
 }
 
 fn sources_of(alloc: Global, schedule: &str) -> Result<MemSources, Fault> {
