@@ -1,0 +1,3 @@
+pub mod MergedRuns
+mod MixLaws
+mod NextLaws

@@ -1,0 +1,6 @@
+pub mod Logs
+pub mod Mix
+pub mod Replay
+pub mod Rules
+pub mod Run
+pub mod RunsAsLogged
