@@ -8,3 +8,4 @@ pub mod StartLaws
 pub mod EndLaws
 pub mod TransferLaw
 pub mod BatchFront
+pub mod AllowedLaws

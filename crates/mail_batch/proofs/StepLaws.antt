@@ -61,12 +61,12 @@ gone_by : (k : ℕ) (other : Message) (others : List Message) → message_at oth
 gone_by k other others ih true h = ih
 gone_by k other others ih false h = rw h ih
 
-gone_there : (messages : List Message) (k : ℕ) → message_at (without_uid messages k) k ≡ None
+pub gone_there : (messages : List Message) (k : ℕ) → message_at (without_uid messages k) k ≡ None
 gone_there [] k = refl
 gone_there (other ∷ messages) k = gone_by k other (without_uid messages k) (gone_there messages k) (other.uid == k) refl
 
 -- the message with other flags, if it is there
-abbrev flagged : Flags → Option Message → Option Message
+abbrev pub flagged : Flags → Option Message → Option Message
 flagged flags None = None
 flagged flags (Some message) = Some (relabelled message flags)
 
@@ -76,7 +76,7 @@ flags_by : (k : ℕ) (flags : Flags) (other : Message) (messages others : List M
 flags_by k flags other messages others ih true h = rw h refl
 flags_by k flags other messages others ih false h = rw h ih
 
-flags_there : (messages : List Message) (k : ℕ) (flags : Flags)
+pub flags_there : (messages : List Message) (k : ℕ) (flags : Flags)
     → message_at (map (with_flags k flags) messages) k ≡ flagged flags (message_at messages k)
 flags_there [] k flags = refl
 flags_there (other ∷ messages) k flags =

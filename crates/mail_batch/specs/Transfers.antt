@@ -3,7 +3,8 @@ use Rattle.std.specs.Prelude.{◌≡◌, ◌⊎◌, ℕ, Bool, true, false, ◌=
 use Rattle.std.specs.List.{fold, list_any}
 use Rattle.mail_message.specs.declared.message.Message.{Message}
 use Rattle.mail_message.specs.declared.change.Change.{Change}
-use Rattle.mail_message.specs.Boxes.{Content, message_at, relabelled, uids_of, empty_box, content_after_all, IsRising}
+use Rattle.mail_message.specs.declared.change.Change.TheVariants.{Put, SetFlags, Gone, NextUid}
+use Rattle.mail_message.specs.Boxes.{Content, message_at, relabelled, uids_of, empty_box, content_after_all, is_touched, IsRising}
 use Rattle.mail_batch.specs.Sweeps.{SweepState, noted, all_left, batch_of, after_sending_all, changes_left}
 
 pub record Transfer : Type 0 where
@@ -96,3 +97,20 @@ TakerWillHaveAll transfer =
 -- after the giver's UIDNEXT alone it is the giver's
 abbrev pub TakerHasAll : Transfer → Type 0
 TakerHasAll transfer = record transfer.taken { next = transfer.giver.next } ≡ transfer.giver
+
+-- ---- changes that a giver may carry out
+
+abbrev pub puts_at : ℕ → Change → Bool
+puts_at uid (Put message) = message.uid == uid
+puts_at uid (SetFlags named flags) = false
+puts_at uid (Gone named) = false
+puts_at uid (NextUid next) = false
+
+-- each UID of the changes was noted, and messages are put only at UIDs that the mailbox never had
+pub record MayCarryOut (transfer : Transfer) (changes : List Change) : Type 0 where
+  pub noted_first : (uid : ℕ) → list_any (is_touched uid) changes ≡ true → lists_uid transfer.fresh uid ≡ true
+  pub new_only : (uid : ℕ) → list_any (puts_at uid) changes ≡ true → lists_uid transfer.had uid ≡ false
+
+-- the step in which the giver carries changes out
+abbrev pub carries_out : Transfer → List Change → TransferStep
+carries_out transfer changes = becomes (content_after_all transfer.giver changes).messages (content_after_all transfer.giver changes).next

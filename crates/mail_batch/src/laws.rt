@@ -4,11 +4,13 @@ ghost use Rattle.std.specs.List.{sum_by};
 ghost use Rattle.std.specs.Ordering.{nat_cmp};
 ghost use Rattle.mur_base.specs.Map.{IsInOrder};
 ghost use Rattle.mail_message.specs.declared.message.Message.{Message};
+ghost use Rattle.mail_message.specs.declared.change.Change.{Change};
 ghost use Rattle.mail_message.specs.Boxes.{Content, IsRising};
 ghost use Rattle.mail_batch.specs.Weights.{weight_of};
 ghost use Rattle.mail_batch.specs.Sweeps.{SweepState, change_at, changes_left, batch_of, fits_one_batch, after_sending_all};
 ghost use Rattle.mail_batch.specs.Batches.{IsOfFirstLeft, AreWithinLimit};
-ghost use Rattle.mail_batch.specs.Transfers.{TransferStep, transfer_of, after_steps, AreAllowed, TakerWillHaveAll, TakerHasAll};
+ghost use Rattle.mail_batch.specs.Transfers.{TransferStep, transfer_of, after_steps, IsAllowed, AreAllowed};
+ghost use Rattle.mail_batch.specs.Transfers.{MayCarryOut, carries_out, TakerWillHaveAll, TakerHasAll};
 
 /// At each moment of a transfer the taker's mailbox, after the batches on the way, the changes left and the giver's UIDNEXT, is
 /// the giver's mailbox: UIDVALIDITY, UIDNEXT, access list and messages.
@@ -22,6 +24,13 @@ pub fn the_taker_ends_with_the_same_mailbox()
     ensures { (giver : Content) (steps : List TransferStep) → IsRising giver.messages → AreAllowed (transfer_of giver) steps
         → (after_steps (transfer_of giver) steps).sweep.left ≡ [] → (after_steps (transfer_of giver) steps).way ≡ []
         → TakerHasAll (after_steps (transfer_of giver) steps) }
+{}
+
+/// A giver may carry out any changes at UIDs that it noted since the last batch, if messages are put only at new UIDs.
+pub fn changes_at_noted_uids_are_allowed()
+    ensures { (giver : Content) (steps : List TransferStep) (changes : List Change) → IsRising giver.messages
+        → AreAllowed (transfer_of giver) steps → MayCarryOut (after_steps (transfer_of giver) steps) changes
+        → IsAllowed (after_steps (transfer_of giver) steps) (carries_out (after_steps (transfer_of giver) steps) changes) }
 {}
 
 /// The UIDs that are left rise strictly.

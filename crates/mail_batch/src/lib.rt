@@ -9,7 +9,8 @@ mod weight;
 
 pub use intake::Intake;
 pub use laws::{
-    a_batch_keeps_its_limits, a_batch_takes_the_lowest_uids_left, changes_that_fit_go_in_one_batch,
+    a_batch_keeps_its_limits, a_batch_takes_the_lowest_uids_left,
+    changes_at_noted_uids_are_allowed, changes_that_fit_go_in_one_batch,
     the_changes_left_complete_the_taker, the_taker_ends_with_the_same_mailbox, the_uids_left_rise,
 };
 pub use sweep::Sweep;

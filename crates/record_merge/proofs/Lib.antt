@@ -1,3 +1,4 @@
 pub mod MergedRuns
 mod MixLaws
 mod NextLaws
+pub mod StampLaws

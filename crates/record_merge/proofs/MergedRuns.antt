@@ -12,7 +12,7 @@ use Rattle.record_merge.specs.Run.{Service, acted, without_first, delivered_by, 
 use Rattle.record_merge.specs.Replay.{stamped, taken_from, inputs_of, replayed, outputs_of, sent_to}
 use Rattle.record_merge.specs.RunsAsLogged.{IsBeginning, IsClosed, RunsAsLogged, Holds, MergedRuns}
 
-same_node : (n : ℕ) → nat_eq n n ≡ true
+pub same_node : (n : ℕ) → nat_eq n n ≡ true
 same_node n = grind arith
 
 module _ {M : Type 0} where
@@ -20,7 +20,7 @@ module _ {M : Type 0} where
   message_of sent = sent.message
 
   -- sent in steps with this stamp or greater ones
-  abbrev Late : ℕ → List (Sent M) → Type 0
+  abbrev pub Late : ℕ → List (Sent M) → Type 0
   Late t sent = AllByRecursion (λ (message : Sent M). t ≤ message.stamp) sent
 
   late_stamped : (t stamp : ℕ) (messages : List M) (more : List (Sent M)) → t ≤ stamp → Late t more → Late t (stamped stamp messages ++ more)
@@ -73,16 +73,16 @@ module _ {M : Type 0} where
 
 module _ {I : Type 0} where
   -- stamps never fall, and each is above the one that its step heard
-  abbrev AreFrom : ℕ → List (MergedStep I) → Type 0
+  abbrev pub AreFrom : ℕ → List (MergedStep I) → Type 0
   AreFrom stamp merged = AllByRecursion (λ (step : MergedStep I). stamp ≤ step.entry.stamp) merged
 
-  abbrev Hears : Logged I → Type 0
+  abbrev pub Hears : Logged I → Type 0
   Hears entry = entry.heard < entry.stamp
 
   abbrev AllHear : List (MergedStep I) → Type 0
   AllHear merged = AllByRecursion (λ (step : MergedStep I). Hears step.entry) merged
 
-  abbrev NeverFalls : List (MergedStep I) → Type 0
+  abbrev pub NeverFalls : List (MergedStep I) → Type 0
   NeverFalls [] = Unit {0}
   NeverFalls (step ∷ merged) = Hears step.entry × AreFrom step.entry.stamp merged × NeverFalls merged
 
@@ -119,7 +119,7 @@ module _ {I : Type 0} where
   logs_hear place (log ∷ logs) node are =
       either_hears (nat_eq node place) log (log_from (place + 1) logs node) (log_hears 0 log are.0) (logs_hear (place + 1) logs node are.1)
 
-  merged_falls : (logs : List (List (Logged I))) (merged : List (MergedStep I)) → AreLogs logs → IsMerged logs merged → NeverFalls merged
+  pub merged_falls : (logs : List (List (Logged I))) (merged : List (MergedStep I)) → AreLogs logs → IsMerged logs merged → NeverFalls merged
   merged_falls logs merged are is =
       never_falls merged is.ordered (all_hear merged (λ node. subst (AllByRecursion Hears) (sym (is.entries node)) (logs_hear 0 logs node are)))
 
@@ -143,11 +143,11 @@ module _ {S I O M : Type 0} (rules : Rules S I O M) where
   sends_step true to s entry log front = sym (append_assoc front _ _)
   sends_step false to s entry log front = ap (λ (x : List (Sent M)). x ++ sent_to rules to s log) (sym (append-nil front))
 
-  abbrev sent_by : (ℕ → ℕ → List (Sent M)) → (ℕ → S) → ℕ → Logged I → ℕ → ℕ → List (Sent M)
+  abbrev pub sent_by : (ℕ → ℕ → List (Sent M)) → (ℕ → S) → ℕ → Logged I → ℕ → ℕ → List (Sent M)
   sent_by waiting state n entry from to =
       waiting from to ++ cond (nat_eq from n) (stamped entry.stamp (rules.messages_for to (rules.outputs (state from) entry.input))) []
 
-  abbrev state_after : (ℕ → S) → ℕ → Logged I → ℕ → S
+  abbrev pub state_after : (ℕ → S) → ℕ → Logged I → ℕ → S
   state_after state n entry k = cond (nat_eq k n) (rules.after (state k) entry.input) (state k)
 
   state_by : (same : Bool) (s : S) (entry : Logged I) (log : List (Logged I))
@@ -189,35 +189,35 @@ module _ {S I O M : Type 0} (rules : Rules S I O M) where
   took_from_by false from f message entry log e = refl
 
   -- once the step is done, what is left of the logs is closed
-  closed_after : (w : Service S I O M) (waiting : ℕ → ℕ → List (Sent M)) (step : MergedStep I) (merged : List (MergedStep I))
+  pub closed_after : (state : ℕ → S) (waiting : ℕ → ℕ → List (Sent M)) (step : MergedStep I) (merged : List (MergedStep I))
       → ((from to : ℕ) → IsBeginning (taken_from rules from (log_of to merged))
-      (waiting from to ++ sent_to rules to (w.state from) (log_of from (step ∷ merged))))
-      → IsClosed rules (sent_by waiting w.state step.node step.entry) (state_after w.state step.node step.entry) (λ n. log_of n merged)
-  closed_after w waiting step merged c from to =
+      (waiting from to ++ sent_to rules to (state from) (log_of from (step ∷ merged))))
+      → IsClosed rules (sent_by waiting state step.node step.entry) (state_after state step.node step.entry) (λ n. log_of n merged)
+  closed_after state waiting step merged c from to =
       let old = c from to in
-      (old.0, old.1 ∙ sends_step (nat_eq from step.node) to (w.state from) step.entry (log_of from merged) (waiting from to))
+      (old.0, old.1 ∙ sends_step (nat_eq from step.node) to (state from) step.entry (log_of from merged) (waiting from to))
 
-  closed_own : (w : Service S I O M) (waiting : ℕ → ℕ → List (Sent M)) (step : MergedStep I) (merged : List (MergedStep I))
-      → rules.taken step.entry.input ≡ None → IsClosed rules waiting w.state (λ k. log_of k (step ∷ merged))
+  pub closed_own : (state : ℕ → S) (waiting : ℕ → ℕ → List (Sent M)) (step : MergedStep I) (merged : List (MergedStep I))
+      → rules.taken step.entry.input ≡ None → IsClosed rules waiting state (λ k. log_of k (step ∷ merged))
       → (from to : ℕ) → IsBeginning (taken_from rules from (log_of to merged))
-      (waiting from to ++ sent_to rules to (w.state from) (log_of from (step ∷ merged)))
-  closed_own w waiting step merged own c from to =
+      (waiting from to ++ sent_to rules to (state from) (log_of from (step ∷ merged)))
+  closed_own state waiting step merged own c from to =
       let old = c from to in
       (old.0, ap (λ (x : List (Sent M)). x ++ old.0) (sym (taken_own_by (nat_eq to step.node) from step.entry (log_of to merged) own)) ∙ old.1)
 
-  late_now : (to from : ℕ) (step : MergedStep I) (merged : List (MergedStep I)) → AreFrom step.entry.stamp merged → (s : S)
+  pub late_now : (to from : ℕ) (step : MergedStep I) (merged : List (MergedStep I)) → AreFrom step.entry.stamp merged → (s : S)
       → Late step.entry.stamp (sent_to rules to s (log_of from (step ∷ merged)))
   late_now to from step merged later s = late_sends step.entry.stamp to from (step ∷ merged) (omega arith, later) s
 
-  closed_delivery : (w : Service S I O M) (waiting : ℕ → ℕ → List (Sent M)) (step : MergedStep I) (merged : List (MergedStep I)) (f : ℕ) (message : M)
+  pub closed_delivery : (state : ℕ → S) (waiting : ℕ → ℕ → List (Sent M)) (step : MergedStep I) (merged : List (MergedStep I)) (f : ℕ) (message : M)
       → rules.taken step.entry.input ≡ Some (f, message) → Hears step.entry → AreFrom step.entry.stamp merged
-      → IsClosed rules waiting w.state (λ k. log_of k (step ∷ merged))
+      → IsClosed rules waiting state (λ k. log_of k (step ∷ merged))
       → (from to : ℕ) → IsBeginning (taken_from rules from (log_of to merged))
       (cond (nat_eq from f && nat_eq to step.node) (drop 1 (waiting from to)) (waiting from to)
-      ++ sent_to rules to (w.state from) (log_of from (step ∷ merged)))
-  closed_delivery w waiting step merged f message takes less later c from to =
+      ++ sent_to rules to (state from) (log_of from (step ∷ merged)))
+  closed_delivery state waiting step merged f message takes less later c from to =
       let old = c from to in
-      let late = late_now to from step merged later (w.state from) in (
+      let late = late_now to from step merged later (state from) in (
         old.0,
         closed_from_by (nat_eq from f) (nat_eq to step.node) (record { stamp = step.entry.heard; message = message }) step.entry.stamp
             (taken_from rules from (log_of to merged)) old.0 (waiting from to) _
@@ -226,7 +226,7 @@ module _ {S I O M : Type 0} (rules : Rules S I O M) where
       )
 
   -- the log of the node that takes a message begins with it
-  taken_here : (n f : ℕ) (message : M) (entry : Logged I) (log : List (Logged I)) → rules.taken entry.input ≡ Some (f, message)
+  pub taken_here : (n f : ℕ) (message : M) (entry : Logged I) (log : List (Logged I)) → rules.taken entry.input ≡ Some (f, message)
       → taken_from rules f (cond (nat_eq n n) (entry ∷ []) [] ++ log) ≡ record { stamp = entry.heard; message = message } ∷ taken_from rules f log
   taken_here n f message entry log e = rw (same_node n, e, same_node f) refl
 
@@ -270,7 +270,7 @@ module _ {S I O M : Type 0} (rules : Rules S I O M) where
   step_runs step merged w waiting less later rest holds closed None own =
       after_step w step merged _
       (rest (acted rules w step.node step.entry.input) (sent_by waiting w.state step.node step.entry) (holds_after w waiting step holds)
-      (closed_after w waiting step merged (closed_own w waiting step merged own closed)))
+      (closed_after w.state waiting step merged (closed_own w.state waiting step merged own closed)))
   step_runs step merged w waiting less later rest holds closed (Some (f, message)) takes =
       let n : ℕ = step.node in
       let first = first_message w waiting step merged f message takes less later holds closed in
@@ -282,7 +282,7 @@ module _ {S I O M : Type 0} (rules : Rules S I O M) where
       (same_begin w off step merged _
       (after_step off step merged _
       (rest (acted rules off n step.entry.input) (sent_by waiting_off w.state n step.entry) (holds_after off waiting_off step off_holds)
-      (closed_after off waiting_off step merged (closed_delivery w waiting step merged f message takes less later closed)))))
+      (closed_after off.state waiting_off step merged (closed_delivery w.state waiting step merged f message takes less later closed)))))
 
   runs : (merged : List (MergedStep I)) (w : Service S I O M) (waiting : ℕ → ℕ → List (Sent M)) → NeverFalls merged → Holds rules w waiting
       → IsClosed rules waiting w.state (λ n. log_of n merged) → RunsAsLogged rules w (λ n. log_of n merged) (run rules w (happenings_of rules merged))
@@ -297,7 +297,7 @@ module _ {S I O M : Type 0} (rules : Rules S I O M) where
 
   -- ---- the same of the logs that were merged
 
-  closed_of : (waiting : ℕ → ℕ → List (Sent M)) (state : ℕ → S) (logs : List (List (Logged I))) (merged : List (MergedStep I)) → IsMerged logs merged
+  pub closed_of : (waiting : ℕ → ℕ → List (Sent M)) (state : ℕ → S) (logs : List (List (Logged I))) (merged : List (MergedStep I)) → IsMerged logs merged
       → IsClosed rules waiting state (log_at logs) → IsClosed rules waiting state (λ n. log_of n merged)
   closed_of waiting state logs merged is closed from to =
       subst (λ (log : List (Logged I)). IsBeginning (taken_from rules from log) (waiting from to ++ sent_to rules to (state from) (log_of from merged)))

@@ -4,3 +4,4 @@ pub mod Replay
 pub mod Rules
 pub mod Run
 pub mod RunsAsLogged
+pub mod Stamps

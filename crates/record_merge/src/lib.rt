@@ -7,7 +7,10 @@ mod logged;
 mod merging;
 mod rules;
 
-pub use laws::merged_logs_run_as_logged;
+pub use laws::{merged_logs_run_as_logged, stamps_stay_within_the_number_of_steps};
 pub use logged::{Log, Logged, Logs, Merged, MergedStep, Sent};
 pub use merging::merge;
 pub use rules::NodeRules;
+
+#[cfg(test)]
+mod tests;

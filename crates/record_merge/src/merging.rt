@@ -8,11 +8,10 @@ use crate::logged::{Log, Logs, Merged, MergedStep};
 use mur_base::Memory;
 use std::alloc::Global;
 
-/// Merges the logs of all nodes: by stamp, and among equal stamps by the node's place. Each step is moved at most as often as
-/// there are logs, and no input is copied.
+/// Merges the logs of all nodes, if stamps rise in each log: by stamp, and among equal stamps by the node's place. Each step is
+/// moved at most as often as there are logs, and no input is copied.
 pub fn merge<I: Drop>(alloc: Global, logs: Logs<I>) -> Result<Merged<I>, Memory>
-    requires { AreLogs logs }
-    ensures { IfOk result (IsMerged logs) }
+    ensures { AreLogs logs → IfOk result (IsMerged logs) }
 {
     mixed_all(alloc, logs)
 }
