@@ -1,6 +1,6 @@
 // The steps of four nodes, two of them at one stamp, and nodes that answer each message with itself.
 ghost use Rattle.std.proofs.Common.{ap, sym};
-ghost use Rattle.std.specs.Prelude.{Some, unwrap_or, ◌∷◌, [], ◌++◌};
+ghost use Rattle.std.specs.Prelude.{ℕ, Option, Some, unwrap_or, ◌∷◌, []};
 
 use crate::{
     Log, Logged, Logs, NodeRules, merge, merged_logs_run_as_logged,
@@ -28,7 +28,7 @@ impl NodeRules for Keeper {
       messages_for = λ to outputs. [];
       taken = λ input. Some (0, input);
       taking = λ from message. message;
-      taking_taken = λ input from message is. ap (λ found. (unwrap_or found (0, input)).1) (sym is);
+      taking_taken = λ input from message is. ap (λ (found : Option (ℕ × ℕ)). (unwrap_or found (0, input)).1) (sym is);
     } };
 }
 
