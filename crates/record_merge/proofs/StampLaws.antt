@@ -6,7 +6,7 @@ use Rattle.record_merge.specs.declared.logged.Logged.{Logged}
 use Rattle.record_merge.specs.declared.logged.MergedStep.{MergedStep}
 use Rattle.record_merge.specs.declared.logged.Sent.{Sent}
 use Rattle.record_merge.specs.Rules.{Rules}
-use Rattle.record_merge.specs.Logs.{RisesFrom, AreLogs, log_from, log_of, IsMerged}
+use Rattle.record_merge.specs.Logs.{RisesFrom, AreLogs, log_from, log_of}
 use Rattle.record_merge.specs.Replay.{stamped, taken_from}
 use Rattle.record_merge.specs.RunsAsLogged.{IsClosed}
 use Rattle.record_merge.specs.Stamps.{AreStampsWithin, CountsFrom, StampsCount}
