@@ -6,6 +6,7 @@ mod OpenedLaws
 mod ScheduleLaws
 mod Shortens
 mod SpelledLines
+mod Arguments
 mod SpelledWords
 mod SpelledLaws
 mod ReadWords
@@ -13,3 +14,4 @@ mod FollowLaws
 mod ReadLaws
 mod RefusedLaws
 mod MeaningLaws
+mod PrintedLaws

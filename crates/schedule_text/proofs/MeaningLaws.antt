@@ -11,12 +11,13 @@ use Rattle.schedule_text.specs.declared.schedule.fault.SchedFault.{SchedFault}
 use Rattle.schedule_text.specs.declared.schedule.fault.ScheduleError.{ScheduleError}
 use Rattle.schedule_text.specs.declared.schedule.fault.ScheduleError.TheVariants.{Refused, Memory}
 use Rattle.schedule_text.specs.Cuts.{cuts_of, line_in, without_end}
-use Rattle.schedule_text.specs.Meaning.{HasCause, IsSchedule}
+use Rattle.schedule_text.specs.Meaning.{HasCause, IsSchedule, IsReadAsEvents}
 use Rattle.schedule_text.specs.MayFollow.{MayFollow, AllMayFollow}
 use Rattle.schedule_text.specs.Schedule.{line_read, events_from, schedule_of, is_passed_over}
 use Rattle.schedule_text.specs.ScheduleRules.{IsReadAsSchedule}
 use Rattle.schedule_text.specs.Spelled.{Lacks, IsBeforeLf, AreLinesOf, IsSpelledBy, IsPassedOver, AreSpelledBy}
 use Rattle.schedule_text.specs.Spelled.AreSpelledBy.{no_lines, passed, spelled}
+use Rattle.schedule_text.specs.Words.{said_by}
 use Rattle.schedule_text.proofs.FollowLaws.{all_follow}
 use Rattle.schedule_text.proofs.ScheduleLaws.{schedule_fits}
 use Rattle.schedule_text.proofs.SpelledLaws.{schedule_spelled}
@@ -82,7 +83,7 @@ over_read line (inl none) = ap is_passed_over none
 over_read line (inr hash) = ap is_passed_over hash.1
 
 counts : (line : List ℕ) (event : Event) → IsSpelledBy line event → is_passed_over line ≡ false
-unfolding IsSpelledBy is_passed_over
+unfolding said_by is_passed_over
 counts line (Open node conn) is = ap is_passed_over is.spelled
 counts line (Data conn bytes) is = ap is_passed_over is.spelled
 counts line (Hang conn) is = ap is_passed_over is.spelled
@@ -138,3 +139,10 @@ has_cause config bytes (Err (Refused fault)) h = record {
   none = λ events is. (let read : Ok events ≡ Err fault = sym (schedule_read config bytes events is) ∙ h in cc);
 }
 has_cause config bytes (Err Memory) h = tt
+
+-- a schedule is read as its events, unless memory is wanting
+pub taken_as : (config : Config) (bytes : List ℕ) (result : Result (List Event) ScheduleError) → IsReadAsSchedule (schedule_of config bytes) result
+    → (events : List Event) → IsSchedule config bytes events → IsReadAsEvents events result
+taken_as config bytes (Ok found) h events is = (let same : Ok events ≡ Ok found = sym (schedule_read config bytes events is) ∙ h in cc)
+taken_as config bytes (Err (Refused fault)) h events is = (let read : Ok events ≡ Err fault = sym (schedule_read config bytes events is) ∙ h in cc)
+taken_as config bytes (Err Memory) h events is = refl

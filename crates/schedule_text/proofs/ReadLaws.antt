@@ -10,13 +10,16 @@ use Rattle.schedule_text.specs.declared.schedule.flow_line.TheConstants.{FLOW_LI
 use Rattle.schedule_text.specs.MayFollow.{Opens, MayFollow}
 use Rattle.schedule_text.specs.Schedule.{event_of}
 use Rattle.schedule_text.specs.ScheduleData.{data_of, text_in}
-use Rattle.schedule_text.specs.ScheduleDeliver.{deliver_of}
+use Rattle.schedule_text.specs.ScheduleDeliver.{deliver_of, link_in}
 use Rattle.schedule_text.specs.ScheduleFlow.{flow_of, flow_count}
 use Rattle.schedule_text.specs.ScheduleHang.{hang_of}
-use Rattle.schedule_text.specs.ScheduleOpen.{open_of}
+use Rattle.schedule_text.specs.ScheduleOpen.{open_of, client_node_in}
 use Rattle.schedule_text.specs.ScheduleOpened.{opened_before, unopened}
 use Rattle.schedule_text.specs.ScheduleWords.{first_word, cut_at_space}
-use Rattle.schedule_text.specs.Spelled.{IsSpelledBy, SpellsOpen, SpellsData, SpellsHang, SpellsDeliver, SpellsFlow}
+use Rattle.schedule_text.specs.Spelled.{IsSpelledBy}
+use Rattle.schedule_text.specs.Words.{said_by}
+use Rattle.schedule_text.specs.Words.Value.{a_node, a_number, a_text}
+use Rattle.schedule_text.proofs.Arguments.{one_in, two_in}
 use Rattle.schedule_text.specs.Text.{bytes_of}
 use Rattle.schedule_text.proofs.FollowLaws.{client_node_read, link_read, opened_in, none_opens}
 use Rattle.schedule_text.proofs.ReadWords.{word_and_rest_read, one_word_read, two_words_read, number_read, number_word}
@@ -57,52 +60,63 @@ count_read : (word : List ℕ) (count : ℕ) → number_of word ≡ Some count �
 unfolding flow_count
 count_read word count h low = rw (number_read word count h, le-leb count FLOW_LIMIT (omega (arith, low))) refl
 
-open_read : (config : Config) (before : List Event) (line node : List ℕ) (conn : ℕ) → SpellsOpen line node conn → MayFollow config before (Open node conn)
-    → event_of config before line ≡ Ok (Open node conn)
-unfolding MayFollow open_of
+open_read : (config : Config) (before : List Event) (line node : List ℕ) (conn : ℕ) → IsSpelledBy line (Open node conn)
+    → MayFollow config before (Open node conn) → event_of config before line ≡ Ok (Open node conn)
+unfolding MayFollow open_of said_by
 open_read config before line node conn is may =
-    let words = two_words_read node is.number is.named (number_word is.number conn is.value) in
-    let read : open_of config before (node ++ 32 ∷ is.number) ≡ Ok (Open node conn) =
-    rw (words, number_read is.number conn is.value, client_node_read config node may.0, new_read before conn may.1) refl in
-    ap (event_of config before) is.spelled ∙ open_line config before (node ++ 32 ∷ is.number) ∙ read
+    let two = two_in is.rest (a_node node) (a_number conn) is.arguments in
+    let words = two_words_read two.first two.second two.is.1 (number_word two.second conn two.more) in
+    let there = ap (client_node_in config) two.is.0 ∙ client_node_read config node may.0 in
+    let read : open_of config before (two.first ++ 32 ∷ two.second) ≡ Ok (Open node conn) =
+    rw (words, number_read two.second conn two.more, there, new_read before conn may.1) refl in
+    ap (event_of config before) (is.spelled ∙ ap (λ (t : List ℕ). codes "open" ++ t) two.parts)
+    ∙ open_line config before (two.first ++ 32 ∷ two.second) ∙ read
 
-data_read : (config : Config) (before : List Event) (line : List ℕ) (conn : ℕ) (bytes : List ℕ) → SpellsData line conn bytes
+data_read : (config : Config) (before : List Event) (line : List ℕ) (conn : ℕ) (bytes : List ℕ) → IsSpelledBy line (Data conn bytes)
     → MayFollow config before (Data conn bytes) → event_of config before line ≡ Ok (Data conn bytes)
-unfolding MayFollow data_of
+unfolding MayFollow data_of said_by
 data_read config before line conn bytes is may =
-    let words = word_and_rest_read is.number is.text (number_word is.number conn is.value) in
-    let read : data_of before (is.number ++ 32 ∷ is.text) ≡ Ok (Data conn bytes) =
-    rw (words, number_read is.number conn is.value, there_read before conn may, text_read is.text bytes is.brings) refl in
-    ap (event_of config before) is.spelled ∙ data_line config before (is.number ++ 32 ∷ is.text) ∙ read
+    let two = two_in is.rest (a_number conn) (a_text bytes) is.arguments in
+    let words = word_and_rest_read two.first two.second (number_word two.first conn two.is) in
+    let read : data_of before (two.first ++ 32 ∷ two.second) ≡ Ok (Data conn bytes) =
+    rw (words, number_read two.first conn two.is, there_read before conn may, text_read two.second bytes two.more) refl in
+    ap (event_of config before) (is.spelled ∙ ap (λ (t : List ℕ). codes "data" ++ t) two.parts)
+    ∙ data_line config before (two.first ++ 32 ∷ two.second) ∙ read
 
-hang_read : (config : Config) (before : List Event) (line : List ℕ) (conn : ℕ) → SpellsHang line conn → MayFollow config before (Hang conn)
+hang_read : (config : Config) (before : List Event) (line : List ℕ) (conn : ℕ) → IsSpelledBy line (Hang conn) → MayFollow config before (Hang conn)
     → event_of config before line ≡ Ok (Hang conn)
-unfolding MayFollow hang_of
+unfolding MayFollow hang_of said_by
 hang_read config before line conn is may =
-    let word = one_word_read is.number (number_word is.number conn is.value) in
-    let read : hang_of before is.number ≡ Ok (Hang conn) = rw (word, number_read is.number conn is.value, there_read before conn may) refl in
-    ap (event_of config before) is.spelled ∙ hang_line config before is.number ∙ read
+    let one = one_in is.rest (a_number conn) is.arguments in
+    let word = one_word_read one.argument (number_word one.argument conn one.is) in
+    let read : hang_of before one.argument ≡ Ok (Hang conn) = rw (word, number_read one.argument conn one.is, there_read before conn may) refl in
+    ap (event_of config before) (is.spelled ∙ ap (λ (t : List ℕ). codes "hang" ++ t) one.parts) ∙ hang_line config before one.argument ∙ read
 
-deliver_read : (config : Config) (before : List Event) (line from to : List ℕ) → SpellsDeliver line from to → MayFollow config before (Deliver from to)
+deliver_read : (config : Config) (before : List Event) (line from to : List ℕ) → IsSpelledBy line (Deliver from to) → MayFollow config before (Deliver from to)
     → event_of config before line ≡ Ok (Deliver from to)
-unfolding MayFollow deliver_of
+unfolding MayFollow deliver_of said_by
 deliver_read config before line from to is may =
-    let read : deliver_of config (from ++ 32 ∷ to) ≡ Ok (Deliver from to) =
-    rw (two_words_read from to is.sender is.taker, link_read config from to may) refl in
-    ap (event_of config before) is.spelled ∙ deliver_line config before (from ++ 32 ∷ to) ∙ read
+    let two = two_in is.rest (a_node from) (a_node to) is.arguments in
+    let link : link_in config two.first two.second ≡ Ok (record { from = from; to = to }) =
+    ap (λ (f : List ℕ). link_in config f two.second) two.is.0 ∙ ap (link_in config from) two.more.0 ∙ link_read config from to may in
+    let read : deliver_of config (two.first ++ 32 ∷ two.second) ≡ Ok (Deliver from to) =
+    rw (two_words_read two.first two.second two.is.1 two.more.1, link) refl in
+    ap (event_of config before) (is.spelled ∙ ap (λ (t : List ℕ). codes "deliver" ++ t) two.parts)
+    ∙ deliver_line config before (two.first ++ 32 ∷ two.second) ∙ read
 
-flow_read : (config : Config) (before : List Event) (line : List ℕ) (count : ℕ) → SpellsFlow line count → MayFollow config before (Flow count)
+flow_read : (config : Config) (before : List Event) (line : List ℕ) (count : ℕ) → IsSpelledBy line (Flow count) → MayFollow config before (Flow count)
     → event_of config before line ≡ Ok (Flow count)
-unfolding MayFollow flow_of
+unfolding MayFollow flow_of said_by
 flow_read config before line count is may =
-    let word = one_word_read is.number (number_word is.number count is.value) in
-    let read : flow_of is.number ≡ Ok (Flow count) = rw (word, count_read is.number count is.value may) refl in
-    ap (event_of config before) is.spelled ∙ flow_line config before is.number ∙ read
+    let one = one_in is.rest (a_number count) is.arguments in
+    let word = one_word_read one.argument (number_word one.argument count one.is) in
+    let read : flow_of one.argument ≡ Ok (Flow count) = rw (word, count_read one.argument count one.is may) refl in
+    ap (event_of config before) (is.spelled ∙ ap (λ (t : List ℕ). codes "flow" ++ t) one.parts) ∙ flow_line config before one.argument ∙ read
 
 -- a line that spells an event which may follow is read as it
 pub event_read : (config : Config) (before : List Event) (line : List ℕ) (event : Event) → IsSpelledBy line event → MayFollow config before event
     → event_of config before line ≡ Ok event
-unfolding IsSpelledBy
+unfolding said_by
 event_read config before line (Open node conn) is may = open_read config before line node conn is may
 event_read config before line (Data conn bytes) is may = data_read config before line conn bytes is may
 event_read config before line (Hang conn) is may = hang_read config before line conn is may

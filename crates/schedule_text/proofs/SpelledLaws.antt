@@ -29,6 +29,9 @@ use Rattle.schedule_text.specs.ScheduleFlow.{flow_of, flow_count}
 use Rattle.schedule_text.specs.ScheduleOpened.{opened_before, unopened}
 use Rattle.schedule_text.specs.Schedule.{event_of, with_event, line_read, events_from, schedule_of, is_passed_over}
 use Rattle.schedule_text.specs.Spelled.{IsSpelledBy, IsPassedOver, AreSpelledBy, SpellEvents}
+use Rattle.schedule_text.specs.Words.{said_by}
+use Rattle.schedule_text.specs.Words.Value.{a_node, a_number, a_text}
+use Rattle.schedule_text.proofs.Arguments.{last_argument, two_arguments}
 use Rattle.schedule_text.specs.Spelled.AreSpelledBy.{no_lines, passed, spelled}
 use Rattle.schedule_text.proofs.Shortens.{some_text}
 use Rattle.schedule_text.proofs.ScheduleLaws.{both, kept_if}
@@ -63,7 +66,7 @@ count_is word count h =
 -- `text` stands behind the word of a line
 open_spelled : (config : Config) (before : List Event) (line text : List ℕ) (event : Event) → (0 < length text → line ≡ codes "open" ++ 32 ∷ text)
     → open_of config before text ≡ Ok event → IsSpelledBy line event
-unfolding open_of IsSpelledBy
+unfolding open_of said_by
 open_spelled config before line text event is h =
     let words = both (two_words text) _ event h in
     let conn = both (number_in words.0.rest) _ event words.2 in
@@ -73,15 +76,16 @@ open_spelled config before line text event is h =
     let two = two_words_spelled text words.0 words.1 in
     let named : Open words.0.word conn.0 ≡ event = ap (λ (n : List ℕ). Open n conn.0) (client_node_is config words.0.word node.0 node.1) ∙ made in
     subst (λ (e : Event). IsSpelledBy line e) named (record {
-      number = words.0.rest;
+      rest = 32 ∷ words.0.word ++ 32 ∷ words.0.rest;
       spelled = is (some_behind text words.0 two.first) ∙ ap (λ (t : List ℕ). codes "open " ++ t) two.first.spelled;
-      named = two.first.word;
-      value = number_spelled words.0.rest conn.0 conn.1;
+      arguments =
+          two_arguments words.0.word words.0.rest (a_node words.0.word) (a_number conn.0) (refl, two.first.word)
+          (number_spelled words.0.rest conn.0 conn.1);
     })
 
 data_spelled : (before : List Event) (line text : List ℕ) (event : Event) → (0 < length text → line ≡ codes "data" ++ 32 ∷ text)
     → data_of before text ≡ Ok event → IsSpelledBy line event
-unfolding data_of IsSpelledBy
+unfolding data_of said_by
 data_spelled before line text event is h =
     let words = both (word_and_rest text) _ event h in
     let conn = both (number_in words.0.word) _ event words.2 in
@@ -90,16 +94,16 @@ data_spelled before line text event is h =
     let made : Data conn.0 bytes.0 ≡ event = cc in
     let first = word_and_rest_spelled text words.0 words.1 in
     subst (λ (e : Event). IsSpelledBy line e) made (record {
-      number = words.0.word;
-      text = words.0.rest;
+      rest = 32 ∷ words.0.word ++ 32 ∷ words.0.rest;
       spelled = is (some_behind text words.0 first) ∙ ap (λ (t : List ℕ). codes "data " ++ t) first.spelled;
-      value = number_spelled words.0.word conn.0 conn.1;
-      brings = text_spelled words.0.rest bytes.0 bytes.1;
+      arguments =
+          two_arguments words.0.word words.0.rest (a_number conn.0) (a_text bytes.0) (number_spelled words.0.word conn.0 conn.1)
+          (text_spelled words.0.rest bytes.0 bytes.1);
     })
 
 hang_spelled : (before : List Event) (line text : List ℕ) (event : Event) → (0 < length text → line ≡ codes "hang" ++ 32 ∷ text)
     → hang_of before text ≡ Ok event → IsSpelledBy line event
-unfolding hang_of IsSpelledBy
+unfolding hang_of said_by
 hang_spelled before line text event is h =
     let word = both (one_word text) _ event h in
     let conn = both (number_in word.0) _ event word.2 in
@@ -107,14 +111,14 @@ hang_spelled before line text event is h =
     let made : Hang conn.0 ≡ event = cc in
     let one = one_word_spelled text word.0 word.1 in
     subst (λ (e : Event). IsSpelledBy line e) made (record {
-      number = word.0;
+      rest = 32 ∷ word.0;
       spelled = is one.1.some ∙ ap (λ (t : List ℕ). codes "hang " ++ t) one.0;
-      value = number_spelled word.0 conn.0 conn.1;
+      arguments = last_argument word.0 (a_number conn.0) (number_spelled word.0 conn.0 conn.1);
     })
 
 deliver_spelled : (config : Config) (line text : List ℕ) (event : Event) → (0 < length text → line ≡ codes "deliver" ++ 32 ∷ text)
     → deliver_of config text ≡ Ok event → IsSpelledBy line event
-unfolding deliver_of IsSpelledBy
+unfolding deliver_of said_by
 deliver_spelled config line text event is h =
     let words = both (two_words text) _ event h in
     let link = both (link_in config words.0.word words.0.rest) _ event words.2 in
@@ -124,23 +128,24 @@ deliver_spelled config line text event is h =
     let named : Deliver words.0.word words.0.rest ≡ event =
     ap (λ (n : List ℕ). Deliver n words.0.rest) ends.0 ∙ ap (λ (n : List ℕ). Deliver link.0.from n) ends.1 ∙ made in
     subst (λ (e : Event). IsSpelledBy line e) named (record {
+      rest = 32 ∷ words.0.word ++ 32 ∷ words.0.rest;
       spelled = is (some_behind text words.0 two.first) ∙ ap (λ (t : List ℕ). codes "deliver " ++ t) two.first.spelled;
-      sender = two.first.word;
-      taker = two.second;
+      arguments =
+          two_arguments words.0.word words.0.rest (a_node words.0.word) (a_node words.0.rest) (refl, two.first.word) (refl, two.second);
     })
 
 flow_spelled : (line text : List ℕ) (event : Event) → (0 < length text → line ≡ codes "flow" ++ 32 ∷ text)
     → flow_of text ≡ Ok event → IsSpelledBy line event
-unfolding flow_of IsSpelledBy
+unfolding flow_of said_by
 flow_spelled line text event is h =
     let word = both (one_word text) _ event h in
     let count = both (flow_count word.0) _ event word.2 in
     let made : Flow count.0 ≡ event = cc in
     let one = one_word_spelled text word.0 word.1 in
     subst (λ (e : Event). IsSpelledBy line e) made (record {
-      number = word.0;
+      rest = 32 ∷ word.0;
       spelled = is one.1.some ∙ ap (λ (t : List ℕ). codes "flow " ++ t) one.0;
-      value = number_spelled word.0 count.0 (count_is word.0 count.0 count.1);
+      arguments = last_argument word.0 (a_number count.0) (number_spelled word.0 count.0 (count_is word.0 count.0 count.1));
     })
 
 event_by : (config : Config) (before : List Event) (line : List ℕ) (event : Event)

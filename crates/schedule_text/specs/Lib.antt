@@ -1,4 +1,6 @@
 pub mod Text
+pub mod Words
+pub mod Printed
 pub mod Spelled
 pub mod MayFollow
 pub mod Meaning

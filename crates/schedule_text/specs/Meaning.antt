@@ -1,5 +1,5 @@
 -- Which bytes are a schedule, of which events; and which line is the first bad one, where they are none.
-use Rattle.std.specs.Prelude.{◌≡◌, ℕ, ◌+◌, ◌^◌, ◌<◌, ◌≤◌, ⊤, ◌⊎◌, List, [], ◌∷◌, ◌++◌, length}
+use Rattle.std.specs.Prelude.{◌≡◌, ℕ, ◌+◌, ◌^◌, ◌<◌, ◌≤◌, ⊤, ◌⊎◌, List, [], ◌∷◌, ◌++◌, length, Result, MatchResult}
 use Rattle.mur_config.specs.declared.config.Config.{Config}
 use Rattle.schedule_text.specs.declared.event.Event.{Event}
 use Rattle.schedule_text.specs.declared.schedule.fault.ScheduleError.{ScheduleError}
@@ -43,3 +43,7 @@ pub record IsNoSchedule (config : Config) (bytes : List ℕ) (number : ℕ) : Ty
 abbrev pub HasCause : Config → List ℕ → ScheduleError → Type 0
 HasCause config bytes (Refused fault) = IsNoSchedule config bytes fault.line
 HasCause config bytes Memory = ⊤
+
+-- these events are read, unless memory is wanting
+abbrev pub IsReadAsEvents : List Event → Result (List Event) ScheduleError → Type 0
+IsReadAsEvents events result = MatchResult result (λ found. found ≡ events) (λ why. why ≡ Memory)

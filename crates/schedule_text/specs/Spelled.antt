@@ -1,11 +1,12 @@
 -- What the lines of bytes spell, said of the lines and their words alone.
-use Rattle.std.specs.Prelude.{◌≡◌, ℕ, ◌<◌, ◌⊎◌, false, ◌==◌, List, [], ◌∷◌, ◌++◌, length, Some, codes}
+use Rattle.std.specs.Prelude.{◌≡◌, ℕ, ◌<◌, ◌⊎◌, false, ◌==◌, List, [], ◌∷◌, ◌++◌, length, Option, None, Some, codes}
 use Rattle.std.specs.List.{list_any}
 use Rattle.mur_base.specs.Ascii.{lf, cr, space, ends_with_cr}
 use Rattle.mur_base.specs.Number.{number_of}
 use Rattle.schedule_text.specs.declared.event.Event.{Event}
-use Rattle.schedule_text.specs.declared.event.Event.TheVariants.{Open, Data, Hang, Deliver, Flow}
 use Rattle.schedule_text.specs.Text.{bytes_of}
+use Rattle.schedule_text.specs.Words.{Value, Saying, said_by}
+use Rattle.schedule_text.specs.Words.Value.{a_node, a_number, a_text}
 
 -- a byte is none of these
 abbrev pub Lacks : ℕ → List ℕ → Type 0
@@ -27,47 +28,31 @@ pub record IsWord (text : List ℕ) : Type 0 where
   pub some : 0 < length text
   pub whole : Lacks space text
 
--- `open NODE C`
-pub record SpellsOpen (line node : List ℕ) (conn : ℕ) : Type 0 where
-  pub number : List ℕ
-  pub spelled : line ≡ codes "open " ++ (node ++ space ∷ number)
-  pub named : IsWord node
-  pub value : number_of number ≡ Some conn
+-- an argument spells what it stands for: a name by itself, a number in decimal, bytes by a text in any of its forms
+abbrev pub Spells : List ℕ → Value → Type 0
+Spells argument (a_node name) = (argument ≡ name) × IsWord argument
+Spells argument (a_number n) = number_of argument ≡ Some n
+Spells argument (a_text bytes) = bytes_of argument ≡ Some bytes
 
--- `data C TEXT`
-pub record SpellsData (line : List ℕ) (conn : ℕ) (bytes : List ℕ) : Type 0 where
-  pub number : List ℕ
-  pub text : List ℕ
-  pub spelled : line ≡ codes "data " ++ (number ++ space ∷ text)
-  pub value : number_of number ≡ Some conn
-  pub brings : bytes_of text ≡ Some bytes
+-- one argument after another, a space before each
+pub data AreArguments : List ℕ → List Value → Type 0 where
+  no_more : AreArguments [] []
+  one_more : (argument rest : List ℕ) (value : Value) (values : List Value) → Spells argument value → AreArguments rest values
+      → AreArguments (space ∷ argument ++ rest) (value ∷ values)
 
--- `hang C`
-pub record SpellsHang (line : List ℕ) (conn : ℕ) : Type 0 where
-  pub number : List ℕ
-  pub spelled : line ≡ codes "hang " ++ number
-  pub value : number_of number ≡ Some conn
+-- a line is a word and its arguments
+pub record IsLineOf (line : List ℕ) (saying : Saying) : Type 0 where
+  pub rest : List ℕ
+  pub spelled : line ≡ saying.word ++ rest
+  pub arguments : AreArguments rest saying.values
 
--- `deliver A B`
-pub record SpellsDeliver (line from to : List ℕ) : Type 0 where
-  pub spelled : line ≡ codes "deliver " ++ (from ++ space ∷ to)
-  pub sender : IsWord from
-  pub taker : IsWord to
+abbrev pub IsSpelledAs : List ℕ → Option Saying → Type 0
+IsSpelledAs line None = ⊥
+IsSpelledAs line (Some saying) = IsLineOf line saying
 
--- `flow K`
-pub record SpellsFlow (line : List ℕ) (count : ℕ) : Type 0 where
-  pub number : List ℕ
-  pub spelled : line ≡ codes "flow " ++ number
-  pub value : number_of number ≡ Some count
-
--- a line spells an event
-unfoldable pub IsSpelledBy : List ℕ → Event → Type 0
-IsSpelledBy line (Open node conn) = SpellsOpen line node conn
-IsSpelledBy line (Data conn bytes) = SpellsData line conn bytes
-IsSpelledBy line (Hang conn) = SpellsHang line conn
-IsSpelledBy line (Deliver from to) = SpellsDeliver line from to
-IsSpelledBy line (Flow count) = SpellsFlow line count
-IsSpelledBy line _ = ⊥
+-- a line spells an event: it is a line of the event's row in the table of words
+abbrev pub IsSpelledBy : List ℕ → Event → Type 0
+IsSpelledBy line event = IsSpelledAs line (said_by event)
 
 -- an empty line, or a comment
 abbrev pub IsPassedOver : List ℕ → Type 0

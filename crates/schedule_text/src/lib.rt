@@ -4,10 +4,12 @@
 
 mod cuts;
 mod event;
+mod print;
 mod schedule;
 mod text;
 
 pub use cuts::LineCuts;
 pub use event::{Event, Events};
+pub use print::print_schedule;
 pub use schedule::{Rule, SchedFault, ScheduleError, read_schedule};
 pub use text::{put_name_text, put_text, read_text};

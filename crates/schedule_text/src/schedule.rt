@@ -1,9 +1,10 @@
 // A schedule, read into its events: a recorded run, one event a line.
-ghost use Rattle.std.specs.Prelude.{◌≡◌, ◌≤◌, length, IfErr, IfOk, OnOk};
+ghost use Rattle.std.specs.Prelude.{◌≡◌, ◌≤◌, List, length, IfErr, IfOk, OnOk};
 ghost use Rattle.schedule_text.specs.ScheduleRules.{IsReadAs, IsReadAsSchedule};
 ghost use Rattle.schedule_text.specs.ScheduleOpened.{KnowsOpened};
 ghost use Rattle.schedule_text.specs.ScheduleFits.{FitSchedule, HasCountRoom};
-ghost use Rattle.schedule_text.specs.Meaning.{HasCause, IsSchedule};
+ghost use Rattle.schedule_text.specs.Meaning.{HasCause, IsSchedule, IsReadAsEvents};
+ghost use Rattle.schedule_text.specs.declared.event.Event.{Event};
 ghost use Rattle.schedule_text.specs.Schedule.{event_of, is_passed_over, line_read, schedule_of, IsTakenAs};
 
 mod data_line;
@@ -18,14 +19,19 @@ mod words;
 
 use crate::cuts::{LineCuts, line_in};
 use crate::event::{Event, Events};
-use data_line::{DATA, read_data};
-use deliver_line::{DELIVER, read_deliver};
+pub use data_line::DATA;
+use data_line::read_data;
+pub use deliver_line::DELIVER;
+use deliver_line::read_deliver;
 pub use fault::{LineError, Rule, SchedFault, ScheduleError};
-use flow_line::{FLOW, read_flow};
-use hang_line::{HANG, read_hang};
+pub use flow_line::FLOW;
+use flow_line::read_flow;
+pub use hang_line::HANG;
+use hang_line::read_hang;
 use mur_base::limits::SCHEDULE_LIMIT;
 use mur_config::Config;
-use open_line::{OPEN, read_open};
+pub use open_line::OPEN;
+use open_line::read_open;
 use read_so_far::ReadSoFar;
 use std::alloc::Global;
 use words::first_word;
@@ -37,6 +43,7 @@ pub fn read_schedule(alloc: Global, bytes: &[u8], config: &Config) -> Result<Eve
     ensures read { IsReadAsSchedule (schedule_of config.now bytes.now) result }
     ensures spelled { IfOk result (IsSchedule config.now bytes.now) }
     ensures refused { IfErr result (HasCause config.now bytes.now) }
+    ensures taken { (events : List Event) → IsSchedule config.now bytes.now events → IsReadAsEvents events result }
     ensures fit { IfOk result (FitSchedule config.now (length bytes.now)) }
     ensures room { IfOk result (λ events. HasCountRoom events) }
     ensures short { IfOk result (λ events. length bytes.now ≤ SCHEDULE_LIMIT) }

@@ -1,0 +1,182 @@
+-- What is printed for events is a schedule of these events.
+use Rattle.std.proofs.Common.{◌≡◌, ◌≢◌, ℕ, ◌+◌, ◌/◌, ◌%◌, ◌<◌, ◌≤◌, Bool, true, false, nat_eq, nat_lt, nat_le, List, [], ◌∷◌, ◌++◌, length, Option, None, Some}
+use Rattle.std.proofs.Common.{refl, sym, ◌∙◌, subst, inr, append_assoc, arith}
+use Rattle.std.specs.Bool.{⊤}
+use Rattle.std.specs.List.{list_all}
+use Rattle.std.proofs.lemmas.Bool.{and_parts, and_from, or_from, leb-true, le-leb, ltb-true, ne_eqb}
+use Rattle.std.proofs.lemmas.Bool.Decides.{nat_tests}
+use Rattle.std.proofs.lemmas.List.Folds.{list_all-append}
+use Rattle.mur_base.specs.Ascii.{ends_with_cr}
+use Rattle.mur_base.specs.Names.{short_name_fault, has_short_name_bytes, is_short_name_byte}
+use Rattle.mur_base.specs.declared.limits.TheConstants.{SHORT_NAME_LIMIT}
+use Rattle.mur_base.specs.Number.{number_of, is_numeral, is_digit}
+use Rattle.mur_config.specs.declared.config.Config.{Config}
+use Rattle.schedule_text.specs.declared.event.Event.{Event}
+use Rattle.schedule_text.specs.declared.event.Event.TheVariants.{Open, Data, Hang, Deliver, Flow, Cut, Join, Crash, Arm, Start, Heal}
+use Rattle.schedule_text.specs.Meaning.{IsSchedule}
+use Rattle.schedule_text.specs.Printed.{value_text, argument_text, arguments_text, line_text, saying_text, event_text, schedule_text}
+use Rattle.schedule_text.specs.Printed.{AreNamed, CanBeSaid, AllHaveWords, CanBePrinted, AreReadBack, SaysWhatIsReadBack, AllReadBack}
+use Rattle.schedule_text.specs.Spelled.{Lacks, IsWord, AreArguments, IsLineOf, IsSpelledAs, AreLinesOf, SpellEvents}
+use Rattle.schedule_text.specs.Spelled.AreArguments.{no_more, one_more}
+use Rattle.schedule_text.specs.Spelled.AreLinesOf.{no_bytes, with_lf}
+use Rattle.schedule_text.specs.Spelled.AreSpelledBy.{no_lines, spelled}
+use Rattle.schedule_text.specs.Text.{text_of, spelling_of, is_printed, hex_digit}
+use Rattle.schedule_text.specs.Words.{Value, Saying, said_by}
+use Rattle.schedule_text.specs.Words.Value.{a_node, a_number, a_text}
+
+-- no byte is below this one
+abbrev pub AreFrom : ℕ → List ℕ → Type 0
+AreFrom low text = list_all (nat_le low) text ≡ true
+
+from_both : (low : ℕ) (one more : List ℕ) → AreFrom low one → AreFrom low more → AreFrom low (one ++ more)
+from_both low one more h k = list_all-append (nat_le low) one more ∙ and_from (list_all (nat_le low) one) (list_all (nat_le low) more) h k
+
+from_test : (low : ℕ) (test : ℕ → Bool) → ((b : ℕ) → test b ≡ true → low ≤ b) → (text : List ℕ) → list_all test text ≡ true → AreFrom low text
+from_test low test above [] h = refl
+from_test low test above (b ∷ text) h =
+    let parts = and_parts (test b) (list_all test text) h in
+    and_from (nat_le low b) (list_all (nat_le low) text) (le-leb low b (above b parts.0)) (from_test low test above text parts.1)
+
+lacks_below : (low c : ℕ) → c < low → (text : List ℕ) → AreFrom low text → Lacks c text
+lacks_below low c below [] h = refl
+lacks_below low c below (b ∷ text) h =
+    let parts = and_parts (nat_le low b) (list_all (nat_le low) text) h in
+    or_from (nat_eq b c) _ (ne_eqb b c (λ same. omega (arith, leb-true low b parts.0, same, below))) (lacks_below low c below text parts.1)
+
+no_cr : (text : List ℕ) → AreFrom 32 text → ends_with_cr text ≡ false
+unfolding ends_with_cr
+no_cr [] h = refl
+no_cr (b ∷ []) h =
+    let parts = and_parts (nat_le 32 b) true h in
+    ne_eqb b 13 (λ same. omega (arith, leb-true 32 b parts.0, same))
+no_cr (b ∷ next ∷ text) h = no_cr (next ∷ text) (and_parts (nat_le 32 b) (list_all (nat_le 32) (next ∷ text)) h).1
+
+hex_from : (d : ℕ) → nat_le 32 (hex_digit d) ≡ true
+unfolding hex_digit
+hex_from d = grind (arith, nat_tests)
+
+spelling_by : (b : ℕ) (escape printed return feed : Bool) → nat_eq b 92 ≡ escape → is_printed b ≡ printed → nat_eq b 13 ≡ return → nat_eq b 10 ≡ feed
+    → AreFrom 32 (spelling_of b)
+unfolding spelling_of is_printed
+spelling_by b true printed return feed e p r f = rw e refl
+spelling_by b false true return feed e p r f = rw (e, p) (and_from (nat_le 32 b) true (and_parts (nat_le 32 b) (nat_le b 126) p).0 refl)
+spelling_by b false false true feed e p r f = rw (e, p, r) refl
+spelling_by b false false false true e p r f = rw (e, p, r, f) refl
+spelling_by b false false false false e p r f = rw (e, p, r, f, hex_from (b / 16), hex_from (b % 16)) refl
+
+text_from : (bytes : List ℕ) → AreFrom 32 (text_of bytes)
+unfolding text_of
+text_from [] = refl
+text_from (b ∷ bytes) = from_both 32 (spelling_of b) (text_of bytes) (spelling_by b _ _ _ _ refl refl refl refl) (text_from bytes)
+
+digit_from : (b : ℕ) → is_digit b ≡ true → 32 ≤ b
+unfolding is_digit
+digit_from b h = omega (arith, leb-true 48 b (and_parts (nat_le 48 b) (nat_le b 57) h).0)
+
+numeral_from : (text : List ℕ) → is_numeral text ≡ true → AreFrom 32 text
+unfolding is_numeral
+numeral_from [] h = cc
+numeral_from (b ∷ text) h = from_test 32 is_digit digit_from (b ∷ text) h
+
+number_by : (text : List ℕ) (n : ℕ) (numeral : Bool) → is_numeral text ≡ numeral → number_of text ≡ Some n → AreFrom 32 text
+unfolding number_of
+number_by text n true e h = numeral_from text e
+number_by text n false e h =
+    let nothing : Option ℕ = None in
+    let none : nothing ≡ Some n = rw e at h in cc
+
+name_byte_from : (b : ℕ) → is_short_name_byte b ≡ true → 33 ≤ b
+unfolding is_short_name_byte
+name_byte_from b h = grind (arith, nat_tests)
+
+record IsFitName (name : List ℕ) : Type 0 where
+  some : 0 < length name
+  from : AreFrom 33 name
+
+name_by : (name : List ℕ) (empty long fit : Bool) → nat_eq (length name) 0 ≡ empty → nat_lt SHORT_NAME_LIMIT (length name) ≡ long
+    → has_short_name_bytes name ≡ fit → short_name_fault name ≡ None → IsFitName name
+unfolding short_name_fault has_short_name_bytes
+name_by name true long fit e l f h = absurd (grind (arith, rw e at h))
+name_by name false true fit e l f h = absurd (grind (arith, rw (e, l) at h))
+name_by name false false false e l f h = absurd (grind (arith, rw (e, l, f) at h))
+name_by name false false true e l f h = record { some = grind (arith, nat_tests); from = from_test 33 is_short_name_byte name_byte_from name f }
+
+name_fits : (name : List ℕ) → short_name_fault name ≡ None → IsFitName name
+name_fits name h = name_by name _ _ _ refl refl refl h
+
+name_word : (name : List ℕ) → short_name_fault name ≡ None → IsWord name
+name_word name h = record { some = (name_fits name h).some; whole = lacks_below 33 32 (omega arith) name (name_fits name h).from }
+
+name_from : (name : List ℕ) → short_name_fault name ≡ None → AreFrom 32 name
+name_from name h = from_test 32 (nat_le 33) (λ b above. omega (arith, leb-true 33 b above)) name (name_fits name h).from
+
+arguments_from : (values : List Value) → AreReadBack values → AreNamed values → AreFrom 32 (arguments_text values)
+unfolding arguments_text argument_text value_text AreReadBack AreNamed
+arguments_from [] back named = refl
+arguments_from (a_node name ∷ values) back named =
+    from_both 32 name (arguments_text values) (name_from name named.0) (arguments_from values back.1 named.1)
+arguments_from (a_number n ∷ values) back named =
+    from_both 32 (value_text (a_number n)) (arguments_text values) (number_by (value_text (a_number n)) n _ refl back.0) (arguments_from values back.1 named)
+arguments_from (a_text bytes ∷ values) back named =
+    from_both 32 (text_of bytes) (arguments_text values) (text_from bytes) (arguments_from values back.1 named)
+
+arguments_spelled : (values : List Value) → AreReadBack values → AreNamed values → AreArguments (arguments_text values) values
+unfolding arguments_text argument_text value_text AreReadBack AreNamed
+arguments_spelled [] back named = no_more
+arguments_spelled (a_node name ∷ values) back named =
+    one_more name (arguments_text values) (a_node name) values (refl, name_word name named.0) (arguments_spelled values back.1 named.1)
+arguments_spelled (a_number n ∷ values) back named =
+    one_more (value_text (a_number n)) (arguments_text values) (a_number n) values back.0 (arguments_spelled values back.1 named)
+arguments_spelled (a_text bytes ∷ values) back named =
+    one_more (text_of bytes) (arguments_text values) (a_text bytes) values back.0 (arguments_spelled values back.1 named)
+
+abbrev WordIsFrom : Option Saying → Type 0
+WordIsFrom None = ⊤
+WordIsFrom (Some saying) = AreFrom 32 saying.word
+
+word_from : (event : Event) → WordIsFrom (said_by event)
+unfolding said_by
+word_from (Open node conn) = refl
+word_from (Data conn bytes) = refl
+word_from (Hang conn) = refl
+word_from (Deliver from to) = refl
+word_from (Flow count) = refl
+word_from (Cut one other to from) = tt
+word_from (Join one other) = tt
+word_from (Crash node image kept) = tt
+word_from (Arm node call image kept) = tt
+word_from (Start node) = tt
+word_from Heal = tt
+
+-- a printed line, before the lines of other events
+line_onto : (event : Event) (saying : Option Saying) → said_by event ≡ saying → WordIsFrom saying → SaysWhatIsReadBack saying → CanBeSaid saying
+    → (text : List ℕ) (events : List Event) → SpellEvents text events → SpellEvents (saying_text saying ++ text) (event ∷ events)
+unfolding saying_text line_text
+line_onto event None e word back said text events rest = absurd said
+line_onto event (Some saying) e word back said text events rest =
+    let from = from_both 32 saying.word (arguments_text saying.values) word (arguments_from saying.values back said) in
+    let line : IsLineOf (line_text saying) saying =
+    record { rest = arguments_text saying.values; spelled = refl; arguments = arguments_spelled saying.values back said } in
+    record {
+      lines = line_text saying ∷ rest.lines;
+      cut =
+          subst (λ (bytes : List ℕ). AreLinesOf bytes (line_text saying ∷ rest.lines)) (sym (append_assoc (line_text saying) (10 ∷ []) text))
+          (with_lf (line_text saying) (line_text saying) text rest.lines (lacks_below 32 10 (omega arith) (line_text saying) from)
+          (inr (refl, no_cr (line_text saying) from)) rest.cut);
+      spelled =
+          spelled (line_text saying) event rest.lines events (subst (λ (s : Option Saying). IsSpelledAs (line_text saying) s) (sym e) line) rest.spelled;
+    }
+
+events_spelled : (events : List Event) → AllReadBack events → AllHaveWords events → SpellEvents (schedule_text events) events
+unfolding schedule_text event_text AllReadBack AllHaveWords
+events_spelled [] back worded = record { lines = []; cut = no_bytes; spelled = no_lines }
+events_spelled (event ∷ events) back worded =
+    line_onto event (said_by event) refl (word_from event) back.0 worded.0 (schedule_text events) events (events_spelled events back.1 worded.1)
+
+-- the text of events that can be printed is a schedule of them
+pub is_printed_schedule : (config : Config) (events : List Event) → AllReadBack events → CanBePrinted config events → IsSchedule config (schedule_text events) events
+is_printed_schedule config events back can = record {
+  short = can.short;
+  spell = events_spelled events back can.worded;
+  follow = can.follow;
+}

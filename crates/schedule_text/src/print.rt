@@ -1,0 +1,110 @@
+// A schedule, printed: one line an event, each in its canonical form.
+ghost use Rattle.std.specs.Prelude.{◌≡◌, ◌++◌, ◌∷◌, [], map, IfOk, OnOk};
+ghost use Rattle.mur_base.specs.Ascii.{lf};
+ghost use Rattle.schedule_text.specs.Meaning.{IsSchedule};
+ghost use Rattle.schedule_text.specs.Words.{said_by};
+ghost use Rattle.schedule_text.specs.Printed.{value_of, value_text, argument_text, arguments_text, line_text, saying_text, event_text, schedule_text};
+ghost use Rattle.schedule_text.specs.Printed.{CanBePrinted, IsReadBack, AreReadBack, SaysWhatIsReadBack, AllReadBack};
+
+use crate::event::{Event, Events};
+use crate::schedule::{DATA, DELIVER, FLOW, HANG, OPEN};
+use crate::text::put_text;
+use mur_base::{Bytes, Memory, put_number};
+use mur_config::Config;
+use std::alloc::Global;
+
+/// An argument of a line.
+#[derive(Clone, Copy)]
+pub enum Argument<'a> {
+    /// A node, by its name.
+    Node(&'a [u8]),
+    Number(u64),
+    /// Bytes, whose text ends the line.
+    Text(&'a [u8]),
+}
+
+/// The text of a schedule, which `read_schedule` reads back as the same events: a line for each event, LF behind it, one
+/// space before each argument, numbers without leading zeros, bytes as `put_text` writes them. An event that has no word
+/// in the format yet has no line.
+#[tactic(auto, unfolding(crate::specs::Printed::schedule_text, crate::specs::Printed::AllReadBack))]
+pub fn print_schedule(alloc: Global, events: &Events, config: &Config) -> Result<Bytes, Memory>
+    ensures written { IfOk result (λ text. text ≡ schedule_text events.now) }
+    ensures read_back { IfOk result (λ text. CanBePrinted config.now events.now → IsSchedule config.now text events.now) }
+{
+    let mut out = Bytes::new(alloc);
+    for event in events.as_slice() {
+        put_event(event, &mut out)?;
+    }
+    Ok(out)
+}
+
+/// Prints the line of an event: its word and its arguments.
+#[tactic(auto, unfolding(crate::specs::Printed::event_text, crate::specs::Printed::saying_text, crate::specs::Words::said_by))]
+fn put_event(event: &Event, out: &mut Bytes) -> Result<(), Memory>
+    ensures written { OnOk result (out.new ≡ out.old ++ event_text event.now) }
+    ensures read_back { OnOk result (SaysWhatIsReadBack (said_by event.now)) }
+{
+    match event {
+        Event::Open(node, conn) => put_line(
+            OPEN,
+            &[Argument::Node(node.as_bytes()), Argument::Number(*conn)],
+            out,
+        ),
+        Event::Data(conn, bytes) => put_line(
+            DATA,
+            &[Argument::Number(*conn), Argument::Text(bytes.as_slice())],
+            out,
+        ),
+        Event::Hang(conn) => put_line(HANG, &[Argument::Number(*conn)], out),
+        Event::Deliver(from, to) => put_line(
+            DELIVER,
+            &[
+                Argument::Node(from.as_bytes()),
+                Argument::Node(to.as_bytes()),
+            ],
+            out,
+        ),
+        Event::Flow(count) => put_line(FLOW, &[Argument::Number(*count)], out),
+        Event::Cut(..)
+        | Event::Join(..)
+        | Event::Crash(..)
+        | Event::Arm(..)
+        | Event::Start(_)
+        | Event::Heal => Ok(()),
+    }
+}
+
+/// Prints a line of a word and its arguments.
+#[tactic(auto, unfolding(crate::specs::Printed::line_text))]
+fn put_line(word: &[u8], arguments: &[Argument<'_>], out: &mut Bytes) -> Result<(), Memory>
+    ensures written { OnOk result (out.new ≡ out.old ++ line_text (record { word = word.now; values = map value_of arguments.now }) ++ lf ∷ []) }
+    ensures read_back { OnOk result (AreReadBack (map value_of arguments.now)) }
+{
+    out.extend_from_slice(word)?;
+    put_arguments(arguments, out)?;
+    out.push(b'\n')
+}
+
+#[tactic(auto, unfolding(crate::specs::Printed::arguments_text, crate::specs::Printed::argument_text, crate::specs::Printed::AreReadBack))]
+fn put_arguments(arguments: &[Argument<'_>], out: &mut Bytes) -> Result<(), Memory>
+    ensures written { OnOk result (out.new ≡ out.old ++ arguments_text (map value_of arguments.now)) }
+    ensures read_back { OnOk result (AreReadBack (map value_of arguments.now)) }
+{
+    for argument in arguments {
+        out.push(b' ')?;
+        put_argument(*argument, out)?;
+    }
+    Ok(())
+}
+
+#[tactic(auto, unfolding(crate::specs::Printed::value_text))]
+fn put_argument(argument: Argument<'_>, out: &mut Bytes) -> Result<(), Memory>
+    ensures written { OnOk result (out.new ≡ out.old ++ value_text (value_of argument.entry)) }
+    ensures read_back { OnOk result (IsReadBack (value_of argument.entry)) }
+{
+    match argument {
+        Argument::Node(name) => out.extend_from_slice(name),
+        Argument::Number(number) => put_number(number, out),
+        Argument::Text(bytes) => put_text(bytes, out),
+    }
+}
