@@ -1,10 +1,15 @@
 // Calls of the program over a host in memory.
 use case_base::{Fault, bytes_of, put_field, put_value, wide_number_of};
 use mur_base::{Bytes, Items, Memory};
-use mur_config::ONE_BACKEND_CONFIG;
 use mur_edge::{Calls, MemHost, MemSources, mem_host, mem_sink, mem_source};
 use std::alloc::Global;
 use top_call::murder;
+
+/// The configuration that a host holds.
+const CONFIG: &[u8] = br#"{"nodes":[{"name":"m","kind":"master"},{"name":"f1","kind":"frontend"},
+    {"name":"b1","kind":"backend","partition":"p"}],
+    "users":[{"name":"adm","password":"x","admin":true},{"name":"bob","password":"y"}],
+    "date":"17-Jul-1996 02:44:25 -0700"}"#;
 
 /// Carries out a call with these words over a host that holds the files `config` and `schedule`, and refuses the calls of these numbers, by
 /// which it is asked for a file or an output. Prints the status, the error output, the output, and how many objects didn't go back to the host.
@@ -67,7 +72,7 @@ fn sources_of(alloc: Global, schedule: &str) -> Result<MemSources, Fault> {
         alloc,
         &mut sources,
         b"config",
-        Bytes::from_slice(alloc, ONE_BACKEND_CONFIG)?,
+        Bytes::from_slice(alloc, CONFIG)?,
     )?;
     add(alloc, &mut sources, b"schedule", bytes_of(alloc, schedule)?)?;
     Ok(sources)

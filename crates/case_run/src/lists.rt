@@ -1,7 +1,7 @@
 // Lists of nodes and users.
 use case_base::{Fault, bytes_of, put_field, put_value};
 use mur_base::{Bytes, Items, Memory, User, Users, node_name, user_name};
-use mur_config::{Kind, Link, Node, Nodes};
+use mur_config::{Kind, Link, NO_PORT, Node, Nodes};
 use std::alloc::Global;
 
 /// Prints the links of a list of nodes, or why they are no cluster.
@@ -39,6 +39,7 @@ fn node_of(alloc: Global, text: &str) -> Result<Node, Fault> {
         name: node_name(alloc, name.as_bytes())?,
         kind,
         partition: Bytes::from_slice(alloc, partition.as_bytes())?,
+        port: NO_PORT,
     })
 }
 
