@@ -13,13 +13,10 @@ use Rattle.schedule_text.specs.declared.event.Event.TheVariants.{Open, Data, Han
 use Rattle.schedule_text.specs.declared.schedule.fault.Rule.TheVariants.{UnknownNode}
 use Rattle.schedule_text.specs.MayFollow.{IsClientNode, AreLinkedNodes, Opens, MayFollow, AllMayFollow}
 use Rattle.schedule_text.specs.MayFollow.Opens.{opens, opened}
-use Rattle.schedule_text.specs.ScheduleDeliver.{link_in}
 use Rattle.schedule_text.specs.ScheduleFits.{FitsBehind, AllFitBehind}
-use Rattle.schedule_text.specs.ScheduleNodes.{node_in}
-use Rattle.schedule_text.specs.ScheduleOpen.{client_node_in, takes_clients}
+use Rattle.schedule_text.specs.ScheduleNodes.{node_in, client_node_in, takes_clients, link_in}
 use Rattle.schedule_text.specs.ScheduleOpened.{is_opened, opens_connection}
-use Rattle.schedule_text.proofs.ScheduleLaws.{both}
-use Rattle.schedule_text.proofs.SpelledWords.{kept_true}
+use Rattle.schedule_text.proofs.Steps.{both, kept_true}
 
 some_node : (found : Option Node) (node : Node) → ok_or found UnknownNode ≡ Ok node → found ≡ Some node
 some_node None node h = cc

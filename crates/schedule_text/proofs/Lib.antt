@@ -1,17 +1,16 @@
 pub mod TextLaws
 mod PutLaws
 mod CutLaws
-mod CutWords
+mod SplitLaws
 mod OpenedLaws
+mod Steps
+mod ArgumentsLaws
+mod RowLaws
 mod ScheduleLaws
 mod Shortens
 mod SpelledLines
-mod Arguments
-mod SpelledWords
 mod SpelledLaws
-mod ReadWords
 mod FollowLaws
-mod ReadLaws
 mod RefusedLaws
 mod MeaningLaws
 mod PrintedLaws

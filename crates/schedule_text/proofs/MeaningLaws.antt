@@ -1,11 +1,12 @@
 -- Bytes are read as the events that they are a schedule of, and are refused where they are none.
-use Rattle.std.proofs.Common.{◌≡◌, ℕ, ◌+◌, ◌<◌, ◌≤◌, Bool, true, false, nat_lt, List, [], ◌∷◌, ◌++◌, length, map, IfErr, Result, Ok, Err}
+use Rattle.std.proofs.Common.{◌≡◌, ℕ, ◌+◌, ◌<◌, ◌≤◌, Bool, true, false, nat_lt, List, [], ◌∷◌, ◌++◌, length, map, IfErr, Option, None, Some, Result, Ok, Err}
 use Rattle.std.proofs.Common.{nat_eq, refl, sym, ap, ◌∙◌, subst, inl, inr, append_assoc, append-nil, arith}
 use Rattle.std.proofs.lemmas.Bool.{or_parts, ltb-false, le-ltb}
 use Rattle.mur_base.specs.declared.limits.TheConstants.{SCHEDULE_LIMIT}
 use Rattle.mur_config.specs.declared.config.Config.{Config}
 use Rattle.schedule_text.specs.declared.event.Event.{Event}
-use Rattle.schedule_text.specs.declared.event.Event.TheVariants.{Open, Data, Hang, Deliver, Flow, Cut, Join, Crash, Arm, Start, Heal}
+use Rattle.schedule_text.specs.declared.words.Word.{Word}
+use Rattle.schedule_text.specs.declared.words.Word.TheVariants.{Open as open_word, Data as data_word, Hang as hang_word, Deliver as deliver_word, Flow as flow_word}
 use Rattle.schedule_text.specs.declared.schedule.fault.Rule.TheVariants.{TooLong}
 use Rattle.schedule_text.specs.declared.schedule.fault.SchedFault.{SchedFault}
 use Rattle.schedule_text.specs.declared.schedule.fault.ScheduleError.{ScheduleError}
@@ -15,9 +16,9 @@ use Rattle.schedule_text.specs.Meaning.{HasCause, IsSchedule, IsReadAsEvents}
 use Rattle.schedule_text.specs.MayFollow.{MayFollow, AllMayFollow}
 use Rattle.schedule_text.specs.Schedule.{line_read, events_from, schedule_of, is_passed_over}
 use Rattle.schedule_text.specs.ScheduleRules.{IsReadAsSchedule}
-use Rattle.schedule_text.specs.Spelled.{Lacks, IsBeforeLf, AreLinesOf, IsSpelledBy, IsPassedOver, AreSpelledBy}
+use Rattle.schedule_text.specs.Spelled.{Lacks, IsBeforeLf, AreLinesOf, IsSpelledAs, IsSpelledBy, IsPassedOver, AreSpelledBy}
 use Rattle.schedule_text.specs.Spelled.AreSpelledBy.{no_lines, passed, spelled}
-use Rattle.schedule_text.specs.Words.{said_by}
+use Rattle.schedule_text.specs.Words.{Saying, said_by, word_text}
 use Rattle.schedule_text.proofs.FollowLaws.{all_follow}
 use Rattle.schedule_text.proofs.ScheduleLaws.{schedule_fits}
 use Rattle.schedule_text.proofs.SpelledLaws.{schedule_spelled}
@@ -26,7 +27,7 @@ use Rattle.mur_base.specs.Ascii.{ends_with_cr}
 use Rattle.mur_base.specs.Names.{with_first}
 use Rattle.schedule_text.specs.Spelled.AreLinesOf.{no_bytes, without_lf, with_lf}
 use Rattle.schedule_text.proofs.SpelledLines.Last.{empty, behind}
-use Rattle.schedule_text.proofs.ReadLaws.{event_read}
+use Rattle.schedule_text.proofs.RowLaws.{event_read}
 use Rattle.schedule_text.proofs.RefusedLaws.{schedule_refused}
 
 short_by : (config : Config) (bytes : List ℕ) (events : List Event) → (long : Bool) → nat_lt SCHEDULE_LIMIT (length bytes) ≡ long
@@ -82,19 +83,17 @@ unfolding is_passed_over
 over_read line (inl none) = ap is_passed_over none
 over_read line (inr hash) = ap is_passed_over hash.1
 
-counts : (line : List ℕ) (event : Event) → IsSpelledBy line event → is_passed_over line ≡ false
-unfolding said_by is_passed_over
-counts line (Open node conn) is = ap is_passed_over is.spelled
-counts line (Data conn bytes) is = ap is_passed_over is.spelled
-counts line (Hang conn) is = ap is_passed_over is.spelled
-counts line (Deliver from to) is = ap is_passed_over is.spelled
-counts line (Flow count) is = ap is_passed_over is.spelled
-counts line (Cut one other to from) is = absurd is
-counts line (Join one other) is = absurd is
-counts line (Crash node image kept) is = absurd is
-counts line (Arm node call image kept) is = absurd is
-counts line (Start node) is = absurd is
-counts line Heal is = absurd is
+word_counts : (word : Word) (rest : List ℕ) → is_passed_over (word_text word ++ rest) ≡ false
+unfolding word_text is_passed_over
+word_counts open_word rest = refl
+word_counts data_word rest = refl
+word_counts hang_word rest = refl
+word_counts deliver_word rest = refl
+word_counts flow_word rest = refl
+
+counts : (line : List ℕ) (saying : Option Saying) → IsSpelledAs line saying → is_passed_over line ≡ false
+counts line None is = absurd is
+counts line (Some saying) is = ap is_passed_over is.spelled ∙ word_counts saying.word is.rest
 
 over_line : (config : Config) (number : ℕ) (before : List Event) (line : List ℕ) → IsPassedOver line → line_read config number before line ≡ Ok before
 unfolding line_read
@@ -103,7 +102,7 @@ over_line config number before line over = rw (over_read line over) refl
 spelled_line : (config : Config) (number : ℕ) (before : List Event) (line : List ℕ) (event : Event) → IsSpelledBy line event
     → MayFollow config before event → line_read config number before line ≡ Ok (before ++ event ∷ [])
 unfolding line_read
-spelled_line config number before line event is may = rw (counts line event is, event_read config before line event is may) refl
+spelled_line config number before line event is may = rw (counts line (said_by event) is, event_read config before line event is may) refl
 
 lines_read : (lines : List (List ℕ)) (events : List Event) → AreSpelledBy lines events → (pieces : List (List ℕ)) → map line_in pieces ≡ lines
     → (config : Config) (number : ℕ) (before : List Event) → AllMayFollow config before events → events_from config number before pieces ≡ Ok (before ++ events)

@@ -1,9 +1,8 @@
 -- What is printed for events is a schedule of these events.
-use Rattle.std.proofs.Common.{◌≡◌, ◌≢◌, ℕ, ◌+◌, ◌/◌, ◌%◌, ◌<◌, ◌≤◌, Bool, true, false, nat_eq, nat_lt, nat_le, List, [], ◌∷◌, ◌++◌, length, Option, None, Some}
+use Rattle.std.proofs.Common.{◌≡◌, ℕ, ◌/◌, ◌%◌, ◌<◌, ◌≤◌, Bool, true, false, nat_eq, nat_lt, nat_le, List, [], ◌∷◌, ◌++◌, length, Option, None, Some}
 use Rattle.std.proofs.Common.{refl, sym, ◌∙◌, subst, inr, append_assoc, arith}
-use Rattle.std.specs.Bool.{⊤}
 use Rattle.std.specs.List.{list_all}
-use Rattle.std.proofs.lemmas.Bool.{and_parts, and_from, or_from, leb-true, le-leb, ltb-true, ne_eqb}
+use Rattle.std.proofs.lemmas.Bool.{and_parts, and_from, or_from, leb-true, le-leb, ne_eqb}
 use Rattle.std.proofs.lemmas.Bool.Decides.{nat_tests}
 use Rattle.std.proofs.lemmas.List.Folds.{list_all-append}
 use Rattle.mur_base.specs.Ascii.{ends_with_cr}
@@ -12,7 +11,8 @@ use Rattle.mur_base.specs.declared.limits.TheConstants.{SHORT_NAME_LIMIT}
 use Rattle.mur_base.specs.Number.{number_of, is_numeral, is_digit}
 use Rattle.mur_config.specs.declared.config.Config.{Config}
 use Rattle.schedule_text.specs.declared.event.Event.{Event}
-use Rattle.schedule_text.specs.declared.event.Event.TheVariants.{Open, Data, Hang, Deliver, Flow, Cut, Join, Crash, Arm, Start, Heal}
+use Rattle.schedule_text.specs.declared.words.Word.{Word}
+use Rattle.schedule_text.specs.declared.words.Word.TheVariants.{Open as open_word, Data as data_word, Hang as hang_word, Deliver as deliver_word, Flow as flow_word}
 use Rattle.schedule_text.specs.Meaning.{IsSchedule}
 use Rattle.schedule_text.specs.Printed.{value_text, argument_text, arguments_text, line_text, saying_text, event_text, schedule_text}
 use Rattle.schedule_text.specs.Printed.{AreNamed, CanBeSaid, AllHaveWords, CanBePrinted, AreReadBack, SaysWhatIsReadBack, AllReadBack}
@@ -21,7 +21,7 @@ use Rattle.schedule_text.specs.Spelled.AreArguments.{no_more, one_more}
 use Rattle.schedule_text.specs.Spelled.AreLinesOf.{no_bytes, with_lf}
 use Rattle.schedule_text.specs.Spelled.AreSpelledBy.{no_lines, spelled}
 use Rattle.schedule_text.specs.Text.{text_of, spelling_of, is_printed, hex_digit}
-use Rattle.schedule_text.specs.Words.{Value, Saying, said_by}
+use Rattle.schedule_text.specs.Words.{Value, Saying, said_by, word_text}
 use Rattle.schedule_text.specs.Words.Value.{a_node, a_number, a_text}
 
 -- no byte is below this one
@@ -130,31 +130,21 @@ arguments_spelled (a_number n ∷ values) back named =
 arguments_spelled (a_text bytes ∷ values) back named =
     one_more (text_of bytes) (arguments_text values) (a_text bytes) values back.0 (arguments_spelled values back.1 named)
 
-abbrev WordIsFrom : Option Saying → Type 0
-WordIsFrom None = ⊤
-WordIsFrom (Some saying) = AreFrom 32 saying.word
-
-word_from : (event : Event) → WordIsFrom (said_by event)
-unfolding said_by
-word_from (Open node conn) = refl
-word_from (Data conn bytes) = refl
-word_from (Hang conn) = refl
-word_from (Deliver from to) = refl
-word_from (Flow count) = refl
-word_from (Cut one other to from) = tt
-word_from (Join one other) = tt
-word_from (Crash node image kept) = tt
-word_from (Arm node call image kept) = tt
-word_from (Start node) = tt
-word_from Heal = tt
+word_from : (word : Word) → AreFrom 32 (word_text word)
+unfolding word_text
+word_from open_word = refl
+word_from data_word = refl
+word_from hang_word = refl
+word_from deliver_word = refl
+word_from flow_word = refl
 
 -- a printed line, before the lines of other events
-line_onto : (event : Event) (saying : Option Saying) → said_by event ≡ saying → WordIsFrom saying → SaysWhatIsReadBack saying → CanBeSaid saying
+line_onto : (event : Event) (saying : Option Saying) → said_by event ≡ saying → SaysWhatIsReadBack saying → CanBeSaid saying
     → (text : List ℕ) (events : List Event) → SpellEvents text events → SpellEvents (saying_text saying ++ text) (event ∷ events)
 unfolding saying_text line_text
-line_onto event None e word back said text events rest = absurd said
-line_onto event (Some saying) e word back said text events rest =
-    let from = from_both 32 saying.word (arguments_text saying.values) word (arguments_from saying.values back said) in
+line_onto event None e back said text events rest = absurd said
+line_onto event (Some saying) e back said text events rest =
+    let from = from_both 32 (word_text saying.word) (arguments_text saying.values) (word_from saying.word) (arguments_from saying.values back said) in
     let line : IsLineOf (line_text saying) saying =
     record { rest = arguments_text saying.values; spelled = refl; arguments = arguments_spelled saying.values back said } in
     record {
@@ -171,7 +161,7 @@ events_spelled : (events : List Event) → AllReadBack events → AllHaveWords e
 unfolding schedule_text event_text AllReadBack AllHaveWords
 events_spelled [] back worded = record { lines = []; cut = no_bytes; spelled = no_lines }
 events_spelled (event ∷ events) back worded =
-    line_onto event (said_by event) refl (word_from event) back.0 worded.0 (schedule_text events) events (events_spelled events back.1 worded.1)
+    line_onto event (said_by event) refl back.0 worded.0 (schedule_text events) events (events_spelled events back.1 worded.1)
 
 -- the text of events that can be printed is a schedule of them
 pub is_printed_schedule : (config : Config) (events : List Event) → AllReadBack events → CanBePrinted config events → IsSchedule config (schedule_text events) events

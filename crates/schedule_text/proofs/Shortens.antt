@@ -1,6 +1,6 @@
 -- What is read from a text is no longer than the text.
-use Rattle.std.proofs.Common.{◌≡◌, ℕ, ◌+◌, ◌-◌, ◌<◌, ◌≤◌, Bool, true, false, nat_eq, nat_lt, List, [], ◌∷◌, length, slice_index, sum_by, Option, None, Some, Ok}
-use Rattle.std.proofs.Common.{Err, refl, subst, arith}
+use Rattle.std.proofs.Common.{◌≡◌, ℕ, ◌+◌, ◌-◌, ◌≤◌, Bool, true, false, nat_eq, nat_lt, List, [], ◌∷◌, length, slice_index, sum_by, Option, None, Some, Ok}
+use Rattle.std.proofs.Common.{refl, subst, arith}
 use Rattle.std.specs.Option.{ok_or}
 use Rattle.std.proofs.lemmas.List.{length-take}
 use Rattle.std.proofs.lemmas.List.Sums.{sum_by-cons}
@@ -9,11 +9,10 @@ use Rattle.schedule_text.specs.declared.text.Spelling.{Spelling}
 use Rattle.schedule_text.specs.declared.text.Spelling.TheVariants.{Between, Escape, Hex, HexDigit}
 use Rattle.schedule_text.specs.declared.text.Character.{Character}
 use Rattle.schedule_text.specs.declared.text.Character.TheVariants.{Inside, Ends, Bad}
-use Rattle.schedule_text.specs.declared.schedule.fault.Rule.TheVariants.{WrongCount, BadText}
+use Rattle.schedule_text.specs.declared.schedule.fault.Rule.TheVariants.{BadText}
 use Rattle.schedule_text.specs.Text.{bytes_of, bytes_from, bytes_behind, with_byte, at_end, character_at}
 use Rattle.schedule_text.specs.Cuts.{cuts_of, line_in, without_end}
-use Rattle.schedule_text.specs.ScheduleWords.{Words, cut_at_space, onto_word, or_whole, unless_empty, first_word, word_and_rest}
-use Rattle.schedule_text.specs.ScheduleData.{text_in}
+use Rattle.schedule_text.specs.Rows.{text_in}
 
 onto_byte : (b : ℕ) (size : ℕ) (rest : Option (List ℕ)) → ((bytes : List ℕ) → rest ≡ Some bytes → length bytes ≤ size)
     → (bytes : List ℕ) → with_byte b rest ≡ Some bytes → length bytes ≤ size + 1
@@ -46,50 +45,6 @@ some_text (Some found) bytes h = cc
 pub text_shortens : (text bytes : List ℕ) → text_in text ≡ Ok bytes → length bytes ≤ length text
 unfolding text_in
 text_shortens text bytes h = bytes_shorten text Between bytes (some_text (bytes_of text) bytes h)
-
-behind_letter : (b : ℕ) (size : ℕ) (cut : Option Words) → ((words : Words) → cut ≡ Some words → length words.rest < size)
-    → (words : Words) → onto_word b cut ≡ Some words → length words.rest < size + 1
-behind_letter b size None ih words h = cc
-behind_letter b size (Some cut) ih words h =
-    let same : record { word = b ∷ cut.word; rest = cut.rest } ≡ words = cc in
-    subst (λ (found : Words). length found.rest < size + 1) same (omega (arith, ih cut refl))
-
-cut_by : (b : ℕ) (text : List ℕ) → ((words : Words) → cut_at_space text ≡ Some words → length words.rest < length text)
-    → (space : Bool) → nat_eq b 32 ≡ space → (words : Words) → cut_at_space (b ∷ text) ≡ Some words → length words.rest < length (b ∷ text)
-unfolding cut_at_space
-cut_by b text ih true s words h =
-    let e : Some (record { word = []; rest = text }) ≡ Some words = rw s at h in
-    let same : record { word = []; rest = text } ≡ words = cc in
-    subst (λ (found : Words). length found.rest < length (b ∷ text)) same (omega arith)
-cut_by b text ih false s words h = omega (arith, behind_letter b (length text) (cut_at_space text) ih words (rw s at h))
-
-cut_shortens : (text : List ℕ) (words : Words) → cut_at_space text ≡ Some words → length words.rest < length text
-unfolding cut_at_space
-cut_shortens [] words h = cc
-cut_shortens (b ∷ text) words h = cut_by b text (cut_shortens text) (nat_eq b 32) refl words h
-
-pub some_words_by : (cut words : Words) (some : Bool) → nat_lt 0 (length cut.word) ≡ some → unless_empty (Some cut) ≡ Ok words → cut ≡ words
-some_words_by cut words true e h = let there : Ok cut ≡ Ok words = rw e at h in cc
-some_words_by cut words false e h = let none : Err WrongCount ≡ Ok words = rw e at h in cc
-
-rest_below : (cut : Option Words) (size : ℕ) → ((words : Words) → cut ≡ Some words → length words.rest < size)
-    → (words : Words) → unless_empty cut ≡ Ok words → length words.rest < size
-rest_below None size below words h = cc
-rest_below (Some cut) size below words h =
-    subst (λ (found : Words). length found.rest < size) (some_words_by cut words _ refl h) (below cut refl)
-
-pub words_shorten : (text : List ℕ) (words : Words) → word_and_rest text ≡ Ok words → length words.rest < length text
-unfolding word_and_rest
-words_shorten text words h = rest_below (cut_at_space text) (length text) (cut_shortens text) words h
-
-first_by : (line : List ℕ) (cut : Option Words) → ((words : Words) → cut ≡ Some words → length words.rest < length line)
-    → length (or_whole line cut).rest ≤ length line
-first_by line None below = omega arith
-first_by line (Some cut) below = omega (arith, below cut refl)
-
-pub first_shortens : (line : List ℕ) → length (first_word line).rest ≤ length line
-unfolding first_word
-first_shortens line = first_by line (cut_at_space line) (cut_shortens line)
 
 end_by : (text : List ℕ) (b : ℕ) (there : Bool) → nat_eq (slice_index text (length text - 1)) b ≡ there → length (without_end text b) ≤ length text
 unfolding without_end

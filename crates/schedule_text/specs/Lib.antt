@@ -9,11 +9,7 @@ pub mod ScheduleRules
 pub mod ScheduleWords
 pub mod ScheduleOpened
 pub mod ScheduleNodes
-pub mod ScheduleOpen
-pub mod ScheduleData
-pub mod ScheduleHang
-pub mod ScheduleDeliver
-pub mod ScheduleFlow
+pub mod Rows
 pub mod Brings
 pub mod Schedule
 pub mod ScheduleFits

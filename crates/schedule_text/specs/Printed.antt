@@ -1,5 +1,5 @@
 -- The text in which a schedule is printed: of the spellings of each event, one.
-use Rattle.std.specs.Prelude.{◌≡◌, ℕ, ◌≤◌, ◌^◌, ⊤, List, [], ◌∷◌, ◌++◌, length, map, Option, None, Some, decimal}
+use Rattle.std.specs.Prelude.{◌≡◌, ℕ, ◌≤◌, ◌^◌, ⊤, List, [], ◌∷◌, ◌++◌, length, Option, None, Some, decimal}
 use Rattle.std.specs.List.{flat_map}
 use Rattle.mur_base.specs.Ascii.{lf, space}
 use Rattle.mur_base.specs.Names.{short_name_fault}
@@ -10,7 +10,7 @@ use Rattle.schedule_text.specs.declared.print.Argument.{Argument}
 use Rattle.schedule_text.specs.declared.print.Argument.TheVariants.{Node, Number, Text}
 use Rattle.schedule_text.specs.Text.{text_of, bytes_of}
 use Rattle.schedule_text.specs.MayFollow.{AllMayFollow}
-use Rattle.schedule_text.specs.Words.{Value, Saying, said_by}
+use Rattle.schedule_text.specs.Words.{Value, Saying, said_by, word_text}
 use Rattle.schedule_text.specs.Words.Value.{a_node, a_number, a_text}
 
 -- a name as it is, a number in decimal without leading zeros, bytes in their canonical text
@@ -27,7 +27,7 @@ arguments_text values = flat_map argument_text values
 
 -- the word, and a space before each argument
 unfoldable pub line_text : Saying → List ℕ
-line_text saying = saying.word ++ arguments_text saying.values
+line_text saying = word_text saying.word ++ arguments_text saying.values
 
 -- LF ends each line
 unfoldable pub saying_text : Option Saying → List ℕ

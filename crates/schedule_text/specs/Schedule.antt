@@ -1,27 +1,18 @@
 -- A schedule: lines that LF ends (the last may lack it), each an event, a comment, or empty. A CR before LF is dropped.
 use Rattle.std.specs.Prelude.{◌≡◌, ℕ, ◌+◌, ⊤, Bool, true, ◌==◌, nat_lt, if◌then◌else◌, List, [], ◌∷◌, ◌++◌, length, Result, Ok, Err}
-use Rattle.std.specs.Str.{bytes_eq}
 use Rattle.mur_base.specs.declared.limits.TheConstants.{SCHEDULE_LIMIT}
 use Rattle.mur_config.specs.declared.config.Config.{Config}
 use Rattle.schedule_text.specs.declared.event.Event.{Event}
 use Rattle.schedule_text.specs.declared.schedule.fault.Rule.{Rule}
-use Rattle.schedule_text.specs.declared.schedule.fault.Rule.TheVariants.{UnknownWord, TooLong}
+use Rattle.schedule_text.specs.declared.schedule.fault.Rule.TheVariants.{TooLong}
 use Rattle.schedule_text.specs.declared.schedule.fault.SchedFault.{SchedFault}
 use Rattle.schedule_text.specs.declared.schedule.fault.ScheduleError.{ScheduleError}
 use Rattle.schedule_text.specs.declared.schedule.fault.ScheduleError.TheVariants.{Refused, Memory}
-use Rattle.schedule_text.specs.declared.schedule.open_line.TheConstants.{OPEN}
-use Rattle.schedule_text.specs.declared.schedule.data_line.TheConstants.{DATA}
-use Rattle.schedule_text.specs.declared.schedule.hang_line.TheConstants.{HANG}
-use Rattle.schedule_text.specs.declared.schedule.deliver_line.TheConstants.{DELIVER}
-use Rattle.schedule_text.specs.declared.schedule.flow_line.TheConstants.{FLOW}
 use Rattle.schedule_text.specs.Cuts.{cuts_of, line_in}
 use Rattle.schedule_text.specs.ScheduleRules.{◌>>=◌}
-use Rattle.schedule_text.specs.ScheduleWords.{first_word}
-use Rattle.schedule_text.specs.ScheduleOpen.{open_of}
-use Rattle.schedule_text.specs.ScheduleData.{data_of}
-use Rattle.schedule_text.specs.ScheduleHang.{hang_of}
-use Rattle.schedule_text.specs.ScheduleDeliver.{deliver_of}
-use Rattle.schedule_text.specs.ScheduleFlow.{flow_of}
+use Rattle.schedule_text.specs.ScheduleWords.{split_word, arguments_in}
+use Rattle.schedule_text.specs.Words.{word_named, kinds_of}
+use Rattle.schedule_text.specs.Rows.{event_in}
 
 -- the number sign
 abbrev pub hash : ℕ
@@ -32,15 +23,12 @@ unfoldable pub is_passed_over : List ℕ → Bool
 is_passed_over [] = true
 is_passed_over (first ∷ line) = first == hash
 
--- the event of a line by its first word, where these events stand before it
+-- the event of a line: its word, then the count of its arguments, then what they are, where these events stand before it
 unfoldable pub event_of : Config → List Event → List ℕ → Result Event Rule
-event_of config before line =
-    if bytes_eq (first_word line).word OPEN.now then open_of config before (first_word line).rest
-    else if bytes_eq (first_word line).word DATA.now then data_of before (first_word line).rest
-    else if bytes_eq (first_word line).word HANG.now then hang_of before (first_word line).rest
-    else if bytes_eq (first_word line).word DELIVER.now then deliver_of config (first_word line).rest
-    else if bytes_eq (first_word line).word FLOW.now then flow_of (first_word line).rest
-    else Err UnknownWord
+event_of config before line = do
+  word ← word_named (split_word line).word
+  arguments ← arguments_in (kinds_of word) (split_word line).rest
+  event_in config before word arguments
 
 -- the events with the one of a line, or the line's number and the rule that it breaks
 abbrev pub with_event : ℕ → List Event → Result Event Rule → Result (List Event) SchedFault

@@ -3,10 +3,9 @@ use Rattle.std.specs.Prelude.{◌≡◌, ℕ, ◌<◌, ◌≤◌, ◌*◌, ◌^�
 use Rattle.mur_config.specs.declared.config.Config.{Config}
 use Rattle.schedule_text.specs.declared.event.Event.{Event}
 use Rattle.schedule_text.specs.declared.event.Event.TheVariants.{Open, Data, Hang, Deliver, Flow}
-use Rattle.schedule_text.specs.declared.schedule.flow_line.TheConstants.{FLOW_LIMIT}
+use Rattle.schedule_text.specs.declared.schedule.rows.TheConstants.{FLOW_LIMIT}
 use Rattle.schedule_text.specs.Brings.{steps_of_all, bytes_of_all}
-use Rattle.schedule_text.specs.ScheduleOpen.{client_node_in}
-use Rattle.schedule_text.specs.ScheduleDeliver.{link_in}
+use Rattle.schedule_text.specs.ScheduleNodes.{client_node_in, link_in}
 use Rattle.schedule_text.specs.ScheduleOpened.{is_opened}
 
 -- an event fits those before it: a connection is opened once, at a frontend or the master, and before it has data or

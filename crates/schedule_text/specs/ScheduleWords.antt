@@ -1,14 +1,16 @@
 -- The words of a schedule's line: each but the first has one space before it.
-use Rattle.std.specs.Prelude.{◌≡◌, ℕ, Bool, ◌&&◌, ◌==◌, nat_lt, is_none, if◌then◌else◌, List, [], ◌∷◌, length, Option, None, Some, Result, Ok, Err}
+use Rattle.std.specs.Prelude.{◌≡◌, ℕ, ◌==◌, nat_lt, if◌then◌else◌, List, [], ◌∷◌, ◌++◌, length, Result, Ok, Err}
 use Rattle.std.specs.Option.{ok_or}
 use Rattle.mur_base.specs.Ascii.{space}
 use Rattle.mur_base.specs.Number.{number_of}
 use Rattle.schedule_text.specs.declared.schedule.fault.Rule.{Rule}
 use Rattle.schedule_text.specs.declared.schedule.fault.Rule.TheVariants.{WrongCount, BadNumber}
 use Rattle.schedule_text.specs.declared.schedule.words.Cut.{Cut}
+use Rattle.schedule_text.specs.declared.words.Kind.{Kind}
+use Rattle.schedule_text.specs.declared.words.Kind.TheVariants.{Text}
 use Rattle.schedule_text.specs.ScheduleRules.{◌>>=◌}
 
--- a word, and what stands behind the space that ends it
+-- a word, and what stands behind it: nothing, or a space and more
 pub record Words : Type 0 where
   pub word : List ℕ
   pub rest : List ℕ
@@ -20,45 +22,41 @@ abbrev pub IsCutAs : Result Words Rule → Result Cut Rule → Type 0
 IsCutAs words (Ok cut) = words ≡ Ok (shown cut)
 IsCutAs words (Err rule) = words ≡ Err rule
 
-abbrev pub onto_word : ℕ → Option Words → Option Words
-onto_word b None = None
-onto_word b (Some words) = Some (record { word = b ∷ words.word; rest = words.rest })
+abbrev pub onto_word : ℕ → Words → Words
+onto_word b words = record { word = b ∷ words.word; rest = words.rest }
 
--- a text before its first space and behind it, where it has one
-unfoldable pub cut_at_space : List ℕ → Option Words
-cut_at_space [] = None
-cut_at_space (b ∷ text) = if b == space then Some (record { word = []; rest = text }) else onto_word b (cut_at_space text)
+-- a text up to its first space, and from there on
+unfoldable pub split_word : List ℕ → Words
+split_word [] = record { word = []; rest = [] }
+split_word (b ∷ text) = if b == space then (record { word = []; rest = b ∷ text }) else onto_word b (split_word text)
 
--- the whole text, where no space ends it
-abbrev pub or_whole : List ℕ → Option Words → Words
-or_whole text None = record { word = text; rest = [] }
-or_whole text (Some words) = words
+-- a word that has bytes
+unfoldable pub word_in : List ℕ → Result Words Rule
+word_in text = if nat_lt 0 (length (split_word text).word) then Ok (split_word text) else Err WrongCount
 
--- the word that a line begins with
-unfoldable pub first_word : List ℕ → Words
-first_word line = or_whole line (cut_at_space line)
+-- a text is all that is left, another argument is one word
+unfoldable pub argument_in : Kind → List ℕ → Result Words Rule
+argument_in Text text = Ok (record { word = text; rest = [] })
+argument_in kind text = word_in text
 
-abbrev pub unless_empty : Option Words → Result Words Rule
-unless_empty None = Err WrongCount
-unless_empty (Some words) = if nat_lt 0 (length words.word) then Ok words else Err WrongCount
+-- the argument behind a space
+unfoldable pub first_argument : Kind → List ℕ → Result Words Rule
+first_argument kind [] = Err WrongCount
+first_argument kind (b ∷ text) = if b == space then argument_in kind text else Err WrongCount
 
--- a word that has a space behind it
-unfoldable pub word_and_rest : List ℕ → Result Words Rule
-word_and_rest text = unless_empty (cut_at_space text)
+-- the arguments of these kinds behind a word, and nothing behind them
+unfoldable pub arguments_in : List Kind → List ℕ → Result (List (List ℕ)) Rule
+arguments_in [] [] = Ok []
+arguments_in [] (b ∷ rest) = Err WrongCount
+arguments_in (kind ∷ kinds) rest = do
+  words ← first_argument kind rest
+  arguments ← arguments_in kinds words.rest
+  Ok (words.word ∷ arguments)
 
--- a text that is one word
-unfoldable pub is_one_word : List ℕ → Bool
-is_one_word text = nat_lt 0 (length text) && is_none (cut_at_space text)
-
--- exactly one word
-unfoldable pub one_word : List ℕ → Result (List ℕ) Rule
-one_word text = if is_one_word text then Ok text else Err WrongCount
-
--- exactly two words
-unfoldable pub two_words : List ℕ → Result Words Rule
-two_words text = do
-  words ← word_and_rest text
-  if is_one_word words.rest then Ok words else Err WrongCount
+-- arguments behind those that were cut before
+unfoldable pub with_arguments : List (List ℕ) → Result (List (List ℕ)) Rule → Result (List (List ℕ)) Rule
+with_arguments before (Ok more) = Ok (before ++ more)
+with_arguments before (Err rule) = Err rule
 
 -- the number that a word is
 unfoldable pub number_in : List ℕ → Result ℕ Rule

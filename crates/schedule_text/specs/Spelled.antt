@@ -5,7 +5,7 @@ use Rattle.mur_base.specs.Ascii.{lf, cr, space, ends_with_cr}
 use Rattle.mur_base.specs.Number.{number_of}
 use Rattle.schedule_text.specs.declared.event.Event.{Event}
 use Rattle.schedule_text.specs.Text.{bytes_of}
-use Rattle.schedule_text.specs.Words.{Value, Saying, said_by}
+use Rattle.schedule_text.specs.Words.{Value, Saying, said_by, word_text}
 use Rattle.schedule_text.specs.Words.Value.{a_node, a_number, a_text}
 
 -- a byte is none of these
@@ -43,7 +43,7 @@ pub data AreArguments : List ℕ → List Value → Type 0 where
 -- a line is a word and its arguments
 pub record IsLineOf (line : List ℕ) (saying : Saying) : Type 0 where
   pub rest : List ℕ
-  pub spelled : line ≡ saying.word ++ rest
+  pub spelled : line ≡ word_text saying.word ++ rest
   pub arguments : AreArguments rest saying.values
 
 abbrev pub IsSpelledAs : List ℕ → Option Saying → Type 0

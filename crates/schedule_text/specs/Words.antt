@@ -1,7 +1,14 @@
 -- The table of words: which word and which arguments say an event.
-use Rattle.std.specs.Prelude.{ℕ, List, [], ◌∷◌, Option, None, Some, codes}
+use Rattle.std.specs.Prelude.{ℕ, if◌then◌else◌, List, [], ◌∷◌, Option, None, Some, Result, Ok, Err, codes}
+use Rattle.std.specs.Str.{bytes_eq}
 use Rattle.schedule_text.specs.declared.event.Event.{Event}
 use Rattle.schedule_text.specs.declared.event.Event.TheVariants.{Open, Data, Hang, Deliver, Flow}
+use Rattle.schedule_text.specs.declared.schedule.fault.Rule.{Rule}
+use Rattle.schedule_text.specs.declared.schedule.fault.Rule.TheVariants.{UnknownWord}
+use Rattle.schedule_text.specs.declared.words.Kind.{Kind}
+use Rattle.schedule_text.specs.declared.words.Kind.TheVariants.{Node, Number, Text}
+use Rattle.schedule_text.specs.declared.words.Word.{Word}
+use Rattle.schedule_text.specs.declared.words.Word.TheVariants.{Open as open_word, Data as data_word, Hang as hang_word, Deliver as deliver_word, Flow as flow_word}
 
 -- what an argument stands for: a node's name, a number, or bytes
 pub data Value : Type 0 where
@@ -11,17 +18,44 @@ pub data Value : Type 0 where
 
 -- a word and what its arguments stand for
 pub record Saying : Type 0 where
-  pub word : List ℕ
+  pub word : Word
   pub values : List Value
 
-abbrev pub row : List ℕ → List Value → Option Saying
+abbrev pub row : Word → List Value → Option Saying
 row word values = Some (record { word = word; values = values })
 
 -- how an event is said: a row for each word, and nothing for an event that has no word yet
 unfoldable pub said_by : Event → Option Saying
-said_by (Open node conn) = row (codes "open") (a_node node ∷ a_number conn ∷ [])
-said_by (Data conn bytes) = row (codes "data") (a_number conn ∷ a_text bytes ∷ [])
-said_by (Hang conn) = row (codes "hang") (a_number conn ∷ [])
-said_by (Deliver from to) = row (codes "deliver") (a_node from ∷ a_node to ∷ [])
-said_by (Flow count) = row (codes "flow") (a_number count ∷ [])
+said_by (Open node conn) = row open_word (a_node node ∷ a_number conn ∷ [])
+said_by (Data conn bytes) = row data_word (a_number conn ∷ a_text bytes ∷ [])
+said_by (Hang conn) = row hang_word (a_number conn ∷ [])
+said_by (Deliver from to) = row deliver_word (a_node from ∷ a_node to ∷ [])
+said_by (Flow count) = row flow_word (a_number count ∷ [])
 said_by _ = None
+
+unfoldable pub word_text : Word → List ℕ
+word_text open_word = codes "open"
+word_text data_word = codes "data"
+word_text hang_word = codes "hang"
+word_text deliver_word = codes "deliver"
+word_text flow_word = codes "flow"
+
+-- the kinds of a word's arguments, in order
+unfoldable pub kinds_of : Word → List Kind
+kinds_of open_word = Node ∷ Number ∷ []
+kinds_of data_word = Number ∷ Text ∷ []
+kinds_of hang_word = Number ∷ []
+kinds_of deliver_word = Node ∷ Node ∷ []
+kinds_of flow_word = Number ∷ []
+
+-- the rows of the table
+abbrev pub all_words : List Word
+all_words = open_word ∷ data_word ∷ hang_word ∷ deliver_word ∷ flow_word ∷ []
+
+unfoldable pub word_among : List Word → List ℕ → Result Word Rule
+word_among [] text = Err UnknownWord
+word_among (word ∷ words) text = if bytes_eq text (word_text word) then Ok word else word_among words text
+
+-- the word that a text is
+unfoldable pub word_named : List ℕ → Result Word Rule
+word_named text = word_among all_words text

@@ -1,4 +1,4 @@
-//! The schedules of a cluster: events, the reader of their text (a file for each word), bytes as printable text, and texts cut
+//! The schedules of a cluster: events, the reader and the printer of their text (a row for each word), bytes as printable text, and texts cut
 //! into lines. Nothing here knows what an event does.
 #![tactic(auto)]
 
@@ -7,6 +7,7 @@ mod event;
 mod print;
 mod schedule;
 mod text;
+mod words;
 
 pub use cuts::LineCuts;
 pub use event::{Event, Events};

@@ -7,8 +7,8 @@ ghost use Rattle.schedule_text.specs.Printed.{value_of, value_text, argument_tex
 ghost use Rattle.schedule_text.specs.Printed.{CanBePrinted, IsReadBack, AreReadBack, SaysWhatIsReadBack, AllReadBack};
 
 use crate::event::{Event, Events};
-use crate::schedule::{DATA, DELIVER, FLOW, HANG, OPEN};
 use crate::text::put_text;
+use crate::words::Word;
 use mur_base::{Bytes, Memory, put_number};
 use mur_config::Config;
 use std::alloc::Global;
@@ -46,25 +46,25 @@ fn put_event(event: &Event, out: &mut Bytes) -> Result<(), Memory>
 {
     match event {
         Event::Open(node, conn) => put_line(
-            OPEN,
+            Word::Open,
             &[Argument::Node(node.as_bytes()), Argument::Number(*conn)],
             out,
         ),
         Event::Data(conn, bytes) => put_line(
-            DATA,
+            Word::Data,
             &[Argument::Number(*conn), Argument::Text(bytes.as_slice())],
             out,
         ),
-        Event::Hang(conn) => put_line(HANG, &[Argument::Number(*conn)], out),
+        Event::Hang(conn) => put_line(Word::Hang, &[Argument::Number(*conn)], out),
         Event::Deliver(from, to) => put_line(
-            DELIVER,
+            Word::Deliver,
             &[
                 Argument::Node(from.as_bytes()),
                 Argument::Node(to.as_bytes()),
             ],
             out,
         ),
-        Event::Flow(count) => put_line(FLOW, &[Argument::Number(*count)], out),
+        Event::Flow(count) => put_line(Word::Flow, &[Argument::Number(*count)], out),
         Event::Cut(..)
         | Event::Join(..)
         | Event::Crash(..)
@@ -76,11 +76,11 @@ fn put_event(event: &Event, out: &mut Bytes) -> Result<(), Memory>
 
 /// Prints a line of a word and its arguments.
 #[tactic(auto, unfolding(crate::specs::Printed::line_text))]
-fn put_line(word: &[u8], arguments: &[Argument<'_>], out: &mut Bytes) -> Result<(), Memory>
-    ensures written { OnOk result (out.new ≡ out.old ++ line_text (record { word = word.now; values = map value_of arguments.now }) ++ lf ∷ []) }
+fn put_line(word: Word, arguments: &[Argument<'_>], out: &mut Bytes) -> Result<(), Memory>
+    ensures written { OnOk result (out.new ≡ out.old ++ line_text (record { word = word; values = map value_of arguments.now }) ++ lf ∷ []) }
     ensures read_back { OnOk result (AreReadBack (map value_of arguments.now)) }
 {
-    out.extend_from_slice(word)?;
+    out.extend_from_slice(word.text())?;
     put_arguments(arguments, out)?;
     out.push(b'\n')
 }

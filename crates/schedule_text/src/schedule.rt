@@ -7,34 +7,22 @@ ghost use Rattle.schedule_text.specs.Meaning.{HasCause, IsSchedule, IsReadAsEven
 ghost use Rattle.schedule_text.specs.declared.event.Event.{Event};
 ghost use Rattle.schedule_text.specs.Schedule.{event_of, is_passed_over, line_read, schedule_of, IsTakenAs};
 
-mod data_line;
-mod deliver_line;
 mod fault;
-mod flow_line;
-mod hang_line;
 mod nodes;
-mod open_line;
 mod read_so_far;
+mod rows;
 mod words;
 
 use crate::cuts::{LineCuts, line_in};
 use crate::event::{Event, Events};
-pub use data_line::DATA;
-use data_line::read_data;
-pub use deliver_line::DELIVER;
-use deliver_line::read_deliver;
+use crate::words::word_named;
 pub use fault::{LineError, Rule, SchedFault, ScheduleError};
-pub use flow_line::FLOW;
-use flow_line::read_flow;
-pub use hang_line::HANG;
-use hang_line::read_hang;
 use mur_base::limits::SCHEDULE_LIMIT;
 use mur_config::Config;
-pub use open_line::OPEN;
-use open_line::read_open;
 use read_so_far::ReadSoFar;
+use rows::event_in;
 use std::alloc::Global;
-use words::first_word;
+use words::{arguments_in, split_word};
 
 /// The events of a schedule. The first line that breaks a rule refuses it, by the first rule that it breaks; before
 /// all lines stands that a schedule has at most `SCHEDULE_LIMIT` bytes.
@@ -100,7 +88,7 @@ fn is_passed_over(line: &[u8]) -> bool
     }
 }
 
-/// The event of a line, by its first word.
+/// The event of a line: its word, then the count of its arguments, then what they are.
 #[tactic(auto, unfolding(crate::specs::Schedule::event_of))]
 fn read_event(
     alloc: Global,
@@ -111,18 +99,8 @@ fn read_event(
     requires { KnowsOpened so_far.now }
     ensures { IsReadAs (event_of config.now so_far.now.events line.now) result }
 {
-    let words = first_word(line);
-    if words.word == OPEN {
-        read_open(alloc, words.rest, config, so_far)
-    } else if words.word == DATA {
-        read_data(alloc, words.rest, so_far)
-    } else if words.word == HANG {
-        Ok(read_hang(words.rest, so_far)?)
-    } else if words.word == DELIVER {
-        read_deliver(alloc, words.rest, config)
-    } else if words.word == FLOW {
-        Ok(read_flow(words.rest)?)
-    } else {
-        Err(LineError::Broken(Rule::UnknownWord))
-    }
+    let cut = split_word(line);
+    let word = word_named(cut.word)?;
+    let arguments = arguments_in(word.kinds(), cut.rest)?;
+    event_in(alloc, config, so_far, word, arguments.as_slice())
 }

@@ -1,84 +1,94 @@
 // The words of a schedule's line, with one space before each but the first.
-ghost use Rattle.std.specs.Prelude.{◌≡◌, MatchResult, option_map, Ok, Err};
-ghost use Rattle.schedule_text.specs.ScheduleWords.{IsCutAs, shown, cut_at_space, first_word, word_and_rest, is_one_word, one_word, two_words, number_in};
+ghost use Rattle.std.specs.Prelude.{◌≡◌, ◌≤◌, length, map, MatchResult, Ok, Err, IfOk};
+ghost use Rattle.schedule_text.specs.ScheduleWords.{IsCutAs, shown, split_word, word_in, argument_in, first_argument, arguments_in, number_in};
 
 use crate::schedule::fault::Rule;
+use crate::words::{Kind, MOST_ARGUMENTS};
+use arrayvec::ArrayVec;
 use memchr::memchr;
 use mur_base::read_number;
 
-/// A word, and what stands behind the space that ends it.
+/// A word, and what stands behind it: nothing, or a space and more.
 #[derive(Clone, Copy)]
 pub struct Cut<'a> {
     pub word: &'a [u8],
     pub rest: &'a [u8],
 }
 
-/// The text before the first space and behind it, where there is one.
-#[tactic(auto, using(crate::proofs::CutWords::by_space))]
-fn cut_at_space(text: &[u8]) -> Option<Cut<'_>>
-    ensures { option_map shown result ≡ cut_at_space text.now }
+/// A text up to its first space, and from there on.
+#[tactic(auto, using(crate::proofs::SplitLaws::by_space))]
+pub fn split_word(text: &[u8]) -> Cut<'_>
+    ensures { shown result ≡ split_word text.now }
 {
-    let at = memchr(b' ', text)?;
-    let (word, _) = text.split_at(at);
-    let (_, rest) = text.split_at(at + 1);
-    Some(Cut { word, rest })
+    let (word, rest) = match memchr(b' ', text) {
+        Some(at) => text.split_at(at),
+        None => (text, &[][..]),
+    };
+    Cut { word, rest }
 }
 
-/// The word that a line begins with.
-#[tactic(auto, unfolding(crate::specs::ScheduleWords::first_word))]
-pub fn first_word(line: &[u8]) -> Cut<'_>
-    ensures { shown result ≡ first_word line.now }
+/// A word that has bytes.
+#[tactic(auto, unfolding(crate::specs::ScheduleWords::word_in))]
+fn word_in(text: &[u8]) -> Result<Cut<'_>, Rule>
+    ensures { IsCutAs (word_in text.now) result }
 {
-    match cut_at_space(line) {
-        Some(cut) => cut,
-        None => Cut {
-            word: line,
-            rest: &[],
-        },
+    let cut = split_word(text);
+    if cut.word.is_empty() {
+        Err(Rule::WrongCount)
+    } else {
+        Ok(cut)
     }
 }
 
-/// A word that has a space behind it.
-#[tactic(auto, unfolding(crate::specs::ScheduleWords::word_and_rest))]
-pub fn word_and_rest(text: &[u8]) -> Result<Cut<'_>, Rule>
-    ensures { IsCutAs (word_and_rest text.now) result }
+/// A text is all that is left, another argument is one word.
+#[tactic(auto, unfolding(crate::specs::ScheduleWords::argument_in))]
+fn argument_in(kind: Kind, text: &[u8]) -> Result<Cut<'_>, Rule>
+    ensures { IsCutAs (argument_in kind text.now) result }
 {
-    match cut_at_space(text) {
-        Some(cut) if !cut.word.is_empty() => Ok(cut),
+    match kind {
+        Kind::Text => Ok(Cut {
+            word: text,
+            rest: &[],
+        }),
+        Kind::Node | Kind::Number => word_in(text),
+    }
+}
+
+/// The argument behind a space.
+#[tactic(auto, unfolding(crate::specs::ScheduleWords::first_argument))]
+fn first_argument(kind: Kind, rest: &[u8]) -> Result<Cut<'_>, Rule>
+    ensures { IsCutAs (first_argument kind rest.now) result }
+{
+    match rest {
+        [b' ', text @ ..] => argument_in(kind, text),
         _ => Err(Rule::WrongCount),
     }
 }
 
-/// Exactly one word.
-#[tactic(auto, unfolding(crate::specs::ScheduleWords::one_word))]
-pub fn one_word(text: &[u8]) -> Result<&[u8], Rule>
-    ensures { MatchResult result (λ word. one_word text.now ≡ Ok word.now) (λ rule. one_word text.now ≡ Err rule) }
+/// The arguments of these kinds behind a word, and nothing behind them.
+#[tactic(auto, using(crate::proofs::SplitLaws::none_before), unfolding(crate::specs::ScheduleWords::arguments_in))]
+pub fn arguments_in<'a>(
+    kinds: &[Kind],
+    rest: &'a [u8],
+) -> Result<ArrayVec<&'a [u8], MOST_ARGUMENTS>, Rule>
+    requires { length kinds.now ≤ MOST_ARGUMENTS }
+    ensures read { MatchResult result
+        (λ arguments. arguments_in kinds.now rest.now ≡ Ok (map (λ argument. argument.now) arguments.items))
+        (λ rule. arguments_in kinds.now rest.now ≡ Err rule) }
+    ensures count { IfOk result (λ arguments. length arguments.items ≡ length kinds.now) }
 {
-    if is_one_word(text) {
-        Ok(text)
+    let mut arguments = ArrayVec::new();
+    let mut left = rest;
+    for kind in kinds {
+        let cut = first_argument(*kind, left)?;
+        arguments.push(cut.word);
+        left = cut.rest;
+    }
+    if left.is_empty() {
+        Ok(arguments)
     } else {
         Err(Rule::WrongCount)
     }
-}
-
-/// Exactly two words.
-#[tactic(auto, unfolding(crate::specs::ScheduleWords::two_words))]
-pub fn two_words(text: &[u8]) -> Result<Cut<'_>, Rule>
-    ensures { IsCutAs (two_words text.now) result }
-{
-    let cut = word_and_rest(text)?;
-    if is_one_word(cut.rest) {
-        Ok(cut)
-    } else {
-        Err(Rule::WrongCount)
-    }
-}
-
-#[tactic(auto, unfolding(crate::specs::ScheduleWords::is_one_word))]
-fn is_one_word(text: &[u8]) -> bool
-    ensures { result ≡ is_one_word text.now }
-{
-    !text.is_empty() && cut_at_space(text).is_none()
 }
 
 /// The number that a word is.

@@ -1,6 +1,5 @@
-use Rattle.std.proofs.Common.{◌≡◌, sym, arith}
+use Rattle.std.proofs.Common.{◌≡◌, arith}
 use Rattle.std.proofs.lemmas.Grind.{common_steps}
-use Rattle.schedule_text.specs.Text.{bytes_onto, bytes_from}
 use Rattle.schedule_text.specs.declared.text.Spelling.TheVariants.{Between}
 use Rattle.schedule_text.proofs.TextLaws.{plain_read}
 use Rattle.schedule_text.proofs.text.read_block.Goals as goal

@@ -1,0 +1,232 @@
+-- Arguments are cut from the text behind a word exactly as they are spelled there.
+use Rattle.std.proofs.Common.{◌≡◌, ℕ, ◌⊎◌, Bool, true, false, nat_eq, nat_lt, nat_le, List, [], ◌∷◌, ◌++◌, length, map, Option, None, Some, Ok, Err}
+use Rattle.std.proofs.Common.{refl, sym, ap, ◌∙◌, subst, inl, inr, append-nil, arith, eqb-true}
+use Rattle.std.specs.Bool.{⊤}
+use Rattle.std.specs.List.{list_all}
+use Rattle.std.specs.Option.{ok_or}
+use Rattle.std.proofs.lemmas.Bool.{or_parts, or_from, and_parts, leb-true, lt-ltb, ltb-true, ne_eqb}
+use Rattle.mur_base.specs.Number.{number_of, is_numeral, is_digit}
+use Rattle.schedule_text.specs.declared.schedule.fault.Rule.TheVariants.{WrongCount, BadNumber}
+use Rattle.schedule_text.specs.declared.words.Kind.{Kind}
+use Rattle.schedule_text.specs.declared.words.Kind.TheVariants.{Node, Number, Text}
+use Rattle.schedule_text.specs.ScheduleWords.{Words, split_word, word_in, argument_in, first_argument, arguments_in, number_in}
+use Rattle.schedule_text.specs.Spelled.{Lacks, IsWord, Spells, AreArguments}
+use Rattle.schedule_text.specs.Spelled.AreArguments.{no_more, one_more}
+use Rattle.schedule_text.specs.Words.{Value}
+use Rattle.schedule_text.specs.Words.Value.{a_node, a_number, a_text}
+use Rattle.schedule_text.proofs.Steps.{both, kept_if, kept_true}
+
+-- the parts of a text: a word without a space, and what follows
+pub record IsSplit (text : List ℕ) (words : Words) : Type 0 where
+  pub parts : text ≡ words.word ++ words.rest
+  pub whole : Lacks 32 words.word
+
+split_by : (b : ℕ) (text : List ℕ) (space : Bool) → nat_eq b 32 ≡ space → IsSplit text (split_word text) → IsSplit (b ∷ text) (split_word (b ∷ text))
+unfolding split_word
+split_by b text true e rest = rw e (record { parts = refl; whole = refl })
+split_by b text false e rest =
+    rw e (record { parts = ap (λ (t : List ℕ). b ∷ t) rest.parts; whole = or_from (nat_eq b 32) _ e rest.whole })
+
+pub is_split : (text : List ℕ) → IsSplit text (split_word text)
+unfolding split_word
+is_split [] = record { parts = refl; whole = refl }
+is_split (b ∷ text) = split_by b text _ refl (is_split text)
+
+-- nothing, or a space and more
+abbrev pub IsBehindWord : List ℕ → Type 0
+IsBehindWord rest = (rest ≡ []) ⊎ ((more : List ℕ) × (rest ≡ 32 ∷ more))
+
+split_end : (rest : List ℕ) → IsBehindWord rest → split_word rest ≡ record { word = []; rest = rest }
+unfolding split_word
+split_end rest (inl none) = rw none refl
+split_end rest (inr some) = rw some.1 refl
+
+-- a word is cut from what stands behind it
+pub split_read : (word rest : List ℕ) → Lacks 32 word → IsBehindWord rest → split_word (word ++ rest) ≡ record { word = word; rest = rest }
+unfolding split_word
+split_read [] rest h end = split_end rest end
+split_read (b ∷ word) rest h end =
+    let parts = or_parts (nat_eq b 32) _ h in
+    rw (parts.0, split_read word rest parts.1 end) refl
+
+-- a node and a number are words
+abbrev pub IsOfKind : Kind → List ℕ → Type 0
+IsOfKind Node argument = IsWord argument
+IsOfKind Number argument = IsWord argument
+IsOfKind Text argument = ⊤
+
+record IsCut (kind : Kind) (text : List ℕ) (words : Words) : Type 0 where
+  parts : text ≡ words.word ++ words.rest
+  fits : IsOfKind kind words.word
+
+word_cut : (text : List ℕ) (words : Words) → word_in text ≡ Ok words → (text ≡ words.word ++ words.rest) × IsWord words.word
+unfolding word_in
+word_cut text words h =
+    let some = ltb-true 0 (length (split_word text).word) (kept_true (nat_lt 0 (length (split_word text).word)) (split_word text) words WrongCount h) in
+    let same = kept_if (nat_lt 0 (length (split_word text).word)) (split_word text) words WrongCount h in
+    subst (λ (w : Words). (text ≡ w.word ++ w.rest) × IsWord w.word) same
+    ((is_split text).parts, record { some = some; whole = (is_split text).whole })
+
+argument_cut : (kind : Kind) (text : List ℕ) (words : Words) → argument_in kind text ≡ Ok words → IsCut kind text words
+unfolding argument_in
+argument_cut Node text words h = let cut = word_cut text words h in record { parts = cut.0; fits = cut.1 }
+argument_cut Number text words h = let cut = word_cut text words h in record { parts = cut.0; fits = cut.1 }
+argument_cut Text text words h =
+    let whole : Words = record { word = text; rest = [] } in
+    let same : whole ≡ words = cc in
+    subst (λ (w : Words). IsCut Text text w) same (record { parts = sym (append-nil text); fits = tt })
+
+record IsFirst (kind : Kind) (rest : List ℕ) (words : Words) : Type 0 where
+  parts : rest ≡ 32 ∷ words.word ++ words.rest
+  fits : IsOfKind kind words.word
+
+first_by : (kind : Kind) (b : ℕ) (text : List ℕ) (words : Words) (space : Bool) → nat_eq b 32 ≡ space → first_argument kind (b ∷ text) ≡ Ok words
+    → IsFirst kind (b ∷ text) words
+unfolding first_argument
+first_by kind b text words true e h =
+    let cut = argument_cut kind text words (rw e at h) in
+    record { parts = ap (λ (c : ℕ). c ∷ text) (eqb-true b 32 e) ∙ ap (λ (t : List ℕ). 32 ∷ t) cut.parts; fits = cut.fits }
+first_by kind b text words false e h = let none : Err WrongCount ≡ Ok words = rw e at h in cc
+
+first_cut : (kind : Kind) (rest : List ℕ) (words : Words) → first_argument kind rest ≡ Ok words → IsFirst kind rest words
+unfolding first_argument
+first_cut kind [] words h = cc
+first_cut kind (b ∷ text) words h = first_by kind b text words _ refl h
+
+unfoldable pub AreOfKinds : List Kind → List (List ℕ) → Type 0
+AreOfKinds [] [] = ⊤
+AreOfKinds [] (argument ∷ arguments) = ⊥
+AreOfKinds (kind ∷ kinds) [] = ⊥
+AreOfKinds (kind ∷ kinds) (argument ∷ arguments) = IsOfKind kind argument × AreOfKinds kinds arguments
+
+-- arguments, a space before each
+unfoldable pub spaced : List (List ℕ) → List ℕ
+spaced [] = []
+spaced (argument ∷ arguments) = 32 ∷ argument ++ spaced arguments
+
+pub record AreCut (kinds : List Kind) (rest : List ℕ) (arguments : List (List ℕ)) : Type 0 where
+  pub parts : rest ≡ spaced arguments
+  pub fit : AreOfKinds kinds arguments
+
+pub are_cut : (kinds : List Kind) (rest : List ℕ) (arguments : List (List ℕ)) → arguments_in kinds rest ≡ Ok arguments → AreCut kinds rest arguments
+unfolding arguments_in AreOfKinds spaced
+are_cut [] [] arguments h =
+    let none : [] ≡ arguments = cc in
+    subst (λ (a : List (List ℕ)). AreCut [] [] a) none (record { parts = refl; fit = tt })
+are_cut [] (b ∷ rest) arguments h = cc
+are_cut (kind ∷ kinds) rest arguments h =
+    let words = both (first_argument kind rest) _ arguments h in
+    let more = both (arguments_in kinds words.0.rest) _ arguments words.2 in
+    let same : words.0.word ∷ more.0 ≡ arguments = cc in
+    let first = first_cut kind rest words.0 words.1 in
+    let others = are_cut kinds words.0.rest more.0 more.1 in
+    subst (λ (a : List (List ℕ)). AreCut (kind ∷ kinds) rest a) same (record {
+      parts = first.parts ∙ ap (λ (t : List ℕ). 32 ∷ words.0.word ++ t) others.parts;
+      fit = (first.fits, others.fit);
+    })
+
+-- each argument spells its value
+unfoldable pub AllSpell : List (List ℕ) → List Value → Type 0
+AllSpell [] [] = ⊤
+AllSpell [] (value ∷ values) = ⊥
+AllSpell (argument ∷ arguments) [] = ⊥
+AllSpell (argument ∷ arguments) (value ∷ values) = Spells argument value × AllSpell arguments values
+
+pub are_arguments : (arguments : List (List ℕ)) (values : List Value) → AllSpell arguments values → AreArguments (spaced arguments) values
+unfolding AllSpell spaced
+are_arguments [] [] are = no_more
+are_arguments [] (value ∷ values) are = absurd are
+are_arguments (argument ∷ arguments) [] are = absurd are
+are_arguments (argument ∷ arguments) (value ∷ values) are =
+    one_more argument (spaced arguments) value values are.0 (are_arguments arguments values are.1)
+
+digit_lacks : (b : ℕ) → is_digit b ≡ true → nat_eq b 32 ≡ false
+unfolding is_digit
+digit_lacks b h =
+    let low = leb-true 48 b (and_parts (nat_le 48 b) (nat_le b 57) h).0 in
+    ne_eqb b 32 (λ same. omega (arith, low, same))
+
+digits_lack : (word : List ℕ) → list_all is_digit word ≡ true → Lacks 32 word
+digits_lack [] h = refl
+digits_lack (b ∷ word) h =
+    let parts = and_parts (is_digit b) (list_all is_digit word) h in
+    or_from (nat_eq b 32) _ (digit_lacks b parts.0) (digits_lack word parts.1)
+
+numeral_word : (word : List ℕ) → is_numeral word ≡ true → IsWord word
+unfolding is_numeral
+numeral_word [] h = cc
+numeral_word (b ∷ word) h = record { some = omega arith; whole = digits_lack (b ∷ word) h }
+
+number_by : (word : List ℕ) (n : ℕ) (numeral : Bool) → is_numeral word ≡ numeral → number_of word ≡ Some n → IsWord word
+unfolding number_of
+number_by word n true e h = numeral_word word e
+number_by word n false e h =
+    let nothing : Option ℕ = None in
+    let none : nothing ≡ Some n = rw e at h in cc
+
+abbrev pub kind_of : Value → Kind
+kind_of (a_node name) = Node
+kind_of (a_number n) = Number
+kind_of (a_text bytes) = Text
+
+-- nothing stands behind a text
+unfoldable pub EndsWithText : List Value → Type 0
+EndsWithText [] = ⊤
+EndsWithText (a_node name ∷ values) = EndsWithText values
+EndsWithText (a_number n ∷ values) = EndsWithText values
+EndsWithText (a_text bytes ∷ values) = values ≡ []
+
+pub behind_word : (rest : List ℕ) (values : List Value) → AreArguments rest values → IsBehindWord rest
+behind_word rest values no_more = inl refl
+behind_word rest values (one_more argument more value others is are) = inr (argument ++ more, refl)
+
+nothing_behind : (rest : List ℕ) (values : List Value) → AreArguments rest values → values ≡ [] → rest ≡ []
+nothing_behind rest values no_more h = refl
+nothing_behind rest values (one_more argument more value others is are) h = cc
+
+word_read : (word rest : List ℕ) → IsWord word → IsBehindWord rest → word_in (word ++ rest) ≡ Ok (record { word = word; rest = rest })
+unfolding word_in
+word_read word rest is end = rw (split_read word rest is.whole end, lt-ltb 0 (length word) is.some) refl
+
+first_read : (argument rest : List ℕ) (value : Value) (values : List Value) → Spells argument value → EndsWithText (value ∷ values) → AreArguments rest values
+    → first_argument (kind_of value) (32 ∷ argument ++ rest) ≡ Ok (record { word = argument; rest = rest })
+unfolding first_argument argument_in EndsWithText
+first_read argument rest (a_node name) values is ends are = word_read argument rest is.1 (behind_word rest values are)
+first_read argument rest (a_number n) values is ends are = word_read argument rest (number_by argument n _ refl is) (behind_word rest values are)
+first_read argument rest (a_text bytes) values is ends are = rw (nothing_behind rest values are ends, append-nil argument) refl
+
+-- arguments that are cut so spell these values
+pub record AreRead (rest : List ℕ) (values : List Value) : Type 0 where
+  pub arguments : List (List ℕ)
+  pub read : arguments_in (map kind_of values) rest ≡ Ok arguments
+  pub spell : AllSpell arguments values
+
+more_ends : (value : Value) (values : List Value) → EndsWithText (value ∷ values) → EndsWithText values
+unfolding EndsWithText
+more_ends (a_node name) values ends = ends
+more_ends (a_number n) values ends = ends
+more_ends (a_text bytes) values ends = rw ends tt
+
+-- spelled arguments are read
+pub are_read : (rest : List ℕ) (values : List Value) → AreArguments rest values → EndsWithText values → AreRead rest values
+unfolding arguments_in AllSpell
+are_read rest values no_more ends = record { arguments = []; read = refl; spell = tt }
+are_read rest values (one_more argument more value others is are) ends =
+    let others_read = are_read more others are (more_ends value others ends) in
+    record {
+      arguments = argument ∷ others_read.arguments;
+      read = rw (first_read argument more value others is ends are, others_read.read) refl;
+      spell = (is, others_read.spell);
+    }
+
+some_number : (found : Option ℕ) (n : ℕ) → ok_or found BadNumber ≡ Ok n → found ≡ Some n
+some_number None n h = cc
+some_number (Some found) n h = cc
+
+pub number_spelled : (word : List ℕ) (n : ℕ) → number_in word ≡ Ok n → number_of word ≡ Some n
+unfolding number_in
+number_spelled word n h = some_number (number_of word) n h
+
+pub number_read : (word : List ℕ) (n : ℕ) → number_of word ≡ Some n → number_in word ≡ Ok n
+unfolding number_in
+number_read word n h = rw h refl

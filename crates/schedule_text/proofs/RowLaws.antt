@@ -1,0 +1,353 @@
+-- A row of the table of words, read: a line is read as an event exactly where it spells it and the event may follow.
+use Rattle.std.proofs.Common.{◌≡◌, ℕ, ◌^◌, ◌<◌, ◌≤◌, Bool, true, false, cond, nat_le, List, [], ◌∷◌, ◌++◌, length, map, Option, Some, Ok, Err}
+use Rattle.std.proofs.Common.{refl, sym, ap, ◌∙◌, subst, length-append, arith}
+use Rattle.std.specs.Str.{bytes_eq}
+use Rattle.std.proofs.lemmas.Bool.{le-leb, leb-true}
+use Rattle.std.proofs.lemmas.Slice.Eq.{bytes_eq-Decides}
+use Rattle.mur_base.specs.Number.{number_of}
+use Rattle.mur_config.specs.Nodes.{are_linked}
+use Rattle.mur_config.specs.declared.config.Config.{Config}
+use Rattle.mur_config.specs.declared.node.Link.{Link}
+use Rattle.schedule_text.specs.Brings.{steps_of, bytes_of as bytes_brought}
+use Rattle.schedule_text.specs.declared.event.Event.{Event}
+use Rattle.schedule_text.specs.declared.event.Event.TheVariants.{Open, Data, Hang, Deliver, Flow, Cut, Join, Crash, Arm, Start, Heal}
+use Rattle.schedule_text.specs.declared.schedule.fault.Rule.TheVariants.{BadNumber, UnknownNode, Connection}
+use Rattle.schedule_text.specs.declared.schedule.rows.TheConstants.{FLOW_LIMIT}
+use Rattle.schedule_text.specs.declared.words.Word.{Word}
+use Rattle.schedule_text.specs.declared.words.Word.TheVariants.{Open as open_word, Data as data_word, Hang as hang_word, Deliver as deliver_word, Flow as flow_word}
+use Rattle.schedule_text.specs.MayFollow.{Opens, MayFollow}
+use Rattle.schedule_text.specs.Rows.{event_in, flow_count, text_in}
+use Rattle.schedule_text.specs.Schedule.{event_of}
+use Rattle.schedule_text.specs.ScheduleFits.{FitsBehind}
+use Rattle.schedule_text.specs.ScheduleNodes.{node_in, client_node_in, takes_clients, link_in}
+use Rattle.schedule_text.specs.ScheduleOpened.{is_opened, opened_before, unopened}
+use Rattle.schedule_text.specs.ScheduleWords.{split_word, arguments_in, number_in}
+use Rattle.schedule_text.specs.Spelled.{Lacks, IsWord, AreArguments, IsLineOf, IsSpelledAs, IsSpelledBy}
+use Rattle.schedule_text.specs.Text.{bytes_of}
+use Rattle.schedule_text.specs.Words.{Value, Saying, row, said_by, word_text, kinds_of, all_words, word_among, word_named}
+use Rattle.schedule_text.specs.Words.Value.{a_node, a_number, a_text}
+use Rattle.schedule_text.proofs.ArgumentsLaws.{is_split, split_read, behind_word, AreOfKinds, are_cut, spaced, AllSpell, are_arguments, kind_of, EndsWithText, are_read}
+use Rattle.schedule_text.proofs.ArgumentsLaws.{number_spelled, number_read}
+use Rattle.schedule_text.proofs.FollowLaws.{client_node_read, link_read, opened_in, none_opens}
+use Rattle.schedule_text.proofs.Shortens.{some_text, text_shortens}
+use Rattle.schedule_text.proofs.Steps.{both, kept_if, kept_true}
+
+client_node_is : (config : Config) (name node : List ℕ) → client_node_in config name ≡ Ok node → name ≡ node
+unfolding client_node_in
+client_node_is config name node h =
+    let there = both (node_in config name) _ node h in
+    kept_if (takes_clients there.0.kind) name node UnknownNode there.2
+
+link_is : (config : Config) (from to : List ℕ) (link : Link) → link_in config from to ≡ Ok link → record { from = from; to = to } ≡ link
+unfolding link_in
+link_is config from to link h =
+    let sender = both (node_in config from) _ link h in
+    let taker = both (node_in config to) _ link sender.2 in
+    kept_if (are_linked sender.0 taker.0) (record { from = from; to = to }) link UnknownNode taker.2
+
+-- a count within the limit
+record IsCount (word : List ℕ) (count : ℕ) : Type 0 where
+  read : number_in word ≡ Ok count
+  within : count ≤ FLOW_LIMIT
+
+count_is : (word : List ℕ) (count : ℕ) → flow_count word ≡ Ok count → IsCount word count
+unfolding flow_count
+count_is word count h =
+    let number = both (number_in word) _ count h in
+    let low = leb-true number.0 FLOW_LIMIT (kept_true (nat_le number.0 FLOW_LIMIT) number.0 count BadNumber number.2) in
+    subst (λ (n : ℕ). IsCount word n) (kept_if (nat_le number.0 FLOW_LIMIT) number.0 count BadNumber number.2)
+    (record { read = number.1; within = low })
+
+is_unopened : (before : List Event) (conn : ℕ) (done : Unit {0}) (b : Bool) → is_opened before conn ≡ b → unopened before conn ≡ Ok done
+    → is_opened before conn ≡ false
+unfolding unopened
+is_unopened before conn done true e h = let none : cond true (Err Connection) (Ok tt) ≡ Ok done = rw e at h in cc
+is_unopened before conn done false e h = e
+
+is_there : (before : List Event) (conn : ℕ) (done : Unit {0}) (b : Bool) → is_opened before conn ≡ b → opened_before before conn ≡ Ok done
+    → is_opened before conn ≡ true
+unfolding opened_before
+is_there before conn done true e h = e
+is_there before conn done false e h = let none : cond false (Ok tt) (Err Connection) ≡ Ok done = rw e at h in cc
+
+text_spelled : (text bytes : List ℕ) → text_in text ≡ Ok bytes → bytes_of text ≡ Some bytes
+unfolding text_in
+text_spelled text bytes h = some_text (bytes_of text) bytes h
+
+-- the event that a word and arguments make: they say it, it fits, and it weighs no more than they
+record IsMade (config : Config) (before : List Event) (word : Word) (arguments : List (List ℕ)) (event : Event) : Type 0 where
+  values : List Value
+  said : said_by event ≡ row word values
+  spell : AllSpell arguments values
+  fits : FitsBehind config before event
+  steps : steps_of event ≤ 2 ^ 32
+  bytes : bytes_brought event ≤ length (spaced arguments)
+
+open_made : (config : Config) (before : List Event) (node number : List ℕ) (event : Event) → IsWord node
+    → event_in config before open_word (node ∷ number ∷ []) ≡ Ok event → IsMade config before open_word (node ∷ number ∷ []) event
+unfolding event_in said_by AllSpell FitsBehind steps_of bytes_brought
+open_made config before node number event word h =
+    let conn = both (number_in number) _ event h in
+    let name = both (client_node_in config node) _ event conn.2 in
+    let new = both (unopened before conn.0) _ event name.2 in
+    let same = client_node_is config node name.0 name.1 in
+    let made : Open name.0 conn.0 ≡ event = cc in
+    subst (λ (e : Event). IsMade config before open_word (node ∷ number ∷ []) e) made (record {
+      values = a_node name.0 ∷ a_number conn.0 ∷ [];
+      said = refl;
+      spell = ((same, word), (number_spelled number conn.0 conn.1, tt));
+      fits = (subst (λ (n : List ℕ). client_node_in config n ≡ Ok name.0) same name.1, is_unopened before conn.0 new.0 _ refl new.1);
+      steps = omega arith;
+      bytes = omega arith;
+    })
+
+data_made : (config : Config) (before : List Event) (number text : List ℕ) (event : Event)
+    → event_in config before data_word (number ∷ text ∷ []) ≡ Ok event → IsMade config before data_word (number ∷ text ∷ []) event
+unfolding event_in said_by AllSpell spaced FitsBehind steps_of bytes_brought
+data_made config before number text event h =
+    let conn = both (number_in number) _ event h in
+    let there = both (opened_before before conn.0) _ event conn.2 in
+    let bytes = both (text_in text) _ event there.2 in
+    let made : Data conn.0 bytes.0 ≡ event = cc in
+    subst (λ (e : Event). IsMade config before data_word (number ∷ text ∷ []) e) made (record {
+      values = a_number conn.0 ∷ a_text bytes.0 ∷ [];
+      said = refl;
+      spell = (number_spelled number conn.0 conn.1, (text_spelled text bytes.0 bytes.1, tt));
+      fits = is_there before conn.0 there.0 _ refl there.1;
+      steps = omega arith;
+      bytes = omega (arith, text_shortens text bytes.0 bytes.1, length-append number (32 ∷ text ++ []), length-append text []);
+    })
+
+hang_made : (config : Config) (before : List Event) (number : List ℕ) (event : Event)
+    → event_in config before hang_word (number ∷ []) ≡ Ok event → IsMade config before hang_word (number ∷ []) event
+unfolding event_in said_by AllSpell FitsBehind steps_of bytes_brought
+hang_made config before number event h =
+    let conn = both (number_in number) _ event h in
+    let there = both (opened_before before conn.0) _ event conn.2 in
+    let made : Hang conn.0 ≡ event = cc in
+    subst (λ (e : Event). IsMade config before hang_word (number ∷ []) e) made (record {
+      values = a_number conn.0 ∷ [];
+      said = refl;
+      spell = (number_spelled number conn.0 conn.1, tt);
+      fits = is_there before conn.0 there.0 _ refl there.1;
+      steps = omega arith;
+      bytes = omega arith;
+    })
+
+deliver_made : (config : Config) (before : List Event) (from to : List ℕ) (event : Event) → IsWord from → IsWord to
+    → event_in config before deliver_word (from ∷ to ∷ []) ≡ Ok event → IsMade config before deliver_word (from ∷ to ∷ []) event
+unfolding event_in said_by AllSpell FitsBehind steps_of bytes_brought
+deliver_made config before from to event sender taker h =
+    let link = both (link_in config from to) _ event h in
+    let same = link_is config from to link.0 link.1 in
+    let made : Deliver link.0.from link.0.to ≡ event = cc in
+    let named : Deliver from to ≡ event = ap (λ (l : Link). Deliver l.from l.to) same ∙ made in
+    subst (λ (e : Event). IsMade config before deliver_word (from ∷ to ∷ []) e) named (record {
+      values = a_node from ∷ a_node to ∷ [];
+      said = refl;
+      spell = ((refl, sender), ((refl, taker), tt));
+      fits = link.1 ∙ ap Ok (sym same);
+      steps = omega arith;
+      bytes = omega arith;
+    })
+
+flow_made : (config : Config) (before : List Event) (number : List ℕ) (event : Event)
+    → event_in config before flow_word (number ∷ []) ≡ Ok event → IsMade config before flow_word (number ∷ []) event
+unfolding event_in said_by AllSpell FitsBehind steps_of bytes_brought
+flow_made config before number event h =
+    let count = both (flow_count number) _ event h in
+    let is = count_is number count.0 count.1 in
+    let made : Flow count.0 ≡ event = cc in
+    subst (λ (e : Event). IsMade config before flow_word (number ∷ []) e) made (record {
+      values = a_number count.0 ∷ [];
+      said = refl;
+      spell = (number_spelled number count.0 is.read, tt);
+      fits = is.within;
+      steps = omega (arith, is.within);
+      bytes = omega arith;
+    })
+
+event_made : (config : Config) (before : List Event) (word : Word) (arguments : List (List ℕ)) (event : Event) → AreOfKinds (kinds_of word) arguments
+    → event_in config before word arguments ≡ Ok event → IsMade config before word arguments event
+unfolding kinds_of AreOfKinds
+event_made config before open_word [] event fit h = absurd fit
+event_made config before open_word (node ∷ []) event fit h = absurd fit.1
+event_made config before open_word (node ∷ number ∷ []) event fit h = open_made config before node number event fit.0 h
+event_made config before open_word (node ∷ number ∷ more ∷ others) event fit h = absurd fit.1.1
+event_made config before data_word [] event fit h = absurd fit
+event_made config before data_word (number ∷ []) event fit h = absurd fit.1
+event_made config before data_word (number ∷ text ∷ []) event fit h = data_made config before number text event h
+event_made config before data_word (number ∷ text ∷ more ∷ others) event fit h = absurd fit.1.1
+event_made config before hang_word [] event fit h = absurd fit
+event_made config before hang_word (number ∷ []) event fit h = hang_made config before number event h
+event_made config before hang_word (number ∷ more ∷ others) event fit h = absurd fit.1
+event_made config before deliver_word [] event fit h = absurd fit
+event_made config before deliver_word (from ∷ []) event fit h = absurd fit.1
+event_made config before deliver_word (from ∷ to ∷ []) event fit h = deliver_made config before from to event fit.0 fit.1.0 h
+event_made config before deliver_word (from ∷ to ∷ more ∷ others) event fit h = absurd fit.1.1
+event_made config before flow_word [] event fit h = absurd fit
+event_made config before flow_word (number ∷ []) event fit h = flow_made config before number event h
+event_made config before flow_word (number ∷ more ∷ others) event fit h = absurd fit.1
+
+among_by : (words : List Word) (word : Word) (text : List ℕ) (found : Word) → (word_among words text ≡ Ok found → text ≡ word_text found)
+    → (is : Bool) → bytes_eq text (word_text word) ≡ is → word_among (word ∷ words) text ≡ Ok found → text ≡ word_text found
+unfolding word_among
+among_by words word text found later true e h =
+    let same : word ≡ found = (let there : Ok word ≡ Ok found = rw e at h in cc) in
+    (bytes_eq-Decides text (word_text word)).0 e ∙ ap word_text same
+among_by words word text found later false e h = later (rw e at h)
+
+among_is : (words : List Word) (text : List ℕ) (found : Word) → word_among words text ≡ Ok found → text ≡ word_text found
+unfolding word_among
+among_is [] text found h = cc
+among_is (word ∷ words) text found h = among_by words word text found (among_is words text found) _ refl h
+
+named_is : (text : List ℕ) (found : Word) → word_named text ≡ Ok found → text ≡ word_text found
+unfolding word_named
+named_is text found h = among_is all_words text found h
+
+-- an event that is read from a line: it is spelled there, it fits those before it, and weighs no more than the line
+pub record IsReadFrom (config : Config) (before : List Event) (line : List ℕ) (event : Event) : Type 0 where
+  pub spelled : IsSpelledBy line event
+  pub fits : FitsBehind config before event
+  pub steps : steps_of event ≤ 2 ^ 32
+  pub bytes : bytes_brought event ≤ length line
+
+pub event_is : (config : Config) (before : List Event) (line : List ℕ) (event : Event) → event_of config before line ≡ Ok event
+    → IsReadFrom config before line event
+unfolding event_of
+event_is config before line event h =
+    let word = both (word_named (split_word line).word) _ event h in
+    let arguments = both (arguments_in (kinds_of word.0) (split_word line).rest) _ event word.2 in
+    let cut = are_cut (kinds_of word.0) (split_word line).rest arguments.0 arguments.1 in
+    let made = event_made config before word.0 arguments.0 event cut.fit arguments.2 in
+    let spelled : IsLineOf line (record { word = word.0; values = made.values }) =
+    record {
+      rest = (split_word line).rest;
+      spelled =
+          (is_split line).parts
+          ∙ ap (λ (w : List ℕ). w ++ (split_word line).rest) (named_is (split_word line).word word.0 word.1);
+      arguments =
+          subst (λ (rest : List ℕ). AreArguments rest made.values) (sym cut.parts) (are_arguments arguments.0 made.values made.spell);
+    } in
+    record {
+      spelled = subst (λ (s : Option Saying). IsSpelledAs line s) (sym made.said) spelled;
+      fits = made.fits;
+      steps = made.steps;
+      bytes =
+          omega (arith, made.bytes, ap length cut.parts, ap length (is_split line).parts, length-append (split_word line).word (split_word line).rest);
+    }
+
+word_lacks : (word : Word) → Lacks 32 (word_text word)
+unfolding word_text
+word_lacks open_word = refl
+word_lacks data_word = refl
+word_lacks hang_word = refl
+word_lacks deliver_word = refl
+word_lacks flow_word = refl
+
+is_named : (word : Word) → word_named (word_text word) ≡ Ok word
+unfolding word_named word_among word_text
+is_named open_word = refl
+is_named data_word = refl
+is_named hang_word = refl
+is_named deliver_word = refl
+is_named flow_word = refl
+
+-- the arguments of a line, whatever events stand before it
+record HasArguments (line : List ℕ) (saying : Saying) : Type 0 where
+  arguments : List (List ℕ)
+  spell : AllSpell arguments saying.values
+  read : (config : Config) (before : List Event) → event_of config before line ≡ event_in config before saying.word arguments
+
+arguments_of : (line : List ℕ) (saying : Saying) → IsLineOf line saying → EndsWithText saying.values → map kind_of saying.values ≡ kinds_of saying.word
+    → HasArguments line saying
+unfolding event_of
+arguments_of line saying is ends kinds =
+    let split = ap split_word is.spelled
+    ∙ split_read (word_text saying.word) is.rest (word_lacks saying.word) (behind_word is.rest saying.values is.arguments) in
+    let cut = are_read is.rest saying.values is.arguments ends in
+    let read : arguments_in (kinds_of saying.word) is.rest ≡ Ok cut.arguments = ap (λ k. arguments_in k is.rest) (sym kinds) ∙ cut.read in
+    record { arguments = cut.arguments; spell = cut.spell; read = λ config before. rw (split, is_named saying.word, read) refl }
+
+there_read : (before : List Event) (conn : ℕ) → Opens conn before → opened_before before conn ≡ Ok tt
+unfolding opened_before
+there_read before conn h = rw (opened_in conn before h) refl
+
+new_read : (before : List Event) (conn : ℕ) → (Opens conn before → ⊥) → unopened before conn ≡ Ok tt
+unfolding unopened
+new_read before conn h = rw (none_opens conn before h) refl
+
+text_read : (text bytes : List ℕ) → bytes_of text ≡ Some bytes → text_in text ≡ Ok bytes
+unfolding text_in
+text_read text bytes h = rw h refl
+
+count_read : (word : List ℕ) (count : ℕ) → number_of word ≡ Some count → count < 2 ^ 32 → flow_count word ≡ Ok count
+unfolding flow_count
+count_read word count h low = rw (number_read word count h, le-leb count FLOW_LIMIT (omega (arith, low))) refl
+
+open_read : (config : Config) (before : List Event) (arguments : List (List ℕ)) (node : List ℕ) (conn : ℕ)
+    → AllSpell arguments (a_node node ∷ a_number conn ∷ []) → MayFollow config before (Open node conn)
+    → event_in config before open_word arguments ≡ Ok (Open node conn)
+unfolding MayFollow event_in AllSpell
+open_read config before [] node conn is may = absurd is
+open_read config before (name ∷ []) node conn is may = absurd is.1
+open_read config before (name ∷ number ∷ []) node conn is may =
+    let there = ap (client_node_in config) is.0.0 ∙ client_node_read config node may.0 in
+    rw (number_read number conn is.1.0, there, new_read before conn may.1) refl
+open_read config before (name ∷ number ∷ more ∷ others) node conn is may = absurd is.1.1
+
+data_read : (config : Config) (before : List Event) (arguments : List (List ℕ)) (conn : ℕ) (bytes : List ℕ)
+    → AllSpell arguments (a_number conn ∷ a_text bytes ∷ []) → MayFollow config before (Data conn bytes)
+    → event_in config before data_word arguments ≡ Ok (Data conn bytes)
+unfolding MayFollow event_in AllSpell
+data_read config before [] conn bytes is may = absurd is
+data_read config before (number ∷ []) conn bytes is may = absurd is.1
+data_read config before (number ∷ text ∷ []) conn bytes is may =
+    rw (number_read number conn is.0, there_read before conn may, text_read text bytes is.1.0) refl
+data_read config before (number ∷ text ∷ more ∷ others) conn bytes is may = absurd is.1.1
+
+hang_read : (config : Config) (before : List Event) (arguments : List (List ℕ)) (conn : ℕ) → AllSpell arguments (a_number conn ∷ [])
+    → MayFollow config before (Hang conn) → event_in config before hang_word arguments ≡ Ok (Hang conn)
+unfolding MayFollow event_in AllSpell
+hang_read config before [] conn is may = absurd is
+hang_read config before (number ∷ []) conn is may = rw (number_read number conn is.0, there_read before conn may) refl
+hang_read config before (number ∷ more ∷ others) conn is may = absurd is.1
+
+deliver_read : (config : Config) (before : List Event) (arguments : List (List ℕ)) (from to : List ℕ) → AllSpell arguments (a_node from ∷ a_node to ∷ [])
+    → MayFollow config before (Deliver from to) → event_in config before deliver_word arguments ≡ Ok (Deliver from to)
+unfolding MayFollow event_in AllSpell
+deliver_read config before [] from to is may = absurd is
+deliver_read config before (one ∷ []) from to is may = absurd is.1
+deliver_read config before (one ∷ other ∷ []) from to is may =
+    let link = ap (λ (f : List ℕ). link_in config f other) is.0.0 ∙ ap (link_in config from) is.1.0.0 ∙ link_read config from to may in
+    rw link refl
+deliver_read config before (one ∷ other ∷ more ∷ others) from to is may = absurd is.1.1
+
+flow_read : (config : Config) (before : List Event) (arguments : List (List ℕ)) (count : ℕ) → AllSpell arguments (a_number count ∷ [])
+    → MayFollow config before (Flow count) → event_in config before flow_word arguments ≡ Ok (Flow count)
+unfolding MayFollow event_in AllSpell
+flow_read config before [] count is may = absurd is
+flow_read config before (number ∷ []) count is may = rw (count_read number count is.0 may) refl
+flow_read config before (number ∷ more ∷ others) count is may = absurd is.1
+
+-- a line that spells an event which may follow is read as it
+pub event_read : (config : Config) (before : List Event) (line : List ℕ) (event : Event) → IsSpelledBy line event → MayFollow config before event
+    → event_of config before line ≡ Ok event
+unfolding said_by kinds_of EndsWithText
+event_read config before line (Open node conn) is may =
+    let has = arguments_of line _ is tt refl in has.read config before ∙ open_read config before has.arguments node conn has.spell may
+event_read config before line (Data conn bytes) is may =
+    let has = arguments_of line _ is refl refl in has.read config before ∙ data_read config before has.arguments conn bytes has.spell may
+event_read config before line (Hang conn) is may =
+    let has = arguments_of line _ is tt refl in has.read config before ∙ hang_read config before has.arguments conn has.spell may
+event_read config before line (Deliver from to) is may =
+    let has = arguments_of line _ is tt refl in has.read config before ∙ deliver_read config before has.arguments from to has.spell may
+event_read config before line (Flow count) is may =
+    let has = arguments_of line _ is tt refl in has.read config before ∙ flow_read config before has.arguments count has.spell may
+event_read config before line (Cut one other to from) is may = absurd is
+event_read config before line (Join one other) is may = absurd is
+event_read config before line (Crash node image kept) is may = absurd is
+event_read config before line (Arm node call image kept) is may = absurd is
+event_read config before line (Start node) is may = absurd is
+event_read config before line Heal is may = absurd is
