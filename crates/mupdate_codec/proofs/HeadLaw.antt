@@ -228,3 +228,8 @@ head_skips bytes n e text room =
   where
     regroup : (text pad : List ℕ) → (bytes ++ (text ++ pad)) ++ 13 ∷ 10 ∷ [] ≡ (bytes ++ text) ++ (pad ++ 13 ∷ 10 ∷ [])
     regroup text pad = simp append_assoc
+
+pub head_skips_at : (bytes : List ℕ) (n : ℕ) (rest : List ℕ) → head.at bytes ≡ Ok (n, rest) → length rest ≡ 0 → (text : List ℕ) → length text ≤ n
+    → goes_on (bytes ++ text) ≡ true
+head_skips_at bytes n [] e none text room = head_skips bytes n e text room
+head_skips_at bytes n (c ∷ rest) e none text room = absurd (omega arith)

@@ -19,3 +19,6 @@ pub mod ReadsLaw
 pub mod AsksLaw
 pub mod CutLaw
 pub mod HeadLaw
+pub mod CutSteps
+pub mod PlaceLaw
+pub mod FaultSteps

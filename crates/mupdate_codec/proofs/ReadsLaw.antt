@@ -83,6 +83,14 @@ module _ {A : Type 0} {starts : ℕ → Bool} (line : Texts → Form A) (law : L
       let s = exact_stop stop e in
       more_found (line exact).part law.good bytes (s.was ∙ ap Err (let zero : s.left ≡ 0 = omega (arith, s.least, none) in zero))
 
+  pub err_waits : (stop : ℕ) → (line told).part.at bytes ≡ Err stop → IsBegun L bytes → stop ≡ 0
+  err_waits stop e b =
+      let s = exact_stop stop e in
+      s.at_end (by_err (sym s.was ∙ more_only (line exact).part law.good bytes b))
+    where
+      by_err : {m n : ℕ} → (let r : Result (A × List ℕ) ℕ = Err m in r ≡ Err n) → m ≡ n
+      by_err e = cc
+
   pub err_not_begun : (stop : ℕ) → (line told).part.at bytes ≡ Err stop → 0 < stop → ¬ IsBegun L bytes
   err_not_begun stop e some =
       let s = exact_stop stop e in

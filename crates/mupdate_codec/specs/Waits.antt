@@ -1,5 +1,5 @@
 -- Whether bytes begin a line, by its reading; and what is known of a line that has begun.
-use Rattle.std.specs.Prelude.{◌≡◌, ℕ, ◌<◌, ◌≤◌, Bool, true, false, ◌==◌, List, [], ◌∷◌, ◌++◌, length, Result, Ok, Err}
+use Rattle.std.specs.Prelude.{◌≡◌, ℕ, ◌<◌, ◌≤◌, Bool, true, false, ◌==◌, List, [], ◌∷◌, ◌++◌, length, take, Option, None, Some, Result, Ok, Err}
 use Rattle.mur_base.specs.Ascii.{space, lf}
 use Rattle.grammar.specs.Part.{Part, ◌then◌, ◌sp◌, give, map, byte}
 use Rattle.grammar.specs.Words.{word}
@@ -8,6 +8,7 @@ use Rattle.mupdate_codec.specs.declared.word.Verb.TheVariants as verb
 use Rattle.mupdate_codec.specs.declared.limits.TheConstants.{STRING_LIMIT}
 use Rattle.mupdate_codec.specs.Arguments.{exact}
 use Rattle.mupdate_codec.specs.Commands.{command_line, verb_form}
+use Rattle.mupdate_codec.specs.Cut.{EndsLine}
 use Rattle.mupdate_codec.specs.Strings.{header, name, location}
 use Rattle.mupdate_codec.specs.Tags.{tags}
 
@@ -37,3 +38,14 @@ before_any it = nowhere
 -- the front of a line up to the end of the header of a literal that may be any text
 unfoldable pub head : Part ℕ
 head = word tags sp λ _. verb_form.part then λ verb. before_any verb then λ _. byte space then λ _. header 0 STRING_LIMIT
+
+-- an LF has come behind a line that has begun
+pub record Ended (bytes : List ℕ) : Type 0 where
+  pub front : List ℕ
+  pub parts : bytes ≡ front ++ lf ∷ []
+  pub holds : Holds front 0
+
+-- so many bytes of the piece are taken, and the line, if there is one, ends with the last of them
+abbrev pub TakesSome : List ℕ → List ℕ → Option (List ℕ) → ℕ → List ℕ → Type 0
+TakesSome begun piece (Some line) taken after = (taken ≤ length piece) × (line ≡ begun ++ take taken piece) × EndsLine line × (after ≡ [])
+TakesSome begun piece None taken after = (taken ≤ length piece) × (after ≡ begun ++ take taken piece)

@@ -53,9 +53,9 @@ impl Kind for Servers {
 
 /// The texts of a location.
 #[derive(Clone, Copy)]
-struct Texts<'a> {
-    server: &'a [u8],
-    partition: &'a [u8],
+pub struct Texts<'a> {
+    pub server: &'a [u8],
+    pub partition: &'a [u8],
 }
 
 /// Reads a location in quotes.
@@ -101,8 +101,9 @@ fn sized_texts(bytes: &[u8]) -> Result<(Texts<'_>, &[u8]), Stop>
     texts_of(size.min(LOCATION_MOST).max(LOCATION_LEAST), rest)
 }
 
+/// Reads the texts of a location.
 #[tactic(auto, unfolding(crate::specs::Strings::location))]
-fn location_texts(bytes: &[u8]) -> Result<(Texts<'_>, &[u8]), Stop>
+pub fn location_texts(bytes: &[u8]) -> Result<(Texts<'_>, &[u8]), Stop>
     ensures reads { Finds (λ x. (located x.0.server.now x.0.partition.now, x.1.now)) result (location.at bytes.now) }
     ensures named { IfOk result (λ x. short_name_fault x.0.server.now ≡ None) }
 {

@@ -37,8 +37,9 @@ fn sized_name(bytes: &[u8]) -> Result<(&[u8], &[u8]), Stop>
     Ok((text, rest))
 }
 
+/// Reads the text of a name.
 #[tactic(auto, unfolding(crate::specs::Strings::name))]
-fn name_text(bytes: &[u8]) -> Result<(&[u8], &[u8]), Stop>
+pub fn name_text(bytes: &[u8]) -> Result<(&[u8], &[u8]), Stop>
     ensures reads { Finds (λ x. (x.0.now, x.1.now)) result (name.at bytes.now) }
     ensures named { IfOk result (λ x. mail_name_fault x.0.now ≡ None) }
 {

@@ -105,7 +105,11 @@ pub fn read_command(
     ensures place { (at : ℕ) → result ≡ Err (LineFault.Bad at) → IsTold command_line bytes.now at }
 {
     match tagged_command(alloc, bytes) {
-        Ok(((tag, command), rest)) => Ok((tag, command, bytes.len() - rest.len())),
+        Ok((tagged, rest)) => {
+            let used = bytes.len() - rest.len();
+            let (tag, command) = tagged;
+            Ok((tag, command, used))
+        }
         Err(ReadError::Memory) => Err(LineFault::Memory),
         Err(ReadError::Stopped(stop)) => Err(fault_of(stop, bytes.len())),
     }
@@ -127,7 +131,11 @@ pub fn read_response(
     ensures place { (at : ℕ) → result ≡ Err (LineFault.Bad at) → IsTold response_line bytes.now at }
 {
     match tagged_response(alloc, bytes) {
-        Ok(((tag, response), rest)) => Ok((tag, response, bytes.len() - rest.len())),
+        Ok((tagged, rest)) => {
+            let used = bytes.len() - rest.len();
+            let (tag, response) = tagged;
+            Ok((tag, response, used))
+        }
         Err(ReadError::Memory) => Err(LineFault::Memory),
         Err(ReadError::Stopped(stop)) => Err(fault_of(stop, bytes.len())),
     }
