@@ -1,7 +1,9 @@
 // What is read of bytes, and printed of what was read.
 use crate::field::{bytes_of, put_field};
 use case_table::Fault;
-use mupdate_codec::{LineFault, Tag, ask_of, print_command, print_response, read_command, read_response};
+use mupdate_codec::{
+    LineFault, Tag, ask_of, print_command, print_response, read_command, read_response,
+};
 use mur_base::{Bytes, Memory, put_number};
 use std::alloc::Global;
 

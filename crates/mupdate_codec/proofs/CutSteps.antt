@@ -83,15 +83,18 @@ drop_length piece taken = length-drop taken piece
 
 pub takes_then : (begun piece mid : List ℕ) (taken more : ℕ) (line : Option (List ℕ)) (after : List ℕ) → taken ≤ length piece → mid ≡ begun ++ take taken piece
     → TakesSome mid (drop taken piece) line more after → TakesSome begun piece line (taken + more) after
-takes_then begun piece mid taken more None after within is t =
-    (omega (arith, t.0, drop_length piece taken),
-    t.1 ∙ ap (λ s. s ++ take more (drop taken piece)) is ∙ append_assoc begun (take taken piece) (take more (drop taken piece))
-    ∙ ap (λ s. begun ++ s) (sym (take_more piece taken more within)))
-takes_then begun piece mid taken more (Some line) after within is t =
-    (omega (arith, t.0, drop_length piece taken),
-    t.1 ∙ ap (λ s. s ++ take more (drop taken piece)) is ∙ append_assoc begun (take taken piece) (take more (drop taken piece))
-    ∙ ap (λ s. begun ++ s) (sym (take_more piece taken more within)),
-    t.2, t.3)
+takes_then begun piece mid taken more None after within is t = (
+  omega (arith, t.0, drop_length piece taken),
+  t.1 ∙ ap (λ s. s ++ take more (drop taken piece)) is ∙ append_assoc begun (take taken piece) (take more (drop taken piece))
+      ∙ ap (λ s. begun ++ s) (sym (take_more piece taken more within)),
+)
+takes_then begun piece mid taken more (Some line) after within is t = (
+  omega (arith, t.0, drop_length piece taken),
+  t.1 ∙ ap (λ s. s ++ take more (drop taken piece)) is ∙ append_assoc begun (take taken piece) (take more (drop taken piece))
+      ∙ ap (λ s. begun ++ s) (sym (take_more piece taken more within)),
+  t.2,
+  t.3,
+)
 
 pub takes_none : (begun piece : List ℕ) → TakesSome begun piece None 0 begun
 takes_none begun piece = (omega arith, sym (append-nil begun))

@@ -71,9 +71,11 @@ sound_then {A} {B} p f s r = record { read = λ bytes rest b e. by_went bytes re
     by_went : (bytes rest : List ℕ) (b : B) → Went (p.at bytes) (λ a. (f a).at) (b, rest) → (front : List ℕ) × (bytes ≡ front ++ rest) × (p then f).lang front b
     by_went bytes rest b w =
         let one = s.read bytes w.rest w.value w.was in
-        let two = (r w.value).read w.rest rest b w.gave in
-        (one.0 ++ two.0, one.1 ∙ ap (λ x. one.0 ++ x) two.1 ∙ sym (append_assoc one.0 two.0 rest),
-        record { front = one.0; back = two.0; between = w.value; parts = refl; begins = one.2; goes_on = two.2 })
+        let two = (r w.value).read w.rest rest b w.gave in (
+          one.0 ++ two.0,
+          one.1 ∙ ap (λ x. one.0 ++ x) two.1 ∙ sym (append_assoc one.0 two.0 rest),
+          record { front = one.0; back = two.0; between = w.value; parts = refl; begins = one.2; goes_on = two.2 },
+        )
 
 sound_give : {A : Type 0} (a : A) → Sound (give a)
 sound_give a = record { read = λ bytes rest b e. let same = ok_parts e in ([], same.1, (refl, sym same.0)) }
@@ -145,19 +147,21 @@ module _ (size : List ℕ) (n : ℕ) (sized : (header 0 STRING_LIMIT).lang size 
       let rest : List ℕ = size ++ text in
       let behind_name : List ℕ = z.front ++ 32 ∷ rest in
       let all : before ++ 32 ∷ rest ≡ 32 ∷ (w.front ++ 32 ∷ behind_name) =
-      ap (λ s. s ++ 32 ∷ rest) first ∙ ap (λ s. 32 ∷ s) (append_assoc w.front (32 ∷ z.front) (32 ∷ rest)) in
-      (command.Activate w.between z.between text,
-      subst (λ s. (arguments exact verb.Activate).part.lang s (command.Activate w.between z.between text)) (sym all)
-      (spell_map (λ x. command.Activate x.0 x.1.0 x.1.1) (a_mailbox exact).part (32 ∷ (w.front ++ 32 ∷ behind_name)) (w.between, (z.between, text))
-      (spell_byte 32 (name_form spaced (location_form spaced string_form)).part (w.front ++ 32 ∷ behind_name) (w.between, (z.between, text))
-      (spell_spaced name_form (location_form spaced string_form) w.front behind_name w.between (z.between, text) w.begins
-      (spell_spaced location_form string_form z.front rest z.between text z.begins (spell_any size text n sized e))))))
+      ap (λ s. s ++ 32 ∷ rest) first ∙ ap (λ s. 32 ∷ s) (append_assoc w.front (32 ∷ z.front) (32 ∷ rest)) in (
+        command.Activate w.between z.between text,
+        subst (λ s. (arguments exact verb.Activate).part.lang s (command.Activate w.between z.between text)) (sym all)
+            (spell_map (λ x. command.Activate x.0 x.1.0 x.1.1) (a_mailbox exact).part (32 ∷ (w.front ++ 32 ∷ behind_name)) (w.between, (z.between, text))
+            (spell_byte 32 (name_form spaced (location_form spaced string_form)).part (w.front ++ 32 ∷ behind_name) (w.between, (z.between, text))
+            (spell_spaced name_form (location_form spaced string_form) w.front behind_name w.between (z.between, text) w.begins
+            (spell_spaced location_form string_form z.front rest z.between text z.begins (spell_any size text n sized e))))),
+      )
   with_before verb.List before o l text e =
-      let all : before ++ 32 ∷ (size ++ text) ≡ 32 ∷ (size ++ text) = ap (λ s. s ++ 32 ∷ (size ++ text)) l.0 in
-      (command.List (Some text),
-      subst (λ s. (arguments exact verb.List).part.lang s (command.List (Some text))) (sym all)
-      (spell_map command.List maybe_string.part (32 ∷ (size ++ text)) (Some text)
-      (inl (spell_byte 32 (map Some string) (size ++ text) (Some text) (spell_map Some string (size ++ text) text (spell_any size text n sized e))))))
+      let all : before ++ 32 ∷ (size ++ text) ≡ 32 ∷ (size ++ text) = ap (λ s. s ++ 32 ∷ (size ++ text)) l.0 in (
+        command.List (Some text),
+        subst (λ s. (arguments exact verb.List).part.lang s (command.List (Some text))) (sym all)
+            (spell_map command.List maybe_string.part (32 ∷ (size ++ text)) (Some text)
+            (inl (spell_byte 32 (map Some string) (size ++ text) (Some text) (spell_map Some string (size ++ text) text (spell_any size text n sized e))))),
+      )
   with_before verb.Deactivate before o l text e = absurd l
   with_before verb.Delete before o l text e = absurd l
   with_before verb.Find before o l text e = absurd l

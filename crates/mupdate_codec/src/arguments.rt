@@ -40,10 +40,7 @@ pub fn a_name_of(alloc: Global, bytes: &[u8]) -> Result<(MailName, &[u8]), ReadE
 }
 
 /// Reads a name and a location.
-pub fn a_place_of(
-    alloc: Global,
-    bytes: &[u8],
-) -> Result<((MailName, Location), &[u8]), ReadError>
+pub fn a_place_of(alloc: Global, bytes: &[u8]) -> Result<((MailName, Location), &[u8]), ReadError>
     ensures { Gives (λ x. (x.0, x.1.now)) result ((a_place told).part.at bytes.now) }
 {
     let rest = byte_of(b' ', bytes)?;

@@ -122,10 +122,7 @@ impl Begun {
             return Ok(None);
         }
         self.literal_left = 0;
-        Ok(Some(mem::replace(
-            &mut self.bytes,
-            Bytes::new(self.alloc),
-        )))
+        Ok(Some(mem::replace(&mut self.bytes, Bytes::new(self.alloc))))
     }
 
     /// Takes bytes up to the next LF, and gives the line that ends there, if one does.

@@ -81,7 +81,10 @@ fn texts_of(size: usize, bytes: &[u8]) -> Result<(Texts<'_>, &[u8]), Stop>
     ensures named { IfOk result (λ x. short_name_fault x.0.server.now ≡ None) }
 {
     let servers = Servers {
-        least: size.saturating_sub(1).saturating_sub(SHORT_NAME_LIMIT).max(1),
+        least: size
+            .saturating_sub(1)
+            .saturating_sub(SHORT_NAME_LIMIT)
+            .max(1),
         most: size.saturating_sub(2).min(SHORT_NAME_LIMIT),
     };
     let (server, rest) = word_of(&servers, bytes)?;
@@ -140,10 +143,7 @@ pub fn location_of(alloc: Global, bytes: &[u8]) -> Result<(Location, &[u8]), Rea
     ensures { Gives (λ x. (x.0, x.1.now)) result (told.locations.part.at bytes.now) }
 {
     match location_texts(bytes) {
-        Ok((texts, rest)) => Ok((
-            made_location(alloc, texts.server, texts.partition)?,
-            rest,
-        )),
+        Ok((texts, rest)) => Ok((made_location(alloc, texts.server, texts.partition)?, rest)),
         Err(stop) => Err(ReadError::Stopped(told_stop(alloc, stop, bytes)?)),
     }
 }

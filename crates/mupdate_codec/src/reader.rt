@@ -45,10 +45,7 @@ fn response_tag_of(alloc: Global, bytes: &[u8]) -> Result<(Tag, &[u8]), ReadErro
 
 /// Reads a command under its tag.
 #[tactic(auto, unfolding(crate::specs::Commands::command_line))]
-fn tagged_command(
-    alloc: Global,
-    bytes: &[u8],
-) -> Result<((Tag, MCommand), &[u8]), ReadError>
+fn tagged_command(alloc: Global, bytes: &[u8]) -> Result<((Tag, MCommand), &[u8]), ReadError>
     ensures { Gives (λ x. (x.0, x.1.now)) result ((command_line told).part.at bytes.now) }
 {
     let (tag, rest) = command_tag_of(alloc, bytes)?;
@@ -62,10 +59,7 @@ fn tagged_command(
 
 /// Reads a response under its tag.
 #[tactic(auto, unfolding(crate::specs::Responses::response_line))]
-fn tagged_response(
-    alloc: Global,
-    bytes: &[u8],
-) -> Result<((Tag, MResponse), &[u8]), ReadError>
+fn tagged_response(alloc: Global, bytes: &[u8]) -> Result<((Tag, MResponse), &[u8]), ReadError>
     ensures { Gives (λ x. (x.0, x.1.now)) result ((response_line told).part.at bytes.now) }
 {
     let (tag, rest) = response_tag_of(alloc, bytes)?;
@@ -90,10 +84,7 @@ fn fault_of(stop: Stop, length: usize) -> LineFault
 }
 
 /// Reads the command that the bytes begin with, and says how many bytes its line has (RFC 3656, 4).
-pub fn read_command(
-    alloc: Global,
-    bytes: &[u8],
-) -> Result<(Tag, MCommand, usize), LineFault>
+pub fn read_command(alloc: Global, bytes: &[u8]) -> Result<(Tag, MCommand, usize), LineFault>
     ensures within { IfOk result (λ x. x.2 ≤ length bytes.now) }
     ensures line { IfOk result (λ x. IsCommandLine (take x.2 bytes.now) (x.0, x.1)) }
     // Each line is read, whatever follows.
@@ -116,10 +107,7 @@ pub fn read_command(
 }
 
 /// Reads the response that the bytes begin with, and says how many bytes its line has (RFC 3656, 3).
-pub fn read_response(
-    alloc: Global,
-    bytes: &[u8],
-) -> Result<(Tag, MResponse, usize), LineFault>
+pub fn read_response(alloc: Global, bytes: &[u8]) -> Result<(Tag, MResponse, usize), LineFault>
     ensures within { IfOk result (λ x. x.2 ≤ length bytes.now) }
     ensures line { IfOk result (λ x. IsResponseLine (take x.2 bytes.now) (x.0, x.1)) }
     // Each line is read, whatever follows.
