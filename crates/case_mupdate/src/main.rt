@@ -4,7 +4,6 @@
 //! A case is a line `KIND | GIVEN => WANTED`. A file's first lines, which begin with `#`, say what stands on either side.
 #![tactic(auto)]
 
-mod cuts;
 mod field;
 mod lines;
 
@@ -14,7 +13,7 @@ use field::bytes_of;
 use mur_base::Bytes;
 use std::alloc::Global;
 
-/// Cases of lines, of connections and of tags.
+/// Cases of lines and of tags.
 struct Lines;
 
 impl Cases for Lines {
@@ -37,7 +36,6 @@ fn put_found(alloc: Global, kind: &str, given: &str, out: &mut Bytes) -> Result<
         "command" => lines::put_command(alloc, given, out),
         "response" => lines::put_response(alloc, given, out),
         "ask" => lines::put_ask(alloc, given, out),
-        "cut" => cuts::put_cut(alloc, given, out),
         _ => Err(Fault::Unreadable("no such kind")),
     }
 }

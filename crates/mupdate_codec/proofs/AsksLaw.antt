@@ -1,6 +1,6 @@
 -- A tag tells the command that it was made of.
 use Rattle.std.proofs.Common.{◌≡◌, ℕ, ◌+◌, ◌-◌, ◌^◌, ◌<◌, List, [], ◌∷◌, ◌++◌, Bool, true, false, ◌==◌, ◌&&◌, nat_eq, nat_lt, cond, Option, None, Some, refl, sym, ap, ◌∙◌}
-use Rattle.std.proofs.Common.{append-nil, append_assoc, arith, not, length, take, drop, get_or, add-one, take-suc, drop-cons, suc, ap₂}
+use Rattle.std.proofs.Common.{append-nil, append_assoc, arith, not, length, take, drop, get_or, add-one, take-suc, drop-cons, suc, ap₂, length-drop}
 use Rattle.std.proofs.lemmas.Bool.Decides.{nat_tests}
 use Rattle.std.specs.List.{list_all}
 use Rattle.mur_base.specs.Number.{is_digit, is_numeral, number_of, digits_behind}
@@ -69,3 +69,11 @@ module _ (text : List ℕ) (i : ℕ) (within : i < length text) where
 
   pub split_on : nat_eq (get_or text i 0) 45 ≡ false → split_dash (take i text) (drop i text) ≡ split_dash (take (i + 1) text) (drop (i + 1) text)
   split_on e = split_at false e
+
+take_all : (text : List ℕ) → take (length text) text ≡ text
+take_all [] = refl
+take_all (c ∷ text) = ap (λ s. c ∷ s) (take_all text)
+
+-- what follows so many bytes
+pub rest_is : (text : List ℕ) (n : ℕ) → take (length text - n) (drop n text) ≡ drop n text
+rest_is text n = ap (λ m. take m (drop n text)) (sym (length-drop n text)) ∙ take_all (drop n text)
