@@ -1,0 +1,5 @@
+use Rattle.mupdate_codec.proofs.PlaceLaw.{short_is_node}
+use Rattle.mupdate_codec.proofs.location.quoted_texts.Goals as goal
+
+pub returns-clause-named : goal.returns-clause-named
+returns-clause-named c = short_is_node c.in_ok-server.server.now c.in_ok-server.ensures.whole

@@ -1,0 +1,33 @@
+-- The tags between the nodes of a cluster: that of a client's command is the number of its connection, `-`, and its own number in it.
+use Rattle.std.specs.Prelude.{◌≡◌, ℕ, ◌==◌, List, [], ◌∷◌, ◌++◌, Option, None, Some, if◌then◌else◌}
+use Rattle.mur_base.specs.Ascii.{dash}
+use Rattle.mur_base.specs.Number.{number_of}
+use Rattle.mur_base.specs.declared.point.AskId.{AskId}
+use Rattle.grammar.specs.Numbers.{decimal_text}
+use Rattle.mupdate_codec.specs.declared.tag.Tag.{Tag}
+use Rattle.mupdate_codec.specs.declared.tag.Tag.TheVariants.{Star, Text}
+
+abbrev pub ask_text : AskId → List ℕ
+ask_text ask = decimal_text ask.conn ++ dash ∷ decimal_text ask.command
+
+unfoldable pub tag_of : AskId → Tag
+tag_of ask = Text (ask_text ask)
+
+-- the texts before and behind the first `-`, where one stands behind this text
+unfoldable pub split_dash : List ℕ → List ℕ → Option (List ℕ × List ℕ)
+split_dash front [] = None
+split_dash front (b ∷ text) = if b == dash then Some (front, text) else split_dash (front ++ b ∷ []) text
+
+-- two numbers, where both are
+abbrev pub ask_by : Option ℕ → Option ℕ → Option AskId
+ask_by (Some conn) (Some command) = Some (record { conn = conn; command = command })
+ask_by conn command = None
+
+abbrev pub ask_in : Option (List ℕ × List ℕ) → Option AskId
+ask_in None = None
+ask_in (Some parts) = ask_by (number_of parts.0) (number_of parts.1)
+
+-- the client's command that a tag tells
+unfoldable pub ask_of : Tag → Option AskId
+ask_of Star = None
+ask_of (Text text) = ask_in (split_dash [] text)

@@ -1,0 +1,11 @@
+pub mod Characters
+pub mod Sizes
+pub mod Names
+pub mod Strings
+pub mod Tags
+pub mod Arguments
+pub mod Commands
+pub mod Responses
+pub mod Told
+pub mod Answers
+pub mod Asks

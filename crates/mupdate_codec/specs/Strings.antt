@@ -1,0 +1,107 @@
+-- Strings, names and locations as arguments (RFC 3656, 2.2; RFC 5234, 3.6).
+use Rattle.std.specs.Prelude.{ℕ, ◌-◌, Bool, ◌&&◌, ◌==◌, nat_le, List, [], ◌∷◌, ◌++◌, length, max, min, if◌then◌else◌}
+use Rattle.std.specs.List.{list_all}
+use Rattle.mur_base.specs.Ascii.{lf, cr, quote, plus, backslash, open_brace, close_brace}
+use Rattle.mur_base.specs.Names.{is_short_name_byte}
+use Rattle.mur_base.specs.declared.home.Location.{Location}
+use Rattle.mur_base.specs.declared.limits.TheConstants.{SHORT_NAME_LIMIT}
+use Rattle.grammar.specs.Part.{Part, ◌then◌, map, byte, choose, exactly, optional, turns}
+use Rattle.grammar.specs.Exact.{any}
+use Rattle.grammar.specs.Forms.{Form}
+use Rattle.grammar.specs.Words.{Words, word}
+use Rattle.grammar.specs.Runs.{run_upto}
+use Rattle.grammar.specs.Numbers.{decimal_text}
+use Rattle.mupdate_codec.specs.Characters.{is_plain, is_special, is_no_quote}
+use Rattle.mupdate_codec.specs.Sizes.{size, run_within, clamped}
+use Rattle.mupdate_codec.specs.Names.{quoted_names, names_of}
+use Rattle.mupdate_codec.specs.declared.limits.TheConstants.{STRING_LIMIT, NAME_BYTES, LOCATION_LEAST, LOCATION_MOST}
+
+-- one character of a quoted string, behind a text
+unfoldable pub quoted_char : List ℕ → Part (List ℕ)
+quoted_char so_far =
+    choose (λ c. c == backslash) (byte backslash then λ _. map (λ char. so_far ++ char) (exactly is_special 1))
+    (map (λ char. so_far ++ char) (exactly is_plain 1))
+
+-- what stands between quotes
+abbrev pub in_quotes : {A : Type 0} → Part A → Part A
+in_quotes p = byte quote then λ _. p then λ a. map (λ _. a) (byte quote)
+
+-- quoted = DQUOTE *QUOTED-CHAR DQUOTE, of at most 65,536 characters
+abbrev pub quoted : Part (List ℕ)
+quoted = in_quotes (turns is_no_quote quoted_char STRING_LIMIT [])
+
+-- "{" number ["+"] "}" CRLF: how many octets follow, which come unasked in either form
+abbrev pub header : ℕ → ℕ → Part ℕ
+header least most =
+    byte open_brace then λ _. size least most then λ n. optional plus then λ _. byte close_brace then λ _. byte cr then λ _. map (λ _. n) (byte lf)
+
+-- literal = "{" number ["+"] "}" CRLF *OCTET
+abbrev pub literal : Part (List ℕ)
+literal = header 0 STRING_LIMIT then λ n. exactly any n
+
+-- the one between quotes, or the other
+abbrev pub either_form : {A : Type 0} → Part A → Part A → Part A
+either_form one other = choose (λ c. c == quote) one other
+
+-- string = quoted / literal
+unfoldable pub string : Part (List ℕ)
+string = either_form quoted literal
+
+-- a mailbox name as a string
+unfoldable pub name : Part (List ℕ)
+name = either_form (in_quotes (word quoted_names)) (header 1 NAME_BYTES then λ n. word (names_of n))
+
+-- a location as a string: server "!" partition
+
+abbrev pub bang : ℕ
+bang = 33
+
+abbrev pub located : List ℕ → List ℕ → Location
+located server partition = record { server = server; partition = partition }
+
+-- the name of a server or of a partition
+abbrev pub short_names : Words
+short_names = run_upto SHORT_NAME_LIMIT is_short_name_byte
+
+abbrev pub quoted_location : Part Location
+quoted_location = in_quotes (word short_names then λ server. byte bang then λ _. map (located server) (word short_names))
+
+-- servers in a location of so many bytes, in which a partition has room
+abbrev pub servers_of : ℕ → Words
+servers_of n = run_within (max 1 (n - 1 - SHORT_NAME_LIMIT)) (min SHORT_NAME_LIMIT (n - 2)) is_short_name_byte
+
+-- a location of so many bytes
+abbrev pub location_of : ℕ → Part Location
+location_of n = word (servers_of n) then λ server. byte bang then λ _. map (located server) (exactly is_short_name_byte (n - 1 - length server))
+
+unfoldable pub location : Part Location
+location = either_form quoted_location (header LOCATION_LEAST LOCATION_MOST then λ n. location_of (clamped LOCATION_LEAST LOCATION_MOST n))
+
+-- How they are printed: in quotes where all characters stand there for themselves and are few, else as a literal.
+
+unfoldable pub is_quotable : List ℕ → Bool
+is_quotable text = nat_le (length text) 1024 && list_all is_plain text
+
+-- a string in quotes, without escapes
+abbrev pub quoted_text : List ℕ → List ℕ
+quoted_text text = quote ∷ (text ++ quote ∷ [])
+
+unfoldable pub literal_text : List ℕ → List ℕ
+literal_text text = open_brace ∷ (decimal_text (length text) ++ (plus ∷ close_brace ∷ cr ∷ lf ∷ text))
+
+unfoldable pub string_text : List ℕ → List ℕ
+string_text text = if is_quotable text then quoted_text text else literal_text text
+
+-- the text of a location
+abbrev pub location_text : Location → List ℕ
+location_text it = it.server ++ bang ∷ it.partition
+
+-- the arguments as forms; a location has few characters, all of which stand in quotes for themselves
+abbrev pub string_form : Form (List ℕ)
+string_form = record { part = string; text = string_text }
+
+abbrev pub name_form : Form (List ℕ)
+name_form = record { part = name; text = string_text }
+
+abbrev pub location_form : Form Location
+location_form = record { part = location; text = λ it. quoted_text (location_text it) }
