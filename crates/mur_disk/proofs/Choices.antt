@@ -1,5 +1,6 @@
 -- Each choice gives an image that the pending calls may leave.
-use Rattle.std.proofs.Common.{◌≡◌, ℕ, zero, suc, ◌+◌, ◌-◌, ◌/◌, ◌%◌, ◌≤◌, min, max, List, [], ◌∷◌, ◌++◌, length, take, drop, replicate, refl, sym, ◌∙◌, ap, arith, length-append, length-drop, length-take}
+use Rattle.std.proofs.Common.{◌≡◌, ℕ, zero, suc, ◌+◌, ◌-◌, ◌/◌, ◌%◌, ◌≤◌, min, max, List, [], ◌∷◌, ◌++◌, length, take, drop, replicate, refl, sym, ◌∙◌, ap}
+use Rattle.std.proofs.Common.{arith, length-append, length-drop, length-take}
 use Rattle.std.proofs.lemmas.List.{length-take-le, drop_at, drop-drop, take-take, take-append-le, take_all, take_min, length-replicate}
 use Rattle.mur_disk.specs.Calls.{Call, Wrote, CutTo, padded, written_over}
 use Rattle.mur_disk.specs.Crash.{Torn, CutShort, IsTornBy, IsImage}
@@ -16,11 +17,17 @@ module _ (at : ℕ) (old : List ℕ) where
   long_front = length-take-le at (padded at old) (omega (arith, long_padded))
 
   pub long_written : (bytes : List ℕ) → length (written_over at bytes old) ≡ max (length old) (at + length bytes)
-  long_written bytes = omega (arith, long_front, length-append front (bytes ++ drop (at + length bytes) old), length-append bytes (drop (at + length bytes) old), length-drop (at + length bytes) old)
+  long_written bytes = omega (
+    arith,
+    long_front,
+    length-append front (bytes ++ drop (at + length bytes) old),
+    length-append bytes (drop (at + length bytes) old),
+    length-drop (at + length bytes) old,
+  )
 
-  -- what lies behind a write of at most n bytes
-  pub behind_written : (bytes : List ℕ) (n : ℕ) → length bytes ≤ n → drop (at + n) (written_over at bytes old) ≡ drop (at + n) old
-  behind_written bytes n fewer =
+  -- what lies after a write of at most n bytes
+  pub after_written : (bytes : List ℕ) (n : ℕ) → length bytes ≤ n → drop (at + n) (written_over at bytes old) ≡ drop (at + n) old
+  after_written bytes n fewer =
       sym (drop-drop n at (written_over at bytes old))
       ∙ ap (drop n) (drop_at front (bytes ++ drop (at + length bytes) old) at long_front)
       ∙ ap (λ (m : ℕ). drop m (bytes ++ drop (at + length bytes) old)) parts
@@ -43,7 +50,7 @@ module _ (at : ℕ) (old : List ℕ) where
         ∙ take-take (min at (length old)) at (padded at old) (omega arith)
         ∙ take-append-le (min at (length old)) old (replicate (at - length old) 0) (omega arith)
         ∙ take_min at old;
-    after = behind_written bytes n fewer;
+    after = after_written bytes n fewer;
     no_shorter = omega (arith, long_written bytes);
     no_longer = omega (arith, long_written bytes, fewer);
   }
@@ -65,9 +72,11 @@ call_torn zero (Wrote at bytes) old = unwritten at (length bytes) old
 call_torn zero (CutTo len) old = uncut len old
 call_torn (suc zero) (Wrote at bytes) old = over_torn at old bytes (length bytes) (omega arith)
 call_torn (suc zero) (CutTo len) old = is_cut len old
-call_torn (suc (suc zero)) (Wrote at bytes) old = over_torn at old (take (length bytes / 2) bytes) (length bytes) (omega (arith, length-take (length bytes / 2) bytes))
+call_torn (suc (suc zero)) (Wrote at bytes) old = over_torn at old (take (length bytes / 2) bytes) (length bytes)
+    (omega (arith, length-take (length bytes / 2) bytes))
 call_torn (suc (suc zero)) (CutTo len) old = uncut len old
-call_torn (suc (suc (suc n))) (Wrote at bytes) old = over_torn at old (replicate (length bytes) 255) (length bytes) (omega (arith, length-replicate {A = ℕ} (length bytes) 255))
+call_torn (suc (suc (suc n))) (Wrote at bytes) old = over_torn at old (replicate (length bytes) 255) (length bytes)
+    (omega (arith, length-replicate {A = ℕ} (length bytes) 255))
 call_torn (suc (suc (suc n))) (CutTo len) old = uncut len old
 
 pub chosen_is_image : (choice : ℕ) (calls : List Call) (synced : List ℕ) → IsImage synced calls (chosen choice calls synced)

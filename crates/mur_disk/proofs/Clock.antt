@@ -5,7 +5,7 @@ use Rattle.mur_disk.specs.Moments.{Elapses}
 use Rattle.mur_disk.specs.Memory.{MayLeave, LeftAtOne, LeftSince}
 use Rattle.mur_disk.specs.declared.held.Held.{Held}
 
--- one moment more, behind the others
+-- one moment more, after the others
 at_last : (moments : List Held) (last : Held) (image : List ℕ) → LeftAtOne (moments ++ last ∷ []) image → LeftAtOne moments image ⊎ MayLeave last image
 at_last [] last image (inl left) = inr left
 at_last [] last image (inr left) = elim left [ ]

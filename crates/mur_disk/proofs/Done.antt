@@ -62,7 +62,8 @@ pub reads_image : (held : Held) → ReadsDone held → MayLeave held held.bytes
 reads_image held reads = subst (MayLeave held) (sym reads) (done_is_image (calls_of held) (synced_of held))
 
 -- a call that wasn't made tears nothing
-pub no_write_tears : (at : ℕ) (bytes : List ℕ) (held : Held) (image : List ℕ) → MayLeave held image → (before : List ℕ) × MayLeave held before × Torn at (length bytes) before image
+pub no_write_tears : (at : ℕ) (bytes : List ℕ) (held : Held) (image : List ℕ) → MayLeave held image
+    → (before : List ℕ) × MayLeave held before × Torn at (length bytes) before image
 no_write_tears at bytes held image left = (image, left, call_torn 0 (Wrote at bytes) image)
 
 pub no_cut_tears : (len : ℕ) (held : Held) (image : List ℕ) → MayLeave held image → (before : List ℕ) × MayLeave held before × CutShort len before image

@@ -1,9 +1,10 @@
 -- A call that is undone leaves what was there before it.
-use Rattle.std.proofs.Common.{◌≡◌, ◌⊎◌, inl, inr, ℕ, zero, suc, ◌+◌, ◌-◌, ◌≤◌, ◌<◌, min, List, [], ◌∷◌, ◌++◌, length, take, drop, replicate, map, refl, sym, ◌∙◌, ap, arith, length-drop, length-take, take-append-drop}
+use Rattle.std.proofs.Common.{◌≡◌, ◌⊎◌, inl, inr, ℕ, zero, suc, ◌+◌, ◌-◌, ◌≤◌, ◌<◌, min, List, [], ◌∷◌, ◌++◌, length, take, drop, replicate, map, refl, sym}
+use Rattle.std.proofs.Common.{◌∙◌, ap, arith, length-drop, length-take, take-append-drop}
 use Rattle.std.proofs.lemmas.List.{take-append-le, take-take, take_all, take_min, drop_all, drop_at, drop-drop, append-nil, length-take-le, map-append}
 use Rattle.mur_disk.specs.Calls.{Wrote, CutTo, written_over, done_call}
 use Rattle.mur_disk.specs.Undo.{call_of, undone_call, undone}
-use Rattle.mur_disk.proofs.Choices.{long_written, behind_written}
+use Rattle.mur_disk.proofs.Choices.{long_written, after_written}
 use Rattle.mur_disk.specs.Memory.{DidCall}
 use Rattle.mur_disk.specs.declared.held.Held.{Held}
 use Rattle.mur_disk.specs.declared.held.Pending.{Pending}
@@ -11,7 +12,8 @@ use Rattle.mur_disk.specs.declared.held.Pending.TheVariants.{Write, Cut}
 
 -- within the length there are no zeros between
 pub over_within : (at : ℕ) (bytes old : List ℕ) → at ≤ length old → written_over at bytes old ≡ take at old ++ (bytes ++ drop (at + length bytes) old)
-over_within at bytes old within = ap (λ (l : List ℕ). l ++ (bytes ++ drop (at + length bytes) old)) (take-append-le at old (replicate (at - length old) 0) within)
+over_within at bytes old within = ap (λ (l : List ℕ). l ++ (bytes ++ drop (at + length bytes) old))
+    (take-append-le at old (replicate (at - length old) 0) within)
 
 le_or_lt : (m n : ℕ) → (m ≤ n) ⊎ (n < m)
 le_or_lt zero n = inl (omega arith)
@@ -44,12 +46,12 @@ module _ (at : ℕ) (piece old : List ℕ) (within : at ≤ length old) where
       ∙ take-append-le at (take at old) (piece ++ drop (at + length piece) old) (omega (arith, within, length-take at old))
       ∙ take-take at at old (omega arith)
 
-  behind_kept : drop (at + length replaced) kept ≡ drop (at + length piece) old
-  behind_kept = elim (le_or_lt (at + length piece) (length old)) [
+  rest_kept : drop (at + length replaced) kept ≡ drop (at + length piece) old
+  rest_kept = elim (le_or_lt (at + length piece) (length old)) [
     | inl inside ↦
         let same : at + length replaced ≡ at + length piece = omega (arith, long_replaced, inside) in
         let whole : kept ≡ new = take_all (length old) new (omega (arith, long_written at old piece, inside)) in
-        ap (λ (n : ℕ). drop n kept) same ∙ ap (drop (at + length piece)) whole ∙ behind_written at old piece (length piece) (omega arith)
+        ap (λ (n : ℕ). drop n kept) same ∙ ap (drop (at + length piece)) whole ∙ after_written at old piece (length piece) (omega arith)
     | inr past ↦
         drop_all (at + length replaced) kept (omega (arith, long_replaced, long_kept, past, within))
         ∙ sym (drop_all (at + length piece) old (omega (arith, past)))
@@ -59,7 +61,7 @@ module _ (at : ℕ) (piece old : List ℕ) (within : at ≤ length old) where
   write_undone =
       over_within at replaced kept (omega (arith, long_kept, within))
       ∙ ap (λ (l : List ℕ). l ++ (replaced ++ drop (at + length replaced) kept)) front_kept
-      ∙ ap (λ (l : List ℕ). take at old ++ (replaced ++ l)) behind_kept
+      ∙ ap (λ (l : List ℕ). take at old ++ (replaced ++ l)) rest_kept
       ∙ ap (λ (l : List ℕ). take at old ++ (replaced ++ l)) (sym (drop-drop (length piece) at old))
       ∙ ap (λ (l : List ℕ). take at old ++ l) (take-append-drop (length piece) (drop at old))
       ∙ take-append-drop at old
@@ -99,7 +101,8 @@ did_cut len lost old new within is bytes pending =
     called (Cut len lost) old new bytes pending (ap (λ (l : List ℕ). written_over len l (take len old.bytes)) is ∙ cut_undone len old.bytes within)
 
 pub did_write : (at : ℕ) (piece replaced : List ℕ) (len : ℕ) (old new : Held) → at ≤ length old.bytes → len ≡ length old.bytes
-    → replaced ≡ take (length piece) (drop at old.bytes) → new.bytes ≡ written_over at piece old.bytes → new.pending ≡ old.pending ++ Write at piece replaced len ∷ []
+    → replaced ≡ take (length piece) (drop at old.bytes) → new.bytes ≡ written_over at piece old.bytes
+    → new.pending ≡ old.pending ++ Write at piece replaced len ∷ []
     → DidCall (Wrote at piece) old new
 did_write at piece replaced len old new within long is bytes pending =
     called (Write at piece replaced len) old new bytes pending
@@ -111,7 +114,8 @@ did_write at piece replaced len old new within long is bytes pending =
 pub grown_over : (at over : ℕ) (piece old : List ℕ) → at ≤ length old → over ≡ min (length piece) (length old - at)
     → take at (old ++ drop over piece) ++ (take over piece ++ drop (at + length (take over piece)) (old ++ drop over piece)) ≡ written_over at piece old
 grown_over at over piece old within is =
-    ap (λ (l : List ℕ). l ++ (take over piece ++ drop (at + length (take over piece)) (old ++ drop over piece))) (take-append-le at old (drop over piece) within)
+    ap (λ (l : List ℕ). l ++ (take over piece ++ drop (at + length (take over piece)) (old ++ drop over piece)))
+    (take-append-le at old (drop over piece) within)
     ∙ ap (λ (l : List ℕ). take at old ++ l) rest
     ∙ sym (over_within at piece old within)
   where
@@ -137,6 +141,7 @@ grown_over at over piece old within is =
     ]
 
 -- what a write replaces, as far as the bytes reach
-pub replaced_is : (at over : ℕ) (piece old : List ℕ) → at ≤ length old → over ≡ min (length piece) (length old - at) → take over (drop at old) ≡ take (length piece) (drop at old)
+pub replaced_is : (at over : ℕ) (piece old : List ℕ) → at ≤ length old → over ≡ min (length piece) (length old - at)
+    → take over (drop at old) ≡ take (length piece) (drop at old)
 replaced_is at over piece old within is =
     ap (λ (n : ℕ). take n (drop at old)) (is ∙ ap (min (length piece)) (sym (length-drop at old))) ∙ take_min (length piece) (drop at old)

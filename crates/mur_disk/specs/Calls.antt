@@ -10,7 +10,7 @@ pub data Call : Type 0 where
 abbrev pub Holds : List ℕ → ℕ → List ℕ → List ℕ → Type 0
 Holds old at bytes new = new ≡ take at old ++ bytes ++ drop (at + length bytes) old
 
--- zeros up to a place behind the end
+-- zeros up to a place past the end
 abbrev pub padded : ℕ → List ℕ → List ℕ
 padded at old = old ++ replicate (at - length old) 0
 

@@ -13,7 +13,7 @@ chosen_call (suc (suc zero)) (CutTo len) old = old
 chosen_call (suc (suc (suc n))) (CutTo len) old = old
 
 -- The image of a choice: the first pending call has its lowest two bits, the next the two above them. A choice has 64 bits, so
--- the calls behind the thirty-second have done nothing.
+-- the calls after the thirty-second have done nothing.
 abbrev pub chosen : ℕ → List Call → List ℕ → List ℕ
 chosen choice [] image = image
 chosen choice (call ∷ calls) image = chosen (choice / 4) calls (chosen_call (choice % 4) call image)

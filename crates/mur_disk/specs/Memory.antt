@@ -3,6 +3,7 @@ use Rattle.std.specs.Prelude.{◌≡◌, ◌⊎◌, ℕ, List, [], ◌∷◌, �
 use mathlib.Core.Logic.{inl, inr}
 use Rattle.mur_disk.specs.Calls.{Call, done_call, done}
 use Rattle.mur_disk.specs.Crash.{IsImage}
+use Rattle.mur_disk.specs.Moments.{Elapses}
 use Rattle.mur_disk.specs.Undo.{call_of, undone}
 use Rattle.mur_disk.specs.declared.held.Held.{Held}
 
@@ -49,3 +50,7 @@ none_left (held ∷ past) image left = none_left past image left
 pub only_now : (past : List Held) (held : Held) (image : List ℕ) → LeftSince past held (length past) image → MayLeave held image
 only_now past held image (inl then) = absurd (none_left past image then)
 only_now past held image (inr now) = now
+
+-- a disk with these earlier moments has gone on to those, as the clock of a disk does
+abbrev pub GoesOn : (past : List Held) (old : Held) (moments : List Held) (new : Held) → Type 0
+GoesOn past old moments new = Elapses (length past) (length moments) (LeftSince past old) (LeftSince moments new) (MayLeave new)

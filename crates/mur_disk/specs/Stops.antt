@@ -29,7 +29,8 @@ pub record IsArmed (inner : MemDisk) (calls : ℕ) (disk : StopDisk) : Type 0 wh
 abbrev pub DidDevice : {T : Type 0} → (passed inside : Held → Held → Type 0) (old new : StopDisk) → Result T DiskFault → Type 0
 DidDevice passed inside old new (Ok _) = passed (held_of old.inner) (held_of new.inner)
 DidDevice passed inside old new (Err Failed) =
-    (StaysStopped old.countdown new.countdown × (held_of new.inner ≡ held_of old.inner)) ⊎ (StopsInside old.countdown new.countdown × inside (held_of old.inner) (held_of new.inner))
+    (StaysStopped old.countdown new.countdown × (held_of new.inner ≡ held_of old.inner))
+    ⊎ (StopsInside old.countdown new.countdown × inside (held_of old.inner) (held_of new.inner))
 DidDevice passed inside old new (Err Memory) = held_of new.inner ≡ held_of old.inner
 
 abbrev pub Unchanged : Held → Held → Type 0

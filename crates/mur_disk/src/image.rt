@@ -44,7 +44,7 @@ impl Image {
         &self.bytes
     }
 
-    // Puts bytes behind the end; for want of memory the image stays as it was.
+    // Puts bytes after the end; for want of memory the image stays as it was.
     pub(crate) fn extend(&mut self, bytes: &[u8]) -> Result<(), Memory>
         ensures ok { OnOk result (self.new ≡ self.old ++ bytes.now) }
         ensures err { OnErr result (self.new ≡ self.old) }

@@ -1,7 +1,7 @@
 // A disk in memory.
 ghost use Rattle.std.specs.Prelude.{◌≡◌, ◌<◌, ◌^◌, length, true};
 ghost use Rattle.std.proofs.Common.{refl, inr};
-ghost use Rattle.mur_disk.specs.Memory.{synced_of, calls_of, ReadsDone, MayLeave, LeftSince, only_now};
+ghost use Rattle.mur_disk.specs.Memory.{synced_of, calls_of, ReadsDone, MayLeave, LeftSince, GoesOn, only_now};
 
 use crate::disk::Disk;
 use crate::fault::DiskFault;
@@ -28,7 +28,6 @@ impl MemDisk {
     ghost use Rattle.std.specs.Prelude.{OnOk, OnErr};
     ghost use Rattle.mur_disk.specs.Choice.{chosen};
     ghost use Rattle.mur_disk.specs.Crash.{NoMore, Only};
-    ghost use Rattle.mur_disk.specs.Moments.{Elapses};
     ghost use Rattle.mur_disk.specs.Memory.{IsStill};
     ghost use Rattle.mur_disk.specs.Disks.{held_of};
 
@@ -47,7 +46,7 @@ impl MemDisk {
     ///
     /// The first pending call has the lowest two bits of the choice, the next call the next two. A write has for 0 written
     /// nothing, for 1 all, for 2 the first half of its bytes, rounded down, and for 3 as many bytes 0xFF. A cut has cut for 1,
-    /// else not. Calls behind the thirty-second have done nothing.
+    /// else not. Calls after the thirty-second have done nothing.
     #[tactic(auto, using(crate::proofs::Done::leaves_still))]
     pub fn crash(&mut self, choice: u64) -> Result<(), Memory>
         ensures ok { OnOk result (IsStill (chosen choice (calls_of (held_of self.old)) (synced_of (held_of self.old))) (held_of self.new)) }
@@ -67,7 +66,7 @@ impl MemDisk {
         ensures seen { self.new.held.bytes ≡ self.old.held.bytes }
         ensures durable { Only self.old.held.bytes (MayLeave self.new.held) }
         ensures crash { NoMore (MayLeave self.old.held) (MayLeave self.new.held) }
-        ensures time { Elapses (length self.old.past.moments) (length self.new.past.moments) (LeftSince self.old.past.moments self.old.held) (LeftSince self.new.past.moments self.new.held) (MayLeave self.new.held) }
+        ensures time { GoesOn self.old.past.moments self.old.held self.new.past.moments self.new.held }
     {
         let past = self.past.then(&self.held);
         self.held.settle(self.alloc);
@@ -79,7 +78,6 @@ impl Disk for MemDisk {
     ghost use Rattle.std.specs.Prelude.{◌+◌, ◌≤◌, max, take, drop, IfOk, OnOk, OnErr, IsOk};
     ghost use Rattle.mur_disk.specs.Calls.{Wrote, CutTo, Holds};
     ghost use Rattle.mur_disk.specs.Crash.{IsTornBy, Follows, NoMore, Only};
-    ghost use Rattle.mur_disk.specs.Moments.{Elapses};
     ghost use Rattle.mur_disk.specs.Counts.{HasDiskCause};
     ghost use Rattle.mur_disk.specs.Memory.{DidCall, IsStill};
 
@@ -112,7 +110,7 @@ impl Disk for MemDisk {
         ensures size { length self.new.held.bytes ≡ length self.old.held.bytes }
         ensures seen { self.new.held.bytes ≡ self.old.held.bytes }
         ensures crash { NoMore (MayLeave self.old.held) (MayLeave self.new.held) }
-        ensures time { Elapses (length self.old.past.moments) (length self.new.past.moments) (LeftSince self.old.past.moments self.old.held) (LeftSince self.new.past.moments self.new.held) (MayLeave self.new.held) }
+        ensures time { GoesOn self.old.past.moments self.old.held self.new.past.moments self.new.held }
         ensures ok { IsOk result }
         ensures same { self.new ≡ self.old }
     {
@@ -125,7 +123,7 @@ impl Disk for MemDisk {
         ensures size { length self.new.held.bytes ≡ length self.old.held.bytes }
         ensures seen { self.new.held.bytes ≡ self.old.held.bytes }
         ensures crash { NoMore (MayLeave self.old.held) (MayLeave self.new.held) }
-        ensures time { Elapses (length self.old.past.moments) (length self.new.past.moments) (LeftSince self.old.past.moments self.old.held) (LeftSince self.new.past.moments self.new.held) (MayLeave self.new.held) }
+        ensures time { GoesOn self.old.past.moments self.old.held self.new.past.moments self.new.held }
         ensures ok { IsOk result }
         ensures same { self.new ≡ self.old }
     {
@@ -140,7 +138,7 @@ impl Disk for MemDisk {
         ensures written { OnOk result (Holds self.old.held.bytes at piece.now self.new.held.bytes) }
         ensures size { OnOk result (length self.new.held.bytes ≡ max (length self.old.held.bytes) (at + length piece.now)) }
         ensures crash { Follows (IsTornBy (Wrote at piece.now)) (MayLeave self.old.held) (MayLeave self.new.held) }
-        ensures time { Elapses (length self.old.past.moments) (length self.new.past.moments) (LeftSince self.old.past.moments self.old.held) (LeftSince self.new.past.moments self.new.held) (MayLeave self.new.held) }
+        ensures time { GoesOn self.old.past.moments self.old.held self.new.past.moments self.new.held }
         ensures cause { HasDiskCause 0 0 result }
 
         // Exactly this call is pending from now on; for want of memory nothing changes.
@@ -158,7 +156,7 @@ impl Disk for MemDisk {
         ensures cut { OnOk result (self.new.held.bytes ≡ take len self.old.held.bytes) }
         ensures size { OnOk result (length self.new.held.bytes ≡ len) }
         ensures crash { Follows (IsTornBy (CutTo len)) (MayLeave self.old.held) (MayLeave self.new.held) }
-        ensures time { Elapses (length self.old.past.moments) (length self.new.past.moments) (LeftSince self.old.past.moments self.old.held) (LeftSince self.new.past.moments self.new.held) (MayLeave self.new.held) }
+        ensures time { GoesOn self.old.past.moments self.old.held self.new.past.moments self.new.held }
         ensures cause { HasDiskCause 0 0 result }
 
         // Exactly this call is pending from now on; for want of memory nothing changes.

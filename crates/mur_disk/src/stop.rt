@@ -5,8 +5,7 @@ ghost use Rattle.mur_disk.specs.Calls.{Wrote, CutTo, Holds};
 ghost use Rattle.mur_disk.specs.Countdowns.{DidCount};
 ghost use Rattle.mur_disk.specs.Counts.{HasDiskCause};
 ghost use Rattle.mur_disk.specs.Crash.{IsTornBy, Follows, NoMore, Only};
-ghost use Rattle.mur_disk.specs.Memory.{DidCall, MayLeave, LeftSince, only_now};
-ghost use Rattle.mur_disk.specs.Moments.{Elapses};
+ghost use Rattle.mur_disk.specs.Memory.{DidCall, MayLeave, LeftSince, GoesOn, only_now};
 ghost use Rattle.mur_disk.specs.Stops.{inner_of, has_stopped, IsArmed, DidDevice, Unchanged, WasSynced};
 
 use crate::countdown::Countdown;
@@ -83,7 +82,7 @@ impl Disk for StopDisk {
         ensures size { length self.new.inner.held.bytes ≡ length self.old.inner.held.bytes }
         ensures seen { self.new.inner.held.bytes ≡ self.old.inner.held.bytes }
         ensures crash { NoMore (MayLeave self.old.inner.held) (MayLeave self.new.inner.held) }
-        ensures time { Elapses (length self.old.inner.past.moments) (length self.new.inner.past.moments) (LeftSince self.old.inner.past.moments self.old.inner.held) (LeftSince self.new.inner.past.moments self.new.inner.held) (MayLeave self.new.inner.held) }
+        ensures time { GoesOn self.old.inner.past.moments self.old.inner.held self.new.inner.past.moments self.new.inner.held }
         ensures cause { HasDiskCause self.old.countdown.faults self.new.countdown.faults result }
         ensures stopped { IsErr result ↔ IsTrue self.old.countdown.stopped }
         ensures inner { self.new.inner ≡ self.old.inner }
@@ -103,7 +102,7 @@ impl Disk for StopDisk {
         ensures size { length self.new.inner.held.bytes ≡ length self.old.inner.held.bytes }
         ensures seen { self.new.inner.held.bytes ≡ self.old.inner.held.bytes }
         ensures crash { NoMore (MayLeave self.old.inner.held) (MayLeave self.new.inner.held) }
-        ensures time { Elapses (length self.old.inner.past.moments) (length self.new.inner.past.moments) (LeftSince self.old.inner.past.moments self.old.inner.held) (LeftSince self.new.inner.past.moments self.new.inner.held) (MayLeave self.new.inner.held) }
+        ensures time { GoesOn self.old.inner.past.moments self.old.inner.held self.new.inner.past.moments self.new.inner.held }
         ensures cause { HasDiskCause self.old.countdown.faults self.new.countdown.faults result }
         ensures stopped { IsErr result ↔ IsTrue self.old.countdown.stopped }
         ensures inner { self.new.inner ≡ self.old.inner }
@@ -123,7 +122,7 @@ impl Disk for StopDisk {
         ensures written { OnOk result (Holds self.old.inner.held.bytes at piece.now self.new.inner.held.bytes) }
         ensures size { OnOk result (length self.new.inner.held.bytes ≡ max (length self.old.inner.held.bytes) (at + length piece.now)) }
         ensures crash { Follows (IsTornBy (Wrote at piece.now)) (MayLeave self.old.inner.held) (MayLeave self.new.inner.held) }
-        ensures time { Elapses (length self.old.inner.past.moments) (length self.new.inner.past.moments) (LeftSince self.old.inner.past.moments self.old.inner.held) (LeftSince self.new.inner.past.moments self.new.inner.held) (MayLeave self.new.inner.held) }
+        ensures time { GoesOn self.old.inner.past.moments self.old.inner.held self.new.inner.past.moments self.new.inner.held }
         ensures cause { HasDiskCause self.old.countdown.faults self.new.countdown.faults result }
 
         ensures counts { DidCount self.old.countdown self.new.countdown result }
@@ -148,7 +147,7 @@ impl Disk for StopDisk {
         ensures cut { OnOk result (self.new.inner.held.bytes ≡ take len self.old.inner.held.bytes) }
         ensures size { OnOk result (length self.new.inner.held.bytes ≡ len) }
         ensures crash { Follows (IsTornBy (CutTo len)) (MayLeave self.old.inner.held) (MayLeave self.new.inner.held) }
-        ensures time { Elapses (length self.old.inner.past.moments) (length self.new.inner.past.moments) (LeftSince self.old.inner.past.moments self.old.inner.held) (LeftSince self.new.inner.past.moments self.new.inner.held) (MayLeave self.new.inner.held) }
+        ensures time { GoesOn self.old.inner.past.moments self.old.inner.held self.new.inner.past.moments self.new.inner.held }
         ensures cause { HasDiskCause self.old.countdown.faults self.new.countdown.faults result }
 
         ensures counts { DidCount self.old.countdown self.new.countdown result }
@@ -172,7 +171,7 @@ impl Disk for StopDisk {
         ensures size { length self.new.inner.held.bytes ≡ length self.old.inner.held.bytes }
         ensures seen { self.new.inner.held.bytes ≡ self.old.inner.held.bytes }
         ensures crash { NoMore (MayLeave self.old.inner.held) (MayLeave self.new.inner.held) }
-        ensures time { Elapses (length self.old.inner.past.moments) (length self.new.inner.past.moments) (LeftSince self.old.inner.past.moments self.old.inner.held) (LeftSince self.new.inner.past.moments self.new.inner.held) (MayLeave self.new.inner.held) }
+        ensures time { GoesOn self.old.inner.past.moments self.old.inner.held self.new.inner.past.moments self.new.inner.held }
         ensures cause { HasDiskCause self.old.countdown.faults self.new.countdown.faults result }
 
         ensures counts { DidCount self.old.countdown self.new.countdown result }

@@ -1,5 +1,6 @@
 -- What a crash leaves in each of the two writes of an append.
-use Rattle.std.proofs.Common.{◌≡◌, ◌≢◌, ◌⊎◌, inl, inr, ℕ, ◌+◌, ◌≤◌, ◌<◌, List, [], ◌∷◌, ◌++◌, length, get_or, take, drop, refl, sym, ◌∙◌, ap, arith, append_assoc, length-append, take-append-drop}
+use Rattle.std.proofs.Common.{◌≡◌, ◌≢◌, ◌⊎◌, inl, inr, ℕ, ◌+◌, ◌≤◌, ◌<◌, List, [], ◌∷◌, ◌++◌, length, get_or, take, drop, refl, sym, ◌∙◌, ap, arith}
+use Rattle.std.proofs.Common.{append_assoc, length-append, take-append-drop}
 use Rattle.std.proofs.lemmas.List.{take_at, drop_at, drop-drop, drop_more}
 use Rattle.std.proofs.lemmas.Bool.{cases_eq}
 use Rattle.mur_disk.specs.Calls.{Holds}
@@ -51,10 +52,12 @@ module _ (image : List ℕ) (entries : List (List ℕ)) (place : ℕ) (rest : At
     opened = rest.opened;
     shut = rest.shut;
     at = rest.at;
-    whole = sym (take-append-drop (place + 1) c) ∙ ap (λ (l : List ℕ). l ++ drop (place + 1) c) (front_kept (place + 1) n image c torn reaches ∙ to_gate) ∙ append_assoc head (rest.gate ∷ []) (drop (place + 1) c);
+    whole = sym (take-append-drop (place + 1) c) ∙ ap (λ (l : List ℕ). l ++ drop (place + 1) c) (front_kept (place + 1) n image c torn reaches ∙ to_gate)
+        ∙ append_assoc head (rest.gate ∷ []) (drop (place + 1) c);
   }
 
-  pub written_block : (more : List (List ℕ)) (block : List ℕ) (c : List ℕ) (wide : ℕ) → IsBlock more block → length block ≡ wide + 1 → Holds image (place + 1) block c → Staged c entries more place wide
+  pub written_block : (more : List (List ℕ)) (block : List ℕ) (c : List ℕ) (wide : ℕ) → IsBlock more block → length block ≡ wide + 1
+      → Holds image (place + 1) block c → Staged c entries more place wide
   written_block more block c wide (body, next, is) long_block holds =
       let tail = drop (place + 1 + length block) image in record {
         front = rest.front;
@@ -109,15 +112,29 @@ module _ (image : List ℕ) (entries more : List (List ℕ)) (place wide : ℕ) 
   -- whatever the second write leaves in the gate, it counts or it doesn't
   pub torn_gate : (c : List ℕ) → Torn place 1 image c → AtRest c entries place ⊎ AtRest c (entries ++ more) (place + (1 + wide))
   torn_gate c torn =
-      let reaches : place < length image = omega (arith, long_2, ap length staged.whole, length-append head_2 (staged.gate ∷ (staged.body ++ 0 ∷ staged.tail))) in
+      let reaches : place < length image = omega (
+        arith,
+        long_2,
+        ap length staged.whole,
+        length-append head_2 (staged.gate ∷ (staged.body ++ 0 ∷ staged.tail)),
+      ) in
       let gate = get_or c place 0 in
       let rest : drop place c ≡ gate ∷ (staged.body ++ 0 ∷ staged.tail) =
       drop_more c place 0 (omega (arith, reaches, torn.no_shorter)) ∙ ap (λ (l : List ℕ). gate ∷ l) (torn.after ∙ from_gate) in
       let whole : c ≡ head_2 ++ gate ∷ (staged.body ++ 0 ∷ staged.tail) =
-      sym (take-append-drop place c) ∙ ap (λ (l : List ℕ). l ++ drop place c) (front_kept place 1 image c torn (omega (arith, reaches)) ∙ to_place) ∙ ap (λ (l : List ℕ). head_2 ++ l) rest in
+      sym (take-append-drop place c) ∙ ap (λ (l : List ℕ). l ++ drop place c) (front_kept place 1 image c torn (omega (arith, reaches)) ∙ to_place)
+      ∙ ap (λ (l : List ℕ). head_2 ++ l) rest in
       elim (cases_eq gate 1) [
         | inl is_open ↦ inr (gate_open c gate is_open whole)
-        | inr shut ↦ inl (record { front = staged.front; gate = gate; tail = staged.body ++ 0 ∷ staged.tail; opened = staged.opened; shut = shut; whole = whole; at = staged.at })
+        | inr shut ↦ inl (record {
+          front = staged.front;
+          gate = gate;
+          tail = staged.body ++ 0 ∷ staged.tail;
+          opened = staged.opened;
+          shut = shut;
+          whole = whole;
+          at = staged.at;
+        })
       ]
 
   pub written_gate : (c : List ℕ) → Holds image place (1 ∷ []) c → AtRest c (entries ++ more) (place + (1 + wide))

@@ -1,5 +1,6 @@
 -- What an image of open blocks and a closed gate is, and that each journal is such an image.
-use Rattle.std.proofs.Common.{◌≡◌, ◌≢◌, ◌⊎◌, inl, inr, ℕ, zero, suc, ◌+◌, ◌≤◌, ◌<◌, List, [], ◌∷◌, ◌++◌, length, take, drop, refl, sym, ◌∙◌, ap, subst, arith, append_assoc, length-append, length-drop, take-append-drop}
+use Rattle.std.proofs.Common.{◌≡◌, ◌≢◌, ◌⊎◌, inl, inr, ℕ, zero, suc, ◌+◌, ◌≤◌, ◌<◌, List, [], ◌∷◌, ◌++◌, length, take, drop, refl, sym, ◌∙◌, ap, subst, arith}
+use Rattle.std.proofs.Common.{append_assoc, length-append, length-drop, take-append-drop}
 use Rattle.std.specs.Int.{w32, from_be_bytes}
 use Rattle.std.proofs.lemmas.List.{length-take-le, take_at, drop_at, drop-drop, append-nil}
 use Rattle.std.proofs.lemmas.Bool.{cases_eq}
@@ -28,7 +29,8 @@ pub step_closed : (fuel at gate : ℕ) (rest : List ℕ) → gate ≢ 1 → bloc
 step_closed fuel at gate rest shut = grind (arith, nat_tests)
 
 pub step_open : (fuel at gate : ℕ) (rest : List ℕ) → gate ≡ 1 → 4 + size_of rest < length rest
-    → blocks_from (suc fuel) at (gate ∷ rest) ≡ with_entry (take (size_of rest) (drop 4 rest)) (blocks_from fuel (at + (5 + size_of rest)) (drop (4 + size_of rest) rest))
+    → blocks_from (suc fuel) at (gate ∷ rest) ≡ with_entry (take (size_of rest) (drop 4 rest))
+    (blocks_from fuel (at + (5 + size_of rest)) (drop (4 + size_of rest) rest))
 step_open fuel at gate rest is_open fits = grind (arith, nat_tests)
 
 pub step_short : (fuel at gate : ℕ) (rest : List ℕ) → gate ≡ 1 → length rest ≤ 4 + size_of rest → blocks_from (suc fuel) at (gate ∷ rest) ≡ Bad at
@@ -43,15 +45,18 @@ module _ (head entry rest : List ℕ) (four : length head ≡ 4) (says : from_be
   entry_at = ap (λ (l : List ℕ). take (length entry) l) (drop_at head (entry ++ rest) 4 four) ∙ take_at entry rest _ refl
 
   rest_at : drop (4 + length entry) (head ++ (entry ++ rest)) ≡ rest
-  rest_at = sym (drop-drop (length entry) 4 (head ++ (entry ++ rest))) ∙ ap (λ (l : List ℕ). drop (length entry) l) (drop_at head (entry ++ rest) 4 four) ∙ drop_at entry rest _ refl
+  rest_at = sym (drop-drop (length entry) 4 (head ++ (entry ++ rest))) ∙ ap (λ (l : List ℕ). drop (length entry) l) (drop_at head (entry ++ rest) 4 four)
+      ∙ drop_at entry rest _ refl
 
   length_block : length (head ++ (entry ++ rest)) ≡ 4 + length entry + length rest
   length_block = omega (arith, four, length-append head (entry ++ rest), length-append entry rest)
 
-  pub step_block : (fuel at : ℕ) → 0 < length rest → blocks_from (suc fuel) at (1 ∷ (head ++ (entry ++ rest))) ≡ with_entry entry (blocks_from fuel (at + (5 + length entry)) rest)
+  pub step_block : (fuel at : ℕ) → 0 < length rest
+      → blocks_from (suc fuel) at (1 ∷ (head ++ (entry ++ rest))) ≡ with_entry entry (blocks_from fuel (at + (5 + length entry)) rest)
   step_block fuel at more =
       step_open fuel at 1 (head ++ (entry ++ rest)) refl (omega (arith, more, size_at, length_block))
-      ∙ ap (λ (n : ℕ). with_entry (take n (drop 4 (head ++ (entry ++ rest)))) (blocks_from fuel (at + (5 + n)) (drop (4 + n) (head ++ (entry ++ rest))))) size_at
+      ∙ ap (λ (n : ℕ). with_entry (take n (drop 4 (head ++ (entry ++ rest))))
+      (blocks_from fuel (at + (5 + n)) (drop (4 + n) (head ++ (entry ++ rest))))) size_at
       ∙ ap (λ (l : List ℕ). with_entry l (blocks_from fuel (at + (5 + length entry)) (drop (4 + length entry) (head ++ (entry ++ rest))))) entry_at
       ∙ ap (λ (l : List ℕ). with_entry entry (blocks_from fuel (at + (5 + length entry)) l)) rest_at
 
@@ -65,7 +70,9 @@ read_front [] front gate tail (suc fuel) at opened shut enough =
 read_front (entry ∷ entries) front gate tail (suc fuel) at (head, rest, four, says, opened, is) shut enough =
     let long : length front ≡ 5 + length entry + length rest = omega (arith, ap length is, length_block head entry rest four says) in
     let split : front ++ gate ∷ tail ≡ 1 ∷ (head ++ (entry ++ (rest ++ gate ∷ tail))) =
-    ap (λ (l : List ℕ). l ++ gate ∷ tail) is ∙ ap (λ (l : List ℕ). 1 ∷ l) (append_assoc head (entry ++ rest) (gate ∷ tail) ∙ ap (λ (l : List ℕ). head ++ l) (append_assoc entry rest (gate ∷ tail))) in
+    ap (λ (l : List ℕ). l ++ gate ∷ tail) is
+    ∙ ap (λ (l : List ℕ). 1 ∷ l) (append_assoc head (entry ++ rest) (gate ∷ tail)
+    ∙ ap (λ (l : List ℕ). head ++ l) (append_assoc entry rest (gate ∷ tail))) in
     ap (blocks_from (suc fuel) at) split
     ∙ step_block head entry (rest ++ gate ∷ tail) four says fuel at (omega (arith, length-append rest (gate ∷ tail)))
     ∙ ap (with_entry entry) (read_front entries rest gate tail fuel (at + (5 + length entry)) opened shut (omega (arith, long, enough)))
@@ -74,7 +81,8 @@ read_front (entry ∷ entries) front gate tail (suc fuel) at (head, rest, four, 
 pub is_parsed : (image : List ℕ) (entries : List (List ℕ)) (place : ℕ) → AtRest image entries place → parsed image ≡ Good entries place
 is_parsed image entries place rest =
     ap parsed rest.whole
-    ∙ read_front entries rest.front rest.gate rest.tail (suc (length (rest.front ++ rest.gate ∷ rest.tail))) 8 rest.opened rest.shut (omega (arith, length-append rest.front (rest.gate ∷ rest.tail)))
+    ∙ read_front entries rest.front rest.gate rest.tail (suc (length (rest.front ++ rest.gate ∷ rest.tail))) 8 rest.opened rest.shut
+    (omega (arith, length-append rest.front (rest.gate ∷ rest.tail)))
     ∙ ap (Good entries) (sym rest.at)
 
 -- two runs of open blocks
@@ -86,7 +94,8 @@ joined (entry ∷ entries) more front second (head, rest, four, says, opened, is
   four,
   says,
   joined entries more rest second opened also,
-  ap (λ (l : List ℕ). l ++ second) is ∙ ap (λ (l : List ℕ). 1 ∷ l) (append_assoc head (entry ++ rest) second ∙ ap (λ (l : List ℕ). head ++ l) (append_assoc entry rest second)),
+  ap (λ (l : List ℕ). l ++ second) is
+      ∙ ap (λ (l : List ℕ). 1 ∷ l) (append_assoc head (entry ++ rest) second ∙ ap (λ (l : List ℕ). head ++ l) (append_assoc entry rest second)),
 )
 
 -- what a run of blocks is: open blocks of its entries, and a closed gate at its place
@@ -99,16 +108,19 @@ pub record Split (bytes : List ℕ) (entries : List (List ℕ)) (place at : ℕ)
   pub whole : bytes ≡ front ++ gate ∷ tail
   pub place_is : place ≡ at + length front
 
-good_entries : (f : Form) (entry : List ℕ) (entries : List (List ℕ)) (place : ℕ) → with_entry entry f ≡ Good entries place → (more : List (List ℕ)) × (f ≡ Good more place) × (entries ≡ entry ∷ more)
+good_entries : (f : Form) (entry : List ℕ) (entries : List (List ℕ)) (place : ℕ) → with_entry entry f ≡ Good entries place
+    → (more : List (List ℕ)) × (f ≡ Good more place) × (entries ≡ entry ∷ more)
 good_entries (Good more gate) entry entries place same = (more, ap (Good more) (cc same), sym (cc same))
 good_entries (Bad offset) entry entries place same = absurd (cc same)
 
 -- the first four bytes, as many as they say, and the rest
 in_three : (rest : List ℕ) (n : ℕ) → rest ≡ take 4 rest ++ (take n (drop 4 rest) ++ drop (4 + n) rest)
 in_three rest n =
-    sym (take-append-drop 4 rest) ∙ ap (λ (l : List ℕ). take 4 rest ++ l) (sym (take-append-drop n (drop 4 rest)) ∙ ap (λ (l : List ℕ). take n (drop 4 rest) ++ l) (drop-drop n 4 rest))
+    sym (take-append-drop 4 rest)
+    ∙ ap (λ (l : List ℕ). take 4 rest ++ l) (sym (take-append-drop n (drop 4 rest)) ∙ ap (λ (l : List ℕ). take n (drop 4 rest) ++ l) (drop-drop n 4 rest))
 
-pub split_front : (fuel at : ℕ) (bytes : List ℕ) (entries : List (List ℕ)) (place : ℕ) → blocks_from fuel at bytes ≡ Good entries place → Split bytes entries place at
+pub split_front : (fuel at : ℕ) (bytes : List ℕ) (entries : List (List ℕ)) (place : ℕ) → blocks_from fuel at bytes ≡ Good entries place
+    → Split bytes entries place at
 split_front zero at bytes entries place good = absurd (cc good)
 split_front (suc fuel) at [] entries place good = absurd (cc good)
 split_front (suc fuel) at (gate ∷ rest) entries place good = elim (cases_eq gate 1) [
@@ -117,7 +129,8 @@ split_front (suc fuel) at (gate ∷ rest) entries place good = elim (cases_eq ga
     | inr fits ↦
         let n = size_of rest in
         let entry = take n (drop 4 rest) in
-        let found = good_entries (blocks_from fuel (at + (5 + n)) (drop (4 + n) rest)) entry entries place (sym (step_open fuel at gate rest is_open fits) ∙ good) in
+        let found = good_entries (blocks_from fuel (at + (5 + n)) (drop (4 + n) rest)) entry entries place (sym (step_open fuel at gate rest is_open fits)
+        ∙ good) in
         let next = split_front fuel (at + (5 + n)) (drop (4 + n) rest) found.0 place found.1 in
         let four : length (take 4 rest) ≡ 4 = length-take-le 4 rest (omega (arith, fits)) in
         let wide : length entry ≡ n = length-take-le n (drop 4 rest) (omega (arith, fits, length-drop 4 rest)) in
@@ -130,7 +143,8 @@ split_front (suc fuel) at (gate ∷ rest) entries place good = elim (cases_eq ga
           shut = next.shut;
           whole =
               ap (λ (g : ℕ). g ∷ rest) is_open
-              ∙ ap (λ (l : List ℕ). 1 ∷ l) (in_three rest n ∙ ap (λ (l : List ℕ). take 4 rest ++ (entry ++ l)) next.whole ∙ ap (λ (l : List ℕ). take 4 rest ++ l) (sym (append_assoc entry next.front (next.gate ∷ next.tail)))
+              ∙ ap (λ (l : List ℕ). 1 ∷ l) (in_three rest n ∙ ap (λ (l : List ℕ). take 4 rest ++ (entry ++ l)) next.whole
+              ∙ ap (λ (l : List ℕ). take 4 rest ++ l) (sym (append_assoc entry next.front (next.gate ∷ next.tail)))
               ∙ sym (append_assoc (take 4 rest) (entry ++ next.front) (next.gate ∷ next.tail)));
           place_is = omega (arith, next.place_is, wide, length_block (take 4 rest) entry next.front four (sym wide));
         }
@@ -139,7 +153,16 @@ split_front (suc fuel) at (gate ∷ rest) entries place good = elim (cases_eq ga
       let same : Good [] at ≡ Good entries place = sym (step_closed fuel at gate rest shut) ∙ good in
       let none : [] ≡ entries = cc same in
       let here : at ≡ place = cc same in
-      record { front = []; gate = gate; tail = rest; opened = subst (λ (es : List (List ℕ)). IsFront es []) none refl; shut = shut; whole = refl; place_is = omega (arith, here) }
+      record {
+        front = [];
+        gate = gate;
+        tail = rest;
+        opened = subst
+            (λ (es : List (List ℕ)). IsFront es []) none refl;
+        shut = shut;
+        whole = refl;
+        place_is = omega (arith, here);
+      }
 ]
 
 pub split_head : (ms : List ℕ) (at : ℕ) (bytes : List ℕ) (entries : List (List ℕ)) (place : ℕ) → headed ms at bytes ≡ Good entries place

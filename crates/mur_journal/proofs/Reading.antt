@@ -1,5 +1,6 @@
 -- What is read so far of an image, block by block.
-use Rattle.std.proofs.Common.{◌≡◌, ◌≢◌, ℕ, zero, suc, ◌+◌, ◌≤◌, ◌<◌, List, [], ◌∷◌, ◌++◌, length, get_or, take, drop, refl, sym, ◌∙◌, ap, subst, arith, append_assoc, length-drop}
+use Rattle.std.proofs.Common.{◌≡◌, ◌≢◌, ℕ, zero, suc, ◌+◌, ◌≤◌, ◌<◌, List, [], ◌∷◌, ◌++◌, length, get_or, take, drop, refl, sym, ◌∙◌, ap, subst, arith}
+use Rattle.std.proofs.Common.{append_assoc, length-drop}
 use Rattle.std.proofs.lemmas.List.{append-nil, drop_more, drop_all, length-take-le}
 use Rattle.std.proofs.lemmas.Bool.Decides.{nat_tests}
 use Rattle.mur_journal.specs.Image.{magic, Form, Good, Bad, size_of, with_entry, blocks_from, headed, parsed}
@@ -18,7 +19,13 @@ pub record Reading (image : List ℕ) (entries : List (List ℕ)) (at : ℕ) (re
   pub long : at + length rest ≡ length image
 
 pub begun : (image rest : List ℕ) → parsed image ≡ blocks_from (suc (length rest)) 8 rest → 8 + length rest ≡ length image → Reading image [] 8 rest
-begun image rest same long = record { fuel = suc (length rest); enough = omega arith; same = same ∙ as_it_is (blocks_from (suc (length rest)) 8 rest); long = long }
+begun image rest same long = record {
+  fuel = suc (length rest);
+  enough = omega arith;
+  same = same
+      ∙ as_it_is (blocks_from (suc (length rest)) 8 rest);
+  long = long;
+}
   where
     as_it_is : (f : Form) → f ≡ prefixed [] f
     as_it_is (Good entries gate) = refl
@@ -36,12 +43,14 @@ module _ (image : List ℕ) (entries : List (List ℕ)) (at : ℕ) where
       n : ℕ
       n = size_of rest
 
-      with_fuel : (fuel : ℕ) → length (1 ∷ rest) < fuel → parsed image ≡ prefixed entries (blocks_from fuel at (1 ∷ rest)) → Reading image (entries ++ take (size_of rest) (drop 4 rest) ∷ []) (at + (5 + size_of rest)) (drop (4 + size_of rest) rest)
+      with_fuel : (fuel : ℕ) → length (1 ∷ rest) < fuel → parsed image ≡ prefixed entries (blocks_from fuel at (1 ∷ rest))
+          → Reading image (entries ++ take (size_of rest) (drop 4 rest) ∷ []) (at + (5 + size_of rest)) (drop (4 + size_of rest) rest)
       with_fuel zero enough same = absurd (omega (arith, enough))
       with_fuel (suc fuel) enough same = record {
         fuel = fuel;
         enough = omega (arith, enough, length-drop (4 + size_of rest) rest);
-        same = same ∙ ap (prefixed entries) (step_open fuel at 1 rest refl fits) ∙ pushed entries (take (size_of rest) (drop 4 rest)) (blocks_from fuel (at + (5 + size_of rest)) (drop (4 + size_of rest) rest));
+        same = same ∙ ap (prefixed entries) (step_open fuel at 1 rest refl fits)
+            ∙ pushed entries (take (size_of rest) (drop 4 rest)) (blocks_from fuel (at + (5 + size_of rest)) (drop (4 + size_of rest) rest));
         long = omega (arith, reading.long, fits, length-drop (4 + size_of rest) rest);
       }
 
@@ -49,9 +58,11 @@ module _ (image : List ℕ) (entries : List (List ℕ)) (at : ℕ) where
   pub ends : (gate : ℕ) (rest : List ℕ) → Reading image entries at (gate ∷ rest) → gate ≢ 1 → parsed image ≡ Good entries at
   ends gate rest reading shut = with_fuel reading.fuel reading.enough reading.same
     where
-      with_fuel : (fuel : ℕ) → length (gate ∷ rest) < fuel → parsed image ≡ prefixed entries (blocks_from fuel at (gate ∷ rest)) → parsed image ≡ Good entries at
+      with_fuel : (fuel : ℕ) → length (gate ∷ rest) < fuel → parsed image ≡ prefixed entries (blocks_from fuel at (gate ∷ rest))
+          → parsed image ≡ Good entries at
       with_fuel zero enough same = absurd (omega (arith, enough))
-      with_fuel (suc fuel) enough same = same ∙ ap (prefixed entries) (step_closed fuel at gate rest shut) ∙ ap (λ (es : List (List ℕ)). Good es at) (append-nil entries)
+      with_fuel (suc fuel) enough same = same ∙ ap (prefixed entries) (step_closed fuel at gate rest shut)
+          ∙ ap (λ (es : List (List ℕ)). Good es at) (append-nil entries)
 
   pub is_short : (rest : List ℕ) → Reading image entries at (1 ∷ rest) → length rest ≤ 4 + size_of rest → parsed image ≡ Bad at
   is_short rest reading short = with_fuel reading.fuel reading.enough reading.same
@@ -109,7 +120,8 @@ pub all_there : (image : List ℕ) → IsHeaded image 8 → parsed image ≡ blo
 all_there image so = so.2
 
 -- one block further, as the code has it
-pub to_next : (image : List ℕ) (entries : List (List ℕ)) (at : ℕ) (rest bytes entry after : List ℕ) (next : List (List ℕ)) → Reading image entries at rest → rest ≡ 1 ∷ bytes
+pub to_next : (image : List ℕ) (entries : List (List ℕ)) (at : ℕ) (rest bytes entry after : List ℕ) (next : List (List ℕ)) → Reading image entries at rest
+    → rest ≡ 1 ∷ bytes
     → 4 + size_of bytes < length bytes → entry ≡ take (size_of bytes) (drop 4 bytes) → after ≡ drop (4 + size_of bytes) bytes → next ≡ entries ++ entry ∷ []
     → Reading image next (at + (5 + length entry)) after
 to_next image entries at rest bytes entry after next reading is fits entry_is after_is next_is =

@@ -26,7 +26,8 @@ blocks_from zero at bytes = Bad at
 blocks_from (suc fuel) at [] = Bad at
 blocks_from (suc fuel) at (gate ∷ rest) =
     if gate == 1 then
-    (if nat_lt (4 + size_of rest) (length rest) then with_entry (take (size_of rest) (drop 4 rest)) (blocks_from fuel (at + (5 + size_of rest)) (drop (4 + size_of rest) rest)) else Bad at)
+    (if nat_lt (4 + size_of rest) (length rest) then
+    with_entry (take (size_of rest) (drop 4 rest)) (blocks_from fuel (at + (5 + size_of rest)) (drop (4 + size_of rest) rest)) else Bad at)
     else Good [] at
 
 -- the rest of the magic, and then the blocks
@@ -55,7 +56,8 @@ HasEntries image entries = (gate : ℕ) × (parsed image ≡ Good entries gate)
 abbrev pub IsFront : List (List ℕ) → List ℕ → Type 0
 IsFront [] front = front ≡ []
 IsFront (entry ∷ entries) front =
-    (head : List ℕ) × (rest : List ℕ) × (length head ≡ 4) × (from_be_bytes w32 head ≡ length entry) × IsFront entries rest × (front ≡ 1 ∷ (head ++ (entry ++ rest)))
+    (head : List ℕ) × (rest : List ℕ) × (length head ≡ 4) × (from_be_bytes w32 head ≡ length entry) × IsFront entries rest
+    × (front ≡ 1 ∷ (head ++ (entry ++ rest)))
 
 -- what an append of these entries writes after a gate: their blocks without the first gate, and a closed gate
 abbrev pub IsBlock : List (List ℕ) → List ℕ → Type 0

@@ -23,11 +23,15 @@ impl<D: Disk> Journal<D> {
     /// disk or for memory; the disk isn't touched, and no memory is taken.
     pub fn append(&mut self, alloc: Global, entry: &[u8]) -> Result<(), AppendFault>
         requires { length entry.now ≤ 2 ^ 30 }
-        ensures added { IsTrue (D.tells (disk_of self.old)) → OnOk result (entries_of (D.seen (disk_of self.new)) ≡ entries_of (D.seen (disk_of self.old)) ++ entry.now ∷ []) }
-        ensures acknowledged { IsTrue (D.tells (disk_of self.old)) → OnOk result ((image : List ℕ) → D.may_leave (disk_of self.new) image → HasEntries image (entries_of (D.seen (disk_of self.old)) ++ entry.now ∷ [])) }
+        ensures added { IsTrue (D.tells (disk_of self.old))
+            → OnOk result (entries_of (D.seen (disk_of self.new)) ≡ entries_of (D.seen (disk_of self.old)) ++ entry.now ∷ []) }
+        ensures acknowledged { IsTrue (D.tells (disk_of self.old))
+            → OnOk result ((image : List ℕ) → D.may_leave (disk_of self.new) image
+            → HasEntries image (entries_of (D.seen (disk_of self.old)) ++ entry.now ∷ [])) }
 
         // A crash at any moment of the call, and after any answer, leaves the entries from before it, with this one or without.
-        ensures any_moment { IsFalse (is_spent self.old) → IsTrue (D.tells (disk_of self.old)) → LeavesOnly D.moment D.left_since (disk_of self.old) (disk_of self.new)
+        ensures any_moment { IsFalse (is_spent self.old) → IsTrue (D.tells (disk_of self.old))
+            → LeavesOnly D.moment D.left_since (disk_of self.old) (disk_of self.new)
             (HasBeforeOrAfter (entries_of (D.seen (disk_of self.old))) (entry.now ∷ [])) }
 
         ensures spent { IsErrOf result Spent ↔ IsTrue (is_spent self.old) }
@@ -54,11 +58,15 @@ impl<D: Disk> Journal<D> {
     pub fn append_all(&mut self, alloc: Global, entries: &[Bytes]) -> Result<(), AppendFault>
         requires short { All (λ entry. length entry ≤ 2 ^ 30) entries.now }
         requires some { 0 < length entries.now }
-        ensures added { IsTrue (D.tells (disk_of self.old)) → OnOk result (entries_of (D.seen (disk_of self.new)) ≡ entries_of (D.seen (disk_of self.old)) ++ entries.now) }
-        ensures acknowledged { IsTrue (D.tells (disk_of self.old)) → OnOk result ((image : List ℕ) → D.may_leave (disk_of self.new) image → HasEntries image (entries_of (D.seen (disk_of self.old)) ++ entries.now)) }
+        ensures added { IsTrue (D.tells (disk_of self.old))
+            → OnOk result (entries_of (D.seen (disk_of self.new)) ≡ entries_of (D.seen (disk_of self.old)) ++ entries.now) }
+        ensures acknowledged { IsTrue (D.tells (disk_of self.old))
+            → OnOk result ((image : List ℕ) → D.may_leave (disk_of self.new) image
+            → HasEntries image (entries_of (D.seen (disk_of self.old)) ++ entries.now)) }
 
         // A crash at any moment of the call, and after any answer, leaves the entries from before it, with all of these or with none.
-        ensures any_moment { IsFalse (is_spent self.old) → IsTrue (D.tells (disk_of self.old)) → LeavesOnly D.moment D.left_since (disk_of self.old) (disk_of self.new)
+        ensures any_moment { IsFalse (is_spent self.old) → IsTrue (D.tells (disk_of self.old))
+            → LeavesOnly D.moment D.left_since (disk_of self.old) (disk_of self.new)
             (HasBeforeOrAfter (entries_of (D.seen (disk_of self.old))) entries.now) }
 
         ensures spent { IsErrOf result Spent ↔ IsTrue (is_spent self.old) }

@@ -11,8 +11,10 @@ use mur_disk::{Disk, DiskFault, write_synced};
 pub(crate) fn commit<D: Disk>(disk: &mut D, gate: u64, block: &[u8]) -> Result<(), DiskFault>
     requires within { gate < D.size disk.old }
     requires settled { IsTrue (D.tells disk.old) → IsSettled D.seen D.may_leave disk.old gate }
-    ensures settled { (more : List (List ℕ)) → IsBlock more block.now → IsTrue (D.tells disk.old) → OnOk result (IsSettled D.seen D.may_leave disk.new (gate + length block.now)) }
-    ensures entries { (more : List (List ℕ)) → IsBlock more block.now → IsTrue (D.tells disk.old) → OnOk result (entries_of (D.seen disk.new) ≡ entries_of (D.seen disk.old) ++ more) }
+    ensures settled { (more : List (List ℕ)) → IsBlock more block.now → IsTrue (D.tells disk.old)
+        → OnOk result (IsSettled D.seen D.may_leave disk.new (gate + length block.now)) }
+    ensures entries { (more : List (List ℕ)) → IsBlock more block.now → IsTrue (D.tells disk.old)
+        → OnOk result (entries_of (D.seen disk.new) ≡ entries_of (D.seen disk.old) ++ more) }
     ensures within { OnOk result (gate + length block.now < D.size disk.new) }
     ensures any_moment { (more : List (List ℕ)) → IsBlock more block.now → IsTrue (D.tells disk.old)
         → LeavesOnly D.moment D.left_since disk.old disk.new (HasBeforeOrAfter (entries_of (D.seen disk.old)) more) }

@@ -29,7 +29,8 @@ fn after_magic(image: &[u8]) -> Result<&[u8], usize>
 
 // The entry after an open gate and what follows it, if the entry is whole and a gate follows.
 fn next_block(bytes: &[u8]) -> Option<(&[u8], &[u8])>
-    ensures whole { IfSome result (λ parts. (4 + size_of bytes.now < length bytes.now) × (parts.0.now ≡ take (size_of bytes.now) (drop 4 bytes.now)) × (parts.1.now ≡ drop (4 + size_of bytes.now) bytes.now)) }
+    ensures whole { IfSome result (λ parts. (4 + size_of bytes.now < length bytes.now)
+        × (parts.0.now ≡ take (size_of bytes.now) (drop 4 bytes.now)) × (parts.1.now ≡ drop (4 + size_of bytes.now) bytes.now)) }
     ensures short { IfNone result (length bytes.now ≤ 4 + size_of bytes.now) }
 {
     if bytes.len() < 4 {

@@ -20,7 +20,11 @@ returns-clause-settled g c more is told =
     let seen = g.D.Disk.seen c.args.disk.now in
     let still : IsTrue (g.D.Disk.tells c.write_synced.new.disk) = subst IsTrue (sym c.write_synced.ensures.told) told in
     on_two c.write_synced-2.result _ _ _ (c.write_synced-2.ensures.written still) (c.write_synced-2.ensures.durable still)
-    (λ holds only. record { form = good_of (g.D.Disk.seen c.write_synced-2.new.disk) _ _ (gate_opened seen _ c.args.gate s.form more c.args.block.now is _ (c.in_ok-write_synced.ensures.written told) _ holds); durable = only })
+    (λ holds only. record {
+      form = good_of (g.D.Disk.seen c.write_synced-2.new.disk) _ _
+          (gate_opened seen _ c.args.gate s.form more c.args.block.now is _ (c.in_ok-write_synced.ensures.written told) _ holds);
+      durable = only;
+    })
 
 pub returns-clause-entries : goal.returns-clause-entries
 returns-clause-entries g c more is told =
@@ -28,7 +32,8 @@ returns-clause-entries g c more is told =
     let seen = g.D.Disk.seen c.args.disk.now in
     let still : IsTrue (g.D.Disk.tells c.write_synced.new.disk) = subst IsTrue (sym c.write_synced.ensures.told) told in
     on_ok_weaker c.write_synced-2.result
-    (λ holds. ap entries_in (gate_opened seen _ c.args.gate s.form more c.args.block.now is _ (c.in_ok-write_synced.ensures.written told) _ holds)) (c.write_synced-2.ensures.written still)
+    (λ holds. ap entries_in (gate_opened seen _ c.args.gate s.form more c.args.block.now is _ (c.in_ok-write_synced.ensures.written told) _ holds))
+    (c.write_synced-2.ensures.written still)
 
 -- the second leaves them with these or without
 pub returns-clause-any_moment : goal.returns-clause-any_moment
@@ -37,8 +42,10 @@ returns-clause-any_moment g c more is told =
     let seen = g.D.Disk.seen c.args.disk.now in
     let mid = g.D.Disk.seen c.write_synced.new.disk in
     let still : IsTrue (g.D.Disk.tells c.write_synced.new.disk) = subst IsTrue (sym c.write_synced.ensures.told) told in
-    let first = weaker g.D.Disk.moment g.D.Disk.left_since c.args.disk.now c.write_synced.new.disk _ (HasBeforeOrAfter (entries_of seen) more) (c.write_synced.ensures.any_moment told s.durable)
+    let first = weaker g.D.Disk.moment g.D.Disk.left_since c.args.disk.now c.write_synced.new.disk _ (HasBeforeOrAfter (entries_of seen) more)
+    (c.write_synced.ensures.any_moment told s.durable)
     (λ f torn. inl (torn_block_kept seen _ c.args.gate s.form (length c.args.block.now) f torn)) in
-    let second = weaker g.D.Disk.moment g.D.Disk.left_since c.write_synced.new.disk c.write_synced-2.new.disk _ (HasBeforeOrAfter (entries_of seen) more) (c.write_synced-2.ensures.any_moment still (c.in_ok-write_synced.ensures.durable told))
+    let second = weaker g.D.Disk.moment g.D.Disk.left_since c.write_synced.new.disk c.write_synced-2.new.disk _ (HasBeforeOrAfter (entries_of seen) more)
+    (c.write_synced-2.ensures.any_moment still (c.in_ok-write_synced.ensures.durable told))
     (λ f torn. gate_kept seen _ c.args.gate s.form more c.args.block.now is mid (c.in_ok-write_synced.ensures.written told) f torn) in
     and_then g.D.Disk.moment g.D.Disk.left_since c.args.disk.now c.write_synced.new.disk c.write_synced-2.new.disk _ first second

@@ -20,11 +20,13 @@ returns-clause-ok c =
     ∙ ap (λ (l : List ℕ). take over (drop at l)) c.as_slice.ensures
     ∙ replaced_is at over piece held.bytes c.requires is in
     let grown : c.extend.new.self ≡ held.bytes ++ drop over piece =
-    c.in_ok-extend.ensures.ok ∙ ap (λ (l : List ℕ). held.bytes ++ l) (take_all (length piece - over) (drop over piece) (omega (arith, length-drop over piece))) in
+    c.in_ok-extend.ensures.ok
+    ∙ ap (λ (l : List ℕ). held.bytes ++ l) (take_all (length piece - over) (drop over piece) (omega (arith, length-drop over piece))) in
     let written : c.overwrite.new.self ≡ written_over at piece held.bytes =
     c.overwrite.ensures.written
     ∙ ap (λ (l : List ℕ). take at l ++ (take over piece ++ drop (at + length (take over piece)) l)) grown
     ∙ grown_over at over piece held.bytes c.requires is in
     did_write at piece c.in_ok-from_slice-2.field-0 (length c.as_slice-len.result.now) held (record { bytes = c.overwrite.new.self; pending = c.push.new.self })
     c.requires long replaced written
-    (c.in_default.ensures.ok ∙ ap (λ (l : List ℕ). held.pending ++ Write at l c.in_ok-from_slice-2.field-0 (length c.as_slice-len.result.now) ∷ []) c.in_ok-from_slice.ensures)
+    (c.in_default.ensures.ok
+    ∙ ap (λ (l : List ℕ). held.pending ++ Write at l c.in_ok-from_slice-2.field-0 (length c.as_slice-len.result.now) ∷ []) c.in_ok-from_slice.ensures)

@@ -77,7 +77,10 @@ module _ {M : Type 1} {𝓤 : Ura M} (𝓛 : Logic 𝓤) (memory : Memory → SP
 meets : {M : Type 1} {𝓤 : Ura M} (𝓛 : Logic 𝓤) (memory : Memory → SProp 𝓤) (run : Routine → Fun 𝓤) (𝓣 : Tables 𝓤 𝓛.H)
     → Meets 𝓛 here.signature (WpFn 𝓤 𝓛.H 𝓣.C 𝓣.Λ code.function) (here.spec 𝓛 memory run)
 meets {𝓤 = 𝓤} 𝓛 memory run 𝓣 =
-    walk_Meets 𝓛 here.ended stayed (Goes-none_ref 𝓛 2 (0 ∷ []) tt (plain (λ _. past.the_row)) yes, (Goes-none_ref 𝓛 2 (1 ∷ []) tt (plain (λ _. held.the_row)) yes, tt))
+    walk_Meets 𝓛 here.ended stayed (
+      Goes-none_ref 𝓛 2 (0 ∷ []) tt (plain (λ _. past.the_row)) yes,
+      (Goes-none_ref 𝓛 2 (1 ∷ []) tt (plain (λ _. held.the_row)) yes, tt),
+    )
     (here.clauses 𝓛 memory run) (WpFn 𝓤 𝓛.H 𝓣.C 𝓣.Λ code.function) (WpFn-mono 𝓤 𝓛.H 𝓛.laws 𝓣 code.function) (walks 𝓛 memory run 𝓣.C 𝓣.Λ)
 
 pub then_spec : {M : Type 1} → stated.statement M
