@@ -1,0 +1,6 @@
+pub mod Choices
+pub mod Clock
+pub mod Done
+pub mod MomentLaws
+pub mod Tears
+mod UndoLaws

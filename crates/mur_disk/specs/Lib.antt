@@ -1,0 +1,10 @@
+pub mod Calls
+pub mod Choice
+pub mod Countdowns
+pub mod Counts
+pub mod Crash
+pub mod Disks
+pub mod Memory
+pub mod Moments
+pub mod Stops
+pub mod Undo
