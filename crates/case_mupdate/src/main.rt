@@ -1,10 +1,11 @@
 //! Worked cases of lines of MUPDATE: `case_mupdate FILE ..`. It prints how many cases of each file passed, or ends with status 1 at the first one
 //! that doesn't.
 //!
-//! The kinds of cases: `command` and `response` take bytes, `ask` takes a tag; `long_command` takes bytes between which a text is repeated. The first
-//! lines of each file say more.
+//! The kinds of cases: `command` and `response` take bytes, `ask` takes a tag, `cut` takes the bytes of a connection; `long_command` and `long_cut`
+//! take bytes between which a text is repeated. The first lines of each file say more.
 #![tactic(auto)]
 
+mod cuts;
 mod lines;
 mod repeated;
 
@@ -22,7 +23,9 @@ impl Cases for Kinds {
             ["command", bytes] => lines::put_command(alloc, bytes, out),
             ["response", bytes] => lines::put_response(alloc, bytes, out),
             ["ask", tag] => lines::put_ask(alloc, tag, out),
+            ["cut", bytes] => cuts::put_cut(alloc, bytes, out),
             ["long_command", parts @ ..] => lines::put_long_command(alloc, parts, out),
+            ["long_cut", parts @ ..] => cuts::put_long_cut(alloc, parts, out),
             _ => Err(Fault::Unreadable("no such kind of case")),
         }
     }

@@ -17,5 +17,8 @@ pub mod ToldLaw
 pub mod ToldLines
 pub mod ReadsLaw
 pub mod AsksLaw
+pub mod CutLaw
+pub mod HeadLaw
+pub mod CutSteps
 pub mod PlaceLaw
 pub mod FaultSteps

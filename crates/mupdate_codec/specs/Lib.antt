@@ -8,4 +8,6 @@ pub mod Commands
 pub mod Responses
 pub mod Told
 pub mod Answers
+pub mod Cut
+pub mod Waits
 pub mod Asks

@@ -6,6 +6,7 @@ ghost use Rattle.mupdate_codec.specs.declared.tag.Tag.{Tag};
 ghost use Rattle.mupdate_codec.specs.Answers.{IsBegun};
 ghost use Rattle.mupdate_codec.specs.Arguments.{exact};
 ghost use Rattle.mupdate_codec.specs.Commands.{command_line, IsCommandLine, IsSpelledCommand};
+ghost use Rattle.mupdate_codec.specs.Cut.{IsCut};
 ghost use Rattle.mur_base.specs.declared.limits.TheConstants.{NAME_LIMIT, SHORT_NAME_LIMIT};
 ghost use Rattle.mupdate_codec.specs.declared.limits.TheConstants.{TAG_MOST, STRING_LIMIT, NAME_BYTES, LOCATION_MOST};
 ghost use Rattle.mupdate_codec.specs.Responses.{response_line, IsResponseLine, IsSpelledResponse};
@@ -22,6 +23,12 @@ pub fn a_line_is_one_response()
     ensures whole { (line : List ℕ) (it : Tag × MResponse) → IsResponseLine line it → ¬ IsBegun IsResponseLine line }
     ensures one { (line : List ℕ) (it other : Tag × MResponse) → IsResponseLine line it → IsResponseLine line other → it ≡ other }
     ensures printed { (tag : Tag) (it : MResponse) → IsSpelledResponse tag it → IsResponseLine ((response_line exact).text (tag, it)) (tag, it) }
+{}
+
+/// Bytes are cut into lines in one way.
+pub fn bytes_are_cut_in_one_way()
+    ensures { (bytes : List ℕ) (lines other : List (List ℕ)) (left rest : List ℕ) → IsCut bytes lines left → IsCut bytes other rest
+        → (lines ≡ other) × (left ≡ rest) }
 {}
 
 /// How long the parts of a line may be, in bytes.

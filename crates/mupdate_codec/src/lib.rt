@@ -1,4 +1,4 @@
-//! The lines of MUPDATE (RFC 3656, 3 to 5): commands and responses.
+//! The lines of MUPDATE (RFC 3656, 3 to 5): commands, responses, and the bytes of a connection cut into lines.
 //!
 //! A line is a tag, a space, a word in any case, its arguments, each behind one space, and CRLF. `specs/Commands.antt` and
 //! `specs/Responses.antt` say which bytes are the line of which command or response; [`read_command`] and [`read_response`]
@@ -11,6 +11,8 @@
 //! as they come (`specs/Names.antt`, `specs/Strings.antt`): so bytes are refused as soon as no line goes on with them. The place
 //! that is told is then where that argument begins (`specs/Told.antt`).
 //!
+//! [`Cutter`] cuts the bytes of a connection into lines in whatever pieces they come (`specs/Cut.antt`).
+//!
 //! What stands behind a word is a form of the crate `grammar`. A new command has a variant of [`MCommand`], a row in
 //! `src/word.rt`, its lines in `src/commands.rt` and `specs/Commands.antt`, and a line in `proofs/LinesLaw.antt` and in
 //! `proofs/ToldLines.antt`. Names are in `src/names.rt` (byte by byte) and `src/name.rt` (as arguments).
@@ -20,6 +22,7 @@ mod arguments;
 mod asks;
 mod command;
 mod commands;
+mod cutter;
 mod fault;
 mod laws;
 mod limits;
@@ -37,8 +40,11 @@ pub use asks::{
     BACK_TAG, FIND_TAG, RESYNC_TAG, UNASKED_TAG, UPDATE_TAG, a_tag_tells_its_ask, ask_of, tag_of,
 };
 pub use command::{MCommand, MResponse};
+pub use cutter::{Cutter, cut};
 pub use fault::LineFault;
-pub use laws::{a_line_is_one_command, a_line_is_one_response, the_limits_are_these};
+pub use laws::{
+    a_line_is_one_command, a_line_is_one_response, bytes_are_cut_in_one_way, the_limits_are_these,
+};
 pub use printer::{print_command, print_response, put_command, put_response};
 pub use reader::{read_command, read_response};
 pub use tag::Tag;

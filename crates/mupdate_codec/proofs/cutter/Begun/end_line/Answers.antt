@@ -1,0 +1,23 @@
+use Rattle.std.proofs.Common.{sym, subst, ◌∙◌}
+use Rattle.mupdate_codec.specs.Cut.{EndsLine}
+use Rattle.mupdate_codec.specs.Waits.{Holds}
+use Rattle.mupdate_codec.proofs.CutLaw.{holds_nothing}
+use Rattle.mupdate_codec.proofs.CutSteps.{ended_goes_on, ended_ends}
+use Rattle.mupdate_codec.proofs.cutter.Begun.end_line.Goals as goal
+
+pub returns-in-Some-clause-holds : goal.returns-in-Some-clause-holds
+returns-in-Some-clause-holds c =
+    let begun = rw (c.in-Some.is, c.as_slice.ensures) at c.in_ok-left.ensures.more in
+    let skips = rw (c.in-Some.is, c.as_slice.ensures) at c.in_ok-left.ensures.skips in
+    ended_goes_on c.args.self.now.bytes c.in-Some.left c.requires.ended begun skips
+
+pub returns-clause-line : goal.returns-clause-line
+returns-clause-line c =
+    let none = rw c.as_slice.ensures at (c.in_ok-left.ensures.ends c.in_default.is) in (
+      c.replace.ensures.value,
+      subst EndsLine (sym c.replace.ensures.value) (ended_ends c.args.self.now.bytes c.requires.ended none),
+      c.replace.ensures.after ∙ c.new-next.ensures,
+    )
+
+pub returns-clause-holds : goal.returns-clause-holds
+returns-clause-holds c = subst (λ bytes. Holds bytes 0) (sym (c.replace.ensures.after ∙ c.new-next.ensures)) holds_nothing
