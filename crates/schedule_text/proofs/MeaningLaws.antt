@@ -19,8 +19,6 @@ use Rattle.schedule_text.specs.ScheduleRules.{IsReadAsSchedule}
 use Rattle.schedule_text.specs.Spelled.{Lacks, IsBeforeLf, AreLinesOf, IsSpelledAs, IsSpelledBy, IsPassedOver, AreSpelledBy}
 use Rattle.schedule_text.specs.Spelled.AreSpelledBy.{no_lines, passed, spelled}
 use Rattle.schedule_text.specs.Words.{Saying, said_by, word_text}
-use Rattle.schedule_text.proofs.FollowLaws.{all_follow}
-use Rattle.schedule_text.proofs.ScheduleLaws.{schedule_fits}
 use Rattle.schedule_text.proofs.SpelledLaws.{schedule_spelled}
 use Rattle.schedule_text.proofs.SpelledLines.{Last, last_in, end_dropped, end_kept, ends_in, line_before, line_alone}
 use Rattle.mur_base.specs.Ascii.{ends_with_cr}
@@ -42,8 +40,8 @@ short_by config bytes events false l h = ltb-false SCHEDULE_LIMIT (length bytes)
 pub is_schedule : (config : Config) (bytes : List ℕ) (events : List Event) → schedule_of config bytes ≡ Ok events → IsSchedule config bytes events
 is_schedule config bytes events h = record {
   short = short_by config bytes events _ refl h;
-  spell = schedule_spelled config bytes events h;
-  follow = all_follow config [] events (schedule_fits config bytes events h).consistent;
+  spell = (schedule_spelled config bytes events h).0;
+  follow = (schedule_spelled config bytes events h).1;
 }
 
 alone_cut : (line : List ℕ) → 0 < length line → Lacks 10 line → cuts_of line ≡ line ∷ []

@@ -18,7 +18,6 @@ use Rattle.schedule_text.specs.declared.words.Word.TheVariants.{Open as open_wor
 use Rattle.schedule_text.specs.MayFollow.{Opens, MayFollow}
 use Rattle.schedule_text.specs.Rows.{event_in, flow_count, text_in}
 use Rattle.schedule_text.specs.Schedule.{event_of}
-use Rattle.schedule_text.specs.ScheduleFits.{FitsBehind}
 use Rattle.schedule_text.specs.ScheduleNodes.{node_in, client_node_in, takes_clients, link_in}
 use Rattle.schedule_text.specs.ScheduleOpened.{is_opened, opened_before, unopened}
 use Rattle.schedule_text.specs.ScheduleWords.{split_word, arguments_in, number_in}
@@ -28,7 +27,7 @@ use Rattle.schedule_text.specs.Words.{Value, Saying, row, said_by, word_text, ki
 use Rattle.schedule_text.specs.Words.Value.{a_node, a_number, a_text}
 use Rattle.schedule_text.proofs.ArgumentsLaws.{is_split, split_read, behind_word, AreOfKinds, are_cut, spaced, AllSpell, are_arguments, kind_of, EndsWithText, are_read}
 use Rattle.schedule_text.proofs.ArgumentsLaws.{number_spelled, number_read}
-use Rattle.schedule_text.proofs.FollowLaws.{client_node_read, link_read, opened_in, none_opens}
+use Rattle.schedule_text.proofs.FollowLaws.{is_client_node, client_node_read, are_linked_nodes, link_read, opens_in, opens_not, opened_in, none_opens}
 use Rattle.schedule_text.proofs.Shortens.{some_text, text_shortens}
 use Rattle.schedule_text.proofs.Steps.{both, kept_if, kept_true}
 
@@ -74,18 +73,18 @@ text_spelled : (text bytes : List ℕ) → text_in text ≡ Ok bytes → bytes_o
 unfolding text_in
 text_spelled text bytes h = some_text (bytes_of text) bytes h
 
--- the event that a word and arguments make: they say it, it fits, and it weighs no more than they
+-- the event that a word and arguments make: they say it, it may follow, and it weighs no more than they
 record IsMade (config : Config) (before : List Event) (word : Word) (arguments : List (List ℕ)) (event : Event) : Type 0 where
   values : List Value
   said : said_by event ≡ row word values
   spell : AllSpell arguments values
-  fits : FitsBehind config before event
+  follows : MayFollow config before event
   steps : steps_of event ≤ 2 ^ 32
   bytes : bytes_brought event ≤ length (spaced arguments)
 
 open_made : (config : Config) (before : List Event) (node number : List ℕ) (event : Event) → IsWord node
     → event_in config before open_word (node ∷ number ∷ []) ≡ Ok event → IsMade config before open_word (node ∷ number ∷ []) event
-unfolding event_in said_by AllSpell FitsBehind steps_of bytes_brought
+unfolding event_in said_by AllSpell MayFollow steps_of bytes_brought
 open_made config before node number event word h =
     let conn = both (number_in number) _ event h in
     let name = both (client_node_in config node) _ event conn.2 in
@@ -96,14 +95,17 @@ open_made config before node number event word h =
       values = a_node name.0 ∷ a_number conn.0 ∷ [];
       said = refl;
       spell = ((same, word), (number_spelled number conn.0 conn.1, tt));
-      fits = (subst (λ (n : List ℕ). client_node_in config n ≡ Ok name.0) same name.1, is_unopened before conn.0 new.0 _ refl new.1);
+      follows = (
+        is_client_node config name.0 name.0 (subst (λ (n : List ℕ). client_node_in config n ≡ Ok name.0) same name.1),
+        opens_not conn.0 before (is_unopened before conn.0 new.0 _ refl new.1),
+      );
       steps = omega arith;
       bytes = omega arith;
     })
 
 data_made : (config : Config) (before : List Event) (number text : List ℕ) (event : Event)
     → event_in config before data_word (number ∷ text ∷ []) ≡ Ok event → IsMade config before data_word (number ∷ text ∷ []) event
-unfolding event_in said_by AllSpell spaced FitsBehind steps_of bytes_brought
+unfolding event_in said_by AllSpell spaced MayFollow steps_of bytes_brought
 data_made config before number text event h =
     let conn = both (number_in number) _ event h in
     let there = both (opened_before before conn.0) _ event conn.2 in
@@ -113,14 +115,14 @@ data_made config before number text event h =
       values = a_number conn.0 ∷ a_text bytes.0 ∷ [];
       said = refl;
       spell = (number_spelled number conn.0 conn.1, (text_spelled text bytes.0 bytes.1, tt));
-      fits = is_there before conn.0 there.0 _ refl there.1;
+      follows = opens_in before conn.0 (is_there before conn.0 there.0 _ refl there.1);
       steps = omega arith;
       bytes = omega (arith, text_shortens text bytes.0 bytes.1, length-append number (32 ∷ text ++ []), length-append text []);
     })
 
 hang_made : (config : Config) (before : List Event) (number : List ℕ) (event : Event)
     → event_in config before hang_word (number ∷ []) ≡ Ok event → IsMade config before hang_word (number ∷ []) event
-unfolding event_in said_by AllSpell FitsBehind steps_of bytes_brought
+unfolding event_in said_by AllSpell MayFollow steps_of bytes_brought
 hang_made config before number event h =
     let conn = both (number_in number) _ event h in
     let there = both (opened_before before conn.0) _ event conn.2 in
@@ -129,14 +131,14 @@ hang_made config before number event h =
       values = a_number conn.0 ∷ [];
       said = refl;
       spell = (number_spelled number conn.0 conn.1, tt);
-      fits = is_there before conn.0 there.0 _ refl there.1;
+      follows = opens_in before conn.0 (is_there before conn.0 there.0 _ refl there.1);
       steps = omega arith;
       bytes = omega arith;
     })
 
 deliver_made : (config : Config) (before : List Event) (from to : List ℕ) (event : Event) → IsWord from → IsWord to
     → event_in config before deliver_word (from ∷ to ∷ []) ≡ Ok event → IsMade config before deliver_word (from ∷ to ∷ []) event
-unfolding event_in said_by AllSpell FitsBehind steps_of bytes_brought
+unfolding event_in said_by AllSpell MayFollow steps_of bytes_brought
 deliver_made config before from to event sender taker h =
     let link = both (link_in config from to) _ event h in
     let same = link_is config from to link.0 link.1 in
@@ -146,14 +148,14 @@ deliver_made config before from to event sender taker h =
       values = a_node from ∷ a_node to ∷ [];
       said = refl;
       spell = ((refl, sender), ((refl, taker), tt));
-      fits = link.1 ∙ ap Ok (sym same);
+      follows = are_linked_nodes config from to link.0 link.1;
       steps = omega arith;
       bytes = omega arith;
     })
 
 flow_made : (config : Config) (before : List Event) (number : List ℕ) (event : Event)
     → event_in config before flow_word (number ∷ []) ≡ Ok event → IsMade config before flow_word (number ∷ []) event
-unfolding event_in said_by AllSpell FitsBehind steps_of bytes_brought
+unfolding event_in said_by AllSpell MayFollow steps_of bytes_brought
 flow_made config before number event h =
     let count = both (flow_count number) _ event h in
     let is = count_is number count.0 count.1 in
@@ -162,7 +164,7 @@ flow_made config before number event h =
       values = a_number count.0 ∷ [];
       said = refl;
       spell = (number_spelled number count.0 is.read, tt);
-      fits = is.within;
+      follows = omega (arith, is.within);
       steps = omega (arith, is.within);
       bytes = omega arith;
     })
@@ -206,10 +208,10 @@ named_is : (text : List ℕ) (found : Word) → word_named text ≡ Ok found →
 unfolding word_named
 named_is text found h = among_is all_words text found h
 
--- an event that is read from a line: it is spelled there, it fits those before it, and weighs no more than the line
+-- an event that is read from a line: it is spelled there, it may follow those before it, and weighs no more than the line
 pub record IsReadFrom (config : Config) (before : List Event) (line : List ℕ) (event : Event) : Type 0 where
   pub spelled : IsSpelledBy line event
-  pub fits : FitsBehind config before event
+  pub follows : MayFollow config before event
   pub steps : steps_of event ≤ 2 ^ 32
   pub bytes : bytes_brought event ≤ length line
 
@@ -232,7 +234,7 @@ event_is config before line event h =
     } in
     record {
       spelled = subst (λ (s : Option Saying). IsSpelledAs line s) (sym made.said) spelled;
-      fits = made.fits;
+      follows = made.follows;
       steps = made.steps;
       bytes =
           omega (arith, made.bytes, ap length cut.parts, ap length (is_split line).parts, length-append (split_word line).word (split_word line).rest);

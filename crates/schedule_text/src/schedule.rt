@@ -32,7 +32,7 @@ pub fn read_schedule(alloc: Global, bytes: &[u8], config: &Config) -> Result<Eve
     ensures spelled { IfOk result (IsSchedule config.now bytes.now) }
     ensures refused { IfErr result (HasCause config.now bytes.now) }
     ensures taken { (events : List Event) → IsSchedule config.now bytes.now events → IsReadAsEvents events result }
-    ensures fit { IfOk result (FitSchedule config.now (length bytes.now)) }
+    ensures fit { IfOk result (FitSchedule (length bytes.now)) }
     ensures room { IfOk result (λ events. HasCountRoom events) }
     ensures short { IfOk result (λ events. length bytes.now ≤ SCHEDULE_LIMIT) }
 {
