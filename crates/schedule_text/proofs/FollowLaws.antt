@@ -1,5 +1,5 @@
 -- What the tests of nodes and connections find is what may follow.
-use Rattle.std.proofs.Common.{◌≡◌, ℕ, Bool, true, false, List, [], ◌∷◌, ◌++◌, Option, None, Some, Ok, refl, subst, arith}
+use Rattle.std.proofs.Common.{◌≡◌, ℕ, Bool, true, false, List, [], ◌∷◌, Option, None, Some, Ok, refl, subst}
 use Rattle.std.specs.Option.{ok_or}
 use Rattle.std.proofs.lemmas.Bool.{or_right, eqb-true, eq-eqb, false_from_ne_true}
 use Rattle.mur_config.specs.Nodes.{node_named, are_linked}

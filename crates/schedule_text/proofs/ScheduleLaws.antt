@@ -1,11 +1,10 @@
 -- The events that a schedule gives weigh no more than its bytes.
 use Rattle.std.proofs.Common.{◌≡◌, ℕ, ◌+◌, ◌*◌, ◌^◌, ◌<◌, ◌≤◌, Bool, true, false, nat_lt, List, [], ◌∷◌, ◌++◌, length, sum_by, Result, Ok, Err}
-use Rattle.std.proofs.Common.{refl, sym, subst, append_assoc, arith}
+use Rattle.std.proofs.Common.{refl, subst, arith}
 use Rattle.mur_base.specs.declared.limits.TheConstants.{SCHEDULE_LIMIT}
 use Rattle.schedule_text.proofs.RowLaws.{event_is}
 use Rattle.schedule_text.proofs.Shortens.{line_shortens, lengths-cuts}
 use Rattle.schedule_text.proofs.Steps.{both}
-use Rattle.std.proofs.lemmas.List.{append-nil}
 use Rattle.std.proofs.lemmas.List.Sums.{sum_by-cons}
 use Rattle.mur_config.specs.declared.config.Config.{Config}
 use Rattle.schedule_text.specs.declared.event.Event.{Event}
