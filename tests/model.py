@@ -1,15 +1,20 @@
 #!/usr/bin/env python3
-"""What README.md says that a schedule prints, worked out beside the program:  tests/model.py CONFIG SCHEDULE
+"""What docs/formats.md and docs/imap.md say that a schedule prints, worked out beside the program:
 
-It is written from README.md, examples/ and RFC 9051 alone, and knows no proof and no code of the program. It keeps every byte of
-a connection and cuts it anew, so it is slow and plain. What a frame spells is in commands.py. `.ci/large` and `tests/random_schedules`
-compare the program with it, and the outputs of tests/replays were worked out by it and read.
+    tests/model.py CONFIG SCHEDULE
+    tests/model.py
+
+Without arguments it compares each stored output of examples/ and tests/replays/ with its own. It is written from these two pages, examples/ and
+RFC 9051 alone, and knows no proof and no code of the program. It keeps every byte of a connection and cuts it anew, so it is slow and plain. What
+a frame spells is in commands.py, the rules of schedules in rules.py. `.ci/large` and `tests/random_schedules` compare the program with it, and the
+outputs of tests/replays were worked out by it and read.
 """
-import base64, binascii, json, re, sys
+import base64, binascii, glob, json, os, re, sys
 from collections import deque, namedtuple
 
 sys.dont_write_bytecode = True
 from commands import LEFT_OUT, MONTHS, SYSTEM, command_of, first_tag, is_utf8, keywords
+from rules import Rules, is_event, lines_of
 
 GREETING = b'* OK [CAPABILITY IMAP4rev2 AUTH=PLAIN] murder ready\r\n'
 LINE_LIMIT, MESSAGE_LIMIT, LITERALS_LIMIT, PLUS_LIMIT = 8_192, 1_048_576, 1_056_768, 4_096
@@ -63,7 +68,7 @@ class Frames:
         del self.rest[:len(line) + 2]
         self.text += len(line)
         self.frame += line + b'\r\n'
-        literal = re.search(rb'\{(\d+)(\+?)\}$', line)
+        literal = re.search(rb'\{(\d+)(\+?)\}\Z', line)
         if not literal:
             frames.append(('whole', self.frame))
             return self.new()
@@ -549,7 +554,7 @@ class Cluster:
         out = []
         for conn in sorted(self.conns):
             given = b''.join(self.conns[conn]['given'])
-            out += ['to %d %s\n' % (conn, spelled(line)) for line in re.findall(rb'[^\n]*\n|[^\n]+$', given)]
+            out += ['to %d %s\n' % (conn, spelled(line)) for line in re.findall(rb'[^\n]*\n|[^\n]+\Z', given)]
         points = []
         for step, conn, number, done in self.marks:
             if number <= self.conns[conn]['answered']:
@@ -574,15 +579,62 @@ class Cluster:
             self.flow(int(rest[0]))
 
 
+def refusal(config, schedule):
+    """The number of the first bad line of a schedule and the first rule that it breaks, or None."""
+    cluster = Cluster(json.loads(config))
+    rules = Rules(cluster.kinds, cluster.pairs)
+    for number, line in lines_of(schedule):
+        rule = rules.broken_by(line) if is_event(line) else None
+        if rule:
+            return number, rule
+
+
 def run(config, schedule):
     cluster = Cluster(json.loads(config))
-    for line in schedule.split(b'\n'):
-        line = line.removesuffix(b'\r')
-        if line and not line.startswith(b'#'):
+    for _, line in lines_of(schedule):
+        if is_event(line):
             cluster.take(line)
     return cluster.output()
 
 
+def printed_by(config, schedule):
+    """The output, the line on the error output and the status."""
+    refused = refusal(config, schedule)
+    if refused:
+        return '', 'murder: schedule refused: line %d rule %d\n' % refused, 3
+    return run(config, schedule), '', 0
+
+
+def stored(name, otherwise=''):
+    return open(name, newline='').read() if os.path.exists(name) else otherwise
+
+
+def differing(folder):
+    """What a folder holds that this model doesn't print."""
+    config, schedule = (open(os.path.join(folder, name), 'rb').read() for name in ('config.json', 'schedule'))
+    wanted = [stored(os.path.join(folder, name)) for name in ('stdout', 'stderr')] + [int(stored(os.path.join(folder, 'status'), '0'))]
+    if printed_by(config, schedule) != tuple(wanted):
+        yield folder
+    for line in stored(os.path.join(folder, 'refusals')).splitlines():
+        kind, _, rest = line.partition(' | ')
+        text, _, rule = rest.rpartition(' => ')
+        if kind == 'schedule' and printed_by(config, unspelled(text.encode()))[1] != 'murder: schedule refused: %s\n' % rule:
+            yield folder + ': ' + line
+
+
+def compared():
+    """Compares each stored output, and prints what differs."""
+    top = os.path.dirname(os.path.dirname(os.path.abspath(__file__)))
+    folders = sorted(glob.glob(top + '/examples/*/') + glob.glob(top + '/tests/replays/*/'))
+    found = [what for folder in folders for what in differing(folder)]
+    print(*found, '%d folders, %d differ' % (len(folders), len(found)), sep='\n')
+    return 1 if found else 0
+
+
 if __name__ == '__main__':
-    config, schedule = (open(name, 'rb').read() for name in sys.argv[1:3])
-    sys.stdout.write(run(config, schedule))
+    if len(sys.argv) == 1:
+        sys.exit(compared())
+    output, error, status = printed_by(*(open(name, 'rb').read() for name in sys.argv[1:3]))
+    sys.stdout.write(output)
+    sys.stderr.write(error)
+    sys.exit(status)

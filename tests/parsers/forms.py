@@ -3,7 +3,7 @@ import re
 
 
 def text(form):
-    return lambda field: isinstance(field, str) and re.fullmatch(form, field) is not None
+    return lambda field: isinstance(field, str) and re.fullmatch(form, field, re.A) is not None
 
 
 def listed(form):
@@ -13,7 +13,7 @@ def listed(form):
 def pairs(values):
     """A list of names, each with a value of its own form behind it; the place that a part of a body begins at is passed over."""
     def is_pair(name, value):
-        name = re.sub(r"(?<=\[\])<\d+>$", "", name) if isinstance(name, str) else None
+        name = re.sub(r"(?<=\[\])<\d+>\Z", "", name, flags=re.A) if isinstance(name, str) else None
         return name in values and values[name](value)
 
     def fits(field):

@@ -118,11 +118,11 @@ def verdict_of(words, tag):
 
 def table():
     """The cases of the table of replies: a name, the tag, the bytes, what is meant."""
-    for line in open(os.path.join(TOP, "crates/lower_cases/data/reply.txt"), encoding="utf-8"):
+    for line in open(os.path.join(TOP, "tests/parsers/replies.txt"), encoding="utf-8"):
         line = line.rstrip("\n")
         if not line or line.startswith("#"):
             continue
-        given, text = line.split(" => before ")
+        given, text = line.split(" => ")
         tag, lines, verdict = given.split(" | ")
         tag = text_of(tag)
         meant = [line_of(one.split("/"), tag) for one in lines.split(" ; ") if one] + verdict_of(verdict.split("/"), tag)

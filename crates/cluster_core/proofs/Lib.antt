@@ -1,7 +1,7 @@
-pub mod Run
+pub mod Runs
 pub mod Histories
 pub mod Names
 pub mod Connections
 pub mod Nodes
 pub mod Flows
-pub mod Headline
+pub mod OneServer

@@ -80,7 +80,7 @@ impl Cluster {
     }
 
     /// Takes one event, in single steps, in each of which one node works, for its own clients alone. For want of memory the cluster is spent: drop it.
-    #[tactic(auto, using(crate::proofs::Run::Unrolled::event_made))]
+    #[tactic(auto, using(crate::proofs::Runs::Unrolled::event_made))]
     pub fn step(&mut self, event: Event) -> Result<(), Memory>
         requires { HasRoom self.old event }
         ensures event { OnOk result (self.new ≡ happens self.old event) }

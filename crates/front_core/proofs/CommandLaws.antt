@@ -14,7 +14,7 @@ use Rattle.front_core.specs.declared.connection.Stage.TheVariants.{Reading, Aske
 use Rattle.front_core.specs.Answered.{answer_comes, answer_by, need_behind, reading_again}
 use Rattle.front_core.specs.Front.{is_asked}
 use Rattle.front_core.specs.Room.{commands_of}
-use Rattle.front_core.specs.Taken.{answers, answers_last, asks, need_in, request_in, input_in, comes_at, input_comes, inputs_come}
+use Rattle.front_core.specs.Taken.{answers, answers_last, need_in, request_in, input_in, comes_at, input_comes, inputs_come}
 use Rattle.session_core.specs.declared.asking.Awaited.{Awaited}
 use Rattle.session_core.specs.declared.need.Need.{Need}
 use Rattle.session_core.specs.declared.need.Need.TheVariants.{Reply, Leave, Home}

@@ -18,7 +18,7 @@ use Rattle.front_core.specs.declared.front.Front.{Front}
 use Rattle.front_core.specs.Answered.{answer_comes}
 use Rattle.front_core.specs.Ended.{released, released_at}
 use Rattle.front_core.specs.Front.{connection_at, new_connection, connect, connect_at, bytes_in, bytes_at, bytes_by, having_read}
-use Rattle.front_core.specs.Front.{hang, hang_at, hung_up, deliver, answer_at, is_asked}
+use Rattle.front_core.specs.Front.{hang, hang_at, hung_up, deliver, answer_at}
 use Rattle.front_core.specs.Room.{commands_of, HasCommands, HasRoomAt, HasRoomFor}
 use Rattle.front_core.specs.Taken.{inputs_come}
 use Rattle.front_core.proofs.ReadingLaws.{inputs_of_more-length}

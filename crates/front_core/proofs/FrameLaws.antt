@@ -13,7 +13,7 @@ use Rattle.front_core.specs.declared.connection.Connection.{Connection}
 use Rattle.front_core.specs.declared.connection.Stage.{Stage}
 use Rattle.front_core.specs.declared.connection.Stage.TheVariants.{Reading, Asked, Ended}
 use Rattle.front_core.specs.Reading.{Reading as Read}
-use Rattle.front_core.specs.Taken.{Turned, answers, answers_last, asks, need_in, request_in, input_in, comes_at, input_comes}
+use Rattle.front_core.specs.Taken.{Turned, answers, answers_last, need_in, request_in, input_in, comes_at, input_comes}
 
 -- with another reader, and other inputs that wait
 abbrev pub holding : Read → List Input → Turned → Turned

@@ -14,7 +14,6 @@ use Rattle.mail_store.specs.Expunge.{expunged}
 use Rattle.mail_store.specs.Store.{stored, rows_stored, has_too_many_flags}
 use Rattle.mail_store.specs.declared.fault.StoreFault.{StoreFault}
 use Rattle.imap_types.specs.declared.command.Command.{Command}
-use Rattle.imap_types.specs.declared.command.Command.TheVariants as command
 use Rattle.imap_types.specs.declared.command.StatusItem.{StatusItem}
 use Rattle.mur_model.specs.declared.fetch.Fetching.{Fetching}
 use Rattle.mur_model.specs.declared.need.Need.{Need}
@@ -44,7 +43,7 @@ use Rattle.mur_model.specs.declared.view.View.{View}
 use Rattle.mur_model.specs.Act.{act_by, act_of, work_on, worked_at, session_after}
 use Rattle.mur_model.specs.Act.{need_of}
 use Rattle.mur_model.specs.Answer.{answer_of}
-use Rattle.mur_model.specs.Append.{append, append_on, append_to, append_reply}
+use Rattle.mur_model.specs.Append.{append_on, append_to, append_reply}
 use Rattle.mur_model.specs.ClientView.{uids}
 use Rattle.mur_model.specs.Close.{left_by}
 use Rattle.mur_model.specs.Create.{create_on, make}
@@ -53,11 +52,11 @@ use Rattle.mur_model.specs.Fetch.{fetch_at, fetch_told, fetch_lines, sees, seen_
 use Rattle.mur_model.specs.Left.{Worked, replied, kept, changed}
 use Rattle.mur_model.specs.News.{news}
 use Rattle.mur_model.specs.Noop.{news_told}
-use Rattle.imap_types.specs.Reply.{completed, reply_of}
-use Rattle.mur_model.specs.Select.{select, select_on, select_told, unselected}
+use Rattle.imap_types.specs.Reply.{reply_of}
+use Rattle.mur_model.specs.Select.{select_on, select_told, unselected}
 use Rattle.mur_model.specs.Search.{search_told}
 use Rattle.mur_model.specs.Selected.{gone, rows_of, with_news}
-use Rattle.mur_model.specs.Status.{status, status_on, status_reply}
+use Rattle.mur_model.specs.Status.{status_on, status_reply}
 use Rattle.mur_model.specs.Store.{box_at, is_spent}
 use Rattle.mur_model.specs.StoreFlags.{stored_at, store_told, store_refused, own_lines}
 use Rattle.mur_model.specs.Viewing.{found_gone, viewed_on, work_there}

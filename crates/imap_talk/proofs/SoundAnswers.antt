@@ -1,11 +1,10 @@
 -- The texts of each answer of a sound store to a sound request are sound, so a client reads what was meant; and the store stays sound.
-use Rattle.std.proofs.Common.{◌≡◌, ℕ, ◌^◌, if◌then◌else◌, List, [], codes, refl}
+use Rattle.std.proofs.Common.{ℕ, ◌^◌, List, [], codes, refl}
 use Rattle.std.proofs.Common.{Option, None, Some}
 use Rattle.std.specs.Prelude.{IfSome, unwrap_or}
 use Rattle.std.proofs.lemmas.List.Elements.{All-nil, All-cons}
 use Rattle.mail_message.specs.Literals.{IsPlain}
 use Rattle.imap_types.specs.declared.command.Command.{Command}
-use Rattle.imap_types.specs.declared.command.Command.TheVariants as command
 use Rattle.mur_model.specs.declared.need.Need.{Need}
 use Rattle.mur_model.specs.declared.need.Need.TheVariants.{Refusal, Turned, Mailbox}
 use Rattle.mur_model.specs.declared.need.Work.{Work}
@@ -20,12 +19,8 @@ use Rattle.mur_model.specs.declared.setting.Setting.{Setting}
 use Rattle.mur_model.specs.declared.store.Store.{Store}
 use Rattle.mur_model.specs.Act.{act_by, act_of, worked_at, need_of}
 use Rattle.mur_model.specs.Answer.{answer_of}
-use Rattle.mur_model.specs.Append.{append}
 use Rattle.mur_model.specs.AtOnce.{told_at_once}
 use Rattle.mur_model.specs.History.{Course}
-use Rattle.imap_types.specs.Reply.{completed}
-use Rattle.mur_model.specs.Select.{select}
-use Rattle.mur_model.specs.Status.{status}
 use Rattle.mur_model.specs.Store.{box_at, is_spent}
 use Rattle.mur_model.proofs.EachNeed.{OfAnswers, OfNeeds, each_need}
 use Rattle.mur_model.proofs.EachAnswer.{Keeps}

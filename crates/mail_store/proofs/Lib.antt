@@ -5,3 +5,4 @@ pub mod FollowsLaws
 pub mod UidsBelow
 pub mod AppendKeeps
 pub mod RisingUids
+pub mod FoundUids

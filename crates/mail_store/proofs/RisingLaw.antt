@@ -1,16 +1,16 @@
 -- The rows that a STORE gives rise by UID.
-use Rattle.std.proofs.Common.{◌≡◌, ℕ, nat_eq, Bool, true, false, cond, List, [], ◌∷◌, ◌++◌, map, Option, None, Some, refl, sym, subst, arith}
+use Rattle.std.proofs.Common.{◌≡◌, ℕ, List, [], ◌∷◌, ◌++◌, map, Option, None, Some, sym, subst}
 use Rattle.std.specs.List.{AllByRecursion}
 use Rattle.std.specs.List.Sorted.{IsStrictlySortedBy}
 use Rattle.std.specs.Ordering.{nat_cmp}
 use Rattle.std.specs.declared.cmp.Ordering.TheVariants.{Less}
-use Rattle.std.proofs.lemmas.Bool.Decides.{nat_tests}
 use Rattle.mail_message.specs.Boxes.{message_at}
 use Rattle.mail_message.specs.FlagSets.{Flags}
 use Rattle.mail_message.specs.RowOrder.{AreRising}
 use Rattle.mail_message.specs.declared.message.Message.{Message}
 use Rattle.mail_message.specs.declared.message.Row.{Row}
 use Rattle.mail_message.specs.declared.mode.Mode.{Mode}
+use Rattle.mail_store.proofs.FoundUids.{IsOf, found_is}
 use Rattle.mail_store.specs.Store.{stored_row, stored_rows}
 
 abbrev Below : ℕ → List Row → Type 0
@@ -19,20 +19,6 @@ Below uid rows = AllByRecursion (λ other. nat_cmp uid other ≡ Less) (map (λ 
 below_both : (uid : ℕ) (rows more : List Row) → Below uid rows → Below uid more → Below uid (rows ++ more)
 below_both uid [] more below belows = belows
 below_both uid (row ∷ rows) more below belows = (below.0, below_both uid rows more below.1 belows)
-
--- a message that is found has the UID that it was looked for by
-abbrev IsOf : ℕ → Option Message → Type 0
-IsOf uid None = Unit {0}
-IsOf uid (Some message) = message.uid ≡ uid
-
-of_by : (uid : ℕ) (message : Message) (rest : Option Message) (same : Bool) → nat_eq message.uid uid ≡ same → IsOf uid rest
-    → IsOf uid (cond same (Some message) rest)
-of_by uid message rest true is found = grind (arith, nat_tests, is)
-of_by uid message rest false is found = found
-
-found_is : (messages : List Message) (uid : ℕ) → IsOf uid (message_at messages uid)
-found_is [] uid = tt
-found_is (message ∷ messages) uid = of_by uid message (message_at messages uid) (nat_eq message.uid uid) refl (found_is messages uid)
 
 below_row : (least uid : ℕ) (mode : Mode) (flags : Flags) (message : Option Message) → nat_cmp least uid ≡ Less → IsOf uid message
     → Below least (stored_row mode flags message)

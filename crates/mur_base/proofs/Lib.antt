@@ -1,4 +1,4 @@
-mod DecimalReadBack
+pub mod DecimalReadBack
 mod EmptyLevels
 pub mod NamesFit
 mod PatternMarks

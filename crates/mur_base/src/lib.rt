@@ -33,4 +33,4 @@ pub use number::{put_number, read_number};
 pub use pattern::matches;
 pub use point::{AskId, Point, What};
 pub use queue::Queue;
-pub use user::{PASSWORD_LIMIT, User, Users, UsersFault};
+pub use user::{PASSWORD_LIMIT, User, Users, UsersFault, is_password};

@@ -1,5 +1,5 @@
 // The users of a cluster, with their passwords.
-ghost use Rattle.std.specs.Prelude.{◌≡◌};
+ghost use Rattle.std.specs.Prelude.{◌≡◌, None};
 ghost use Rattle.std.specs.List.{list_any, list_all};
 ghost use Rattle.mur_base.specs.Users.{users_fault, is_user_named, user_names_differ, has_password, is_password, is_no_nul, AreTakenAsUsers, AreUsers};
 
@@ -64,6 +64,14 @@ impl Users {
         } else {
             Ok(Users { users })
         }
+    }
+
+    /// The users of a list of which it is known that it breaks no rule. Nothing is tested or copied.
+    pub fn from_checked(users: Items<User>) -> Users
+        requires { users_fault users ≡ None }
+        ensures { result ≡ users }
+    {
+        Users { users }
     }
 
     pub fn as_slice(&self) -> &[User]
@@ -132,8 +140,9 @@ fn has_password(user: &User) -> bool
     is_password(user.password.as_slice())
 }
 
+/// Whether a text is 1 to `PASSWORD_LIMIT` bytes without NUL.
 #[tactic(auto, unfolding(crate::specs::Users::is_password))]
-fn is_password(text: &[u8]) -> bool
+pub fn is_password(text: &[u8]) -> bool
     ensures { result ≡ is_password text.now }
 {
     !text.is_empty() && text.len() <= PASSWORD_LIMIT && has_no_nul(text)

@@ -1,5 +1,9 @@
 mod NodesLaw
-mod KnownConfigs
 pub mod LinksLaw
 pub mod NodesApart
 pub mod OncePairs
+mod Texts
+mod NamesLaw
+mod ValuesLaw
+mod EachLaw
+mod JsonLaw

@@ -1,2 +1,6 @@
-pub mod Nodes
 pub mod Config
+pub mod Draft
+pub mod Json
+pub mod Names
+pub mod Nodes
+pub mod Rules

@@ -6,6 +6,15 @@ ghost use Rattle.mur_config.specs.Nodes.{is_node_named, are_kinds_linked, are_li
 use mur_base::{Bytes, Copied, Items, Memory, NodeName};
 use std::alloc::Global;
 
+/// Where a master takes connections that names no port.
+pub const MASTER_PORT: u16 = 3905;
+
+/// Where a frontend takes connections that names no port.
+pub const FRONTEND_PORT: u16 = 143;
+
+/// The port of a backend that names none, since it takes no connections.
+pub const NO_PORT: u16 = 0;
+
 /// What a node does.
 #[derive(Clone, Copy, Debug, PartialEq, Eq)]
 pub enum Kind {
@@ -24,6 +33,8 @@ pub struct Node {
     pub kind: Kind,
     /// The name of a backend's partition; that of another node is empty.
     pub partition: Bytes,
+    /// Where the node takes connections; `NO_PORT` for a backend that names none.
+    pub port: u16,
 }
 
 /// One direction of what joins two nodes.

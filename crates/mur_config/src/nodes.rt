@@ -137,7 +137,7 @@ fn has_node_counts(nodes: &[Node]) -> bool
 }
 
 #[tactic(auto, unfolding(crate::specs::Nodes::is_some_within))]
-fn is_some_within(limit: usize, count: usize) -> bool
+pub fn is_some_within(limit: usize, count: usize) -> bool
     ensures { result ≡ is_some_within limit count }
 {
     0 < count && count <= limit
@@ -166,12 +166,19 @@ fn have_partitions(nodes: &[Node]) -> bool
     nodes.iter().all(|node| has_partition(node))
 }
 
-#[tactic(auto, unfolding(crate::specs::Nodes::has_partition, crate::specs::Nodes::fits_kind))]
+#[tactic(auto, unfolding(crate::specs::Nodes::has_partition))]
 fn has_partition(node: &Node) -> bool
     ensures { result ≡ has_partition node.now }
 {
-    let partition = node.partition.as_slice();
-    match node.kind {
+    fits_kind(node.kind, node.partition.as_slice())
+}
+
+/// Whether a backend has the name of a partition, and another node none.
+#[tactic(auto, unfolding(crate::specs::Nodes::fits_kind))]
+pub fn fits_kind(kind: Kind, partition: &[u8]) -> bool
+    ensures { result ≡ fits_kind kind partition.now }
+{
+    match kind {
         Kind::Backend => NodeRule::fault_of(partition).is_none(),
         Kind::Master | Kind::Frontend => partition.is_empty(),
     }

@@ -1,9 +1,8 @@
 -- A fetch of what rows tell gives of messages what it gives of their rows.
 use Rattle.std.proofs.Common.{◌≡◌, ℕ, Bool, true, false, ◌&&◌, cond, nat_eq, if◌then◌else◌, List, [], ◌∷◌, ◌++◌, map, Option, None, Some}
-use Rattle.std.proofs.Common.{not, ap, arith, refl, subst, sym, ◌∙◌}
+use Rattle.std.proofs.Common.{not, ap, refl, subst, sym, ◌∙◌}
 use Rattle.std.specs.List.{filter, list_all, list_any}
 use Rattle.std.specs.Option.{option_map, option_to_list}
-use Rattle.std.proofs.lemmas.Bool.Decides.{nat_tests}
 use Rattle.std.proofs.lemmas.List.Folds.{list_all-append}
 use Rattle.mail_fetch.specs.Parts.{part_text}
 use Rattle.mail_message.specs.Boxes.{Content, message_at, messages_at, row_of}
@@ -24,6 +23,7 @@ use Rattle.mur_model.specs.News.{has_row, news}
 use Rattle.mur_model.specs.Selected.{rows_of, with_news}
 use Rattle.mur_model.specs.StoreFlags.{code_for}
 use Rattle.mur_model.proofs.FlagLaw.{flags_self}
+use Rattle.mail_store.proofs.FoundUids.{IsOf, found_is}
 
 -- ---- the items
 
@@ -62,19 +62,6 @@ told_in_row it are = by (it.by_uid && not (list_any is_uid it.items))
     by false = asked
 
 -- ---- a message, and its row
-
-abbrev IsOf : ℕ → Option Message → Type 0
-IsOf uid None = Unit {0}
-IsOf uid (Some message) = message.uid ≡ uid
-
-of_by : (uid : ℕ) (message : Message) (rest : Option Message) (same : Bool) → nat_eq message.uid uid ≡ same → IsOf uid rest
-    → IsOf uid (cond same (Some message) rest)
-of_by uid message rest true is found = grind (arith, nat_tests, is)
-of_by uid message rest false is found = found
-
-found_is : (messages : List Message) (uid : ℕ) → IsOf uid (message_at messages uid)
-found_is [] uid = tt
-found_is (message ∷ messages) uid = of_by uid message (message_at messages uid) (nat_eq message.uid uid) refl (found_is messages uid)
 
 row_by : (message : Message) (rest : Option Message) (same : Bool)
     → cond same (Some (row_of message)) (option_map row_of rest) ≡ option_map row_of (cond same (Some message) rest)

@@ -1,5 +1,4 @@
 mod WritingLaws
-mod NumberRead
 mod SpellingRead
 mod OneWord
 mod CutsJoined

@@ -17,7 +17,7 @@ use Rattle.top_call.specs.Output.{box_line, end_line}
 use Rattle.top_call.specs.ReadBack.{TellsEach, no_line, a_line, IsToLine, TellsClient, IsPointLine, SaysWhat, SaysCounts, IsRowLine, IsLineAt, IsBoxLine}
 use Rattle.top_call.specs.ReadBack.{IsEndLine}
 use Rattle.top_call.proofs.CutsJoined.{join_cuts, cuts_something}
-use Rattle.top_call.proofs.NumberRead.{number_of-decimal}
+use Rattle.mur_base.proofs.DecimalReadBack.{number_of-decimal}
 use Rattle.top_call.proofs.OneWord.{one_word}
 use Rattle.top_call.proofs.SpellingRead.{text_read, name_text_read}
 

@@ -14,7 +14,7 @@ use Rattle.top_call.specs.Output.{output_of, lines_of, client_lines, point_line,
 use Rattle.top_call.specs.ReadBack.{TellsClient, IsPointLine, IsBoxLine, TellsRun}
 use Rattle.top_call.specs.Replay.{run_text}
 use Rattle.cluster_core.proofs.Connections.ClientsInOrder.{clients_in_order}
-use Rattle.cluster_core.proofs.Run.Unrolled.{by_steps}
+use Rattle.cluster_core.proofs.Runs.Unrolled.{by_steps}
 use Rattle.top_call.proofs.FoundLaw.{clients_found}
 use Rattle.top_call.proofs.LinesRead.{tells_each, client_read, point_line_read, box_line_read, end_line_read}
 

@@ -15,6 +15,8 @@ use Rattle.schedule_text.specs.declared.event.Event.{Event}
 use Rattle.cluster_core.specs.Flow.{run}
 use Rattle.cluster_core.specs.World.{start}
 use Rattle.mur_config.specs.Config.{config_of}
+use Rattle.mur_config.specs.Rules.{rule_number as config_rule}
+use Rattle.mur_config.specs.declared.fault.ConfigFault.{ConfigFault}
 use Rattle.cluster_core.specs.Headline.{IsOneServer}
 use Rattle.schedule_text.specs.Meaning.{IsSchedule, IsNoSchedule}
 use Rattle.schedule_text.specs.Schedule.{schedule_of}
@@ -69,18 +71,16 @@ pub record HasConfig (name : List ℕ) (config : Configuration) (before now : Ho
   pub text : List ℕ
   pub reads : Reads CONFIG_LIMIT name text before now
   pub whole : length text ≤ CONFIG_LIMIT
-  pub right : config_of text ≡ Some config
+  pub right : config_of text ≡ Ok config
 
--- the rule that a text breaks which spells no configuration; so far there is one, numbered 0
-abbrev pub config_rule : Option Configuration → Option ℕ
-config_rule None = Some 0
-config_rule (Some config) = None
-
--- the configuration's file was read, and breaks this rule
+-- the configuration's file was read to its end; this is the first rule that it breaks
 pub record HasNoConfig (name : List ℕ) (rule : ℕ) (before now : HostFacts) : Type 0 where
   pub text : List ℕ
   pub reads : Reads CONFIG_LIMIT name text before now
-  pub wrong : config_rule (config_of text) ≡ Some rule
+  pub whole : length text ≤ CONFIG_LIMIT
+  pub fault : ConfigFault
+  pub wrong : config_of text ≡ Err fault
+  pub by_rule : rule ≡ config_rule fault
 
 -- how a call ends at the configuration, if it does
 abbrev pub EndsAtConfig : List ℕ → HostFacts → HostFacts → Status → Type 0

@@ -8,6 +8,7 @@ ghost use Rattle.top_call.specs.Output.{lines_of, output_of};
 ghost use Rattle.top_call.specs.ReadBack.{TellsRun};
 ghost use Rattle.top_call.specs.Replay.{DidReadConfig, DidReadSchedule, EndsWriting, DidReplay, run_text};
 ghost use Rattle.top_call.specs.Status.{CountsStatus, CountsFile};
+ghost use Rattle.mur_config.specs.Rules.{rule_number as config_rule};
 ghost use Rattle.top_call.specs.declared.status.Status.TheVariants.{Schedule};
 ghost use Rattle.schedule_text.specs.ScheduleRules.{rule_number};
 
@@ -17,7 +18,7 @@ use crate::status::Status;
 use crate::words::Names;
 use cluster_core::{Cluster, HomeRows, Points, World, run};
 use mur_base::limits::SCHEDULE_LIMIT;
-use mur_config::{CONFIG_LIMIT, Config, ConfigFault, read_config};
+use mur_config::{CONFIG_LIMIT, Config, ConfigError, ConfigFault, read_config};
 use mur_edge::{Host, HostFault, Used};
 use schedule_text::{Events, SchedFault, ScheduleError, read_schedule};
 use std::alloc::Global;
@@ -38,7 +39,7 @@ pub fn replay<H: Host>(alloc: Global, host: &mut H, names: &Names<'_>) -> Status
     write_run(alloc, host, config, events)
 }
 
-// The configuration of a file, or how the call ends.
+// The configuration of a file, or how the call ends. Memory for a longer text than `CONFIG_LIMIT` is never asked for.
 fn configuration<H: Host>(alloc: Global, host: &mut H, name: &[u8]) -> Result<Config, Status>
     ensures did { DidReadConfig name.now (H.facts host.old) (H.facts host.new) result }
     ensures counts { CountsFile result (H.facts host.old).faults (H.facts host.new).faults }
@@ -48,10 +49,22 @@ fn configuration<H: Host>(alloc: Global, host: &mut H, name: &[u8]) -> Result<Co
         Err(HostFault::Failed) => return Err(Status::Read),
         Err(HostFault::Memory) => return Err(Status::Memory),
     };
+    if text.len() > CONFIG_LIMIT {
+        return Err(Status::Memory);
+    }
     match read_config(alloc, text.as_slice()) {
         Ok(config) => Ok(config),
-        Err(ConfigFault::Unknown) => Err(Status::Config { rule: 0 }),
-        Err(ConfigFault::Memory) => Err(Status::Memory),
+        Err(ConfigError::Refused(fault)) => Err(refused_config(fault)),
+        Err(ConfigError::Memory) => Err(Status::Memory),
+    }
+}
+
+// How a call ends whose configuration is refused.
+fn refused_config(fault: ConfigFault) -> Status
+    ensures { result ≡ Status.Config (config_rule fault) }
+{
+    Status::Config {
+        rule: fault.number(),
     }
 }
 

@@ -6,7 +6,7 @@ use Rattle.std.proofs.lemmas.Bool.Decides.{nat_tests}
 use Rattle.backend_core.specs.declared.backend.Backend.{Backend}
 use Rattle.front_core.specs.declared.connection.Connection.{Connection}
 use Rattle.front_core.specs.declared.connection.Stage.TheVariants.{Asked, Ended}
-use Rattle.front_core.specs.Answered.{answer_by, answer_comes, ends_with, finished_in, need_behind, reading_again, reads_on, unchanged}
+use Rattle.front_core.specs.Answered.{answer_by, answer_comes, ends_with, finished_in, reading_again, reads_on, unchanged}
 use Rattle.front_core.specs.Taken.{Turned, inputs_come}
 use Rattle.imap_reply.specs.Greeting.{greeting}
 use Rattle.imap_reply.specs.ReplyText.{reply_text}

@@ -28,7 +28,7 @@ use Rattle.mur_config.proofs.OncePairs.{times, pairs_once}
 use Rattle.cluster_core.proofs.Nodes.OneNodeLaw.{carry_all_sends}
 use Rattle.cluster_core.proofs.Nodes.NoneQuiet.{NoneQuiet, first_serves, run_keeps as keeps_none_quiet}
 use Rattle.cluster_core.proofs.Nodes.OnPairs.{IsIdle, all_empty, pairs_stay, start_none_quiet}
-use Rattle.cluster_core.proofs.Run.Unrolled.{event_made, run_steps-append}
+use Rattle.cluster_core.proofs.Runs.Unrolled.{event_made, run_steps-append}
 use Rattle.link_queue.proofs.Wires.{same_itself, on_link-taken}
 
 -- a delivery takes the first message of its link, and nothing else changes there

@@ -33,8 +33,8 @@ use Rattle.cluster_core.proofs.Flows.Load.{message_load, queue_load, out_load, o
 use Rattle.cluster_core.proofs.Flows.Load.{send_load, take_load, Brings, connect_brings, bytes_bring, hang_load, message_brings, plan_load}
 use Rattle.mur_config.proofs.OncePairs.{times, pairs_once}
 use Rattle.cluster_core.proofs.Nodes.OnPairs.{on_pairs}
-use Rattle.cluster_core.proofs.Run.StartLaw.{start_links}
-use Rattle.cluster_core.proofs.Run.Unrolled.{run_steps-append}
+use Rattle.cluster_core.proofs.Runs.StartLaw.{start_links}
+use Rattle.cluster_core.proofs.Runs.Unrolled.{run_steps-append}
 
 some_load : (message : LinkMsg) → 1 ≤ message_load message
 unfolding message_load

@@ -22,7 +22,7 @@ use Rattle.cluster_core.specs.World.{no_world, or_backend, backends_of, home_of,
 use Rattle.cluster_core.proofs.Connections.KeepsLaw.{AreNodesOf}
 use Rattle.serve_law.proofs.HomeStore.{IsStoreOf}
 use Rattle.mur_config.proofs.NodesApart.{head_apart, tail_apart}
-use Rattle.cluster_core.proofs.Run.StartLaw.{first_backend, backends_stay}
+use Rattle.cluster_core.proofs.Runs.StartLaw.{first_backend, backends_stay}
 use Rattle.mur_model.specs.declared.store.Store.{Store}
 
 named_by : (P : List ℕ → Type 0) (node : Node) (kind : Kind) (names : List (List ℕ)) → P node.name → All P names → All P (or_backend kind node.name names)

@@ -19,7 +19,7 @@ use Rattle.cluster_core.specs.Shown.{home_rows}
 use Rattle.cluster_core.specs.World.{start}
 use Rattle.cluster_core.proofs.Names.BackendsLaw.{opens_at_one}
 use Rattle.cluster_core.proofs.Names.ShownHomes.{shows_boxes}
-use Rattle.cluster_core.proofs.Headline.ToldSoFar.{kept_all}
+use Rattle.cluster_core.proofs.OneServer.ToldSoFar.{kept_all}
 
 rows_cons : (p : HomeRow → Bool) (x : HomeRow) (xs : List HomeRow) → count_by p (x ∷ xs) ≡ cond (p x) 1 0 + count_by p xs
 rows_cons p x xs = sum_by-append (λ y. cond (p y) 1 0) (x ∷ []) xs ∙ ap (λ n. n + count_by p xs) (omega arith)

@@ -18,7 +18,7 @@ use Rattle.mur_config.specs.Nodes.{AreNodes, is_node_named, are_kinds_linked, ar
 use Rattle.mur_model.specs.declared.setting.Setting.{Setting}
 use Rattle.cluster_core.specs.declared.world.World.{World}
 use Rattle.cluster_core.specs.World.{no_world, or_backend, backends_of, home_of, setting_of, with_node, with_nodes, start, front_at}
-use Rattle.cluster_core.proofs.Run.StartLaw.{first_backend}
+use Rattle.cluster_core.proofs.Runs.StartLaw.{first_backend}
 
 -- a node of this kind and name
 record HasNode (nodes : List Node) (kind : Kind) (name : List ℕ) : Type 0 where

@@ -40,8 +40,8 @@ use Rattle.cluster_core.proofs.Connections.KeepsLaw.ConnectionIs.{is_nobody, is_
 use Rattle.cluster_core.proofs.Nodes.LinkedNodes.{to_the_home, from_the_home}
 use Rattle.cluster_core.proofs.Nodes.NoneQuiet.{quiet_in, NoneQuiet, run_keeps as keeps_none_quiet}
 use Rattle.link_queue.proofs.OnWay.{alike, own_first, none_first}
-use Rattle.cluster_core.proofs.Run.FrontsOfStart.{frontends_at_start}
-use Rattle.cluster_core.proofs.Run.StartLaw.{start_keeps, start_links, nothing_picked}
+use Rattle.cluster_core.proofs.Runs.FrontsOfStart.{frontends_at_start}
+use Rattle.cluster_core.proofs.Runs.StartLaw.{start_keeps, start_links, nothing_picked}
 use Rattle.front_core.proofs.OneConnection.Ways.{AreOnWay, ask_in, answer_in, own_ask, own_answer}
 
 -- what is on the way for a connection of this frontend

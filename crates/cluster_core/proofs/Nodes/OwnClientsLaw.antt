@@ -49,7 +49,7 @@ use Rattle.cluster_core.proofs.Connections.KeepsLaw.{ConnectionIs, KeepsLaw}
 use Rattle.cluster_core.proofs.Connections.KeepsLaw.ConnectionIs.{is_nobody, is_elsewhere, is_open, is_closed}
 use Rattle.cluster_core.proofs.Nodes.OneNodeLaw.{one_more_step}
 use Rattle.front_core.proofs.OneConnection.OwnOuts.{IsFor, AreFor, answered_for, connect_for, bytes_for}
-use Rattle.cluster_core.proofs.Run.StartLaw.{start_keeps}
+use Rattle.cluster_core.proofs.Runs.StartLaw.{start_keeps}
 use Rattle.front_core.proofs.OneConnection.Ways.{answer_taken, no_answer_first}
 
 -- the clients of all other connections are as they were

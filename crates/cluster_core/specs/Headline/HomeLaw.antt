@@ -1,5 +1,5 @@
 -- At most one writable home, and the causes of refusals.
-use Rattle.std.specs.Prelude.{◌≡◌, ℕ, ◌≤◌, Bool, true, false, ◌&&◌, List, ◌++◌, count_by, All, ⊤}
+use Rattle.std.specs.Prelude.{◌≡◌, ℕ, ◌≤◌, Bool, ◌&&◌, List, ◌++◌, count_by, All, ⊤}
 use Rattle.std.specs.Str.{bytes_eq}
 use Rattle.backend_core.specs.HomeLaws.{is_open}
 use Rattle.mur_base.specs.declared.point.Point.{Point}

@@ -1,5 +1,5 @@
 use Rattle.std.proofs.Common.{sym, ◌∙◌}
-use Rattle.cluster_core.proofs.Run.CarryOn.{carried_on, carried_end, shorter}
+use Rattle.cluster_core.proofs.Runs.CarryOn.{carried_on, carried_end, shorter}
 use Rattle.cluster_core.proofs.carry.carry_out.Goals as goal
 
 pub loop-out-preserved : goal.loop-out-preserved

@@ -1,7 +1,7 @@
 use Rattle.std.proofs.Common.{rules, sym, ◌∙◌}
-use Rattle.cluster_core.proofs.Headline.HeadlineLaw.{one_server}
-use Rattle.cluster_core.proofs.Run.CarryOn.{empty_by_length, shorter}
-use Rattle.cluster_core.proofs.Run.RunRoom.{way_begins, way_goes_on, way_has_room, way_ends}
+use Rattle.cluster_core.proofs.OneServer.HeadlineLaw.{one_server}
+use Rattle.cluster_core.proofs.Runs.CarryOn.{empty_by_length, shorter}
+use Rattle.cluster_core.proofs.Runs.RunRoom.{way_begins, way_goes_on, way_has_room, way_ends}
 use Rattle.cluster_core.proofs.cluster.run.Goals as goal
 
 pub loop-event-init : goal.loop-event-init

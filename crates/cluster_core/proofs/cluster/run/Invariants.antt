@@ -1,6 +1,6 @@
 use Rattle.std.proofs.Common.{◌≡◌, length}
 use Rattle.std.specs.Vec.Iter.{into_iter_items, into_iter_len}
-use Rattle.cluster_core.proofs.Run.RunRoom.{IsOnTheWay}
+use Rattle.cluster_core.proofs.Runs.RunRoom.{IsOnTheWay}
 use Rattle.cluster_core.proofs.cluster.run.Given as goal
 
 abbrev pub invariant-loop-event : goal.invariant-loop-event

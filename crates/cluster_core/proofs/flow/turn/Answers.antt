@@ -1,4 +1,4 @@
-use Rattle.cluster_core.proofs.Run.RoomLaw.{turn_room, later_room_by}
+use Rattle.cluster_core.proofs.Runs.RoomLaw.{turn_room, later_room_by}
 use Rattle.cluster_core.proofs.flow.turn.Goals as goal
 
 pub deliver-requires : goal.deliver-requires

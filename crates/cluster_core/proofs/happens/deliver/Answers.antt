@@ -1,5 +1,5 @@
 use Rattle.std.proofs.Common.{refl, arith}
-use Rattle.cluster_core.proofs.Run.RoomLaw.{step_fits, message_fits}
+use Rattle.cluster_core.proofs.Runs.RoomLaw.{step_fits, message_fits}
 use Rattle.cluster_core.proofs.happens.deliver.Goals as goal
 
 pub overflow_add-world : goal.overflow_add-world

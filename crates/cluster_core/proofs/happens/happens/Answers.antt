@@ -1,5 +1,5 @@
 use Rattle.std.proofs.Common.{arith}
-use Rattle.cluster_core.proofs.Run.RoomLaw.{step_fits}
+use Rattle.cluster_core.proofs.Runs.RoomLaw.{step_fits}
 use Rattle.cluster_core.proofs.happens.happens.Goals as goal
 
 pub open-requires : goal.open-requires

@@ -1,6 +1,6 @@
 use Rattle.std.proofs.Common.{sym, subst, ◌<◌, length}
 use Rattle.cluster_core.specs.World.{backends_of}
-use Rattle.cluster_core.proofs.Run.FrontsOfStart.{some_backend}
+use Rattle.cluster_core.proofs.Runs.FrontsOfStart.{some_backend}
 use Rattle.cluster_core.proofs.start.start.Goals as goal
 
 pub first_name-requires : goal.first_name-requires

@@ -1,5 +1,5 @@
 use Rattle.cluster_core.specs.Flow.{steps_of_event}
-use Rattle.cluster_core.proofs.Headline.AtRestLaw.{nothing_waits}
+use Rattle.cluster_core.proofs.OneServer.AtRestLaw.{nothing_waits}
 use Rattle.cluster_core.proofs.Flows.FlowRests.{are_its_steps}
 use Rattle.cluster_core.proofs.Nodes.OneNodeLaw.{one_node_each}
 use Rattle.cluster_core.proofs.Nodes.OwnClientsLaw.{serves_its_own_behind}

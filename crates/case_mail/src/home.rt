@@ -1,0 +1,166 @@
+// Steps of a home of mailboxes.
+use crate::operation::op_of;
+use crate::outs::put_outs;
+use crate::steps::{Steps, put_steps};
+use backend_core::{BackInput, Backend, Held};
+use case_base::{Fault, number_of, parts_of};
+use link_msg::{FrontAsk, Op, Outs};
+use mail_message::Change;
+use mur_base::{AskId, Bytes, Location, MailName, Memory, Phase, mail_name, node_name, user_name};
+use std::alloc::Global;
+
+/// The command for which everything is asked.
+const ID: AskId = AskId {
+    conn: 7,
+    command: 2,
+};
+
+/// Takes steps of a home that begins without mailboxes, and prints what each gives.
+pub fn put(alloc: Global, steps: &[&str], out: &mut Bytes) -> Result<(), Fault> {
+    put_steps(alloc, empty(alloc), steps, out)
+}
+
+/// A home without mailboxes.
+pub fn empty(alloc: Global) -> Result<Backend, Fault> {
+    let server = node_name(alloc, b"b1")?;
+    let partition = Bytes::from_slice(alloc, b"p1")?;
+    Ok(Backend::boot(alloc, Location { server, partition }))
+}
+
+impl Steps for Backend {
+    fn take(&mut self, alloc: Global, step: &str, out: &mut Bytes) -> Result<(), Fault> {
+        let words = parts_of(alloc, step, " ")?;
+        take_words(alloc, self, words.as_slice(), out)
+    }
+}
+
+fn take_words(
+    alloc: Global,
+    home: &mut Backend,
+    words: &[&str],
+    out: &mut Bytes,
+) -> Result<(), Fault> {
+    match words {
+        ["last", serial] => set_last(home, number_of(serial)?),
+        ["name", name, what @ ..] => {
+            take_name(alloc, home, &mail_name(alloc, name.as_bytes())?, what, out)
+        }
+        _ => put_asked(alloc, home, words, out),
+    }
+}
+
+/// Prints the phase of a name, takes the name away, or gives it another state.
+fn take_name(
+    alloc: Global,
+    home: &mut Backend,
+    name: &MailName,
+    what: &[&str],
+    out: &mut Bytes,
+) -> Result<(), Fault> {
+    match what {
+        ["phase"] => put_phase(home, name, out),
+        ["gone"] => forget(alloc, home, name, out),
+        state => match home.held.get_mut(name) {
+            Some(held) => make_so(alloc, held, state),
+            None => Err(Fault::Unreadable("no such name here")),
+        },
+    }
+}
+
+fn put_phase(home: &Backend, name: &MailName, out: &mut Bytes) -> Result<(), Fault> {
+    Ok(out.extend_from_slice(match home.phase(name) {
+        None => b"none",
+        Some(Phase::Open) => b"open",
+        Some(Phase::Closing) => b"closing",
+        Some(Phase::Pointer(_)) => b"pointer",
+        Some(_) => b"another",
+    })?)
+}
+
+/// Takes a name away, and prints how many are left.
+fn forget(
+    alloc: Global,
+    home: &mut Backend,
+    name: &MailName,
+    out: &mut Bytes,
+) -> Result<(), Fault> {
+    let _ = home.held.remove(name);
+    let left = format!(in alloc; "{} left", home.held.len())?;
+    Ok(out.extend_from_slice(left.as_bytes())?)
+}
+
+fn set_last(home: &mut Backend, serial: u32) -> Result<(), Fault> {
+    home.last_serial = serial;
+    Ok(())
+}
+
+/// Gives a name another phase, or its mailbox another UIDNEXT.
+fn make_so(alloc: Global, held: &mut Held, state: &[&str]) -> Result<(), Fault> {
+    match state {
+        ["closing"] => held.phase = Phase::Closing,
+        ["pointer", node] => held.phase = Phase::Pointer(node_name(alloc, node.as_bytes())?),
+        ["next", uid] => held.content.apply(Change::NextUid(number_of(uid)?))?,
+        _ => return Err(Fault::Unreadable("no such state")),
+    }
+    Ok(())
+}
+
+/// Prints what the home puts out for an input.
+fn put_asked(
+    alloc: Global,
+    home: &mut Backend,
+    words: &[&str],
+    out: &mut Bytes,
+) -> Result<(), Fault> {
+    let outs = outs_of(alloc, home, input_of(alloc, words)?)?;
+    Ok(put_outs(alloc, outs.as_slice(), out)?)
+}
+
+/// What the home puts out for an input.
+pub fn outs_of(alloc: Global, home: &mut Backend, input: BackInput) -> Result<Outs, Memory> {
+    let plan = home.plan(alloc, input)?;
+    Ok(home.settle(plan))
+}
+
+/// An input: a link's, or what a node asks of a mailbox, with the UIDVALIDITY of the one that is selected.
+fn input_of(alloc: Global, words: &[&str]) -> Result<BackInput, Fault> {
+    match words {
+        ["up", node] => Ok(BackInput::Up(node_name(alloc, node.as_bytes())?)),
+        ["end", node] => Ok(BackInput::End(node_name(alloc, node.as_bytes())?)),
+        [node, name, selected, op @ ..] => {
+            let selected = serial_of(selected)?;
+            let name = mail_name(alloc, name.as_bytes())?;
+            asked(alloc, node, name, selected, op_of(alloc, op)?)
+        }
+        _ => Err(Fault::Unreadable("no step")),
+    }
+}
+
+/// What bob asks of a mailbox at a node.
+pub fn asked(
+    alloc: Global,
+    node: &str,
+    name: MailName,
+    selected: Option<u32>,
+    op: Op,
+) -> Result<BackInput, Fault> {
+    let (Ok(node), Ok(user)) = (node_name(alloc, node.as_bytes()), user_name(alloc, b"bob")) else {
+        return Err(Fault::Unreadable("nobody asks"));
+    };
+    let ask = FrontAsk {
+        id: ID,
+        user,
+        name,
+        selected,
+        op,
+    };
+    Ok(BackInput::FromFront(node, ask))
+}
+
+/// The UIDVALIDITY that a field writes; `-` is none.
+fn serial_of(field: &str) -> Result<Option<u32>, Fault> {
+    match field {
+        "-" => Ok(None),
+        serial => Ok(Some(number_of(serial)?)),
+    }
+}

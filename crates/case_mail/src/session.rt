@@ -1,0 +1,173 @@
+// One session over one home of mailboxes: what its client is told.
+use crate::home;
+use crate::line::{command_of, put_reply};
+use crate::model::setting;
+use crate::steps::{Steps, put_steps};
+use backend_core::{BackInput, Backend};
+use case_base::Fault;
+use imap_types::Command;
+use link_msg::{AnswerBody, LinkMsg, Out};
+use mur_base::{Bytes, MailName, What, node_name};
+use mur_model::Setting;
+use session_core::{Asking, Awaited, Need, Session};
+use std::alloc::Global;
+
+/// What becomes of what a session asks.
+#[derive(Clone, Copy)]
+enum Course {
+    /// Its home answers it.
+    Answered,
+    /// The mailbox is being moved.
+    BeingMoved,
+    /// The home isn't reached.
+    NotReached,
+}
+
+/// A client's session, until its client is told that it has ended; and the home that it asks.
+#[derive(Drop)]
+pub struct Stage {
+    setting: Setting,
+    home: Backend,
+    session: Session,
+    has_left: bool,
+}
+
+/// Takes steps of a session in which nobody has logged in, over a home without mailboxes, and prints what each gives.
+pub fn put(alloc: Global, steps: &[&str], out: &mut Bytes) -> Result<(), Fault> {
+    put_steps(alloc, empty(alloc), steps, out)
+}
+
+/// A session in which nobody has logged in, over a home without mailboxes.
+fn empty(alloc: Global) -> Result<Stage, Fault> {
+    let setting = setting(alloc)?;
+    Ok(Stage {
+        setting,
+        home: home::empty(alloc)?,
+        session: Session::new(),
+        has_left: false,
+    })
+}
+
+impl Steps for Stage {
+    fn take(&mut self, alloc: Global, step: &str, out: &mut Bytes) -> Result<(), Fault> {
+        match step.split_once(' ') {
+            Some(("home", step)) => self.home.take(alloc, step, out),
+            _ if self.has_left => Ok(()),
+            Some(("moved", line)) => self.put_told(alloc, line, Course::BeingMoved, out),
+            Some(("unreached", line)) => self.put_told(alloc, line, Course::NotReached, out),
+            _ => self.put_told(alloc, step, Course::Answered, out),
+        }
+    }
+}
+
+impl Stage {
+    /// Prints what the client is told for a line.
+    fn put_told(
+        &mut self,
+        alloc: Global,
+        line: &str,
+        course: Course,
+        out: &mut Bytes,
+    ) -> Result<(), Fault> {
+        let command = command_of(alloc, line)?;
+        self.put_for(alloc, line, command, course, out)
+    }
+
+    fn put_for(
+        &mut self,
+        alloc: Global,
+        line: &str,
+        command: Command,
+        course: Course,
+        out: &mut Bytes,
+    ) -> Result<(), Fault> {
+        let need = self.need_of(alloc, command, course)?;
+        self.put_need(alloc, line, &need, out)
+    }
+
+    /// Prints the reply that is needed, and takes note if the session has ended with it.
+    fn put_need(
+        &mut self,
+        alloc: Global,
+        line: &str,
+        need: &Need,
+        out: &mut Bytes,
+    ) -> Result<(), Fault> {
+        match need {
+            Need::Reply(reply) => Ok(put_reply(alloc, line, reply, out)?),
+            Need::Leave(reply) => {
+                self.has_left = true;
+                Ok(put_reply(alloc, line, reply, out)?)
+            }
+            Need::Home(_, _) => Err(Fault::Unreadable("another ask")),
+        }
+    }
+
+    /// What the session needs for a command once what it asked was answered or refused.
+    fn need_of(&mut self, alloc: Global, command: Command, course: Course) -> Result<Need, Fault> {
+        match self.session.begin(alloc, &self.setting, command)? {
+            Need::Home(name, asking) => match course {
+                Course::Answered => self.answered(alloc, name, asking),
+                _ => self.refused(alloc, &asking.awaited, course),
+            },
+            need => Ok(need),
+        }
+    }
+
+    fn answered(&mut self, alloc: Global, name: MailName, asking: Asking) -> Result<Need, Fault> {
+        let Asking {
+            op,
+            selected,
+            awaited,
+        } = asking;
+        let input = home::asked(alloc, "f1", name, selected, op);
+        let body = answer_to(alloc, &mut self.home, input);
+        self.finished(alloc, &awaited, body)
+    }
+
+    fn finished(
+        &mut self,
+        alloc: Global,
+        awaited: &Awaited,
+        body: Result<AnswerBody, Fault>,
+    ) -> Result<Need, Fault> {
+        match self.session.finish(alloc, awaited, body?)? {
+            Some(need) => Ok(need),
+            None => Err(Fault::Unreadable("an answer that doesn't fit")),
+        }
+    }
+
+    #[tactic(auto, unfolding(session_core::specs::Relocated::IsRelocation))]
+    fn refused(&mut self, alloc: Global, awaited: &Awaited, course: Course) -> Result<Need, Fault> {
+        match course {
+            Course::NotReached => {
+                let why = What::Unreached(node_name(alloc, b"b1")?);
+                Ok(self.session.relocated(alloc, awaited, &why)?)
+            }
+            _ => Ok(self.session.relocated(alloc, awaited, &What::Reserved)?),
+        }
+    }
+}
+
+/// What the home answers.
+fn answer_to(
+    alloc: Global,
+    home: &mut Backend,
+    input: Result<BackInput, Fault>,
+) -> Result<AnswerBody, Fault> {
+    let outs = home::outs_of(alloc, home, input?)?.into_vec();
+    match outs.into_iter().find_map(|out| body_of(out)) {
+        Some(body) => Ok(body),
+        None => Err(Fault::Unreadable("no answer")),
+    }
+}
+
+fn body_of(out: Out) -> Option<AnswerBody> {
+    match out {
+        Out::Link(_to, message) => match message {
+            LinkMsg::Answer(answer) => Some(answer.body),
+            _ => None,
+        },
+        _ => None,
+    }
+}

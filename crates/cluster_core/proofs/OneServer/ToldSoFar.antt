@@ -1,0 +1,228 @@
+-- What is told at every step of a run.
+use Rattle.std.proofs.Common.{◌≡◌, ℕ, zero, suc, ◌+◌, ◌≤◌, ◌<◌, Bool, true, cond, nat_eq, List, [], ◌∷◌, ◌++◌, length}
+use Rattle.std.proofs.Common.{Some, refl, sym, ◌∙◌, ap, subst, arith, length-append}
+use Rattle.std.specs.Prelude.{All, IfSome, count_by}
+use Rattle.std.proofs.lemmas.Bool.Decides.{nat_tests}
+use Rattle.std.proofs.lemmas.List.{append-nil}
+use Rattle.std.proofs.lemmas.List.Elements.{All-append, All-nil, All-cons, All-weaker}
+use Rattle.std.proofs.lemmas.List.Sums.{sum_by-append}
+use Rattle.std.proofs.lemmas.Option.{slice_get_within}
+use Rattle.mail_store.specs.Kept.{AreUidsBelowNext}
+use Rattle.mur_base.specs.declared.point.AskId.{AskId}
+use Rattle.imap_command.specs.Ruled.{IsDate}
+use Rattle.imap_talk.proofs.SoundStores.{empty_is}
+use Rattle.mur_base.specs.declared.point.Point.{Point}
+use Rattle.mur_config.specs.declared.config.Config.{Config}
+use Rattle.mur_config.specs.Nodes.{AreNodes}
+use Rattle.mur_model.specs.declared.setting.Setting.{Setting}
+use Rattle.mur_model.specs.declared.store.Store.{Store}
+use Rattle.mur_model.specs.History.{Course, Talk, numbered}
+use Rattle.mur_model.specs.Store.{box_at}
+use Rattle.mur_model.proofs.HistoryGrows.{one_up_to}
+use Rattle.schedule_text.specs.declared.event.Event.{Event}
+use Rattle.cluster_core.specs.declared.world.Mark.{Mark}
+use Rattle.cluster_core.specs.declared.world.World.{World}
+use Rattle.cluster_core.specs.Flow.{run_steps, unrolled}
+use Rattle.imap_talk.specs.Heard.{Heard, nobody, bytes_heard, frames_heard}
+use Rattle.cluster_core.specs.Heard.{heard_from}
+use Rattle.cluster_core.specs.History.{history_of}
+use Rattle.cluster_core.specs.Headline.Homes.{ShowsBoxesOf}
+use Rattle.cluster_core.specs.Headline.OneStore.{first_course, HasBoxesOf, IsAnsweredThrough, StandsInTime, IsToldSoFar, IsToldByOneStore}
+use Rattle.imap_talk.specs.Requests.{AreRequests}
+use Rattle.store_law.specs.Serials.{GivesLowSerials}
+use Rattle.cluster_core.specs.Shown.{given_to}
+use Rattle.cluster_core.specs.World.{start, home_of, setting_of}
+use Rattle.store_law.proofs.BegunLaw.{begins_as_read}
+use Rattle.store_law.proofs.AppendedThere.{keeps_appended}
+use Rattle.cluster_core.proofs.Connections.ConnectionLaw.{Story, told_of}
+use Rattle.cluster_core.proofs.Names.HomesLaw.{has_boxes}
+use Rattle.cluster_core.proofs.Histories.InTime.{StandsBehind, run_behind}
+use Rattle.cluster_core.proofs.Connections.Keeps.{IsKeptAt, KeepsAll, run_keeps}
+use Rattle.cluster_core.proofs.Connections.KeepsLaw.{KeepsLaw}
+use Rattle.store_law.proofs.NoneLost.{both_hold, loses_none}
+use Rattle.serve_law.proofs.HomeStore.{store_below}
+use Rattle.cluster_core.proofs.Histories.Marks.{Carries, conn_of, command_of, is_mark, all_points}
+use Rattle.cluster_core.proofs.Histories.Marks.Carries.{no_marks, a_mark}
+use Rattle.store_law.proofs.NoRelocation.{have_causes}
+use Rattle.cluster_core.proofs.OneServer.OneStoreLaw.{SaysOf, says_of, IsLegalTo, legal_history, loses_the_next, made_by_now, steps_rise, IsToldSo}
+use Rattle.imap_talk.proofs.ReadLaw.{heard_sound, read_of_legal}
+use Rattle.imap_talk.proofs.RequestsOf.{asks_all}
+use Rattle.serve_law.proofs.HomeStore.{low_serials}
+use Rattle.store_law.proofs.RisingStores.{Rises, box_rises, none_rises, points_rise, some_rising}
+use Rattle.cluster_core.proofs.Names.ShownHomes.{shows_boxes}
+use Rattle.cluster_core.proofs.Runs.StartLaw.{start_keeps}
+use Rattle.cluster_core.proofs.Runs.StepsMade.{steps_made}
+use Rattle.cluster_core.proofs.Histories.Told.{IsTold}
+use Rattle.cluster_core.proofs.Runs.Unrolled.{run_steps-append}
+
+numbered_within : {T : Type 0} (items : List T) (number : ℕ) (item : T) → numbered items number ≡ Some item → number ≤ length items
+unfolding numbered
+numbered_within items zero item e = omega arith
+numbered_within items (suc number) item e = omega (arith, slice_get_within items number item e)
+
+-- every mark is of a command that was asked
+marks_asked : (setting : Setting) (talk : Talk) (first last : Course) (marks : List Mark) → Carries setting talk first marks last
+    → All (λ (m : Mark). command_of m ≤ length (talk.requests (conn_of m))) marks
+marks_asked setting talk first last marks (no_marks course) = All-nil (λ (m : Mark). command_of m ≤ length (talk.requests (conn_of m)))
+marks_asked setting talk first last marks (a_mark course end mark request serial rest takes answer unless later) =
+    All-cons (λ (m : Mark). command_of m ≤ length (talk.requests (conn_of m))) mark rest
+    (numbered_within (talk.requests (conn_of mark)) (command_of mark) request takes.asked) (marks_asked setting talk _ end rest later)
+
+count_cons : (p : Mark → Bool) (x : Mark) (xs : List Mark) → count_by p (x ∷ xs) ≡ cond (p x) 1 0 + count_by p xs
+count_cons p x xs = sum_by-append (λ y. cond (p y) 1 0) (x ∷ []) xs ∙ ap (λ n. n + count_by p xs) (omega arith)
+
+count_both : (p : Mark → Bool) (xs ys : List Mark) → count_by p (xs ++ ys) ≡ count_by p xs + count_by p ys
+count_both p xs ys = sum_by-append (λ y. cond (p y) 1 0) xs ys
+
+own_mark : (mark : Mark) → is_mark (conn_of mark) (command_of mark) mark ≡ true
+own_mark mark = let one : nat_eq (conn_of mark) (conn_of mark) ≡ true = grind (arith, nat_tests) in
+    let two : nat_eq (command_of mark) (command_of mark) ≡ true = grind (arith, nat_tests) in rw (one, two) refl
+
+-- each mark of a list is counted in it
+counted : (marks : List Mark) → All (λ (m : Mark). 1 ≤ count_by (is_mark (conn_of m) (command_of m)) marks) marks
+counted [] = All-nil (λ (m : Mark). 1 ≤ count_by (is_mark (conn_of m) (command_of m)) [])
+counted (mark ∷ marks) =
+    All-cons (λ (m : Mark). 1 ≤ count_by (is_mark (conn_of m) (command_of m)) (mark ∷ marks)) mark marks
+    (omega (arith, count_cons (is_mark (conn_of mark) (command_of mark)) mark marks, ap {B = ℕ} (λ b. cond b 1 0) (own_mark mark)))
+    (All-weaker (λ (m : Mark). 1 ≤ count_by (is_mark (conn_of m) (command_of m)) marks)
+    (λ (m : Mark). 1 ≤ count_by (is_mark (conn_of m) (command_of m)) (mark ∷ marks))
+    (λ m h. omega (arith, h, count_cons (is_mark (conn_of m) (command_of m)) mark marks)) marks (counted marks))
+
+-- a command that has its mark has no other one behind
+no_other : (now later count number in_all in_now in_rest : ℕ) → in_all ≡ one_up_to later number → in_now ≡ one_up_to now number → in_all ≡ in_now + in_rest
+    → 1 ≤ in_rest → now < number
+unfolding one_up_to
+no_other now later count number in_all in_now in_rest a n parts some = grind (arith, nat_tests)
+
+-- the points of the whole run, as they stand to a moment of it
+pub stands_in_time : (setting : Setting) (now later : World) (story whole : Story) (home last_home : _)
+    → IsTold setting now.steps now.marks home story.talk story.course
+    → IsTold setting later.steps later.marks last_home whole.talk whole.course → StandsBehind now later
+    → ((conn : ℕ) → IsToldSo (story.told conn) (story.talk.answers conn))
+    → StandsInTime (told_of story) now.steps (history_of later)
+unfolding history_of
+stands_in_time setting now later story whole home last_home told all behind so =
+    let asked = marks_asked setting story.talk _ story.course now.marks told.carries in
+    record {
+      behind_command = all_points later (λ (m : Mark). m.step ≤ now.steps → command_of m ≤ length (story.talk.requests (conn_of m)))
+          (λ (p : Point). p.step ≤ now.steps → p.ask.command ≤ length (story.talk.requests p.ask.conn))
+          (λ mark point holds is. λ low. omega (
+            arith,
+            holds (omega (arith, is.same_step, low)),
+            ap (λ (a : AskId). a.command) is.same_ask,
+            ap (λ (a : AskId). length (story.talk.requests a.conn)) is.same_ask,
+          ))
+          later.marks
+          (subst (λ m. All (λ (m : Mark). m.step ≤ now.steps → command_of m ≤ length (story.talk.requests (conn_of m))) m) (sym behind.parts)
+          (All-append (λ (m : Mark). m.step ≤ now.steps → command_of m ≤ length (story.talk.requests (conn_of m))) now.marks behind.rest
+          (All-weaker (λ (m : Mark). command_of m ≤ length (story.talk.requests (conn_of m)))
+          (λ (m : Mark). m.step ≤ now.steps → command_of m ≤ length (story.talk.requests (conn_of m))) (λ m h. λ low. h) now.marks asked)
+          (All-weaker (λ (m : Mark). now.steps < m.step) (λ (m : Mark). m.step ≤ now.steps → command_of m ≤ length (story.talk.requests (conn_of m)))
+          (λ m h. λ low. absurd (omega arith)) behind.rest behind.from_now)));
+      before_reply = all_points later (λ (m : Mark). command_of m ≤ length (story.told (conn_of m)) → m.step ≤ now.steps)
+          (λ (p : Point). p.ask.command ≤ length (story.told p.ask.conn) → p.step ≤ now.steps)
+          (λ mark point holds is. λ low. omega (
+            arith,
+            is.same_step,
+            holds (omega (arith, low, ap (λ (a : AskId). a.command) is.same_ask, ap (λ (a : AskId). length (story.told a.conn)) is.same_ask)),
+          ))
+          later.marks
+          (subst (λ m. All (λ (m : Mark). command_of m ≤ length (story.told (conn_of m)) → m.step ≤ now.steps) m) (sym behind.parts)
+          (All-append (λ (m : Mark). command_of m ≤ length (story.told (conn_of m)) → m.step ≤ now.steps) now.marks behind.rest
+          (All-weaker (λ (m : Mark). m.step ≤ now.steps) (λ (m : Mark). command_of m ≤ length (story.told (conn_of m)) → m.step ≤ now.steps)
+          (λ m h. λ low. h) now.marks told.timely)
+          (All-weaker (λ (m : Mark). 1 ≤ count_by (is_mark (conn_of m) (command_of m)) behind.rest)
+          (λ (m : Mark). command_of m ≤ length (story.told (conn_of m)) → m.step ≤ now.steps)
+          (λ m h. λ low. absurd (omega (
+            arith,
+            low,
+            told_within (conn_of m),
+            no_other (length (story.talk.answers (conn_of m))) (length (whole.talk.answers (conn_of m))) 0 (command_of m) _ _ _
+                (all.once (conn_of m) (command_of m)) (told.once (conn_of m) (command_of m))
+                (ap (count_by (is_mark (conn_of m) (command_of m))) behind.parts ∙ count_both (is_mark (conn_of m) (command_of m)) now.marks behind.rest) h,
+          ))) behind.rest (counted behind.rest))));
+    }
+  where
+    told_within : (conn : ℕ) → length (story.told conn) ≤ length (story.talk.answers conn)
+    told_within conn = omega (arith, ap length (so conn).parts, length-append (story.told conn) (so conn).rest)
+
+-- the law at a step, of a run that ends so
+told_so_far : (config : Config) (talk : Talk) (before later : List Event) → AreNodes config.nodes → IsDate config.date
+    → IsKeptAt config talk (λ conn. heard_from config conn nobody before) (run_steps (start config) before)
+    → (last : KeepsLaw config (λ conn. heard_from config conn nobody (before ++ later)) (run_steps (start config) (before ++ later)))
+    → IsToldSoFar config talk (history_of (run_steps (start config) (before ++ later))) before (run_steps (start config) before)
+told_so_far config talk before later are date_is now last =
+    let law = now.law in
+    let world : World = run_steps (start config) before in
+    let heard : ℕ → Heard = λ conn. heard_from config conn nobody before in
+    let says : (conn : ℕ) → SaysOf (setting_of config) world conn (heard conn) (law.story.told conn) (law.story.talk.answers conn) =
+    λ conn. says_of (setting_of config) (home_of config) conn world law.story (heard conn) (law.connections conn) in
+    let behind : StandsBehind world (run_steps (start config) (before ++ later)) =
+    subst (λ w. StandsBehind world w) (sym (run_steps-append (start config) before later)) (run_behind world later) in
+    let asked : (conn : ℕ) → AreRequests (setting_of config) (frames_heard (heard conn)) (law.story.talk.requests conn) =
+    λ conn. subst (λ r. AreRequests (setting_of config) (frames_heard (heard conn)) r) (sym (law.requests conn))
+    (asks_all (setting_of config) (frames_heard (heard conn))) in
+    let legal : IsLegalTo (setting_of config) (told_of law.story) (history_of world) law.story.course.store =
+    legal_history (setting_of config) world law.story law.backend law.is_told (λ conn. (says conn).count) (λ conn. (says conn).so) in
+    let below_next : (name : List ℕ) → IfSome (box_at legal.last.store name) AreUidsBelowNext =
+    subst (λ (s : Store). (name : List ℕ) → IfSome (box_at s name) AreUidsBelowNext) (sym legal.same_store)
+    (store_below law.story.course.store law.backend law.is_told.same law.below_next) in
+    let rises : (name : List ℕ) → IfSome (box_at legal.last.store name) Rises =
+    λ name. box_rises legal.last.store name
+    (points_rise (setting_of config) (told_of law.story) first_course legal.last (history_of world) legal.legal.follows none_rises) in
+    record {
+      so_far = told_of law.story;
+      goes_on = now.more;
+      asked = asked;
+      given = λ conn. (says conn).given;
+      read = λ conn. read_of_legal (setting_of config) first_course (told_of law.story) (history_of world) legal.last legal.legal date_is empty_is
+          (λ other. heard_sound (setting_of config) (heard other) (law.story.talk.requests other) (asked other)) conn (given_to world conn) (bytes_heard
+          (heard conn))
+          (says conn).given;
+      ends_only_last = λ conn. (says conn).lasts;
+      last = legal.last;
+      legal = legal.legal;
+      refusals = have_causes (setting_of config) first_course (told_of law.story) (history_of world) legal.last legal.legal;
+      one_content = subst (λ s. HasBoxesOf s world) (sym legal.same_store)
+          (has_boxes config world law.backend law.story.course.store are law.nodes law.is_told.same);
+      homes_shown = subst (λ s. ShowsBoxesOf config s world) (sym legal.same_store)
+          (shows_boxes config world law.backend law.story.course.store are law.nodes law.is_told.same);
+      below_next = below_next;
+      uids_rise = λ name. some_rising (box_at legal.last.store name) (rises name);
+      none_lost = loses_none (setting_of config) legal.last.store
+          (λ name. both_hold (box_at legal.last.store name) (below_next name) (rises name));
+      appended_there = keeps_appended (setting_of config) legal.last.store rises;
+      low_serials = subst GivesLowSerials (sym legal.same_store) (low_serials law.story.course.store law.backend law.is_told.same);
+      lost_next = loses_the_next (setting_of config) world law.story law.backend law.is_told (λ conn. (says conn).count) (λ conn. (says conn).so);
+      made_by_now = made_by_now (setting_of config) world law.story law.backend law.is_told;
+      in_time = stands_in_time (setting_of config) world
+          (run_steps (start config) (before ++ later)) law.story last.story law.backend last.backend law.is_told last.is_told behind (λ conn. (says conn).so);
+      counted = steps_made config before;
+      nothing_waits = λ empty conn stays.
+          subst (λ r. IsAnsweredThrough r (law.story.told conn)) (sym (law.requests conn)) ((says conn).waits_not empty stays);
+    }
+
+told_at : (config : Config) (talk : Talk) (steps before later : List Event) → steps ≡ before ++ later → AreNodes config.nodes → IsDate config.date
+    → IsKeptAt config talk (λ conn. heard_from config conn nobody before) (run_steps (start config) before)
+    → (last : KeepsLaw config (λ conn. heard_from config conn nobody steps) (run_steps (start config) steps))
+    → IsToldSoFar config talk (history_of (run_steps (start config) steps)) before (run_steps (start config) before)
+told_at config talk steps before later e are date_is now last =
+    subst (λ s. IsToldSoFar config talk (history_of (run_steps (start config) s)) before (run_steps (start config) before)) (sym e)
+    (told_so_far config talk before later are date_is now
+    (subst (λ s. KeepsLaw config (λ conn. heard_from config conn nobody s) (run_steps (start config) s)) e last))
+
+pub kept_all : (config : Config) (events : List Event) (are : AreNodes config.nodes)
+    → KeepsAll config (told_of (start_keeps config are).story) (λ conn. nobody) (start config) (unrolled (start config) events)
+kept_all config events are = run_keeps config (λ conn. nobody) (start config) (unrolled (start config) events) (start_keeps config are)
+
+pub told_by_one_store : (config : Config) (events : List Event) → AreNodes config.nodes → IsDate config.date → IsToldByOneStore config events
+told_by_one_store config events are date_is =
+    let steps : List Event = unrolled (start config) events in
+    let all = kept_all config events are in
+    let last = (all.at steps [] (sym (append-nil steps))).law in
+    record {
+      begins_as_read = begins_as_read (setting_of config);
+      talk = all.talk;
+      at_each_step = λ before later e. told_at config all.talk steps before later e are date_is (all.at before later e) last;
+      steps_rise = steps_rise (setting_of config) (run_steps (start config) steps) last.story last.backend last.is_told;
+    }

@@ -1,0 +1,323 @@
+-- The law holds before the first step.
+use Rattle.std.proofs.Common.{◌≡◌, ◌≢◌, ℕ, suc, ◌≤◌, List, [], ◌∷◌, length, None}
+use Rattle.std.proofs.Common.{Some, refl, sym, ◌∙◌, ap, subst, arith}
+use Rattle.std.specs.Prelude.{All, AllPairs}
+use Rattle.std.specs.Ordering.{nat_cmp}
+use Rattle.std.specs.Cmp.Lexicographic.{slice_cmp}
+use Rattle.std.proofs.Math.Logic.{⊎_elim}
+use Rattle.std.proofs.lemmas.Bool.Decides.{nat_tests}
+use Rattle.std.proofs.lemmas.List.Elements.{All-head, All-tail, All-cons}
+use Rattle.backend_core.specs.declared.backend.Backend.{Backend}
+use Rattle.backend_core.specs.Plan.{booted}
+use Rattle.front_core.specs.declared.front.Front.{Front}
+use Rattle.front_core.specs.Front.{connection_at, new_front}
+use Rattle.link_msg.specs.declared.message.LinkMsg.{LinkMsg}
+use Rattle.mur_base.specs.Map.{value_at, with_entry}
+use Rattle.mur_base.proofs.MapLaws.{names_apart, same_or_other, value_at-with_entry, value_at-with_entry-other}
+use Rattle.mur_config.specs.declared.config.Config.{Config}
+use Rattle.mur_config.specs.declared.node.Kind.{Kind}
+use Rattle.mur_config.specs.declared.node.Kind.TheVariants.{Master, Frontend, Backend as backend_kind}
+use Rattle.mur_config.specs.declared.node.Node.{Node}
+use Rattle.mur_config.specs.Nodes.{AreNodes, count_of_kind, is_node_of_kind, is_of_kind, links_of}
+use Rattle.mur_model.specs.declared.setting.Setting.{Setting}
+use Rattle.mur_model.specs.Store.{empty_store, is_spent}
+use Rattle.mur_model.proofs.HistoryGrows.{one_up_to}
+use Rattle.cluster_core.specs.declared.world.World.{World}
+use Rattle.imap_talk.specs.Heard.{nobody, frames_heard}
+use Rattle.link_queue.specs.Links.{same_link, on_link}
+use Rattle.cluster_core.specs.Headline.OneStore.{first_course}
+use Rattle.cluster_core.specs.World.{no_world, first_name, or_backend, backends_of, home_of, setting_of, with_node, with_nodes, start, front_at}
+use Rattle.cluster_core.specs.World.{home_at}
+use Rattle.cluster_core.proofs.Runs.FrontsOfStart.{NoFrontend, apart_here, fronts_stay, frontends_at_start}
+use Rattle.mur_config.proofs.NodesApart.{head_apart, tail_apart}
+use Rattle.cluster_core.proofs.Connections.KeepsLaw.{KeepsLaw}
+use Rattle.cluster_core.proofs.Connections.KeepsLaw.ConnectionIs.{is_nobody}
+use Rattle.cluster_core.proofs.Histories.Marks.{Carries, MarkedOnce, command_of}
+use Rattle.cluster_core.proofs.Histories.Marks.Carries.{no_marks}
+use Rattle.cluster_core.proofs.Histories.Told.{Later}
+use Rattle.cluster_core.specs.declared.world.Mark.{Mark}
+use Rattle.imap_talk.specs.Inputs.{inputs_of, requests_in}
+use Rattle.imap_talk.proofs.RequestsOf.{requests_of}
+use Rattle.serve_law.proofs.HomeStore.{IsStoreOf}
+use Rattle.link_queue.proofs.OnWay.{picked, alike}
+use Rattle.front_core.proofs.OneConnection.Ways.{ask_in, answer_in}
+
+-- nodes that have done nothing
+record IsFresh (home : List ℕ) (setting : Setting) (world : World) : Type 0 where
+  fronts : (node : List ℕ) (front : Front) → front_at world node ≡ Some front → front ≡ new_front node home setting
+  homes : (node : List ℕ) (backend : Backend) → home_at world node ≡ Some backend → (backend.held ≡ []) × (backend.last_serial ≡ 0)
+  clients : world.clients ≡ []
+  links : world.links ≡ []
+  marks : world.marks ≡ []
+  steps : world.steps ≡ 0
+
+just : {T : Type 0} {one other : T} → Some one ≡ Some other → one ≡ other
+just h = cc
+
+fresh_node : (home : List ℕ) (setting : Setting) (world : World) (node : Node) (kind : Kind) → IsFresh home setting world
+    → IsFresh home setting (with_node home setting world node kind)
+unfolding with_node
+fresh_node home setting world node Master fresh = fresh
+fresh_node home setting world node Frontend fresh = record {
+  fronts = λ any front at. ⊎_elim
+      (λ (e : any ≡ node.name). sym (just (sym (value_at-with_entry (slice_cmp nat_cmp) names_apart world.fronts node.name (new_front node.name home setting))
+      ∙ ap (λ n. value_at (slice_cmp nat_cmp) (with_entry (slice_cmp nat_cmp) world.fronts node.name (new_front node.name home setting)) n) (sym e) ∙ at))
+      ∙ ap (λ n. new_front n home setting) (sym e))
+      (λ (ne : any ≢ node.name). fresh.fronts any front
+      (sym (value_at-with_entry-other (slice_cmp nat_cmp) names_apart world.fronts node.name any (new_front node.name home setting) ne) ∙ at))
+      (same_or_other (slice_cmp nat_cmp) names_apart any node.name);
+  homes = fresh.homes;
+  clients = fresh.clients;
+  links = fresh.links;
+  marks = fresh.marks;
+  steps = fresh.steps;
+}
+fresh_node home setting world node backend_kind fresh =
+    let new : Backend = booted (record { server = node.name; partition = node.partition }) in
+    record {
+      fronts = fresh.fronts;
+      homes = λ any backend at. ⊎_elim
+          (λ (e : any ≡ node.name). let is : new ≡ backend = just (sym (value_at-with_entry (slice_cmp nat_cmp) names_apart world.homes node.name new)
+          ∙ ap (λ n. value_at (slice_cmp nat_cmp) (with_entry (slice_cmp nat_cmp) world.homes node.name new) n) (sym e) ∙ at) in
+          (ap (λ (b : Backend). b.held) (sym is), ap (λ (b : Backend). b.last_serial) (sym is)))
+          (λ (ne : any ≢ node.name). fresh.homes any backend
+          (sym (value_at-with_entry-other (slice_cmp nat_cmp) names_apart world.homes node.name any new ne) ∙ at))
+          (same_or_other (slice_cmp nat_cmp) names_apart any node.name);
+      clients = fresh.clients;
+      links = fresh.links;
+      marks = fresh.marks;
+      steps = fresh.steps;
+    }
+
+fresh_nodes : (home : List ℕ) (setting : Setting) (world : World) (nodes : List Node) → IsFresh home setting world
+    → IsFresh home setting (with_nodes home setting world nodes)
+unfolding with_nodes
+fresh_nodes home setting world [] fresh = fresh
+fresh_nodes home setting world (node ∷ nodes) fresh =
+    fresh_nodes home setting (with_node home setting world node node.kind) nodes (fresh_node home setting world node node.kind fresh)
+
+backends_node : (home : List ℕ) (setting : Setting) (world : World) (node : Node) (kind : Kind)
+    → (with_node home setting world node kind).backends ≡ world.backends
+unfolding with_node
+backends_node home setting world node Master = refl
+backends_node home setting world node Frontend = refl
+backends_node home setting world node backend_kind = refl
+
+pub backends_stay : (home : List ℕ) (setting : Setting) (world : World) (nodes : List Node) → (with_nodes home setting world nodes).backends ≡ world.backends
+unfolding with_nodes
+backends_stay home setting world [] = refl
+backends_stay home setting world (node ∷ nodes) = backends_stay home setting (with_node home setting world node node.kind) nodes
+    ∙ backends_node home setting world node node.kind
+
+-- what holds of all names holds of the first backend's
+named_by : (P : List ℕ → Type 0) (node : Node) (kind : Kind) (names rest : List (List ℕ)) (home : List ℕ) → or_backend kind node.name names ≡ home ∷ rest
+    → P node.name
+    → ((r : List (List ℕ)) → names ≡ home ∷ r → P home) → P home
+unfolding or_backend
+named_by P node Master names rest home e p later = later rest e
+named_by P node Frontend names rest home e p later = later rest e
+named_by P node backend_kind names rest home e p later = let same : node.name ≡ home = cc in subst P same p
+
+named : (P : List ℕ → Type 0) (nodes : List Node) (rest : List (List ℕ)) (home : List ℕ) → backends_of nodes ≡ home ∷ rest
+    → All (λ (node : Node). P node.name) nodes → P home
+unfolding backends_of
+named P [] rest home e all = cc
+named P (node ∷ nodes) rest home e all =
+    named_by P node node.kind (backends_of nodes) rest home e (All-head (λ (n : Node). P n.name) node nodes all)
+    (λ r h. named P nodes r home h (All-tail (λ (n : Node). P n.name) node nodes all))
+
+apart_by : (node : Node) (nodes : List Node) (kind : Kind) (rest : List (List ℕ)) (home : List ℕ) → node.kind ≡ kind
+    → or_backend kind node.name (backends_of nodes) ≡ home ∷ rest
+    → AllPairs (λ (one other : Node). one.name ≢ other.name) (node ∷ nodes)
+    → ((r : List (List ℕ)) → backends_of nodes ≡ home ∷ r → All (NoFrontend home) nodes) → All (NoFrontend home) (node ∷ nodes)
+unfolding or_backend
+apart_by node nodes Master rest home k e pairs later =
+    All-cons (NoFrontend home) node nodes (λ f. λ same. (let no : Master ≡ Frontend = sym k ∙ f in cc)) (later rest e)
+apart_by node nodes Frontend rest home k e pairs later =
+    All-cons (NoFrontend home) node nodes (λ f. named (λ name. node.name ≢ name) nodes rest home e (head_apart node nodes pairs)) (later rest e)
+apart_by node nodes backend_kind rest home k e pairs later =
+    let same : node.name ≡ home = cc in
+    All-cons (NoFrontend home) node nodes (λ f. λ s. (let no : backend_kind ≡ Frontend = sym k ∙ f in cc))
+    (apart_here home nodes (subst (λ n. All (λ (other : Node). n ≢ other.name) nodes) same (head_apart node nodes pairs)))
+
+no_frontends : (nodes : List Node) (rest : List (List ℕ)) (home : List ℕ) → AllPairs (λ (one other : Node). one.name ≢ other.name) nodes
+    → backends_of nodes ≡ home ∷ rest → All (NoFrontend home) nodes
+unfolding backends_of
+no_frontends [] rest home pairs e = cc
+no_frontends (node ∷ nodes) rest home pairs e =
+    apart_by node nodes node.kind rest home refl e pairs (λ r h. no_frontends nodes r home (tail_apart node nodes pairs) h)
+
+-- a backend that is there
+record HasHome (world : World) (name : List ℕ) : Type 0 where
+  backend : Backend
+  at : home_at world name ≡ Some backend
+
+home_by : (home : List ℕ) (setting : Setting) (world : World) (node : Node) (kind : Kind) (name : List ℕ) → HasHome world name
+    → HasHome (with_node home setting world node kind) name
+unfolding with_node
+home_by home setting world node Master name has = has
+home_by home setting world node Frontend name has = record { backend = has.backend; at = has.at }
+home_by home setting world node backend_kind name has =
+    let new : Backend = booted (record { server = node.name; partition = node.partition }) in
+    ⊎_elim
+    (λ (e : name ≡ node.name). record {
+      backend = new;
+      at =
+          ap (λ n. value_at (slice_cmp nat_cmp) (with_entry (slice_cmp nat_cmp) world.homes node.name new) n) e
+          ∙ value_at-with_entry (slice_cmp nat_cmp) names_apart world.homes node.name new;
+    })
+    (λ (ne : name ≢ node.name). record {
+      backend = has.backend;
+      at =
+          value_at-with_entry-other (slice_cmp nat_cmp) names_apart world.homes node.name name new ne ∙ has.at;
+    })
+    (same_or_other (slice_cmp nat_cmp) names_apart name node.name)
+
+home_stays : (home : List ℕ) (setting : Setting) (world : World) (nodes : List Node) (name : List ℕ) → HasHome world name
+    → HasHome (with_nodes home setting world nodes) name
+unfolding with_nodes
+home_stays home setting world [] name has = has
+home_stays home setting world (node ∷ nodes) name has =
+    home_stays home setting (with_node home setting world node node.kind) nodes name (home_by home setting world node node.kind name has)
+
+home_new : (home : List ℕ) (setting : Setting) (world : World) (node : Node) (nodes : List Node) (kind : Kind) (rest : List (List ℕ)) (name : List ℕ)
+    → or_backend kind node.name (backends_of nodes) ≡ name ∷ rest
+    → ((world : World) (r : List (List ℕ)) → backends_of nodes ≡ name ∷ r → HasHome (with_nodes home setting world nodes) name)
+    → HasHome (with_nodes home setting (with_node home setting world node kind) nodes) name
+unfolding or_backend with_node
+home_new home setting world node nodes Master rest name e later = later world rest e
+home_new home setting world node nodes Frontend rest name e later = later _ rest e
+home_new home setting world node nodes backend_kind rest name e later =
+    let same : node.name ≡ name = cc in
+    home_stays home setting _ nodes name (record {
+      backend = booted (record { server = node.name; partition = node.partition });
+      at = ap (λ n. value_at (slice_cmp nat_cmp)
+          (with_entry (slice_cmp nat_cmp) world.homes node.name (booted (record { server = node.name; partition = node.partition }))) n) (sym same)
+          ∙ value_at-with_entry (slice_cmp nat_cmp) names_apart world.homes node.name (booted (record { server = node.name; partition = node.partition }));
+    })
+
+home_comes : (home : List ℕ) (setting : Setting) (nodes : List Node) (world : World) (rest : List (List ℕ)) (name : List ℕ) → backends_of nodes ≡ name ∷ rest
+    → HasHome (with_nodes home setting world nodes) name
+unfolding with_nodes backends_of
+home_comes home setting [] world rest name e = cc
+home_comes home setting (node ∷ nodes) world rest name e =
+    home_new home setting world node nodes node.kind rest name e (λ w r h. home_comes home setting nodes w r name h)
+
+count_by_kind : (node : Node) (nodes : List Node) (kind : Kind) → node.kind ≡ kind → length (backends_of nodes) ≡ count_of_kind backend_kind nodes
+    → length (or_backend kind node.name (backends_of nodes)) ≡ count_of_kind backend_kind (node ∷ nodes)
+unfolding or_backend count_of_kind is_node_of_kind is_of_kind
+count_by_kind node nodes Master k e = rw k e
+count_by_kind node nodes Frontend k e = rw k e
+count_by_kind node nodes backend_kind k e = rw k (ap (λ n. suc n) e)
+
+backend_count : (nodes : List Node) → length (backends_of nodes) ≡ count_of_kind backend_kind nodes
+unfolding backends_of count_of_kind
+backend_count [] = refl
+backend_count (node ∷ nodes) = count_by_kind node nodes node.kind refl (backend_count nodes)
+
+pub record HasFirst (names : List (List ℕ)) : Type 0 where
+  pub rest : List (List ℕ)
+  pub is : names ≡ first_name names ∷ rest
+
+has_first : (names : List (List ℕ)) → 1 ≤ length names → HasFirst names
+has_first [] h = absurd (omega arith)
+has_first (name ∷ names) h = record { rest = names; is = refl }
+
+pub first_backend : (nodes : List Node) → AreNodes nodes → HasFirst (backends_of nodes)
+first_backend nodes are = has_first (backends_of nodes) (omega (arith, backend_count nodes, are.backends.0))
+
+fresh_start : (config : Config) → IsFresh (home_of config) (setting_of config) (start config)
+unfolding start
+fresh_start config = fresh_nodes (home_of config) (setting_of config)
+    (record no_world { backends = backends_of config.nodes; pairs = links_of config.nodes }) config.nodes
+    (record { fronts = λ node front at. cc; homes = λ node backend at. cc; clients = refl; links = refl; marks = refl; steps = refl })
+
+pub no_steps : (config : Config) → (start config).steps ≡ 0
+no_steps config = (fresh_start config).steps
+
+pub start_links : (config : Config) → (start config).links ≡ []
+start_links config = (fresh_start config).links
+
+nothing_held : (store_of : Backend) → store_of.held ≡ [] → store_of.last_serial ≡ 0 → IsStoreOf empty_store store_of
+unfolding is_spent
+nothing_held backend held serial = record {
+  boxes = λ name. rw held refl;
+  all_open = λ name there at. (let none : value_at (slice_cmp nat_cmp) backend.held name ≡ None = (rw held refl) in cc);
+  serials = λ k d h. absurd (omega arith);
+  spent = rw serial refl;
+  counted = serial;
+}
+
+counts_nothing : (number : ℕ) → 0 ≡ one_up_to 0 number
+unfolding one_up_to
+counts_nothing number = grind (arith, nat_tests)
+
+home_new_front : (node home : List ℕ) (setting : Setting) → (new_front node home setting).home ≡ home
+unfolding new_front
+home_new_front node home setting = refl
+
+setting_new_front : (node home : List ℕ) (setting : Setting) → (new_front node home setting).setting ≡ setting
+unfolding new_front
+setting_new_front node home setting = refl
+
+no_connection : (home : List ℕ) (setting : Setting) (node : List ℕ) (front : Front) (conn : ℕ) → front ≡ new_front node home setting
+    → connection_at front conn ≡ None
+unfolding new_front
+no_connection home setting node front conn e = rw e refl
+
+pub nothing_picked : {T : Type 0} (pick : LinkMsg → List T) (links : _) (a b : List ℕ) → links ≡ [] → picked pick (on_link links a b) ≡ []
+unfolding on_link picked
+nothing_picked pick links a b e = rw e refl
+
+no_requests : (setting : Setting) → [] ≡ requests_of setting (frames_heard nobody)
+unfolding requests_in inputs_of frames_heard
+no_requests setting = refl
+
+pub start_keeps : (config : Config) → AreNodes config.nodes → KeepsLaw config (λ conn. nobody) (start config)
+unfolding start
+start_keeps config are =
+    let first = first_backend config.nodes are in
+    let origin : World = record no_world { backends = backends_of config.nodes; pairs = links_of config.nodes } in
+    let has = home_comes (home_of config) (setting_of config) config.nodes origin first.rest (home_of config) first.is in
+    let fresh = fresh_start config in
+    let free = fresh.homes (home_of config) has.backend has.at in
+    record {
+      backend = has.backend;
+      nodes = record {
+        home_no_front = fronts_stay (home_of config) (setting_of config) origin config.nodes (home_of config)
+            (no_frontends config.nodes first.rest (home_of config) are.names first.is);
+        home_is = has.at;
+        fronts = λ node front at. (
+          ap (λ (f : Front). f.home) (fresh.fronts node front at) ∙ home_new_front node (home_of config) (setting_of config),
+          ap (λ (f : Front). f.setting) (fresh.fronts node front at) ∙ setting_new_front node (home_of config) (setting_of config),
+        );
+        frontends = frontends_at_start config are;
+        other_homes = λ node other ne at. (fresh.homes node other at).0;
+        backends = refl;
+      };
+      below_next = λ name there at. (let none : value_at (slice_cmp nat_cmp) has.backend.held name ≡ None = (rw free.0 refl) in cc);
+      story = record { talk = record { requests = λ conn. []; answers = λ conn. []; serials = λ conn. [] }; told = λ conn. []; course = first_course };
+      is_told = record {
+        carries = subst (λ m. Carries (setting_of config)
+            (record { requests = λ conn. []; answers = λ conn. []; serials = λ conn. [] }) first_course m first_course) (sym fresh.marks)
+            (no_marks first_course);
+        same = nothing_held has.backend free.0 free.1;
+        once = subst (λ m. MarkedOnce (λ conn. 0) m) (sym fresh.marks) (λ conn number. counts_nothing number);
+        later = subst (λ m. AllPairs Later m) (sym fresh.marks) (λ i j d h k. absurd (omega arith));
+        numbers = subst (λ m. All (λ (mark : Mark). command_of mark ≤ 0) m) (sym fresh.marks) (λ k d h. absurd (omega arith));
+        timely = subst (λ m. All (λ (mark : Mark). mark.step ≤ (start config).steps) m) (sym fresh.marks) (λ k d h. absurd (omega arith));
+        serials = λ conn. refl;
+      };
+      requests = λ conn. no_requests (setting_of config);
+      connections = λ conn. is_nobody (ap (λ c. value_at nat_cmp c conn) fresh.clients)
+          (λ node front at. no_connection (home_of config) (setting_of config) node front conn (fresh.fronts node front at))
+          (record {
+            told = refl;
+            said = refl;
+            session = refl;
+            way = λ f h. record {
+              asks_are = λ a b. nothing_picked (ask_in conn) (start config).links a b fresh.links ∙ sym (alike (same_link a b f h) []);
+              answers_are = λ a b. nothing_picked (answer_in conn) (start config).links a b fresh.links ∙ sym (alike (same_link a b h f) []);
+            };
+          });
+    }

@@ -1,0 +1,4 @@
+pub mod Batches
+pub mod Sweeps
+pub mod Transfers
+pub mod Weights

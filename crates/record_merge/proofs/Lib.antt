@@ -1,0 +1,4 @@
+pub mod MergedRuns
+mod MixLaws
+mod NextLaws
+pub mod StampLaws
