@@ -88,7 +88,7 @@ fn is_passed_over(line: &[u8]) -> bool
     }
 }
 
-/// The event of a line: its word, then the count of its arguments, then what they are.
+/// The event of a line: its word is tested first, then the count of its arguments, then each argument.
 #[tactic(auto, unfolding(crate::specs::Schedule::event_of))]
 fn read_event(
     alloc: Global,
