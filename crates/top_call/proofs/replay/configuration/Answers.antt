@@ -1,4 +1,4 @@
-use Rattle.std.proofs.Common.{rules, ◌≡◌, Ok, Err, length, ap, arith}
+use Rattle.std.proofs.Common.{rules, ◌≡◌, Ok, Err, refl, arith}
 use Rattle.mur_config.specs.Config.{config_of}
 use Rattle.top_call.proofs.replay.configuration.Goals as goal
 
@@ -10,4 +10,5 @@ returns-in-Ok-read_config-clause-did g c =
 pub returns-in-Err-Refused-clause-did : goal.returns-in-Err-Refused-clause-did
 returns-in-Err-Refused-clause-did g c =
     let wrong : config_of c.in-Ok.text ≡ Err c.in-Err-Refused.fault = search rules in
-    record { text = c.in-Ok.text; reads = search rules; whole = omega arith; fault = c.in-Err-Refused.fault; wrong = wrong; by_rule = refl }
+    rw c.refused_config.ensures
+    (record { text = c.in-Ok.text; reads = search rules; whole = omega arith; fault = c.in-Err-Refused.fault; wrong = wrong; by_rule = refl })
