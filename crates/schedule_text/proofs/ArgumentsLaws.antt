@@ -1,11 +1,10 @@
 -- Arguments are cut from the text behind a word exactly as they are spelled there.
-use Rattle.std.proofs.Common.{◌≡◌, ℕ, ◌⊎◌, Bool, true, false, nat_eq, nat_lt, nat_le, List, [], ◌∷◌, ◌++◌, length, map, Option, None, Some, Ok, Err}
-use Rattle.std.proofs.Common.{refl, sym, ap, ◌∙◌, subst, inl, inr, append-nil, arith, eqb-true}
+use Rattle.std.proofs.Common.{◌≡◌, ℕ, ◌⊎◌, Bool, true, false, nat_eq, nat_lt, List, [], ◌∷◌, ◌++◌, length, map, Option, None, Some, Ok, Err}
+use Rattle.std.proofs.Common.{refl, sym, ap, ◌∙◌, subst, inl, inr, append-nil, eqb-true}
 use Rattle.std.specs.Bool.{⊤}
-use Rattle.std.specs.List.{list_all}
 use Rattle.std.specs.Option.{ok_or}
-use Rattle.std.proofs.lemmas.Bool.{or_parts, or_from, and_parts, leb-true, lt-ltb, ltb-true, ne_eqb}
-use Rattle.mur_base.specs.Number.{number_of, is_numeral, is_digit}
+use Rattle.std.proofs.lemmas.Bool.{or_parts, or_from, lt-ltb, ltb-true}
+use Rattle.mur_base.specs.Number.{number_of}
 use Rattle.schedule_text.specs.declared.schedule.fault.Rule.TheVariants.{WrongCount, BadNumber}
 use Rattle.schedule_text.specs.declared.words.Kind.{Kind}
 use Rattle.schedule_text.specs.declared.words.Kind.TheVariants.{Node, Number, Text}
@@ -14,6 +13,7 @@ use Rattle.schedule_text.specs.Spelled.{Lacks, IsWord, Spells, AreArguments}
 use Rattle.schedule_text.specs.Spelled.AreArguments.{no_more, one_more}
 use Rattle.schedule_text.specs.Words.{Value}
 use Rattle.schedule_text.specs.Words.Value.{a_node, a_number, a_text}
+use Rattle.schedule_text.proofs.HighBytes.{high_word, number_high}
 use Rattle.schedule_text.proofs.Steps.{both, kept_if, kept_true}
 
 -- the parts of a text: a word without a space, and what follows
@@ -99,6 +99,24 @@ AreOfKinds [] (argument ∷ arguments) = ⊥
 AreOfKinds (kind ∷ kinds) [] = ⊥
 AreOfKinds (kind ∷ kinds) (argument ∷ arguments) = IsOfKind kind argument × AreOfKinds kinds arguments
 
+-- one argument
+pub one_of_kind : (kind : Kind) (P : List (List ℕ) → Type 0) → ((one : List ℕ) → IsOfKind kind one → P (one ∷ [])) → (arguments : List (List ℕ))
+    → AreOfKinds (kind ∷ []) arguments → P arguments
+unfolding AreOfKinds
+one_of_kind kind P is [] fit = absurd fit
+one_of_kind kind P is (one ∷ []) fit = is one fit.0
+one_of_kind kind P is (one ∷ more ∷ others) fit = absurd fit.1
+
+-- two arguments
+pub two_of_kinds : (first second : Kind) (P : List (List ℕ) → Type 0)
+    → ((one other : List ℕ) → IsOfKind first one → IsOfKind second other → P (one ∷ other ∷ [])) → (arguments : List (List ℕ))
+    → AreOfKinds (first ∷ second ∷ []) arguments → P arguments
+unfolding AreOfKinds
+two_of_kinds first second P are [] fit = absurd fit
+two_of_kinds first second P are (one ∷ []) fit = absurd fit.1
+two_of_kinds first second P are (one ∷ other ∷ []) fit = are one other fit.0 fit.1.0
+two_of_kinds first second P are (one ∷ other ∷ more ∷ others) fit = absurd fit.1.1
+
 -- arguments, a space before each
 unfoldable pub spaced : List (List ℕ) → List ℕ
 spaced [] = []
@@ -132,6 +150,24 @@ AllSpell [] (value ∷ values) = ⊥
 AllSpell (argument ∷ arguments) [] = ⊥
 AllSpell (argument ∷ arguments) (value ∷ values) = Spells argument value × AllSpell arguments values
 
+-- one value
+pub one_spells : (value : Value) (P : List (List ℕ) → Type 0) → ((one : List ℕ) → Spells one value → P (one ∷ [])) → (arguments : List (List ℕ))
+    → AllSpell arguments (value ∷ []) → P arguments
+unfolding AllSpell
+one_spells value P is [] spell = absurd spell
+one_spells value P is (one ∷ []) spell = is one spell.0
+one_spells value P is (one ∷ more ∷ others) spell = absurd spell.1
+
+-- two values
+pub two_spell : (first second : Value) (P : List (List ℕ) → Type 0)
+    → ((one other : List ℕ) → Spells one first → Spells other second → P (one ∷ other ∷ [])) → (arguments : List (List ℕ))
+    → AllSpell arguments (first ∷ second ∷ []) → P arguments
+unfolding AllSpell
+two_spell first second P are [] spell = absurd spell
+two_spell first second P are (one ∷ []) spell = absurd spell.1
+two_spell first second P are (one ∷ other ∷ []) spell = are one other spell.0 spell.1.0
+two_spell first second P are (one ∷ other ∷ more ∷ others) spell = absurd spell.1.1
+
 pub are_arguments : (arguments : List (List ℕ)) (values : List Value) → AllSpell arguments values → AreArguments (spaced arguments) values
 unfolding AllSpell spaced
 are_arguments [] [] are = no_more
@@ -139,30 +175,6 @@ are_arguments [] (value ∷ values) are = absurd are
 are_arguments (argument ∷ arguments) [] are = absurd are
 are_arguments (argument ∷ arguments) (value ∷ values) are =
     one_more argument (spaced arguments) value values are.0 (are_arguments arguments values are.1)
-
-digit_lacks : (b : ℕ) → is_digit b ≡ true → nat_eq b 32 ≡ false
-unfolding is_digit
-digit_lacks b h =
-    let low = leb-true 48 b (and_parts (nat_le 48 b) (nat_le b 57) h).0 in
-    ne_eqb b 32 (λ same. omega (arith, low, same))
-
-digits_lack : (word : List ℕ) → list_all is_digit word ≡ true → Lacks 32 word
-digits_lack [] h = refl
-digits_lack (b ∷ word) h =
-    let parts = and_parts (is_digit b) (list_all is_digit word) h in
-    or_from (nat_eq b 32) _ (digit_lacks b parts.0) (digits_lack word parts.1)
-
-numeral_word : (word : List ℕ) → is_numeral word ≡ true → IsWord word
-unfolding is_numeral
-numeral_word [] h = cc
-numeral_word (b ∷ word) h = record { some = omega arith; whole = digits_lack (b ∷ word) h }
-
-number_by : (word : List ℕ) (n : ℕ) (numeral : Bool) → is_numeral word ≡ numeral → number_of word ≡ Some n → IsWord word
-unfolding number_of
-number_by word n true e h = numeral_word word e
-number_by word n false e h =
-    let nothing : Option ℕ = None in
-    let none : nothing ≡ Some n = rw e at h in cc
 
 abbrev pub kind_of : Value → Kind
 kind_of (a_node name) = Node
@@ -192,7 +204,7 @@ first_read : (argument rest : List ℕ) (value : Value) (values : List Value) �
     → first_argument (kind_of value) (32 ∷ argument ++ rest) ≡ Ok (record { word = argument; rest = rest })
 unfolding first_argument argument_in EndsWithText
 first_read argument rest (a_node name) values is ends are = word_read argument rest is.1 (behind_word rest values are)
-first_read argument rest (a_number n) values is ends are = word_read argument rest (number_by argument n _ refl is) (behind_word rest values are)
+first_read argument rest (a_number n) values is ends are = word_read argument rest (high_word argument (number_high argument n is)) (behind_word rest values are)
 first_read argument rest (a_text bytes) values is ends are = rw (nothing_behind rest values are ends, append-nil argument) refl
 
 -- arguments that are cut so spell these values

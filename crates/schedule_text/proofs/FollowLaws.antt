@@ -1,5 +1,5 @@
--- What fits behind events is what may follow them.
-use Rattle.std.proofs.Common.{◌≡◌, ℕ, Bool, true, false, List, [], ◌∷◌, ◌++◌, Option, None, Some, Ok, refl, subst, arith}
+-- What the tests of nodes and connections find is what may follow.
+use Rattle.std.proofs.Common.{◌≡◌, ℕ, Bool, true, false, List, [], ◌∷◌, Option, None, Some, Ok, refl, subst}
 use Rattle.std.specs.Option.{ok_or}
 use Rattle.std.proofs.lemmas.Bool.{or_right, eqb-true, eq-eqb, false_from_ne_true}
 use Rattle.mur_config.specs.Nodes.{node_named, are_linked}
@@ -11,9 +11,8 @@ use Rattle.mur_config.specs.declared.node.Node.{Node}
 use Rattle.schedule_text.specs.declared.event.Event.{Event}
 use Rattle.schedule_text.specs.declared.event.Event.TheVariants.{Open, Data, Hang, Deliver, Flow, Cut, Join, Crash, Arm, Start, Heal}
 use Rattle.schedule_text.specs.declared.schedule.fault.Rule.TheVariants.{UnknownNode}
-use Rattle.schedule_text.specs.MayFollow.{IsClientNode, AreLinkedNodes, Opens, MayFollow, AllMayFollow}
+use Rattle.schedule_text.specs.MayFollow.{IsClientNode, AreLinkedNodes, Opens}
 use Rattle.schedule_text.specs.MayFollow.Opens.{opens, opened}
-use Rattle.schedule_text.specs.ScheduleFits.{FitsBehind, AllFitBehind}
 use Rattle.schedule_text.specs.ScheduleNodes.{node_in, client_node_in, takes_clients, link_in}
 use Rattle.schedule_text.specs.ScheduleOpened.{is_opened, opens_connection}
 use Rattle.schedule_text.proofs.Steps.{both, kept_true}
@@ -42,7 +41,7 @@ takes_read Master h = refl
 takes_read Frontend h = refl
 takes_read Backend h = absurd (h refl)
 
-is_client_node : (config : Config) (name node : List ℕ) → client_node_in config name ≡ Ok node → IsClientNode config name
+pub is_client_node : (config : Config) (name node : List ℕ) → client_node_in config name ≡ Ok node → IsClientNode config name
 unfolding client_node_in
 is_client_node config name node h =
     let there = both (node_in config name) _ node h in
@@ -56,7 +55,7 @@ pub client_node_read : (config : Config) (name : List ℕ) → IsClientNode conf
 unfolding client_node_in
 client_node_read config name is = rw (node_read config name is.node is.named, takes_read is.node.kind is.takes) refl
 
-are_linked_nodes : (config : Config) (from to : List ℕ) (link : Link) → link_in config from to ≡ Ok link → AreLinkedNodes config from to
+pub are_linked_nodes : (config : Config) (from to : List ℕ) (link : Link) → link_in config from to ≡ Ok link → AreLinkedNodes config from to
 unfolding link_in
 are_linked_nodes config from to link h =
     let sender = both (node_in config from) _ link h in
@@ -96,7 +95,7 @@ unfolding is_opened
 opens_by conn event events ih true e h = first_opens conn event events e
 opens_by conn event events ih false e h = opened event events (ih (rw e at h))
 
-opens_in : (events : List Event) (conn : ℕ) → is_opened events conn ≡ true → Opens conn events
+pub opens_in : (events : List Event) (conn : ℕ) → is_opened events conn ≡ true → Opens conn events
 unfolding is_opened
 opens_in [] conn h = cc
 opens_in (event ∷ events) conn h = opens_by conn event events (opens_in events conn) _ refl h
@@ -113,22 +112,5 @@ not_both : (b : Bool) → b ≡ false → b ≡ true → ⊥
 not_both true e h = cc
 not_both false e h = cc
 
-pub fits_follow : (config : Config) (before : List Event) (event : Event) → FitsBehind config before event → MayFollow config before event
-unfolding FitsBehind MayFollow
-fits_follow config before (Open node conn) fits =
-    (is_client_node config node node fits.0, λ there. not_both (is_opened before conn) fits.1 (opened_in conn before there))
-fits_follow config before (Data conn bytes) fits = opens_in before conn fits
-fits_follow config before (Hang conn) fits = opens_in before conn fits
-fits_follow config before (Deliver from to) fits = are_linked_nodes config from to _ fits
-fits_follow config before (Flow count) fits = omega (arith, fits)
-fits_follow config before (Cut one other to from) fits = tt
-fits_follow config before (Join one other) fits = tt
-fits_follow config before (Crash node image kept) fits = tt
-fits_follow config before (Arm node call image kept) fits = tt
-fits_follow config before (Start node) fits = tt
-fits_follow config before Heal fits = tt
-
-pub all_follow : (config : Config) (before events : List Event) → AllFitBehind config before events → AllMayFollow config before events
-unfolding AllFitBehind AllMayFollow
-all_follow config before [] fit = tt
-all_follow config before (event ∷ events) fit = (fits_follow config before event fit.0, all_follow config (before ++ event ∷ []) events fit.1)
+pub opens_not : (conn : ℕ) (events : List Event) → is_opened events conn ≡ false → Opens conn events → ⊥
+opens_not conn events e there = not_both (is_opened events conn) e (opened_in conn events there)

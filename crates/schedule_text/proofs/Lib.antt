@@ -4,6 +4,8 @@ mod CutLaws
 mod SplitLaws
 mod OpenedLaws
 mod Steps
+mod HighBytes
+mod WordLaws
 mod ArgumentsLaws
 mod RowLaws
 mod ScheduleLaws

@@ -5,8 +5,6 @@ use Rattle.std.proofs.lemmas.Bool.{or_parts, ltb-false, le-ltb}
 use Rattle.mur_base.specs.declared.limits.TheConstants.{SCHEDULE_LIMIT}
 use Rattle.mur_config.specs.declared.config.Config.{Config}
 use Rattle.schedule_text.specs.declared.event.Event.{Event}
-use Rattle.schedule_text.specs.declared.words.Word.{Word}
-use Rattle.schedule_text.specs.declared.words.Word.TheVariants.{Open as open_word, Data as data_word, Hang as hang_word, Deliver as deliver_word, Flow as flow_word}
 use Rattle.schedule_text.specs.declared.schedule.fault.Rule.TheVariants.{TooLong}
 use Rattle.schedule_text.specs.declared.schedule.fault.SchedFault.{SchedFault}
 use Rattle.schedule_text.specs.declared.schedule.fault.ScheduleError.{ScheduleError}
@@ -18,9 +16,7 @@ use Rattle.schedule_text.specs.Schedule.{line_read, events_from, schedule_of, is
 use Rattle.schedule_text.specs.ScheduleRules.{IsReadAsSchedule}
 use Rattle.schedule_text.specs.Spelled.{Lacks, IsBeforeLf, AreLinesOf, IsSpelledAs, IsSpelledBy, IsPassedOver, AreSpelledBy}
 use Rattle.schedule_text.specs.Spelled.AreSpelledBy.{no_lines, passed, spelled}
-use Rattle.schedule_text.specs.Words.{Saying, said_by, word_text}
-use Rattle.schedule_text.proofs.FollowLaws.{all_follow}
-use Rattle.schedule_text.proofs.ScheduleLaws.{schedule_fits}
+use Rattle.schedule_text.specs.Words.{Saying, said_by}
 use Rattle.schedule_text.proofs.SpelledLaws.{schedule_spelled}
 use Rattle.schedule_text.proofs.SpelledLines.{Last, last_in, end_dropped, end_kept, ends_in, line_before, line_alone}
 use Rattle.mur_base.specs.Ascii.{ends_with_cr}
@@ -28,6 +24,7 @@ use Rattle.mur_base.specs.Names.{with_first}
 use Rattle.schedule_text.specs.Spelled.AreLinesOf.{no_bytes, without_lf, with_lf}
 use Rattle.schedule_text.proofs.SpelledLines.Last.{empty, behind}
 use Rattle.schedule_text.proofs.RowLaws.{event_read}
+use Rattle.schedule_text.proofs.WordLaws.{is_row}
 use Rattle.schedule_text.proofs.RefusedLaws.{schedule_refused}
 
 short_by : (config : Config) (bytes : List ℕ) (events : List Event) → (long : Bool) → nat_lt SCHEDULE_LIMIT (length bytes) ≡ long
@@ -42,8 +39,8 @@ short_by config bytes events false l h = ltb-false SCHEDULE_LIMIT (length bytes)
 pub is_schedule : (config : Config) (bytes : List ℕ) (events : List Event) → schedule_of config bytes ≡ Ok events → IsSchedule config bytes events
 is_schedule config bytes events h = record {
   short = short_by config bytes events _ refl h;
-  spell = schedule_spelled config bytes events h;
-  follow = all_follow config [] events (schedule_fits config bytes events h).consistent;
+  spell = (schedule_spelled config bytes events h).0;
+  follow = (schedule_spelled config bytes events h).1;
 }
 
 alone_cut : (line : List ℕ) → 0 < length line → Lacks 10 line → cuts_of line ≡ line ∷ []
@@ -83,17 +80,9 @@ unfolding is_passed_over
 over_read line (inl none) = ap is_passed_over none
 over_read line (inr hash) = ap is_passed_over hash.1
 
-word_counts : (word : Word) (rest : List ℕ) → is_passed_over (word_text word ++ rest) ≡ false
-unfolding word_text is_passed_over
-word_counts open_word rest = refl
-word_counts data_word rest = refl
-word_counts hang_word rest = refl
-word_counts deliver_word rest = refl
-word_counts flow_word rest = refl
-
 counts : (line : List ℕ) (saying : Option Saying) → IsSpelledAs line saying → is_passed_over line ≡ false
 counts line None is = absurd is
-counts line (Some saying) is = ap is_passed_over is.spelled ∙ word_counts saying.word is.rest
+counts line (Some saying) is = ap is_passed_over is.spelled ∙ (is_row saying.word).counts is.rest
 
 over_line : (config : Config) (number : ℕ) (before : List Event) (line : List ℕ) → IsPassedOver line → line_read config number before line ≡ Ok before
 unfolding line_read

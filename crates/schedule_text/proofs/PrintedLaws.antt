@@ -1,55 +1,24 @@
 -- What is printed for events is a schedule of these events.
-use Rattle.std.proofs.Common.{◌≡◌, ℕ, ◌/◌, ◌%◌, ◌<◌, ◌≤◌, Bool, true, false, nat_eq, nat_lt, nat_le, List, [], ◌∷◌, ◌++◌, length, Option, None, Some}
-use Rattle.std.proofs.Common.{refl, sym, ◌∙◌, subst, inr, append_assoc, arith}
-use Rattle.std.specs.List.{list_all}
-use Rattle.std.proofs.lemmas.Bool.{and_parts, and_from, or_from, leb-true, le-leb, ne_eqb}
+use Rattle.std.proofs.Common.{◌≡◌, ℕ, ◌/◌, ◌%◌, ◌≤◌, Bool, true, false, nat_eq, nat_lt, nat_le, List, [], ◌∷◌, ◌++◌, length, Option, None, Some}
+use Rattle.std.proofs.Common.{refl, sym, subst, inr, append_assoc, arith}
+use Rattle.std.proofs.lemmas.Bool.{and_parts, and_from}
 use Rattle.std.proofs.lemmas.Bool.Decides.{nat_tests}
-use Rattle.std.proofs.lemmas.List.Folds.{list_all-append}
-use Rattle.mur_base.specs.Ascii.{ends_with_cr}
 use Rattle.mur_base.specs.Names.{short_name_fault, has_short_name_bytes, is_short_name_byte}
 use Rattle.mur_base.specs.declared.limits.TheConstants.{SHORT_NAME_LIMIT}
-use Rattle.mur_base.specs.Number.{number_of, is_numeral, is_digit}
 use Rattle.mur_config.specs.declared.config.Config.{Config}
 use Rattle.schedule_text.specs.declared.event.Event.{Event}
-use Rattle.schedule_text.specs.declared.words.Word.{Word}
-use Rattle.schedule_text.specs.declared.words.Word.TheVariants.{Open as open_word, Data as data_word, Hang as hang_word, Deliver as deliver_word, Flow as flow_word}
 use Rattle.schedule_text.specs.Meaning.{IsSchedule}
 use Rattle.schedule_text.specs.Printed.{value_text, argument_text, arguments_text, line_text, saying_text, event_text, schedule_text}
 use Rattle.schedule_text.specs.Printed.{AreNamed, CanBeSaid, AllHaveWords, CanBePrinted, AreReadBack, SaysWhatIsReadBack, AllReadBack}
-use Rattle.schedule_text.specs.Spelled.{Lacks, IsWord, AreArguments, IsLineOf, IsSpelledAs, AreLinesOf, SpellEvents}
+use Rattle.schedule_text.specs.Spelled.{AreArguments, IsLineOf, IsSpelledAs, AreLinesOf, SpellEvents}
 use Rattle.schedule_text.specs.Spelled.AreArguments.{no_more, one_more}
 use Rattle.schedule_text.specs.Spelled.AreLinesOf.{no_bytes, with_lf}
 use Rattle.schedule_text.specs.Spelled.AreSpelledBy.{no_lines, spelled}
 use Rattle.schedule_text.specs.Text.{text_of, spelling_of, is_printed, hex_digit}
 use Rattle.schedule_text.specs.Words.{Value, Saying, said_by, word_text}
 use Rattle.schedule_text.specs.Words.Value.{a_node, a_number, a_text}
-
--- no byte is below this one
-abbrev pub AreFrom : ℕ → List ℕ → Type 0
-AreFrom low text = list_all (nat_le low) text ≡ true
-
-from_both : (low : ℕ) (one more : List ℕ) → AreFrom low one → AreFrom low more → AreFrom low (one ++ more)
-from_both low one more h k = list_all-append (nat_le low) one more ∙ and_from (list_all (nat_le low) one) (list_all (nat_le low) more) h k
-
-from_test : (low : ℕ) (test : ℕ → Bool) → ((b : ℕ) → test b ≡ true → low ≤ b) → (text : List ℕ) → list_all test text ≡ true → AreFrom low text
-from_test low test above [] h = refl
-from_test low test above (b ∷ text) h =
-    let parts = and_parts (test b) (list_all test text) h in
-    and_from (nat_le low b) (list_all (nat_le low) text) (le-leb low b (above b parts.0)) (from_test low test above text parts.1)
-
-lacks_below : (low c : ℕ) → c < low → (text : List ℕ) → AreFrom low text → Lacks c text
-lacks_below low c below [] h = refl
-lacks_below low c below (b ∷ text) h =
-    let parts = and_parts (nat_le low b) (list_all (nat_le low) text) h in
-    or_from (nat_eq b c) _ (ne_eqb b c (λ same. omega (arith, leb-true low b parts.0, same, below))) (lacks_below low c below text parts.1)
-
-no_cr : (text : List ℕ) → AreFrom 32 text → ends_with_cr text ≡ false
-unfolding ends_with_cr
-no_cr [] h = refl
-no_cr (b ∷ []) h =
-    let parts = and_parts (nat_le 32 b) true h in
-    ne_eqb b 13 (λ same. omega (arith, leb-true 32 b parts.0, same))
-no_cr (b ∷ next ∷ text) h = no_cr (next ∷ text) (and_parts (nat_le 32 b) (list_all (nat_le 32) (next ∷ text)) h).1
+use Rattle.schedule_text.proofs.HighBytes.{AreFrom, from_both, from_test, from_lower, lacks_below, no_cr, IsHigh, high_word, number_high}
+use Rattle.schedule_text.proofs.WordLaws.{is_row}
 
 hex_from : (d : ℕ) → nat_le 32 (hex_digit d) ≡ true
 unfolding hex_digit
@@ -69,54 +38,28 @@ unfolding text_of
 text_from [] = refl
 text_from (b ∷ bytes) = from_both 32 (spelling_of b) (text_of bytes) (spelling_by b _ _ _ _ refl refl refl refl) (text_from bytes)
 
-digit_from : (b : ℕ) → is_digit b ≡ true → 32 ≤ b
-unfolding is_digit
-digit_from b h = omega (arith, leb-true 48 b (and_parts (nat_le 48 b) (nat_le b 57) h).0)
-
-numeral_from : (text : List ℕ) → is_numeral text ≡ true → AreFrom 32 text
-unfolding is_numeral
-numeral_from [] h = cc
-numeral_from (b ∷ text) h = from_test 32 is_digit digit_from (b ∷ text) h
-
-number_by : (text : List ℕ) (n : ℕ) (numeral : Bool) → is_numeral text ≡ numeral → number_of text ≡ Some n → AreFrom 32 text
-unfolding number_of
-number_by text n true e h = numeral_from text e
-number_by text n false e h =
-    let nothing : Option ℕ = None in
-    let none : nothing ≡ Some n = rw e at h in cc
-
 name_byte_from : (b : ℕ) → is_short_name_byte b ≡ true → 33 ≤ b
 unfolding is_short_name_byte
 name_byte_from b h = grind (arith, nat_tests)
 
-record IsFitName (name : List ℕ) : Type 0 where
-  some : 0 < length name
-  from : AreFrom 33 name
-
 name_by : (name : List ℕ) (empty long fit : Bool) → nat_eq (length name) 0 ≡ empty → nat_lt SHORT_NAME_LIMIT (length name) ≡ long
-    → has_short_name_bytes name ≡ fit → short_name_fault name ≡ None → IsFitName name
+    → has_short_name_bytes name ≡ fit → short_name_fault name ≡ None → IsHigh name
 unfolding short_name_fault has_short_name_bytes
 name_by name true long fit e l f h = absurd (grind (arith, rw e at h))
 name_by name false true fit e l f h = absurd (grind (arith, rw (e, l) at h))
 name_by name false false false e l f h = absurd (grind (arith, rw (e, l, f) at h))
 name_by name false false true e l f h = record { some = grind (arith, nat_tests); from = from_test 33 is_short_name_byte name_byte_from name f }
 
-name_fits : (name : List ℕ) → short_name_fault name ≡ None → IsFitName name
-name_fits name h = name_by name _ _ _ refl refl refl h
-
-name_word : (name : List ℕ) → short_name_fault name ≡ None → IsWord name
-name_word name h = record { some = (name_fits name h).some; whole = lacks_below 33 32 (omega arith) name (name_fits name h).from }
-
-name_from : (name : List ℕ) → short_name_fault name ≡ None → AreFrom 32 name
-name_from name h = from_test 32 (nat_le 33) (λ b above. omega (arith, leb-true 33 b above)) name (name_fits name h).from
+name_high : (name : List ℕ) → short_name_fault name ≡ None → IsHigh name
+name_high name h = name_by name _ _ _ refl refl refl h
 
 arguments_from : (values : List Value) → AreReadBack values → AreNamed values → AreFrom 32 (arguments_text values)
 unfolding arguments_text argument_text value_text AreReadBack AreNamed
 arguments_from [] back named = refl
 arguments_from (a_node name ∷ values) back named =
-    from_both 32 name (arguments_text values) (name_from name named.0) (arguments_from values back.1 named.1)
+    from_both 32 name (arguments_text values) (from_lower name (name_high name named.0).from) (arguments_from values back.1 named.1)
 arguments_from (a_number n ∷ values) back named =
-    from_both 32 (value_text (a_number n)) (arguments_text values) (number_by (value_text (a_number n)) n _ refl back.0) (arguments_from values back.1 named)
+    from_both 32 (value_text (a_number n)) (arguments_text values) (from_lower (value_text (a_number n)) (number_high (value_text (a_number n)) n back.0).from) (arguments_from values back.1 named)
 arguments_from (a_text bytes ∷ values) back named =
     from_both 32 (text_of bytes) (arguments_text values) (text_from bytes) (arguments_from values back.1 named)
 
@@ -124,19 +67,11 @@ arguments_spelled : (values : List Value) → AreReadBack values → AreNamed va
 unfolding arguments_text argument_text value_text AreReadBack AreNamed
 arguments_spelled [] back named = no_more
 arguments_spelled (a_node name ∷ values) back named =
-    one_more name (arguments_text values) (a_node name) values (refl, name_word name named.0) (arguments_spelled values back.1 named.1)
+    one_more name (arguments_text values) (a_node name) values (refl, high_word name (name_high name named.0)) (arguments_spelled values back.1 named.1)
 arguments_spelled (a_number n ∷ values) back named =
     one_more (value_text (a_number n)) (arguments_text values) (a_number n) values back.0 (arguments_spelled values back.1 named)
 arguments_spelled (a_text bytes ∷ values) back named =
     one_more (text_of bytes) (arguments_text values) (a_text bytes) values back.0 (arguments_spelled values back.1 named)
-
-word_from : (word : Word) → AreFrom 32 (word_text word)
-unfolding word_text
-word_from open_word = refl
-word_from data_word = refl
-word_from hang_word = refl
-word_from deliver_word = refl
-word_from flow_word = refl
 
 -- a printed line, before the lines of other events
 line_onto : (event : Event) (saying : Option Saying) → said_by event ≡ saying → SaysWhatIsReadBack saying → CanBeSaid saying
@@ -144,7 +79,7 @@ line_onto : (event : Event) (saying : Option Saying) → said_by event ≡ sayin
 unfolding saying_text line_text
 line_onto event None e back said text events rest = absurd said
 line_onto event (Some saying) e back said text events rest =
-    let from = from_both 32 (word_text saying.word) (arguments_text saying.values) (word_from saying.word) (arguments_from saying.values back said) in
+    let from = from_both 32 (word_text saying.word) (arguments_text saying.values) (from_lower (word_text saying.word) (is_row saying.word).from) (arguments_from saying.values back said) in
     let line : IsLineOf (line_text saying) saying =
     record { rest = arguments_text saying.values; spelled = refl; arguments = arguments_spelled saying.values back said } in
     record {

@@ -15,7 +15,6 @@ use Rattle.schedule_text.specs.Schedule.{event_of, line_read, events_from, sched
 use Rattle.schedule_text.specs.ScheduleRules.{◌>>=◌}
 use Rattle.schedule_text.specs.Spelled.{AreLinesOf, IsSpelledBy, IsPassedOver, AreSpelledBy}
 use Rattle.schedule_text.specs.Spelled.AreSpelledBy.{no_lines, passed, spelled}
-use Rattle.schedule_text.proofs.FollowLaws.{fits_follow}
 use Rattle.schedule_text.proofs.SpelledLaws.{passed_over}
 use Rattle.schedule_text.proofs.SpelledLines.{are_lines}
 use Rattle.schedule_text.proofs.RowLaws.{event_is, event_read}
@@ -98,7 +97,7 @@ bad_by config number before line pieces fault true p read r ih h =
     bad_later config number before line (map line_in pieces) fault.line (passed_over line p) (ih before (rw p at h))
 bad_by config number before line pieces fault false p (Ok event) r ih h =
     bad_behind config number before line event (map line_in pieces) fault.line (event_is config before line event r).spelled
-    (fits_follow config before event (event_is config before line event r).fits) (ih (before ++ event ∷ []) (rw (p, r) at h))
+    (event_is config before line event r).follows (ih (before ++ event ∷ []) (rw (p, r) at h))
 bad_by config number before line pieces fault false p (Err why) r ih h =
     let named : SchedFault = record { line = number; why = why } in
     let is : Err named ≡ Err fault = rw (p, r) at h in

@@ -1,9 +1,7 @@
 -- A row of the table of words, read: a line is read as an event exactly where it spells it and the event may follow.
 use Rattle.std.proofs.Common.{◌≡◌, ℕ, ◌^◌, ◌<◌, ◌≤◌, Bool, true, false, cond, nat_le, List, [], ◌∷◌, ◌++◌, length, map, Option, Some, Ok, Err}
 use Rattle.std.proofs.Common.{refl, sym, ap, ◌∙◌, subst, length-append, arith}
-use Rattle.std.specs.Str.{bytes_eq}
 use Rattle.std.proofs.lemmas.Bool.{le-leb, leb-true}
-use Rattle.std.proofs.lemmas.Slice.Eq.{bytes_eq-Decides}
 use Rattle.mur_base.specs.Number.{number_of}
 use Rattle.mur_config.specs.Nodes.{are_linked}
 use Rattle.mur_config.specs.declared.config.Config.{Config}
@@ -18,17 +16,19 @@ use Rattle.schedule_text.specs.declared.words.Word.TheVariants.{Open as open_wor
 use Rattle.schedule_text.specs.MayFollow.{Opens, MayFollow}
 use Rattle.schedule_text.specs.Rows.{event_in, flow_count, text_in}
 use Rattle.schedule_text.specs.Schedule.{event_of}
-use Rattle.schedule_text.specs.ScheduleFits.{FitsBehind}
 use Rattle.schedule_text.specs.ScheduleNodes.{node_in, client_node_in, takes_clients, link_in}
 use Rattle.schedule_text.specs.ScheduleOpened.{is_opened, opened_before, unopened}
 use Rattle.schedule_text.specs.ScheduleWords.{split_word, arguments_in, number_in}
-use Rattle.schedule_text.specs.Spelled.{Lacks, IsWord, AreArguments, IsLineOf, IsSpelledAs, IsSpelledBy}
+use Rattle.schedule_text.specs.Spelled.{IsWord, AreArguments, IsLineOf, IsSpelledAs, IsSpelledBy}
 use Rattle.schedule_text.specs.Text.{bytes_of}
-use Rattle.schedule_text.specs.Words.{Value, Saying, row, said_by, word_text, kinds_of, all_words, word_among, word_named}
+use Rattle.schedule_text.specs.Words.{Value, Saying, row, said_by, word_text, kinds_of, word_named}
 use Rattle.schedule_text.specs.Words.Value.{a_node, a_number, a_text}
-use Rattle.schedule_text.proofs.ArgumentsLaws.{is_split, split_read, behind_word, AreOfKinds, are_cut, spaced, AllSpell, are_arguments, kind_of, EndsWithText, are_read}
-use Rattle.schedule_text.proofs.ArgumentsLaws.{number_spelled, number_read}
-use Rattle.schedule_text.proofs.FollowLaws.{client_node_read, link_read, opened_in, none_opens}
+use Rattle.schedule_text.proofs.ArgumentsLaws.{is_split, split_read, behind_word, AreOfKinds, one_of_kind, two_of_kinds, are_cut, spaced, AllSpell}
+use Rattle.schedule_text.proofs.ArgumentsLaws.{one_spells, two_spell, are_arguments, kind_of, EndsWithText, are_read, number_spelled, number_read}
+use Rattle.schedule_text.proofs.HighBytes.{lacks_below}
+use Rattle.schedule_text.proofs.WordLaws.{is_row, named_is}
+use Rattle.schedule_text.specs.declared.words.Kind.TheVariants.{Node, Number, Text}
+use Rattle.schedule_text.proofs.FollowLaws.{is_client_node, client_node_read, are_linked_nodes, link_read, opens_in, opens_not, opened_in, none_opens}
 use Rattle.schedule_text.proofs.Shortens.{some_text, text_shortens}
 use Rattle.schedule_text.proofs.Steps.{both, kept_if, kept_true}
 
@@ -74,18 +74,18 @@ text_spelled : (text bytes : List ℕ) → text_in text ≡ Ok bytes → bytes_o
 unfolding text_in
 text_spelled text bytes h = some_text (bytes_of text) bytes h
 
--- the event that a word and arguments make: they say it, it fits, and it weighs no more than they
+-- the event that a word and arguments make: they say it, it may follow, and it weighs no more than they
 record IsMade (config : Config) (before : List Event) (word : Word) (arguments : List (List ℕ)) (event : Event) : Type 0 where
   values : List Value
   said : said_by event ≡ row word values
   spell : AllSpell arguments values
-  fits : FitsBehind config before event
+  follows : MayFollow config before event
   steps : steps_of event ≤ 2 ^ 32
   bytes : bytes_brought event ≤ length (spaced arguments)
 
 open_made : (config : Config) (before : List Event) (node number : List ℕ) (event : Event) → IsWord node
     → event_in config before open_word (node ∷ number ∷ []) ≡ Ok event → IsMade config before open_word (node ∷ number ∷ []) event
-unfolding event_in said_by AllSpell FitsBehind steps_of bytes_brought
+unfolding event_in said_by AllSpell MayFollow steps_of bytes_brought
 open_made config before node number event word h =
     let conn = both (number_in number) _ event h in
     let name = both (client_node_in config node) _ event conn.2 in
@@ -96,14 +96,17 @@ open_made config before node number event word h =
       values = a_node name.0 ∷ a_number conn.0 ∷ [];
       said = refl;
       spell = ((same, word), (number_spelled number conn.0 conn.1, tt));
-      fits = (subst (λ (n : List ℕ). client_node_in config n ≡ Ok name.0) same name.1, is_unopened before conn.0 new.0 _ refl new.1);
+      follows = (
+        is_client_node config name.0 name.0 (subst (λ (n : List ℕ). client_node_in config n ≡ Ok name.0) same name.1),
+        opens_not conn.0 before (is_unopened before conn.0 new.0 _ refl new.1),
+      );
       steps = omega arith;
       bytes = omega arith;
     })
 
 data_made : (config : Config) (before : List Event) (number text : List ℕ) (event : Event)
     → event_in config before data_word (number ∷ text ∷ []) ≡ Ok event → IsMade config before data_word (number ∷ text ∷ []) event
-unfolding event_in said_by AllSpell spaced FitsBehind steps_of bytes_brought
+unfolding event_in said_by AllSpell spaced MayFollow steps_of bytes_brought
 data_made config before number text event h =
     let conn = both (number_in number) _ event h in
     let there = both (opened_before before conn.0) _ event conn.2 in
@@ -113,14 +116,14 @@ data_made config before number text event h =
       values = a_number conn.0 ∷ a_text bytes.0 ∷ [];
       said = refl;
       spell = (number_spelled number conn.0 conn.1, (text_spelled text bytes.0 bytes.1, tt));
-      fits = is_there before conn.0 there.0 _ refl there.1;
+      follows = opens_in before conn.0 (is_there before conn.0 there.0 _ refl there.1);
       steps = omega arith;
       bytes = omega (arith, text_shortens text bytes.0 bytes.1, length-append number (32 ∷ text ++ []), length-append text []);
     })
 
 hang_made : (config : Config) (before : List Event) (number : List ℕ) (event : Event)
     → event_in config before hang_word (number ∷ []) ≡ Ok event → IsMade config before hang_word (number ∷ []) event
-unfolding event_in said_by AllSpell FitsBehind steps_of bytes_brought
+unfolding event_in said_by AllSpell MayFollow steps_of bytes_brought
 hang_made config before number event h =
     let conn = both (number_in number) _ event h in
     let there = both (opened_before before conn.0) _ event conn.2 in
@@ -129,14 +132,14 @@ hang_made config before number event h =
       values = a_number conn.0 ∷ [];
       said = refl;
       spell = (number_spelled number conn.0 conn.1, tt);
-      fits = is_there before conn.0 there.0 _ refl there.1;
+      follows = opens_in before conn.0 (is_there before conn.0 there.0 _ refl there.1);
       steps = omega arith;
       bytes = omega arith;
     })
 
 deliver_made : (config : Config) (before : List Event) (from to : List ℕ) (event : Event) → IsWord from → IsWord to
     → event_in config before deliver_word (from ∷ to ∷ []) ≡ Ok event → IsMade config before deliver_word (from ∷ to ∷ []) event
-unfolding event_in said_by AllSpell FitsBehind steps_of bytes_brought
+unfolding event_in said_by AllSpell MayFollow steps_of bytes_brought
 deliver_made config before from to event sender taker h =
     let link = both (link_in config from to) _ event h in
     let same = link_is config from to link.0 link.1 in
@@ -146,14 +149,14 @@ deliver_made config before from to event sender taker h =
       values = a_node from ∷ a_node to ∷ [];
       said = refl;
       spell = ((refl, sender), ((refl, taker), tt));
-      fits = link.1 ∙ ap Ok (sym same);
+      follows = are_linked_nodes config from to link.0 link.1;
       steps = omega arith;
       bytes = omega arith;
     })
 
 flow_made : (config : Config) (before : List Event) (number : List ℕ) (event : Event)
     → event_in config before flow_word (number ∷ []) ≡ Ok event → IsMade config before flow_word (number ∷ []) event
-unfolding event_in said_by AllSpell FitsBehind steps_of bytes_brought
+unfolding event_in said_by AllSpell MayFollow steps_of bytes_brought
 flow_made config before number event h =
     let count = both (flow_count number) _ event h in
     let is = count_is number count.0 count.1 in
@@ -162,54 +165,34 @@ flow_made config before number event h =
       values = a_number count.0 ∷ [];
       said = refl;
       spell = (number_spelled number count.0 is.read, tt);
-      fits = is.within;
+      follows = omega (arith, is.within);
       steps = omega (arith, is.within);
       bytes = omega arith;
     })
 
 event_made : (config : Config) (before : List Event) (word : Word) (arguments : List (List ℕ)) (event : Event) → AreOfKinds (kinds_of word) arguments
     → event_in config before word arguments ≡ Ok event → IsMade config before word arguments event
-unfolding kinds_of AreOfKinds
-event_made config before open_word [] event fit h = absurd fit
-event_made config before open_word (node ∷ []) event fit h = absurd fit.1
-event_made config before open_word (node ∷ number ∷ []) event fit h = open_made config before node number event fit.0 h
-event_made config before open_word (node ∷ number ∷ more ∷ others) event fit h = absurd fit.1.1
-event_made config before data_word [] event fit h = absurd fit
-event_made config before data_word (number ∷ []) event fit h = absurd fit.1
-event_made config before data_word (number ∷ text ∷ []) event fit h = data_made config before number text event h
-event_made config before data_word (number ∷ text ∷ more ∷ others) event fit h = absurd fit.1.1
-event_made config before hang_word [] event fit h = absurd fit
-event_made config before hang_word (number ∷ []) event fit h = hang_made config before number event h
-event_made config before hang_word (number ∷ more ∷ others) event fit h = absurd fit.1
-event_made config before deliver_word [] event fit h = absurd fit
-event_made config before deliver_word (from ∷ []) event fit h = absurd fit.1
-event_made config before deliver_word (from ∷ to ∷ []) event fit h = deliver_made config before from to event fit.0 fit.1.0 h
-event_made config before deliver_word (from ∷ to ∷ more ∷ others) event fit h = absurd fit.1.1
-event_made config before flow_word [] event fit h = absurd fit
-event_made config before flow_word (number ∷ []) event fit h = flow_made config before number event h
-event_made config before flow_word (number ∷ more ∷ others) event fit h = absurd fit.1
+unfolding kinds_of
+event_made config before open_word arguments event fit =
+    two_of_kinds Node Number (λ a. event_in config before open_word a ≡ Ok event → IsMade config before open_word a event)
+    (λ node number is also. open_made config before node number event is) arguments fit
+event_made config before data_word arguments event fit =
+    two_of_kinds Number Text (λ a. event_in config before data_word a ≡ Ok event → IsMade config before data_word a event)
+    (λ number text is also. data_made config before number text event) arguments fit
+event_made config before hang_word arguments event fit =
+    one_of_kind Number (λ a. event_in config before hang_word a ≡ Ok event → IsMade config before hang_word a event)
+    (λ number is. hang_made config before number event) arguments fit
+event_made config before deliver_word arguments event fit =
+    two_of_kinds Node Node (λ a. event_in config before deliver_word a ≡ Ok event → IsMade config before deliver_word a event)
+    (λ from to is also. deliver_made config before from to event is also) arguments fit
+event_made config before flow_word arguments event fit =
+    one_of_kind Number (λ a. event_in config before flow_word a ≡ Ok event → IsMade config before flow_word a event)
+    (λ number is. flow_made config before number event) arguments fit
 
-among_by : (words : List Word) (word : Word) (text : List ℕ) (found : Word) → (word_among words text ≡ Ok found → text ≡ word_text found)
-    → (is : Bool) → bytes_eq text (word_text word) ≡ is → word_among (word ∷ words) text ≡ Ok found → text ≡ word_text found
-unfolding word_among
-among_by words word text found later true e h =
-    let same : word ≡ found = (let there : Ok word ≡ Ok found = rw e at h in cc) in
-    (bytes_eq-Decides text (word_text word)).0 e ∙ ap word_text same
-among_by words word text found later false e h = later (rw e at h)
-
-among_is : (words : List Word) (text : List ℕ) (found : Word) → word_among words text ≡ Ok found → text ≡ word_text found
-unfolding word_among
-among_is [] text found h = cc
-among_is (word ∷ words) text found h = among_by words word text found (among_is words text found) _ refl h
-
-named_is : (text : List ℕ) (found : Word) → word_named text ≡ Ok found → text ≡ word_text found
-unfolding word_named
-named_is text found h = among_is all_words text found h
-
--- an event that is read from a line: it is spelled there, it fits those before it, and weighs no more than the line
+-- an event that is read from a line: it is spelled there, it may follow those before it, and weighs no more than the line
 pub record IsReadFrom (config : Config) (before : List Event) (line : List ℕ) (event : Event) : Type 0 where
   pub spelled : IsSpelledBy line event
-  pub fits : FitsBehind config before event
+  pub follows : MayFollow config before event
   pub steps : steps_of event ≤ 2 ^ 32
   pub bytes : bytes_brought event ≤ length line
 
@@ -232,27 +215,11 @@ event_is config before line event h =
     } in
     record {
       spelled = subst (λ (s : Option Saying). IsSpelledAs line s) (sym made.said) spelled;
-      fits = made.fits;
+      follows = made.follows;
       steps = made.steps;
       bytes =
           omega (arith, made.bytes, ap length cut.parts, ap length (is_split line).parts, length-append (split_word line).word (split_word line).rest);
     }
-
-word_lacks : (word : Word) → Lacks 32 (word_text word)
-unfolding word_text
-word_lacks open_word = refl
-word_lacks data_word = refl
-word_lacks hang_word = refl
-word_lacks deliver_word = refl
-word_lacks flow_word = refl
-
-is_named : (word : Word) → word_named (word_text word) ≡ Ok word
-unfolding word_named word_among word_text
-is_named open_word = refl
-is_named data_word = refl
-is_named hang_word = refl
-is_named deliver_word = refl
-is_named flow_word = refl
 
 -- the arguments of a line, whatever events stand before it
 record HasArguments (line : List ℕ) (saying : Saying) : Type 0 where
@@ -265,10 +232,10 @@ arguments_of : (line : List ℕ) (saying : Saying) → IsLineOf line saying → 
 unfolding event_of
 arguments_of line saying is ends kinds =
     let split = ap split_word is.spelled
-    ∙ split_read (word_text saying.word) is.rest (word_lacks saying.word) (behind_word is.rest saying.values is.arguments) in
+    ∙ split_read (word_text saying.word) is.rest (lacks_below 33 32 (omega arith) (word_text saying.word) (is_row saying.word).from) (behind_word is.rest saying.values is.arguments) in
     let cut = are_read is.rest saying.values is.arguments ends in
     let read : arguments_in (kinds_of saying.word) is.rest ≡ Ok cut.arguments = ap (λ k. arguments_in k is.rest) (sym kinds) ∙ cut.read in
-    record { arguments = cut.arguments; spell = cut.spell; read = λ config before. rw (split, is_named saying.word, read) refl }
+    record { arguments = cut.arguments; spell = cut.spell; read = λ config before. rw (split, (is_row saying.word).named, read) refl }
 
 there_read : (before : List Event) (conn : ℕ) → Opens conn before → opened_before before conn ≡ Ok tt
 unfolding opened_before
@@ -289,47 +256,43 @@ count_read word count h low = rw (number_read word count h, le-leb count FLOW_LI
 open_read : (config : Config) (before : List Event) (arguments : List (List ℕ)) (node : List ℕ) (conn : ℕ)
     → AllSpell arguments (a_node node ∷ a_number conn ∷ []) → MayFollow config before (Open node conn)
     → event_in config before open_word arguments ≡ Ok (Open node conn)
-unfolding MayFollow event_in AllSpell
-open_read config before [] node conn is may = absurd is
-open_read config before (name ∷ []) node conn is may = absurd is.1
-open_read config before (name ∷ number ∷ []) node conn is may =
-    let there = ap (client_node_in config) is.0.0 ∙ client_node_read config node may.0 in
-    rw (number_read number conn is.1.0, there, new_read before conn may.1) refl
-open_read config before (name ∷ number ∷ more ∷ others) node conn is may = absurd is.1.1
+unfolding MayFollow event_in
+open_read config before arguments node conn spell may =
+    two_spell (a_node node) (a_number conn) (λ a. event_in config before open_word a ≡ Ok (Open node conn)) (λ name number is value.
+    (let there = ap (client_node_in config) is.0 ∙ client_node_read config node may.0 in
+    rw (number_read number conn value, there, new_read before conn may.1) refl))
+    arguments spell
 
 data_read : (config : Config) (before : List Event) (arguments : List (List ℕ)) (conn : ℕ) (bytes : List ℕ)
     → AllSpell arguments (a_number conn ∷ a_text bytes ∷ []) → MayFollow config before (Data conn bytes)
     → event_in config before data_word arguments ≡ Ok (Data conn bytes)
-unfolding MayFollow event_in AllSpell
-data_read config before [] conn bytes is may = absurd is
-data_read config before (number ∷ []) conn bytes is may = absurd is.1
-data_read config before (number ∷ text ∷ []) conn bytes is may =
-    rw (number_read number conn is.0, there_read before conn may, text_read text bytes is.1.0) refl
-data_read config before (number ∷ text ∷ more ∷ others) conn bytes is may = absurd is.1.1
+unfolding MayFollow event_in
+data_read config before arguments conn bytes spell may =
+    two_spell (a_number conn) (a_text bytes) (λ a. event_in config before data_word a ≡ Ok (Data conn bytes))
+    (λ number text value is. rw (number_read number conn value, there_read before conn may, text_read text bytes is) refl) arguments spell
 
 hang_read : (config : Config) (before : List Event) (arguments : List (List ℕ)) (conn : ℕ) → AllSpell arguments (a_number conn ∷ [])
     → MayFollow config before (Hang conn) → event_in config before hang_word arguments ≡ Ok (Hang conn)
-unfolding MayFollow event_in AllSpell
-hang_read config before [] conn is may = absurd is
-hang_read config before (number ∷ []) conn is may = rw (number_read number conn is.0, there_read before conn may) refl
-hang_read config before (number ∷ more ∷ others) conn is may = absurd is.1
+unfolding MayFollow event_in
+hang_read config before arguments conn spell may =
+    one_spells (a_number conn) (λ a. event_in config before hang_word a ≡ Ok (Hang conn))
+    (λ number value. rw (number_read number conn value, there_read before conn may) refl) arguments spell
 
 deliver_read : (config : Config) (before : List Event) (arguments : List (List ℕ)) (from to : List ℕ) → AllSpell arguments (a_node from ∷ a_node to ∷ [])
     → MayFollow config before (Deliver from to) → event_in config before deliver_word arguments ≡ Ok (Deliver from to)
-unfolding MayFollow event_in AllSpell
-deliver_read config before [] from to is may = absurd is
-deliver_read config before (one ∷ []) from to is may = absurd is.1
-deliver_read config before (one ∷ other ∷ []) from to is may =
-    let link = ap (λ (f : List ℕ). link_in config f other) is.0.0 ∙ ap (link_in config from) is.1.0.0 ∙ link_read config from to may in
-    rw link refl
-deliver_read config before (one ∷ other ∷ more ∷ others) from to is may = absurd is.1.1
+unfolding MayFollow event_in
+deliver_read config before arguments from to spell may =
+    two_spell (a_node from) (a_node to) (λ a. event_in config before deliver_word a ≡ Ok (Deliver from to)) (λ one other is also.
+    (let link = ap (λ (f : List ℕ). link_in config f other) is.0 ∙ ap (link_in config from) also.0 ∙ link_read config from to may in
+    rw link refl))
+    arguments spell
 
 flow_read : (config : Config) (before : List Event) (arguments : List (List ℕ)) (count : ℕ) → AllSpell arguments (a_number count ∷ [])
     → MayFollow config before (Flow count) → event_in config before flow_word arguments ≡ Ok (Flow count)
-unfolding MayFollow event_in AllSpell
-flow_read config before [] count is may = absurd is
-flow_read config before (number ∷ []) count is may = rw (count_read number count is.0 may) refl
-flow_read config before (number ∷ more ∷ others) count is may = absurd is.1
+unfolding MayFollow event_in
+flow_read config before arguments count spell may =
+    one_spells (a_number count) (λ a. event_in config before flow_word a ≡ Ok (Flow count))
+    (λ number value. rw (count_read number count value may) refl) arguments spell
 
 -- a line that spells an event which may follow is read as it
 pub event_read : (config : Config) (before : List Event) (line : List ℕ) (event : Event) → IsSpelledBy line event → MayFollow config before event

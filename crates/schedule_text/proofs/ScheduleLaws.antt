@@ -1,11 +1,10 @@
--- The events that a schedule gives fit one another, and weigh no more than its bytes.
+-- The events that a schedule gives weigh no more than its bytes.
 use Rattle.std.proofs.Common.{◌≡◌, ℕ, ◌+◌, ◌*◌, ◌^◌, ◌<◌, ◌≤◌, Bool, true, false, nat_lt, List, [], ◌∷◌, ◌++◌, length, sum_by, Result, Ok, Err}
-use Rattle.std.proofs.Common.{refl, sym, subst, append_assoc, arith}
+use Rattle.std.proofs.Common.{refl, subst, arith}
 use Rattle.mur_base.specs.declared.limits.TheConstants.{SCHEDULE_LIMIT}
 use Rattle.schedule_text.proofs.RowLaws.{event_is}
 use Rattle.schedule_text.proofs.Shortens.{line_shortens, lengths-cuts}
 use Rattle.schedule_text.proofs.Steps.{both}
-use Rattle.std.proofs.lemmas.List.{append-nil}
 use Rattle.std.proofs.lemmas.List.Sums.{sum_by-cons}
 use Rattle.mur_config.specs.declared.config.Config.{Config}
 use Rattle.schedule_text.specs.declared.event.Event.{Event}
@@ -15,21 +14,10 @@ use Rattle.schedule_text.specs.declared.schedule.fault.SchedFault.{SchedFault}
 use Rattle.schedule_text.specs.Brings.{steps_of, steps_of_all, bytes_of, bytes_of_all}
 use Rattle.schedule_text.specs.Cuts.{cuts_of, line_in}
 use Rattle.schedule_text.specs.Schedule.{event_of, with_event, line_read, events_from, schedule_of, is_passed_over}
-use Rattle.schedule_text.specs.ScheduleFits.{FitsBehind, AllFitBehind, FitSchedule}
-
-all_fit-push : (config : Config) (before events : List Event) (event : Event) → AllFitBehind config before events → FitsBehind config (before ++ events) event
-    → AllFitBehind config before (events ++ event ∷ [])
-unfolding AllFitBehind
-all_fit-push config before [] event all fits = (rw append-nil at fits, tt)
-all_fit-push config before (first ∷ events) event all fits = (
-  all.0,
-  all_fit-push config (before ++ first ∷ []) events event all.1
-      (subst (λ (b : List Event). FitsBehind config b event) (sym (append_assoc before (first ∷ []) events)) fits),
-)
+use Rattle.schedule_text.specs.ScheduleFits.{FitSchedule}
 
 -- an event that a text of this length gives
-record Fits (config : Config) (before : List Event) (event : Event) (size : ℕ) : Type 0 where
-  fits : FitsBehind config before event
+record Fits (event : Event) (size : ℕ) : Type 0 where
   steps : steps_of event ≤ size * 2 ^ 32
   bytes : bytes_of event ≤ size
 
@@ -39,10 +27,10 @@ is_some_line [] h = cc
 is_some_line (b ∷ line) h = omega arith
 
 event_fits : (config : Config) (before : List Event) (line : List ℕ) (event : Event) → is_passed_over line ≡ false → event_of config before line ≡ Ok event
-    → Fits config before event (length line)
+    → Fits event (length line)
 event_fits config before line event p h =
     let is = event_is config before line event h in
-    record { fits = is.fits; steps = omega (arith, is.steps, is_some_line line p); bytes = is.bytes }
+    record { steps = omega (arith, is.steps, is_some_line line p); bytes = is.bytes }
 
 steps-push : (before : List Event) (event : Event) → steps_of_all (before ++ event ∷ []) ≡ steps_of_all before + steps_of event
 unfolding steps_of_all
@@ -54,61 +42,59 @@ unfolding bytes_of_all
 bytes-push [] event = omega arith
 bytes-push (first ∷ before) event = omega (arith, bytes-push before event)
 
-with_one : (config : Config) (size more : ℕ) (before : List Event) (event : Event) → FitSchedule config size before → Fits config before event more
-    → FitSchedule config (size + more) (before ++ event ∷ [])
-with_one config size more before event all one = record {
-  consistent = all_fit-push config [] before event all.consistent one.fits;
+with_one : (size more : ℕ) (before : List Event) (event : Event) → FitSchedule size before → Fits event more
+    → FitSchedule (size + more) (before ++ event ∷ [])
+with_one size more before event all one = record {
   steps = omega (arith, steps-push before event, all.steps, one.steps);
   bytes = omega (arith, bytes-push before event, all.bytes, one.bytes);
 }
 
-line_by : (config : Config) (number size : ℕ) (before after : List Event) (line : List ℕ) → FitSchedule config size before
+line_by : (config : Config) (number size : ℕ) (before after : List Event) (line : List ℕ) → FitSchedule size before
     → (passed : Bool) → is_passed_over line ≡ passed → (read : Result Event Rule) → event_of config before line ≡ read
     → line_read config number before line ≡ Ok after
-    → FitSchedule config (size + length line) after
+    → FitSchedule (size + length line) after
 unfolding line_read
 line_by config number size before after line all true p read r h =
     let same : before ≡ after = (let e : Ok before ≡ Ok after = rw p at h in cc) in
-    subst (λ (events : List Event). FitSchedule config (size + length line) events) same
-    (record { consistent = all.consistent; steps = omega (arith, all.steps); bytes = omega (arith, all.bytes) })
+    subst (λ (events : List Event). FitSchedule (size + length line) events) same
+    (record { steps = omega (arith, all.steps); bytes = omega (arith, all.bytes) })
 line_by config number size before after line all false p (Ok event) r h =
     let same : before ++ event ∷ [] ≡ after = (let e : with_event number before (Ok event) ≡ Ok after = rw (p, r) at h in cc) in
-    subst (λ (events : List Event). FitSchedule config (size + length line) events) same
-    (with_one config size (length line) before event all (event_fits config before line event p r))
+    subst (λ (events : List Event). FitSchedule (size + length line) events) same
+    (with_one size (length line) before event all (event_fits config before line event p r))
 line_by config number size before after line all false p (Err why) r h = let e : with_event number before (Err why) ≡ Ok after = rw (p, r) at h in cc
 
-lines_fit : (pieces : List (List ℕ)) (config : Config) (number size : ℕ) (before events : List Event) → FitSchedule config size before
-    → events_from config number before pieces ≡ Ok events → FitSchedule config (size + sum_by length pieces) events
+lines_fit : (pieces : List (List ℕ)) (config : Config) (number size : ℕ) (before events : List Event) → FitSchedule size before
+    → events_from config number before pieces ≡ Ok events → FitSchedule (size + sum_by length pieces) events
 unfolding events_from
 lines_fit [] config number size before events all h =
     let same : before ≡ events = cc in
-    subst (λ (found : List Event). FitSchedule config (size + 0) found) same
-    (record { consistent = all.consistent; steps = omega (arith, all.steps); bytes = omega (arith, all.bytes) })
+    subst (λ (found : List Event). FitSchedule (size + 0) found) same
+    (record { steps = omega (arith, all.steps); bytes = omega (arith, all.bytes) })
 lines_fit (piece ∷ pieces) config number size before events all h =
     let first = both (line_read config number before (line_in piece)) _ events h in
     let read = line_by config number size before first.0 (line_in piece) all _ refl _ refl first.1 in
     let rest = lines_fit pieces config (number + 1) (size + length (line_in piece)) first.0 events read first.2 in
     record {
-      consistent = rest.consistent;
       steps = omega (arith, rest.steps, line_shortens piece, sum_by-cons length piece pieces);
       bytes = omega (arith, rest.bytes, line_shortens piece, sum_by-cons length piece pieces);
     }
 
-none_fit : (config : Config) → FitSchedule config 0 []
-unfolding AllFitBehind steps_of_all bytes_of_all
-none_fit config = record { consistent = tt; steps = omega arith; bytes = omega arith }
+none_fit : FitSchedule 0 []
+unfolding steps_of_all bytes_of_all
+none_fit = record { steps = omega arith; bytes = omega arith }
 
 abbrev too_long : SchedFault
 too_long = record { line = 0; why = TooLong }
 
 schedule_by : (config : Config) (bytes : List ℕ) (events : List Event) → (long : Bool) → nat_lt SCHEDULE_LIMIT (length bytes) ≡ long
-    → schedule_of config bytes ≡ Ok events → FitSchedule config (length bytes) events
+    → schedule_of config bytes ≡ Ok events → FitSchedule (length bytes) events
 unfolding schedule_of
 schedule_by config bytes events true l h = let none : Err (too_long) ≡ Ok events = rw l at h in cc
 schedule_by config bytes events false l h =
-    let all = lines_fit (cuts_of bytes) config 1 0 [] events (none_fit config) (rw l at h) in
-    record { consistent = all.consistent; steps = omega (arith, all.steps, lengths-cuts bytes); bytes = omega (arith, all.bytes, lengths-cuts bytes) }
+    let all = lines_fit (cuts_of bytes) config 1 0 [] events none_fit (rw l at h) in
+    record { steps = omega (arith, all.steps, lengths-cuts bytes); bytes = omega (arith, all.bytes, lengths-cuts bytes) }
 
--- the events of a schedule fit one another, and weigh no more than its bytes
-pub schedule_fits : (config : Config) (bytes : List ℕ) (events : List Event) → schedule_of config bytes ≡ Ok events → FitSchedule config (length bytes) events
+-- the events of a schedule weigh no more than its bytes
+pub schedule_fits : (config : Config) (bytes : List ℕ) (events : List Event) → schedule_of config bytes ≡ Ok events → FitSchedule (length bytes) events
 schedule_fits config bytes events h = schedule_by config bytes events _ refl h

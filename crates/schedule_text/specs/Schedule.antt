@@ -23,7 +23,7 @@ unfoldable pub is_passed_over : List ℕ → Bool
 is_passed_over [] = true
 is_passed_over (first ∷ line) = first == hash
 
--- the event of a line: its word, then the count of its arguments, then what they are, where these events stand before it
+-- the event of a line after these events: its word is tested first, then the count of its arguments, then each argument
 unfoldable pub event_of : Config → List Event → List ℕ → Result Event Rule
 event_of config before line = do
   word ← word_named (split_word line).word

@@ -10,7 +10,7 @@ use Rattle.schedule_text.specs.declared.words.Kind.{Kind}
 use Rattle.schedule_text.specs.declared.words.Kind.TheVariants.{Text}
 use Rattle.schedule_text.specs.ScheduleRules.{◌>>=◌}
 
--- a word, and what stands behind it: nothing, or a space and more
+-- a word and the text after it: empty, or a space and more
 pub record Words : Type 0 where
   pub word : List ℕ
   pub rest : List ℕ
@@ -39,12 +39,12 @@ unfoldable pub argument_in : Kind → List ℕ → Result Words Rule
 argument_in Text text = Ok (record { word = text; rest = [] })
 argument_in kind text = word_in text
 
--- the argument behind a space
+-- the argument after a space
 unfoldable pub first_argument : Kind → List ℕ → Result Words Rule
 first_argument kind [] = Err WrongCount
 first_argument kind (b ∷ text) = if b == space then argument_in kind text else Err WrongCount
 
--- the arguments of these kinds behind a word, and nothing behind them
+-- the arguments of these kinds after a word, and nothing after them
 unfoldable pub arguments_in : List Kind → List ℕ → Result (List (List ℕ)) Rule
 arguments_in [] [] = Ok []
 arguments_in [] (b ∷ rest) = Err WrongCount
@@ -53,7 +53,7 @@ arguments_in (kind ∷ kinds) rest = do
   arguments ← arguments_in kinds words.rest
   Ok (words.word ∷ arguments)
 
--- arguments behind those that were cut before
+-- arguments after those that were cut before
 unfoldable pub with_arguments : List (List ℕ) → Result (List (List ℕ)) Rule → Result (List (List ℕ)) Rule
 with_arguments before (Ok more) = Ok (before ++ more)
 with_arguments before (Err rule) = Err rule

@@ -14,3 +14,6 @@ pub use event::{Event, Events};
 pub use print::print_schedule;
 pub use schedule::{Rule, SchedFault, ScheduleError, read_schedule};
 pub use text::{put_name_text, put_text, read_text};
+
+#[cfg(test)]
+mod tests;

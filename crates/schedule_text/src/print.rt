@@ -23,7 +23,7 @@ pub enum Argument<'a> {
     Text(&'a [u8]),
 }
 
-/// The text of a schedule, which `read_schedule` reads back as the same events: a line for each event, LF behind it, one
+/// The text of a schedule, which `read_schedule` reads back as the same events: a line for each event, ended by LF, one
 /// space before each argument, numbers without leading zeros, bytes as `put_text` writes them. An event that has no word
 /// in the format yet has no line.
 #[tactic(auto, unfolding(crate::specs::Printed::schedule_text, crate::specs::Printed::AllReadBack))]

@@ -32,7 +32,7 @@ pub fn read_schedule(alloc: Global, bytes: &[u8], config: &Config) -> Result<Eve
     ensures spelled { IfOk result (IsSchedule config.now bytes.now) }
     ensures refused { IfErr result (HasCause config.now bytes.now) }
     ensures taken { (events : List Event) → IsSchedule config.now bytes.now events → IsReadAsEvents events result }
-    ensures fit { IfOk result (FitSchedule config.now (length bytes.now)) }
+    ensures fit { IfOk result (FitSchedule (length bytes.now)) }
     ensures room { IfOk result (λ events. HasCountRoom events) }
     ensures short { IfOk result (λ events. length bytes.now ≤ SCHEDULE_LIMIT) }
 {
@@ -88,7 +88,7 @@ fn is_passed_over(line: &[u8]) -> bool
     }
 }
 
-/// The event of a line: its word, then the count of its arguments, then what they are.
+/// The event of a line: its word is tested first, then the count of its arguments, then each argument.
 #[tactic(auto, unfolding(crate::specs::Schedule::event_of))]
 fn read_event(
     alloc: Global,

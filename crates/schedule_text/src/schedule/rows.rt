@@ -90,9 +90,9 @@ fn hang_in(so_far: &ReadSoFar, arguments: &[&[u8]]) -> Result<Event, Rule>
 {
     match arguments {
         [number] => {
-            let conn = number_in(number)?;
-            so_far.opened_before(conn)?;
-            Ok(Event::Hang(conn))
+            let closed = number_in(number)?;
+            so_far.opened_before(closed)?;
+            Ok(Event::Hang(closed))
         }
         _ => Err(Rule::WrongCount),
     }

@@ -8,7 +8,7 @@ use arrayvec::ArrayVec;
 use memchr::memchr;
 use mur_base::read_number;
 
-/// A word, and what stands behind it: nothing, or a space and more.
+/// A word and the text after it: empty, or a space and more.
 #[derive(Clone, Copy)]
 pub struct Cut<'a> {
     pub word: &'a [u8],
@@ -54,7 +54,7 @@ fn argument_in(kind: Kind, text: &[u8]) -> Result<Cut<'_>, Rule>
     }
 }
 
-/// The argument behind a space.
+/// The argument after a space.
 #[tactic(auto, unfolding(crate::specs::ScheduleWords::first_argument))]
 fn first_argument(kind: Kind, rest: &[u8]) -> Result<Cut<'_>, Rule>
     ensures { IsCutAs (first_argument kind rest.now) result }
@@ -65,7 +65,7 @@ fn first_argument(kind: Kind, rest: &[u8]) -> Result<Cut<'_>, Rule>
     }
 }
 
-/// The arguments of these kinds behind a word, and nothing behind them.
+/// The arguments of these kinds after a word, and nothing after them.
 #[tactic(auto, using(crate::proofs::SplitLaws::none_before), unfolding(crate::specs::ScheduleWords::arguments_in))]
 pub fn arguments_in<'a>(
     kinds: &[Kind],
