@@ -10,40 +10,51 @@ use std::alloc::Global;
 /// Puts how many bytes a command has and what is printed of it, or why none is read.
 pub fn put_command(alloc: Global, given: &str, out: &mut Bytes) -> Result<(), Fault> {
     let bytes = bytes_of(alloc, given)?;
-    match read_command(alloc, bytes.as_slice()) {
-        Ok((tag, command, used)) => {
-            put_number(used as u64, out)?;
-            put_field(print_command(alloc, &tag, &command)?.as_slice(), out)?;
-            Ok(())
-        }
-        Err(fault) => Ok(put_fault(fault, out)?),
-    }
+    Ok(put_read(command_in(alloc, bytes.as_slice()), out)?)
 }
 
 /// Puts how many bytes a response has and what is printed of it, or why none is read.
 pub fn put_response(alloc: Global, given: &str, out: &mut Bytes) -> Result<(), Fault> {
     let bytes = bytes_of(alloc, given)?;
-    match read_response(alloc, bytes.as_slice()) {
-        Ok((tag, response, used)) => {
-            put_number(used as u64, out)?;
-            put_field(print_response(alloc, &tag, &response)?.as_slice(), out)?;
-            Ok(())
-        }
-        Err(fault) => Ok(put_fault(fault, out)?),
-    }
+    Ok(put_read(response_in(alloc, bytes.as_slice()), out)?)
 }
 
 /// Puts how many bytes a long command has and how many are printed of it, or why none is read.
 pub fn put_long_command(alloc: Global, parts: &[&str], out: &mut Bytes) -> Result<(), Fault> {
     let bytes = repeated(alloc, parts)?;
-    match read_command(alloc, bytes.as_slice()) {
-        Ok((tag, command, used)) => {
+    Ok(put_lengths(command_in(alloc, bytes.as_slice()), out)?)
+}
+
+/// How many bytes a command has, and what is printed of it.
+fn command_in(alloc: Global, bytes: &[u8]) -> Result<(usize, Bytes), LineFault> {
+    let (tag, command, used) = read_command(alloc, bytes)?;
+    Ok((used, print_command(alloc, &tag, &command)?))
+}
+
+/// How many bytes a response has, and what is printed of it.
+fn response_in(alloc: Global, bytes: &[u8]) -> Result<(usize, Bytes), LineFault> {
+    let (tag, response, used) = read_response(alloc, bytes)?;
+    Ok((used, print_response(alloc, &tag, &response)?))
+}
+
+fn put_read(read: Result<(usize, Bytes), LineFault>, out: &mut Bytes) -> Result<(), Memory> {
+    match read {
+        Ok((used, text)) => {
+            put_number(used as u64, out)?;
+            put_field(text.as_slice(), out)
+        }
+        Err(fault) => put_fault(fault, out),
+    }
+}
+
+fn put_lengths(read: Result<(usize, Bytes), LineFault>, out: &mut Bytes) -> Result<(), Memory> {
+    match read {
+        Ok((used, text)) => {
             put_number(used as u64, out)?;
             put_field(b"", out)?;
-            put_number(print_command(alloc, &tag, &command)?.len() as u64, out)?;
-            Ok(())
+            put_number(text.len() as u64, out)
         }
-        Err(fault) => Ok(put_fault(fault, out)?),
+        Err(fault) => put_fault(fault, out),
     }
 }
 
