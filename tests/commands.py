@@ -1,4 +1,4 @@
-"""Which command a client's frame spells (RFC 9051, 9, in the profile of README.md): command_of(frame) gives its tag, name and arguments.
+"""Which command a client's frame spells (RFC 9051, 9, in the profile of docs/imap.md): command_of(frame) gives its tag, name and arguments.
 
 A command is read from its front to its end by one function a name; what doesn't fit raises Unspelled. Nothing here knows a state or a mailbox.
 """
