@@ -4,15 +4,15 @@ use Rattle.mur_base.specs.declared.home.Phase.{Phase}
 use Rattle.mur_base.specs.declared.home.Phase.TheVariants.{Open, Pointer}
 use Rattle.mail_message.specs.Boxes.{Content}
 use Rattle.link_msg.specs.declared.ask.FrontAsk.{FrontAsk}
-use Rattle.link_msg.specs.declared.op.Op.{Op}
+use Rattle.imap_types.specs.declared.op.Op.{Op}
 use Rattle.backend_core.specs.declared.backend.Backend.{Backend}
 use Rattle.backend_core.specs.declared.held.Held.{Held}
 use Rattle.backend_core.specs.declared.response.Response.{Response}
 use Rattle.backend_core.specs.HomeStep.{HomeStep, BoxStep, held_at, with_content}
 use Rattle.backend_core.specs.HomeLaws.{is_open}
-use Rattle.mail_store.specs.Kept.{Follows, AreUidsBelowNext}
+use Rattle.mail_store.specs.Kept.{IsLaterContent, AreUidsBelowNext}
 use Rattle.backend_core.specs.Refusal.{refusal, refusal_in, is_other}
-use Rattle.backend_core.specs.Create.{create_step, make, with_new}
+use Rattle.backend_core.specs.Create.{create_step, make_at_home, with_new}
 use Rattle.backend_core.specs.Served.{served, served_unless}
 use Rattle.backend_core.specs.Step.{home_step}
 use Rattle.backend_core.proofs.Serves.{Serves, creates, works, tells, serves}
@@ -20,12 +20,12 @@ use Rattle.backend_core.proofs.Serves.{Serves, creates, works, tells, serves}
 pub data Leaves (home : Backend) (name : List ℕ) (after : Backend) : Type 0 where
   stays : after ≡ home → Leaves home name after
   makes : held_at home name ≡ None → nat_eq home.last_serial (2 ^ 32 - 1) ≡ false → after ≡ with_new home name → Leaves home name after
-  turns : (held : Held) (content : Content) → held_at home name ≡ Some held → is_open held.phase ≡ true → Follows held.content content
+  turns : (held : Held) (content : Content) → held_at home name ≡ Some held → is_open held.phase ≡ true → IsLaterContent held.content content
       → (AreUidsBelowNext held.content → AreUidsBelowNext content) → after ≡ with_content home name held content → Leaves home name after
 
 make_leaves : (home : Backend) (name : List ℕ) (spent : Bool) → nat_eq home.last_serial (2 ^ 32 - 1) ≡ spent → held_at home name ≡ None
-    → Leaves home name (make home name spent).home
-unfolding make
+    → Leaves home name (make_at_home home name spent).home
+unfolding make_at_home
 make_leaves home name true e none = stays refl
 make_leaves home name false e none = makes none e refl
 
@@ -42,7 +42,7 @@ served_open (Pointer server) other served = cc
 served_open phase other served = cc
 
 unless_leaves : (home : Backend) (name : List ℕ) (held : Held) (step : BoxStep) (response : Option Response)
-    → held_at home name ≡ Some held → (response ≡ None → is_open held.phase ≡ true) → Follows held.content step.content
+    → held_at home name ≡ Some held → (response ≡ None → is_open held.phase ≡ true) → IsLaterContent held.content step.content
     → (AreUidsBelowNext held.content → AreUidsBelowNext step.content)
     → Leaves home name (served_unless home name held step response).home
 unfolding served_unless
@@ -50,7 +50,7 @@ unless_leaves home name held step (Some response) found opened follows below = s
 unless_leaves home name held step None found opened follows below = turns held step.content found (opened refl) follows below refl
 
 served_leaves : (home : Backend) (name : List ℕ) (selected : Option ℕ) (operation : Content → BoxStep) (found : Option Held) → held_at home name ≡ found
-    → ((content : Content) → Follows content (operation content).content)
+    → ((content : Content) → IsLaterContent content (operation content).content)
     → ((content : Content) → AreUidsBelowNext content → AreUidsBelowNext (operation content).content)
     → Leaves home name (served home name selected operation found).home
 unfolding served refusal

@@ -14,7 +14,7 @@ use Rattle.mail_store.specs.Append.{append_fault, appended, uids_from}
 use Rattle.mail_store.proofs.AppendLaws.{next-appended, uids-within}
 use Rattle.link_msg.specs.declared.answer.AnswerBody.TheVariants.{Done}
 use Rattle.link_msg.specs.declared.ask.FrontAsk.{FrontAsk}
-use Rattle.link_msg.specs.declared.op.Op.TheVariants.{Append}
+use Rattle.imap_types.specs.declared.op.Op.TheVariants.{Append}
 use Rattle.link_msg.specs.declared.outcome.Outcome.TheVariants.{Uids}
 use Rattle.backend_core.specs.declared.backend.Backend.{Backend}
 use Rattle.backend_core.specs.declared.held.Held.{Held}
@@ -22,7 +22,7 @@ use Rattle.backend_core.specs.declared.response.Response.{Response}
 use Rattle.backend_core.specs.HomeStep.{HomeStep, held_at, answers, changes}
 use Rattle.backend_core.specs.HomeLaws.{AreNewUids}
 use Rattle.backend_core.specs.Refusal.{refusal, refusal_in, is_other}
-use Rattle.backend_core.specs.Append.{append_step, append_to}
+use Rattle.backend_core.specs.Append.{append_step, append_within_limits}
 use Rattle.backend_core.specs.Served.{served, served_unless}
 use Rattle.backend_core.specs.Step.{home_step, op_step}
 use Rattle.mail_store.proofs.RisingUids.{rising-uids}
@@ -42,8 +42,8 @@ new_by uids held later found messages is next given =
     )
 
 to_new : (home : Backend) (name : List ℕ) (held : Held) (messages : List Message) (fault : Option StoreFault) → held_at home name ≡ Some held
-    → GivesNew name held (changes home name held (append_to held.content messages fault))
-unfolding GivesNew append_to
+    → GivesNew name held (changes home name held (append_within_limits held.content messages fault))
+unfolding GivesNew append_within_limits
 to_new home name held messages (Some fault) found = λ uids seen says. cc
 to_new home name held messages None found = λ uids seen says.
     let later = record held { content = appended held.content messages } in
@@ -60,7 +60,7 @@ no_uids name held home phase other response is = λ uids seen says. cc (is, says
 
 unless_new : (home : Backend) (name : List ℕ) (held : Held) (messages : List Message) (response : Option Response) → held_at home name ≡ Some held
     → ((r : Response) → response ≡ Some r → GivesNew name held (answers home r))
-    → GivesNew name held (served_unless home name held (append_to held.content messages (append_fault held.content messages)) response)
+    → GivesNew name held (served_unless home name held (append_within_limits held.content messages (append_fault held.content messages)) response)
 unfolding served_unless
 unless_new home name held messages (Some response) found refused = refused response refl
 unless_new home name held messages None found refused = to_new home name held messages (append_fault held.content messages) found

@@ -15,7 +15,7 @@ use Rattle.mail_store.specs.declared.fault.StoreFault.{StoreFault}
 use Rattle.mail_store.specs.Append.{append_fault, appended}
 use Rattle.link_msg.specs.declared.answer.AnswerBody.TheVariants.{Done}
 use Rattle.link_msg.specs.declared.ask.FrontAsk.{FrontAsk}
-use Rattle.link_msg.specs.declared.op.Op.TheVariants.{Append}
+use Rattle.imap_types.specs.declared.op.Op.TheVariants.{Append}
 use Rattle.link_msg.specs.declared.outcome.Outcome.TheVariants.{Uids}
 use Rattle.backend_core.specs.declared.backend.Backend.{Backend}
 use Rattle.backend_core.specs.declared.held.Held.{Held}
@@ -24,7 +24,7 @@ use Rattle.backend_core.specs.HomeStep.{HomeStep, held_at, changes}
 use Rattle.backend_core.specs.HomeLaws.{AreNewUids, HasUidsBelowNext, LosesNoMessage}
 use Rattle.mail_store.specs.Kept.{AreUidsBelowNext, KeepsMessages}
 use Rattle.backend_core.specs.Refusal.{refusal}
-use Rattle.backend_core.specs.Append.{append_step, append_to}
+use Rattle.backend_core.specs.Append.{append_step, append_within_limits}
 use Rattle.backend_core.specs.Served.{served, served_unless}
 use Rattle.backend_core.specs.Step.{home_step, op_step}
 use Rattle.backend_core.proofs.NewUids.{append_gives_new}
@@ -51,8 +51,8 @@ as_it_was : (held : Held) (found : Option Held) → found ≡ Some held → Lose
 as_it_was held found is = goes_on held held found is (λ uid message there. there)
 
 changes_keep : (home : Backend) (name : List ℕ) (held : Held) (messages : List Message) (fault : Option StoreFault) → AreUidsBelowNext held.content
-    → held_at home name ≡ Some held → LosesNoMessage held (held_at (changes home name held (append_to held.content messages fault)).home name)
-unfolding append_to
+    → held_at home name ≡ Some held → LosesNoMessage held (held_at (changes home name held (append_within_limits held.content messages fault)).home name)
+unfolding append_within_limits
 changes_keep home name held messages (Some fault) below there =
     goes_on held held _ (value_at-with_value (slice_cmp nat_cmp) names_apart home.held name held held there) (λ uid message at. at)
 changes_keep home name held messages None below there =
@@ -63,7 +63,7 @@ changes_keep home name held messages None below there =
 unless_keeps : (home : Backend) (name : List ℕ) (held : Held) (messages : List Message) (response : Option Response) → AreUidsBelowNext held.content
     → held_at home name ≡ Some held
     → LosesNoMessage held
-    (held_at (served_unless home name held (append_to held.content messages (append_fault held.content messages)) response).home name)
+    (held_at (served_unless home name held (append_within_limits held.content messages (append_fault held.content messages)) response).home name)
 unfolding served_unless
 unless_keeps home name held messages (Some response) below there = as_it_was held (held_at home name) there
 unless_keeps home name held messages None below there = changes_keep home name held messages (append_fault held.content messages) below there

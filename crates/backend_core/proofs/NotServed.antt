@@ -5,8 +5,8 @@ use Rattle.mur_base.specs.declared.home.Phase.{Phase}
 use Rattle.mur_base.specs.declared.home.Phase.TheVariants.{Open, Pointer}
 use Rattle.mail_message.specs.Boxes.{Content}
 use Rattle.link_msg.specs.declared.ask.FrontAsk.{FrontAsk}
-use Rattle.link_msg.specs.declared.op.Op.{Op}
-use Rattle.link_msg.specs.declared.op.Op.TheVariants.{Create}
+use Rattle.imap_types.specs.declared.op.Op.{Op}
+use Rattle.imap_types.specs.declared.op.Op.TheVariants.{Create}
 use Rattle.backend_core.specs.declared.backend.Backend.{Backend}
 use Rattle.backend_core.specs.declared.held.Held.{Held}
 use Rattle.backend_core.specs.declared.response.Response.{Response}

@@ -3,12 +3,12 @@ use Rattle.std.proofs.Common.{◌≡◌, refl}
 use Rattle.mail_message.specs.Boxes.{Content}
 use Rattle.mail_store.specs.Append.{append_fault}
 use Rattle.link_msg.specs.declared.ask.FrontAsk.{FrontAsk}
-use Rattle.link_msg.specs.declared.op.Op.{Op}
-use Rattle.link_msg.specs.declared.op.Op.TheVariants.{Look, Read, Flags, Expunge, Append, Create}
+use Rattle.imap_types.specs.declared.op.Op.{Op}
+use Rattle.imap_types.specs.declared.op.Op.TheVariants.{Look, Read, Flags, Expunge, Append, Create}
 use Rattle.backend_core.specs.declared.backend.Backend.{Backend}
 use Rattle.backend_core.specs.HomeStep.{HomeStep, BoxStep, held_at}
-use Rattle.mail_store.specs.Kept.{Follows, AreUidsBelowNext}
-use Rattle.backend_core.specs.Append.{append_step, append_to}
+use Rattle.mail_store.specs.Kept.{IsLaterContent, AreUidsBelowNext}
+use Rattle.backend_core.specs.Append.{append_step, append_within_limits}
 use Rattle.backend_core.specs.Create.{create_step}
 use Rattle.backend_core.specs.Expunge.{expunge_step, expunge_to}
 use Rattle.backend_core.specs.Flags.{flags_step, flags_to}
@@ -21,7 +21,7 @@ use Rattle.backend_core.proofs.StaysBelow.{append_below, expunge_below, flags_be
 
 pub data Serves (home : Backend) (ask : FrontAsk) (op : Op) (step : HomeStep) : Type 0 where
   creates : op ≡ Create → step ≡ create_step home ask.name (held_at home ask.name) → Serves home ask op step
-  works : (operation : Content → BoxStep) → ((content : Content) → Follows content (operation content).content)
+  works : (operation : Content → BoxStep) → ((content : Content) → IsLaterContent content (operation content).content)
       → ((content : Content) → AreUidsBelowNext content → AreUidsBelowNext (operation content).content)
       → step ≡ served home ask.name ask.selected operation (held_at home ask.name) → Serves home ask op step
   tells : step.home ≡ home → Serves home ask op step
@@ -30,7 +30,7 @@ op_serves : (home : Backend) (ask : FrontAsk) (op : Op) → Serves home ask op (
 unfolding op_step append_step look_step read_step flags_step expunge_step
 op_serves home ask Create = creates refl refl
 op_serves home ask (Append messages) =
-    works (λ content. append_to content messages (append_fault content messages)) (append_follows messages) (append_below messages) refl
+    works (λ content. append_within_limits content messages (append_fault content messages)) (append_follows messages) (append_below messages) refl
 op_serves home ask (Read uids sees) = works (λ content. read_to content uids sees) (read_follows uids sees) (read_below uids sees) refl
 op_serves home ask (Flags uids mode flags) =
     works (λ content. flags_to content uids mode flags) (flags_follow uids mode flags) (flags_below uids mode flags) refl

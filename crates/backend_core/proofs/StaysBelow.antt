@@ -9,20 +9,20 @@ use Rattle.mail_store.specs.declared.fault.StoreFault.{StoreFault}
 use Rattle.mail_store.specs.Append.{append_fault}
 use Rattle.mail_store.specs.Store.{has_too_many_flags, rows_stored}
 use Rattle.mail_store.specs.Kept.{AreUidsBelowNext}
-use Rattle.backend_core.specs.Append.{append_to}
+use Rattle.backend_core.specs.Append.{append_within_limits}
 use Rattle.backend_core.specs.Expunge.{expunge_to}
 use Rattle.backend_core.specs.Flags.{flags_to, flags_unless}
 use Rattle.backend_core.specs.Read.{read_in, read_to, seen_flag}
 use Rattle.mail_store.proofs.UidsBelow.{appended_below, stored_below, expunged_below}
 
 appends_below : (box : Content) (messages : List Message) (fault : Option StoreFault) → AreUidsBelowNext box
-    → AreUidsBelowNext (append_to box messages fault).content
-unfolding append_to
+    → AreUidsBelowNext (append_within_limits box messages fault).content
+unfolding append_within_limits
 appends_below box messages (Some fault) below = below
 appends_below box messages None below = appended_below box messages below
 
 pub append_below : (messages : List Message) (box : Content) → AreUidsBelowNext box
-    → AreUidsBelowNext (append_to box messages (append_fault box messages)).content
+    → AreUidsBelowNext (append_within_limits box messages (append_fault box messages)).content
 append_below messages box below = appends_below box messages (append_fault box messages) below
 
 flags_by : (box : Content) (uids : List ℕ) (mode : Mode) (flags : Flags) (too_many : Bool) → AreUidsBelowNext box

@@ -12,7 +12,7 @@ use Rattle.backend_core.specs.declared.backend.Backend.{Backend}
 use Rattle.backend_core.specs.declared.held.Held.{Held}
 use Rattle.backend_core.specs.declared.response.Response.{Response}
 use Rattle.backend_core.specs.HomeStep.{HomeStep, answers}
-use Rattle.backend_core.specs.Response.{no_snapshot, done, refused, not_now}
+use Rattle.backend_core.specs.Response.{no_snapshot, done, refused_by_home, not_now}
 
 -- a new mailbox, empty and Open
 abbrev pub new_held : ℕ → List ℕ → Held
@@ -26,15 +26,15 @@ with_new home name = record home {
 }
 
 -- where no mailbox is, by whether every UIDVALIDITY was given
-unfoldable pub make : Backend → List ℕ → Bool → HomeStep
-make home name true = answers home (refused Limit)
-make home name false = answers (with_new home name) (done nothing no_snapshot)
+unfoldable pub make_at_home : Backend → List ℕ → Bool → HomeStep
+make_at_home home name true = answers home (refused_by_home Limit)
+make_at_home home name false = answers (with_new home name) (done nothing no_snapshot)
 
 -- where something is known of the name
 unfoldable pub created_in : Phase → Response
-created_in Open = refused Exists
+created_in Open = refused_by_home Exists
 created_in _ = not_now
 
 unfoldable pub create_step : Backend → List ℕ → Option Held → HomeStep
-create_step home name None = make home name (home.last_serial == 2 ^ 32 - 1)
+create_step home name None = make_at_home home name (home.last_serial == 2 ^ 32 - 1)
 create_step home name (Some held) = answers home (created_in held.phase)

@@ -6,7 +6,7 @@ use Rattle.std.specs.Cmp.Lexicographic.{slice_cmp}
 use Rattle.mur_base.specs.Map.{IsInOrder}
 use Rattle.mur_base.specs.declared.home.Phase.{Phase}
 use Rattle.mur_base.specs.declared.home.Phase.TheVariants.{Open}
-use Rattle.mail_store.specs.Kept.{Follows, AreUidsBelowNext, KeepsMessages}
+use Rattle.mail_store.specs.Kept.{IsLaterContent, AreUidsBelowNext, KeepsMessages}
 use Rattle.backend_core.specs.declared.backend.Backend.{Backend}
 use Rattle.backend_core.specs.declared.held.Held.{Held}
 use Rattle.backend_core.specs.HomeStep.{held_at}
@@ -25,9 +25,9 @@ abbrev pub HasNamesInOrder : Backend → Type 0
 HasNamesInOrder home = IsInOrder (slice_cmp nat_cmp) home.held
 
 -- a mailbox goes on
-abbrev pub GoesOn : Held → Option Held → Type 0
-GoesOn held None = ⊥
-GoesOn held (Some later) = Follows held.content later.content
+abbrev pub MailboxStays : Held → Option Held → Type 0
+MailboxStays held None = ⊥
+MailboxStays held (Some later) = IsLaterContent held.content later.content
 
 -- UIDs that rise strictly, from UIDNEXT on and below the later UIDNEXT
 abbrev pub AreNewUids : List ℕ → Held → Option Held → Type 0

@@ -26,10 +26,10 @@ unfoldable pub answer_outs : List ℕ → AskId → Counts → Option AnswerBody
 answer_outs from id counts None = []
 answer_outs from id counts (Some body) = Link from (Answer (record { id = id; body = body })) ∷ Mark id counts ∷ []
 
-abbrev pub sent : List ℕ → AskId → HomeStep → Planned
-sent from id step = record { home = step.home; outs = answer_outs from id step.counts step.body }
+abbrev pub sent_answer : List ℕ → AskId → HomeStep → Planned
+sent_answer from id step = record { home = step.home; outs = answer_outs from id step.counts step.body }
 
 -- a backend has nothing to do where a link comes up or ends
 unfoldable pub plan_of : Backend → BackInput → Planned
-plan_of home (FromFront from ask) = sent from ask.id (home_step home ask)
+plan_of home (FromFront from ask) = sent_answer from ask.id (home_step home ask)
 plan_of home _ = record { home = home; outs = [] }

@@ -6,7 +6,7 @@ use Rattle.mail_message.specs.Boxes.{Content}
 use Rattle.link_msg.specs.declared.outcome.Outcome.TheVariants.{Gone}
 use Rattle.backend_core.specs.declared.held.Held.{Held}
 use Rattle.backend_core.specs.declared.response.Response.{Response}
-use Rattle.backend_core.specs.Response.{no_snapshot, done, not_now, moved}
+use Rattle.backend_core.specs.Response.{no_snapshot, done, not_now, moved_to}
 
 -- the session has selected a mailbox of another UIDVALIDITY (RFC 9051, 2.3.1.1)
 unfoldable pub is_other : Option ℕ → Content → Bool
@@ -17,7 +17,7 @@ is_other (Some serial) content = not (serial == content.serial)
 unfoldable pub refusal_in : Phase → Bool → Option Response
 refusal_in Open true = Some (done Gone no_snapshot)
 refusal_in Open false = None
-refusal_in (Pointer server) other = Some (moved server)
+refusal_in (Pointer server) other = Some (moved_to server)
 refusal_in _ other = Some not_now
 
 -- what is answered instead, where the operation isn't carried out

@@ -12,21 +12,21 @@ abbrev pub no_snapshot : Snapshot
 no_snapshot = record { serial = 0; next = 0; size = 0; rows = [] }
 
 -- of a mailbox UIDVALIDITY and UIDNEXT are told (RFC 9051, 2.3.1.1)
-abbrev pub bare : Content → Snapshot
-bare content = record { serial = content.serial; next = content.next; size = 0; rows = [] }
+abbrev pub bare_snapshot : Content → Snapshot
+bare_snapshot content = record { serial = content.serial; next = content.next; size = 0; rows = [] }
 
 -- an operation on a mailbox's messages, or one that made the mailbox
 abbrev pub done : Outcome → Snapshot → Response
 done outcome snapshot = record { body = Done outcome snapshot; counts = Always }
 
 -- no mailbox is made
-abbrev pub refused : Outcome → Response
-refused outcome = record { body = Done outcome no_snapshot; counts = IfAnswered }
+abbrev pub refused_by_home : Outcome → Response
+refused_by_home outcome = record { body = Done outcome no_snapshot; counts = IfAnswered }
 
 -- the mailbox isn't here, or isn't served at present
 abbrev pub not_now : Response
 not_now = record { body = NotNow; counts = IfAnswered }
 
 -- the mailbox is at this server
-abbrev pub moved : List ℕ → Response
-moved server = record { body = Moved server; counts = IfAnswered }
+abbrev pub moved_to : List ℕ → Response
+moved_to server = record { body = Moved server; counts = IfAnswered }

@@ -1,7 +1,7 @@
 -- What a home of mailboxes does with an ask. It knows only some of the operations.
 use Rattle.link_msg.specs.declared.ask.FrontAsk.{FrontAsk}
-use Rattle.link_msg.specs.declared.op.Op.{Op}
-use Rattle.link_msg.specs.declared.op.Op.TheVariants.{Look, Read, Flags, Expunge, Append, Create}
+use Rattle.imap_types.specs.declared.op.Op.{Op}
+use Rattle.imap_types.specs.declared.op.Op.TheVariants.{Look, Read, Flags, Expunge, Append, Create}
 use Rattle.backend_core.specs.declared.backend.Backend.{Backend}
 use Rattle.backend_core.specs.HomeStep.{HomeStep, held_at, dropped}
 use Rattle.backend_core.specs.Append.{append_step}

@@ -1,7 +1,7 @@
 // APPEND.
 ghost use Rattle.std.specs.Prelude.{◌≡◌, IfOk};
 ghost use Rattle.mail_store.specs.Append.{append_fault};
-ghost use Rattle.backend_core.specs.Append.{append_step, append_to};
+ghost use Rattle.backend_core.specs.Append.{append_step, append_within_limits};
 ghost use Rattle.backend_core.specs.HomeStep.{answers, held_at};
 
 use crate::backend::Backend;
@@ -35,10 +35,10 @@ pub fn append(
     }
 }
 
-#[tactic(auto, unfolding(crate::specs::Append::append_to))]
+#[tactic(auto, unfolding(crate::specs::Append::append_within_limits))]
 fn append_to(alloc: Global, content: &mut MailBox, messages: Messages) -> Result<Response, Memory>
     ensures { IfOk result (λ response. record { content = content.new; response = response }
-        ≡ append_to content.old messages (append_fault content.old messages)) }
+        ≡ append_within_limits content.old messages (append_fault content.old messages)) }
 {
     match append_all(alloc, content, messages) {
         Ok(uids) => Ok(Response::done(Outcome::Uids(uids), bare(alloc, content))),

@@ -3,7 +3,7 @@ ghost use Rattle.std.specs.Prelude.{◌≡◌, IfOk};
 ghost use Rattle.std.specs.Option.{option_copied, option_map};
 ghost use Rattle.backend_core.specs.HomeStep.{held_at, body_of, counts_of};
 ghost use Rattle.backend_core.specs.declared.held.Held.{Held};
-ghost use Rattle.backend_core.specs.Plan.{booted, plan_of, sent, answer_outs};
+ghost use Rattle.backend_core.specs.Plan.{booted, plan_of, sent_answer, answer_outs};
 ghost use Rattle.backend_core.specs.Step.{home_step};
 
 use crate::held::Held;
@@ -71,7 +71,7 @@ impl Backend {
 
 /// Carries out what a frontend asks, and answers it.
 fn answer(alloc: Global, home: &mut Backend, from: NodeName, ask: FrontAsk) -> Result<Outs, Memory>
-    ensures { IfOk result (λ outs. record { home = home.new; outs = outs } ≡ sent from ask.id (home_step home.old ask)) }
+    ensures { IfOk result (λ outs. record { home = home.new; outs = outs } ≡ sent_answer from ask.id (home_step home.old ask)) }
 {
     let id = ask.id;
     let response = serve(alloc, home, ask)?;

@@ -1,6 +1,6 @@
 // CREATE.
 ghost use Rattle.std.specs.Prelude.{◌≡◌, ◌-◌, ◌^◌, ◌==◌, IfOk};
-ghost use Rattle.backend_core.specs.Create.{create_step, created_in, make};
+ghost use Rattle.backend_core.specs.Create.{create_step, created_in, make_at_home};
 ghost use Rattle.backend_core.specs.HomeStep.{answers, held_at};
 
 use crate::backend::Backend;
@@ -32,9 +32,9 @@ fn created_in(alloc: Global, phase: &Phase) -> Response
     }
 }
 
-#[tactic(auto, unfolding(crate::specs::Create::make))]
+#[tactic(auto, unfolding(crate::specs::Create::make_at_home))]
 fn make(alloc: Global, home: &mut Backend, name: MailName) -> Result<Response, Memory>
-    ensures { IfOk result (λ response. answers home.new response ≡ make home.old name (home.old.last_serial == 2 ^ 32 - 1)) }
+    ensures { IfOk result (λ response. answers home.new response ≡ make_at_home home.old name (home.old.last_serial == 2 ^ 32 - 1)) }
 {
     let Some(serial) = home.last_serial.checked_add(1) else {
         return Ok(Response::refused(alloc, Outcome::Limit));

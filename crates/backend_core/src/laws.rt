@@ -6,13 +6,13 @@ ghost use Rattle.mail_message.specs.declared.message.Message.{Message};
 ghost use Rattle.link_msg.specs.declared.ask.FrontAsk.{FrontAsk};
 ghost use Rattle.mail_message.specs.declared.message.Snapshot.{Snapshot};
 ghost use Rattle.link_msg.specs.declared.answer.AnswerBody.TheVariants.{Done};
-ghost use Rattle.link_msg.specs.declared.op.Op.TheVariants.{Append, Create};
+ghost use Rattle.imap_types.specs.declared.op.Op.TheVariants.{Append, Create};
 ghost use Rattle.link_msg.specs.declared.outcome.Outcome.TheVariants.{Uids};
 ghost use Rattle.backend_core.specs.declared.backend.Backend.{Backend};
 ghost use Rattle.backend_core.specs.declared.held.Held.{Held};
 ghost use Rattle.backend_core.specs.declared.input.BackInput.{BackInput};
 ghost use Rattle.backend_core.specs.HomeStep.{held_at};
-ghost use Rattle.backend_core.specs.HomeLaws.{is_open_here, HasNamesInOrder, GoesOn, AreNewUids, HasGivenSerials};
+ghost use Rattle.backend_core.specs.HomeLaws.{is_open_here, HasNamesInOrder, MailboxStays, AreNewUids, HasGivenSerials};
 ghost use Rattle.backend_core.specs.HomeLaws.{HasUidsBelowNext, LosesNoMessage};
 ghost use Rattle.backend_core.specs.Plan.{booted, plan_of};
 ghost use Rattle.backend_core.specs.Step.{home_step};
@@ -32,7 +32,7 @@ pub fn an_ask_of_another_mailbox_changes_nothing()
 /// Each mailbox goes on with its UIDVALIDITY, and its UIDNEXT never falls (RFC 9051, 2.3.1.1).
 pub fn uidnext_never_falls()
     ensures { (home : Backend) (ask : FrontAsk) (name : List ℕ) (held : Held) → held_at home name ≡ Some held
-        → GoesOn held (held_at (home_step home ask).home name) }
+        → MailboxStays held (held_at (home_step home ask).home name) }
 {}
 
 /// Each message of each mailbox has a UID below its UIDNEXT, from the start and whatever comes in (RFC 9051, 2.3.1.1).

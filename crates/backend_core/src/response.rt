@@ -1,6 +1,6 @@
 // What a home answers.
 ghost use Rattle.std.specs.Prelude.{◌≡◌};
-ghost use Rattle.backend_core.specs.Response.{no_snapshot, bare, done, refused, not_now, moved};
+ghost use Rattle.backend_core.specs.Response.{no_snapshot, bare_snapshot, done, refused_by_home, not_now, moved_to};
 
 use link_msg::{AnswerBody, Counts, Outcome};
 use mail_message::{MailBox, OrderedRows, Snapshot};
@@ -27,7 +27,7 @@ impl Response {
 
     /// The answer where no mailbox is made.
     pub fn refused(alloc: Global, outcome: Outcome) -> Response
-        ensures { result ≡ refused outcome }
+        ensures { result ≡ refused_by_home outcome }
     {
         Response {
             body: AnswerBody::Done(outcome, no_snapshot(alloc)),
@@ -47,7 +47,7 @@ impl Response {
 
     /// The mailbox is at this server.
     pub fn moved(server: NodeName) -> Response
-        ensures { result ≡ moved server }
+        ensures { result ≡ moved_to server }
     {
         Response {
             body: AnswerBody::Moved(server),
@@ -70,7 +70,7 @@ pub fn no_snapshot(alloc: Global) -> Snapshot
 
 /// UIDVALIDITY and UIDNEXT of a mailbox, without a look at its messages.
 pub fn bare(alloc: Global, content: &MailBox) -> Snapshot
-    ensures { result ≡ bare content.now }
+    ensures { result ≡ bare_snapshot content.now }
 {
     Snapshot {
         serial: content.serial(),

@@ -24,12 +24,12 @@ turn_by flowing link zero queue = flowing
 turn_by flowing link (suc left) [] = flowing
 turn_by flowing link (suc left) (message ∷ queue) = delivered flowing left (Deliver link.from link.to)
 
-unfoldable pub turn_of : Flowing → Link → Flowing
-turn_of flowing link = turn_by flowing link flowing.left (on_link flowing.world.links link.from link.to)
+unfoldable pub turn_of_link : Flowing → Link → Flowing
+turn_of_link flowing link = turn_by flowing link flowing.left (on_link flowing.world.links link.from link.to)
 
 unfoldable pub round : Flowing → List Link → Flowing
 round flowing [] = flowing
-round flowing (link ∷ links) = round (turn_of flowing link) links
+round flowing (link ∷ links) = round (turn_of_link flowing link) links
 
 -- another round, unless one went by without any delivery
 unfoldable pub rounds_by : Bool → Flowing → Flowing → Flowing

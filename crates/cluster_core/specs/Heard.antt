@@ -20,9 +20,9 @@ abbrev pub opened_at : Bool → Heard
 opened_at true = client [] false
 opened_at false = elsewhere
 
-abbrev pub at_first : Config → ℕ → Event → Heard
-at_first config conn (Open node other) = if conn == other then opened_at (is_frontend config node) else nobody
-at_first config conn event = nobody
+abbrev pub heard_first : Config → ℕ → Event → Heard
+heard_first config conn (Open node other) = if conn == other then opened_at (is_frontend config node) else nobody
+heard_first config conn event = nobody
 
 abbrev pub of_client : ℕ → List ℕ → Event → Heard
 of_client conn bytes (Data other more) = if conn == other then client (bytes ++ more) false else client bytes false
@@ -30,7 +30,7 @@ of_client conn bytes (Hang other) = if conn == other then client bytes true else
 of_client conn bytes event = client bytes false
 
 unfoldable pub hears : Config → ℕ → Heard → Event → Heard
-hears config conn nobody event = at_first config conn event
+hears config conn nobody event = heard_first config conn event
 hears config conn elsewhere event = elsewhere
 hears config conn (client bytes true) event = client bytes true
 hears config conn (client bytes false) event = of_client conn bytes event

@@ -26,8 +26,8 @@ held_by None = []
 held_by (Some home) = home.held
 
 -- what a backend has
-abbrev pub held_at : World → List ℕ → List (List ℕ × Held)
-held_at world node = held_by (home_at world node)
+abbrev pub held_at_node : World → List ℕ → List (List ℕ × Held)
+held_at_node world node = held_by (home_at world node)
 
 -- a mailbox at a node that has it
 abbrev pub home_row : List ℕ → List ℕ → Held → HomeRow
@@ -45,18 +45,18 @@ row_if name node None = []
 row_if name node (Some held) = home_row name node held ∷ []
 
 -- a mailbox at the nodes that have it, in their order
-unfoldable pub rows_of : World → List ℕ → List (List ℕ) → List HomeRow
-rows_of world name [] = []
-rows_of world name (node ∷ nodes) = row_if name node (value_at (slice_cmp nat_cmp) (held_at world node) name) ++ rows_of world name nodes
+unfoldable pub home_rows_of : World → List ℕ → List (List ℕ) → List HomeRow
+home_rows_of world name [] = []
+home_rows_of world name (node ∷ nodes) = row_if name node (value_at (slice_cmp nat_cmp) (held_at_node world node) name) ++ home_rows_of world name nodes
 
 unfoldable pub rows_of_all : World → List (List ℕ) → List HomeRow
 rows_of_all world [] = []
-rows_of_all world (name ∷ names) = rows_of world name world.backends ++ rows_of_all world names
+rows_of_all world (name ∷ names) = home_rows_of world name world.backends ++ rows_of_all world names
 
 -- the names that some node has, in byte order, each once
 unfoldable pub names_at : World → List (List ℕ) → List (List ℕ) → List (List ℕ)
 names_at world names [] = names
-names_at world names (node ∷ nodes) = names_at world (fold (insert_key (slice_cmp nat_cmp)) names (keys_of (held_at world node))) nodes
+names_at world names (node ∷ nodes) = names_at world (fold (insert_key (slice_cmp nat_cmp)) names (keys_of (held_at_node world node))) nodes
 
 -- the mailboxes of all nodes, in byte order of names, and each in the order of its nodes
 unfoldable pub home_rows : World → List HomeRow

@@ -155,13 +155,13 @@ unfoldable pub comes_to : World → List ℕ → List ℕ → LinkMsg → Option
 comes_to world from to message (Some front) = with_front world to (take_message front message)
 comes_to world from to message None = comes_to_home world from to message (home_at world to)
 
-abbrev pub taken : World → List ℕ → List ℕ → World
-taken world from to = record world { links = without_first world.links from to }
+abbrev pub taken_from_link : World → List ℕ → List ℕ → World
+taken_from_link world from to = record world { links = without_first world.links from to }
 
 -- the first message from one node to another is taken, if there is one
 unfoldable pub deliver_first : World → List ℕ → List ℕ → List LinkMsg → World
 deliver_first world from to [] = world
-deliver_first world from to (message ∷ rest) = comes_to (taken world from to) from to message (front_at world to)
+deliver_first world from to (message ∷ rest) = comes_to (taken_from_link world from to) from to message (front_at world to)
 
 abbrev pub delivers : World → List ℕ → List ℕ → World
 delivers world from to = deliver_first world from to (on_link world.links from to)

@@ -2,9 +2,9 @@
 ghost use Rattle.std.specs.Prelude.{◌≡◌, [], IfOk, OnOk};
 ghost use Rattle.schedule_text.specs.declared.event.Event.TheVariants.{Flow};
 ghost use Rattle.cluster_core.specs.Room.{HasRoom};
-ghost use Rattle.cluster_core.specs.Flow.{flow, round, turn_of};
+ghost use Rattle.cluster_core.specs.Flow.{flow, round, turn_of_link};
 
-use crate::happens::deliver;
+use crate::delivery::deliver;
 use crate::world::World;
 use link_queue::is_empty;
 use mur_base::{Copied, Items, Memory};
@@ -56,11 +56,11 @@ fn round(alloc: Global, world: &mut World, links: &[Link], left: &mut u64) -> Re
     Ok(())
 }
 
-#[tactic(auto, unfolding(crate::specs::Flow::turn_of, crate::specs::Flow::turn_by))]
+#[tactic(auto, unfolding(crate::specs::Flow::turn_of_link, crate::specs::Flow::turn_by))]
 fn turn(alloc: Global, world: &mut World, link: &Link, left: &mut u64) -> Result<(), Memory>
     requires { HasRoom world.old (Flow left.old) }
-    ensures world { OnOk result ((turn_of (record { world = world.old; made = []; left = left.old }) link.now).world ≡ world.new) }
-    ensures left { OnOk result ((turn_of (record { world = world.old; made = []; left = left.old }) link.now).left ≡ left.new) }
+    ensures world { OnOk result ((turn_of_link (record { world = world.old; made = []; left = left.old }) link.now).world ≡ world.new) }
+    ensures left { OnOk result ((turn_of_link (record { world = world.old; made = []; left = left.old }) link.now).left ≡ left.new) }
     ensures room { OnOk result (HasRoom world.new (Flow left.new)) }
 {
     if *left == 0 || is_empty(&world.links, &link.from, &link.to) {

@@ -7,7 +7,7 @@ ghost use Rattle.std.specs.Ordering.{nat_cmp};
 ghost use Rattle.std.specs.Cmp.Lexicographic.{slice_cmp};
 ghost use Rattle.std.specs.BTreeSet.{insert_key};
 ghost use Rattle.mur_base.specs.Map.{value_at};
-ghost use Rattle.cluster_core.specs.Shown.{held_at, home_row, row_if, rows_of, names_at, home_rows};
+ghost use Rattle.cluster_core.specs.Shown.{held_at_node, home_row, row_if, home_rows_of, names_at, home_rows};
 
 use crate::cluster::{HomeRow, HomeRows};
 use crate::world::World;
@@ -56,14 +56,14 @@ fn put_names(alloc: Global, home: &Backend, names: &mut MailNames) -> Result<(),
 }
 
 // Puts the rows of a mailbox at the end; for want of memory the rows are spent.
-#[tactic(auto, unfolding(crate::specs::Shown::rows_of))]
+#[tactic(auto, unfolding(crate::specs::Shown::home_rows_of))]
 fn put_rows(
     alloc: Global,
     world: &World,
     name: &MailName,
     rows: &mut HomeRows,
 ) -> Result<(), Memory>
-    ensures { OnOk result (rows.new ≡ rows.old ++ rows_of world.now name.now world.now.backends) }
+    ensures { OnOk result (rows.new ≡ rows.old ++ home_rows_of world.now name.now world.now.backends) }
 {
     for node in world.backends.as_slice() {
         put_row(alloc, world, name, node, rows)?;
@@ -78,7 +78,7 @@ fn put_row(
     node: &NodeName,
     rows: &mut HomeRows,
 ) -> Result<(), Memory>
-    ensures { OnOk result (rows.new ≡ rows.old ++ row_if name.now node.now (value_at (slice_cmp nat_cmp) (held_at world.now node.now) name.now)) }
+    ensures { OnOk result (rows.new ≡ rows.old ++ row_if name.now node.now (value_at (slice_cmp nat_cmp) (held_at_node world.now node.now) name.now)) }
 {
     if let Some(held) = held_at(world, node, name) {
         rows.push(home_row(alloc, name, node, held)?)?;
@@ -101,7 +101,7 @@ fn home_row(alloc: Global, name: &MailName, node: &NodeName, held: &Held) -> Res
 
 // What a node has of a name.
 fn held_at<'a>(world: &'a World, node: &NodeName, name: &MailName) -> Option<&'a Held>
-    ensures { option_copied result ≡ value_at (slice_cmp nat_cmp) (held_at world.now node.now) name.now }
+    ensures { option_copied result ≡ value_at (slice_cmp nat_cmp) (held_at_node world.now node.now) name.now }
 {
     world.homes.get(node)?.held.get(name)
 }

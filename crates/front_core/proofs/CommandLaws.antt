@@ -14,22 +14,22 @@ use Rattle.front_core.specs.declared.connection.Stage.TheVariants.{Reading, Aske
 use Rattle.front_core.specs.Answered.{answer_comes, answer_by, need_behind, reading_again}
 use Rattle.front_core.specs.Front.{is_asked}
 use Rattle.front_core.specs.Room.{commands_of}
-use Rattle.front_core.specs.Taken.{answers, answers_last, need_in, request_in, input_in, comes_at, input_comes, inputs_come}
-use Rattle.session_core.specs.declared.asking.Awaited.{Awaited}
-use Rattle.session_core.specs.declared.need.Need.{Need}
-use Rattle.session_core.specs.declared.need.Need.TheVariants.{Reply, Leave, Home}
+use Rattle.front_core.specs.Taken.{answers_now, answers_last, turned_by_need, request_in, input_in, comes_at, input_comes, inputs_come}
+use Rattle.mur_model.specs.declared.need.Awaited.{Awaited}
+use Rattle.mur_model.specs.declared.need.Need.{Need}
+use Rattle.mur_model.specs.declared.need.Need.TheVariants.{Reply, Leave, Home}
 use Rattle.session_core.specs.Begin.{begin}
 use Rattle.session_core.specs.Finish.{finish}
 
 module _ (setting : Setting) (home : List ℕ) (conn : ℕ) where
-  need_counts : (c : Connection) (tag : Tag) (need : Need) → commands_of (need_in home conn c tag need).connection ≤ commands_of c + 1
-  unfolding need_in answers answers_last
+  need_counts : (c : Connection) (tag : Tag) (need : Need) → commands_of (turned_by_need home conn c tag need).connection ≤ commands_of c + 1
+  unfolding turned_by_need answers_now answers_last
   need_counts c tag (Reply reply) = omega arith
   need_counts c tag (Leave reply) = omega arith
   need_counts c tag (Home name asking) = omega arith
 
   request_counts : (c : Connection) (request : Request) → commands_of (request_in setting home conn c request).connection ≤ commands_of c + 1
-  unfolding request_in answers
+  unfolding request_in answers_now
   request_counts c (a_command tag it) =
       let behind = begin setting c.session it in
       need_counts (record c { session = behind.session }) tag behind.need

@@ -17,8 +17,8 @@ use Rattle.front_core.specs.declared.connection.Stage.TheVariants.{Reading, Aske
 use Rattle.front_core.specs.declared.front.Front.{Front}
 use Rattle.front_core.specs.Answered.{answer_comes}
 use Rattle.front_core.specs.Ended.{released, released_at}
-use Rattle.front_core.specs.Front.{connection_at, new_connection, connect, connect_at, bytes_in, bytes_at, bytes_by, having_read}
-use Rattle.front_core.specs.Front.{hang, hang_at, hung_up, deliver, answer_at}
+use Rattle.front_core.specs.Front.{connection_at, new_connection, connect, connect_at, bytes_in, front_bytes_at, bytes_by, having_read}
+use Rattle.front_core.specs.Front.{hang, front_hang_at, hung_up, deliver, answer_at}
 use Rattle.front_core.specs.Room.{commands_of, HasCommands, HasRoomAt, HasRoomFor}
 use Rattle.front_core.specs.Taken.{inputs_come}
 use Rattle.front_core.proofs.ReadingLaws.{inputs_of_more-length}
@@ -82,8 +82,8 @@ bytes_by_counts front conn bytes most connection (Asked tag awaited) there has =
 bytes_by_counts front conn bytes most connection Ended there has = more_counts front most (length bytes) has
 
 bytes_at_counts : (front : Front) (conn : ℕ) (bytes : List ℕ) (most : ℕ) (found : Option Connection) → connection_at front conn ≡ found
-    → HasCommands front most → HasCommands (bytes_at front conn bytes found).front (most + length bytes)
-unfolding bytes_at
+    → HasCommands front most → HasCommands (front_bytes_at front conn bytes found).front (most + length bytes)
+unfolding front_bytes_at
 bytes_at_counts front conn bytes most None there has = more_counts front most (length bytes) has
 bytes_at_counts front conn bytes most (Some connection) there has = bytes_by_counts front conn bytes most connection connection.stage there has
 
@@ -123,8 +123,8 @@ deliver_counts front (Line line) most has = has
 deliver_counts front (Ask ask) most has = has
 
 hang_at_counts : (front : Front) (conn most : ℕ) (found : Option Connection) → connection_at front conn ≡ found
-    → HasCommands front most → HasCommands (hang_at front conn found) most
-unfolding hang_at
+    → HasCommands front most → HasCommands (front_hang_at front conn found) most
+unfolding front_hang_at
 hang_at_counts front conn most None there has = has
 hang_at_counts front conn most (Some connection) there has = unchanged_counts front conn connection (hung_up connection) most there has (omega arith)
 

@@ -6,14 +6,14 @@ use Rattle.imap_types.specs.declared.command.Tag.{Tag}
 use Rattle.imap_types.specs.declared.request.Request.{Request}
 use Rattle.imap_types.specs.declared.request.Request.TheVariants.{Command as a_command, Unknown as unknown, TooBig as too_big}
 use Rattle.mur_model.specs.declared.setting.Setting.{Setting}
-use Rattle.session_core.specs.declared.need.Need.{Need}
-use Rattle.session_core.specs.declared.need.Need.TheVariants.{Reply, Leave, Home}
+use Rattle.mur_model.specs.declared.need.Need.{Need}
+use Rattle.mur_model.specs.declared.need.Need.TheVariants.{Reply, Leave, Home}
 use Rattle.session_core.specs.Begin.{begin}
 use Rattle.front_core.specs.declared.connection.Connection.{Connection}
 use Rattle.front_core.specs.declared.connection.Stage.{Stage}
 use Rattle.front_core.specs.declared.connection.Stage.TheVariants.{Reading, Asked, Ended}
 use Rattle.front_core.specs.Reading.{Reading as Read}
-use Rattle.front_core.specs.Taken.{Turned, answers, answers_last, need_in, request_in, input_in, comes_at, input_comes}
+use Rattle.front_core.specs.Taken.{Turned, answers_now, answers_last, turned_by_need, request_in, input_in, comes_at, input_comes}
 
 -- with another reader, and other inputs that wait
 abbrev pub holding : Read → List Input → Turned → Turned
@@ -25,8 +25,8 @@ reading reader turned = record turned { connection = record turned.connection { 
 module _ (setting : Setting) (home : List ℕ) (conn : ℕ) (reader : Read) where
   module _ (waiting : List Input) where
     need_apart : (c : Connection) (tag : Tag) (need : Need)
-        → need_in home conn (record c { reader = reader; waiting = waiting }) tag need ≡ holding reader waiting (need_in home conn c tag need)
-    unfolding need_in answers answers_last
+        → turned_by_need home conn (record c { reader = reader; waiting = waiting }) tag need ≡ holding reader waiting (turned_by_need home conn c tag need)
+    unfolding turned_by_need answers_now answers_last
     need_apart c tag (Reply reply) = refl
     need_apart c tag (Leave reply) = refl
     need_apart c tag (Home name asking) = refl
@@ -34,7 +34,7 @@ module _ (setting : Setting) (home : List ℕ) (conn : ℕ) (reader : Read) wher
     request_apart : (c : Connection) (request : Request)
         → request_in setting home conn (record c { reader = reader; waiting = waiting }) request
         ≡ holding reader waiting (request_in setting home conn c request)
-    unfolding request_in answers
+    unfolding request_in answers_now
     request_apart c (a_command tag it) =
         let behind = begin setting c.session it in
         need_apart (record c { session = behind.session }) tag behind.need

@@ -10,7 +10,7 @@ use Rattle.front_core.specs.declared.connection.Stage.TheVariants.{Reading, Aske
 use Rattle.front_core.specs.Reading.{Reading as Read}
 use Rattle.front_core.specs.Taken.{Turned, input_in, comes_at, input_comes, inputs_come, behind_outs}
 use Rattle.front_core.proofs.FrameLaws.{reading, comes_apart}
-use Rattle.session_core.specs.declared.asking.Awaited.{Awaited}
+use Rattle.mur_model.specs.declared.need.Awaited.{Awaited}
 
 pub behind_behind : (first second : List Out) (turned : Turned) → behind_outs first (behind_outs second turned) ≡ behind_outs (first ++ second) turned
 behind_behind first second turned = ap (λ outs. record turned { outs = outs }) (sym (append_assoc first second turned.outs))

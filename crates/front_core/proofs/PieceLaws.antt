@@ -11,7 +11,7 @@ use Rattle.front_core.specs.Ended.{ended, released_at, with_released}
 use Rattle.front_core.specs.Front.{having_read}
 use Rattle.front_core.specs.Reading.{Reading as Read, inputs_of_more, read_more}
 use Rattle.front_core.specs.Room.{commands_of}
-use Rattle.front_core.specs.Stages.{has_ended}
+use Rattle.front_core.specs.Stages.{stage_has_ended}
 use Rattle.front_core.specs.Taken.{Turned, inputs_come, behind_outs}
 use Rattle.front_core.proofs.CommandLaws.{inputs_count}
 use Rattle.front_core.proofs.ReadingLaws.{ended_inputs, ended_reader, nothing_more, read_nothing}
@@ -56,7 +56,7 @@ module _ (setting : Setting) (home : List ℕ) (conn : ℕ) where
   reader_over outs c rest h = nothing_comes outs c rest (ended_inputs setting c.reader rest h) (sym (ended_reader setting c.reader rest h))
 
   -- the connection has ended, and what is left of the piece brings nothing
-  pub ended_over : (outs : List Out) (c : Connection) (rest : List ℕ) → has_ended c.stage ≡ true
+  pub ended_over : (outs : List Out) (c : Connection) (rest : List ℕ) → stage_has_ended c.stage ≡ true
       → with_released (record { connection = c; outs = outs }) ≡ with_released (rest_comes outs c rest)
   unfolding released_at
   ended_over outs c rest h =

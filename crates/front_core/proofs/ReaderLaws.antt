@@ -2,13 +2,13 @@
 use Rattle.std.proofs.Common.{◌≡◌, ℕ, List, ◌++◌, take, drop, Option, None, Some, refl, sym, ◌∙◌}
 use Rattle.std.specs.Option.{option_to_list, IsSome, IsNone, IfSome}
 use Rattle.imap_wire.specs.declared.frame.Frame.{Frame}
-use Rattle.imap_wire.specs.Feeding.{Gives}
+use Rattle.imap_wire.specs.Feeding.{GivesFrame}
 use Rattle.imap_wire.specs.Frames.{begun}
 use Rattle.imap_wire.specs.More.{frames_of_more, begun_by_more}
 use Rattle.imap_wire.proofs.MoreLaws.{more_fed, begun_fed, none_ended, ended_stays}
 
 pub next_frames : (old new : Option (List ℕ)) (piece : List ℕ) (frame : Option Frame) (taken : ℕ)
-    → (IsSome old → (past : List ℕ) → begun past ≡ old → Gives past piece frame taken)
+    → (IsSome old → (past : List ℕ) → begun past ≡ old → GivesFrame past piece frame taken)
     → ((past : List ℕ) → begun past ≡ old → begun (past ++ take taken piece) ≡ new)
     → IfSome old (λ bytes. begun bytes ≡ old) → (IsNone old → (frame ≡ None) × IsNone new)
     → frames_of_more old piece ≡ option_to_list frame ++ frames_of_more new (drop taken piece)

@@ -8,7 +8,7 @@ use Rattle.front_core.specs.declared.connection.Connection.{Connection}
 use Rattle.front_core.specs.declared.connection.Stage.{Stage}
 use Rattle.front_core.specs.declared.connection.Stage.TheVariants.{Reading, Asked, Ended}
 use Rattle.front_core.specs.Room.{commands_of}
-use Rattle.front_core.specs.Stages.{is_reading, has_ended}
+use Rattle.front_core.specs.Stages.{is_reading, stage_has_ended}
 use Rattle.front_core.specs.Taken.{Turned, input_in, inputs_come, behind_outs}
 use Rattle.front_core.proofs.CommandLaws.{input_in_counts}
 use Rattle.front_core.proofs.FrameLaws.{input_apart, input_keeps, waiting_kept}
@@ -20,8 +20,8 @@ stage_read Reading h = refl
 stage_read (Asked tag awaited) h = cc
 stage_read Ended h = cc
 
-pub stage_ended : (stage : Stage) → has_ended stage ≡ true → stage ≡ Ended
-unfolding has_ended
+pub stage_ended : (stage : Stage) → stage_has_ended stage ≡ true → stage ≡ Ended
+unfolding stage_has_ended
 stage_ended Reading h = cc
 stage_ended (Asked tag awaited) h = cc
 stage_ended Ended h = refl
@@ -51,16 +51,16 @@ module _ (setting : Setting) (home : List ℕ) (conn : ℕ) where
       ∙ ap (λ all. record { connection = record c { waiting = [] }; outs = all }) (append-nil outs)
       ∙ ap (λ w. record { connection = record c { waiting = w }; outs = outs }) (sym over))
 
-  pub waiting_dropped : (outs : List Out) (c : Connection) (left : List Input) → has_ended c.stage ≡ true → left ≡ []
+  pub waiting_dropped : (outs : List Out) (c : Connection) (left : List Input) → stage_has_ended c.stage ≡ true → left ≡ []
       → record { connection = record c { waiting = left }; outs = outs } ≡ waiting_comes outs c
   waiting_dropped outs c left ended over = sym (
       ap (behind_outs outs) (ended_drops setting home conn (record c { waiting = [] }) c.waiting (stage_ended c.stage ended))
       ∙ ap (λ all. record { connection = record c { waiting = [] }; outs = all }) (append-nil outs)
       ∙ ap (λ w. record { connection = record c { waiting = w }; outs = outs }) (sym over))
 
-  stays_by : (outs : List Out) (c : Connection) (stage : Stage) → c.stage ≡ stage → is_reading stage ≡ false → has_ended stage ≡ false
+  stays_by : (outs : List Out) (c : Connection) (stage : Stage) → c.stage ≡ stage → is_reading stage ≡ false → stage_has_ended stage ≡ false
       → record { connection = c; outs = outs } ≡ waiting_comes outs c
-  unfolding is_reading has_ended
+  unfolding is_reading stage_has_ended
   stays_by outs c Reading is reads ends = cc
   stays_by outs c Ended is reads ends = cc
   stays_by outs c (Asked tag awaited) is reads ends = sym (
@@ -68,7 +68,7 @@ module _ (setting : Setting) (home : List ℕ) (conn : ℕ) where
       ∙ ap (λ all. record { connection = c; outs = all }) (append-nil outs))
 
   -- the inputs stay where they are behind a command that waits
-  pub waiting_stays : (outs : List Out) (c : Connection) → is_reading c.stage ≡ false → has_ended c.stage ≡ false
+  pub waiting_stays : (outs : List Out) (c : Connection) → is_reading c.stage ≡ false → stage_has_ended c.stage ≡ false
       → record { connection = c; outs = outs } ≡ waiting_comes outs c
   waiting_stays outs c reads ends = stays_by outs c c.stage refl reads ends
 

@@ -8,8 +8,8 @@ use Rattle.mur_model.specs.declared.setting.Setting.{Setting}
 use Rattle.front_core.specs.declared.connection.Connection.{Connection}
 use Rattle.front_core.specs.declared.connection.Stage.{Stage}
 use Rattle.front_core.specs.declared.connection.Stage.TheVariants.{Reading, Asked, Ended}
-use Rattle.session_core.specs.declared.need.Need.{Need}
-use Rattle.session_core.specs.declared.need.Need.TheVariants as needs
+use Rattle.mur_model.specs.declared.need.Need.{Need}
+use Rattle.mur_model.specs.declared.need.Need.TheVariants as needs
 use Rattle.session_core.specs.Finish.{Finished, finish}
 use Rattle.front_core.specs.Taken.{Turned, asks, inputs_come, behind_outs}
 

@@ -67,23 +67,23 @@ bytes_by front conn bytes connection Reading = with_turned front conn
 bytes_by front conn bytes connection (Asked tag awaited) = with_turned front conn
     (inputs_come front.setting front.home conn (having_read front.setting connection bytes) (inputs_of_more front.setting connection.reader bytes))
 
-unfoldable pub bytes_at : Front → ℕ → List ℕ → Option Connection → Stepped
-bytes_at front conn bytes None = still front
-bytes_at front conn bytes (Some connection) = bytes_by front conn bytes connection connection.stage
+unfoldable pub front_bytes_at : Front → ℕ → List ℕ → Option Connection → Stepped
+front_bytes_at front conn bytes None = still front
+front_bytes_at front conn bytes (Some connection) = bytes_by front conn bytes connection connection.stage
 
 unfoldable pub bytes_in : Front → ℕ → List ℕ → Stepped
-bytes_in front conn bytes = bytes_at front conn bytes (connection_at front conn)
+bytes_in front conn bytes = front_bytes_at front conn bytes (connection_at front conn)
 
 -- the client of a connection closes it
 abbrev pub hung_up : Connection → Connection
 hung_up connection = ended connection.answered
 
-unfoldable pub hang_at : Front → ℕ → Option Connection → Front
-hang_at front conn None = front
-hang_at front conn (Some connection) = record front { connections = with_value nat_cmp front.connections conn (hung_up connection) }
+unfoldable pub front_hang_at : Front → ℕ → Option Connection → Front
+front_hang_at front conn None = front
+front_hang_at front conn (Some connection) = record front { connections = with_value nat_cmp front.connections conn (hung_up connection) }
 
 unfoldable pub hang : Front → ℕ → Front
-hang front conn = hang_at front conn (connection_at front conn)
+hang front conn = front_hang_at front conn (connection_at front conn)
 
 unfoldable pub answer_at : Front → BackAnswer → Option Connection → Stepped
 answer_at front answer None = still front

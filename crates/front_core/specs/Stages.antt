@@ -7,6 +7,6 @@ unfoldable pub is_reading : Stage → Bool
 is_reading Reading = true
 is_reading stage = false
 
-unfoldable pub has_ended : Stage → Bool
-has_ended Ended = true
-has_ended stage = false
+unfoldable pub stage_has_ended : Stage → Bool
+stage_has_ended Ended = true
+stage_has_ended stage = false

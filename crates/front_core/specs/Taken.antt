@@ -8,7 +8,7 @@ use Rattle.imap_reply.specs.ReplyText.{reply_text}
 use Rattle.imap_talk.specs.declared.inputs.Input.{Input}
 use Rattle.imap_talk.specs.declared.inputs.Input.TheVariants.{GoesOn, Asks, Faults}
 use Rattle.link_msg.specs.declared.ask.FrontAsk.{FrontAsk}
-use Rattle.link_msg.specs.declared.op.Op.{Op}
+use Rattle.imap_types.specs.declared.op.Op.{Op}
 use Rattle.link_msg.specs.declared.message.LinkMsg.TheVariants.{Ask}
 use Rattle.link_msg.specs.declared.counts.Counts.TheVariants.{Always}
 use Rattle.link_msg.specs.declared.out.Out.{Out}
@@ -26,9 +26,9 @@ use Rattle.imap_types.specs.Reply.{reply_of, refused}
 use Rattle.front_core.specs.declared.connection.Connection.{Connection}
 use Rattle.front_core.specs.declared.connection.Stage.{Stage}
 use Rattle.front_core.specs.declared.connection.Stage.TheVariants.{Reading, Asked, Ended}
-use Rattle.session_core.specs.declared.asking.Asking.{Asking}
-use Rattle.session_core.specs.declared.need.Need.{Need}
-use Rattle.session_core.specs.declared.need.Need.TheVariants as needs
+use Rattle.mur_model.specs.declared.need.Asking.{Asking}
+use Rattle.mur_model.specs.declared.need.Need.{Need}
+use Rattle.mur_model.specs.declared.need.Need.TheVariants as needs
 use Rattle.session_core.specs.Begin.{begin, user_of}
 use Rattle.session_core.specs.Need.{Behind}
 
@@ -38,8 +38,8 @@ pub record Turned : Type 0 where
   pub outs : List Out
 
 -- a command that is answered, and counts as carried out in this step
-unfoldable pub answers : ℕ → Connection → Sess → Tag → Reply → Turned
-answers conn connection session tag reply = record {
+unfoldable pub answers_now : ℕ → Connection → Sess → Tag → Reply → Turned
+answers_now conn connection session tag reply = record {
   connection = record connection { session = session; answered = connection.answered + 1 };
   outs = Client conn (reply_text tag reply) ∷ Mark (record { conn = conn; command = connection.answered + 1 }) Always ∷ [];
 }
@@ -72,18 +72,18 @@ asks home conn connection tag name asking = record {
 }
 
 -- by what the session needs behind a command
-unfoldable pub need_in : List ℕ → ℕ → Connection → Tag → Need → Turned
-need_in home conn connection tag (needs.Reply reply) = answers conn connection connection.session tag reply
-need_in home conn connection tag (needs.Leave reply) = answers_last conn connection tag reply
-need_in home conn connection tag (needs.Home name asking) = asks home conn connection tag name asking
+unfoldable pub turned_by_need : List ℕ → ℕ → Connection → Tag → Need → Turned
+turned_by_need home conn connection tag (needs.Reply reply) = answers_now conn connection connection.session tag reply
+turned_by_need home conn connection tag (needs.Leave reply) = answers_last conn connection tag reply
+turned_by_need home conn connection tag (needs.Home name asking) = asks home conn connection tag name asking
 
 abbrev pub begun_in : List ℕ → ℕ → Connection → Tag → Behind → Turned
-begun_in home conn connection tag behind = need_in home conn (record connection { session = behind.session }) tag behind.need
+begun_in home conn connection tag behind = turned_by_need home conn (record connection { session = behind.session }) tag behind.need
 
 unfoldable pub request_in : Setting → List ℕ → ℕ → Connection → Request → Turned
 request_in setting home conn connection (a_command tag it) = begun_in home conn connection tag (begin setting connection.session it)
-request_in setting home conn connection (unknown tag) = answers conn connection connection.session tag (reply_of (bad_reply Syntax))
-request_in setting home conn connection (too_big tag) = answers conn connection connection.session tag (refused Limit)
+request_in setting home conn connection (unknown tag) = answers_now conn connection connection.session tag (reply_of (bad_reply Syntax))
+request_in setting home conn connection (too_big tag) = answers_now conn connection connection.session tag (refused Limit)
 
 -- an input of a connection that is reading: a fault ends it, with a BYE (RFC 9051, 7.1.5)
 unfoldable pub input_in : Setting → List ℕ → ℕ → Connection → Input → Turned

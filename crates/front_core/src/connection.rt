@@ -1,7 +1,7 @@
 // A connection of a mail client at a frontend.
 ghost use Rattle.std.specs.Prelude.{◌≡◌};
 ghost use Rattle.front_core.specs.Ended.{ended, released};
-ghost use Rattle.front_core.specs.Stages.{is_reading, has_ended};
+ghost use Rattle.front_core.specs.Stages.{is_reading, stage_has_ended};
 
 use crate::reader::Reader;
 use imap_talk::Input;
@@ -43,9 +43,9 @@ impl Connection {
     }
 
     /// Whether nothing more is taken or given.
-    #[tactic(auto, unfolding(crate::specs::Stages::has_ended))]
+    #[tactic(auto, unfolding(crate::specs::Stages::stage_has_ended))]
     pub fn has_ended(&self) -> bool
-        ensures { result ≡ has_ended self.now.stage }
+        ensures { result ≡ stage_has_ended self.now.stage }
     {
         matches!(self.stage, Stage::Ended)
     }

@@ -54,7 +54,7 @@ impl Front {
     }
 
     /// Bytes of a client come. For want of memory the frontend is spent.
-    #[tactic(auto, unfolding(crate::specs::Front::bytes_in, crate::specs::Front::bytes_at, crate::specs::Front::bytes_by))]
+    #[tactic(auto, unfolding(crate::specs::Front::bytes_in, crate::specs::Front::front_bytes_at, crate::specs::Front::bytes_by))]
     pub fn bytes_in(&mut self, alloc: Global, conn: u64, piece: &[u8]) -> Result<Outs, Memory>
         requires room { HasRoomAt self.old conn (length piece.now) }
         ensures { IfOk result (λ outs. record { front = self.new; outs = outs } ≡ bytes_in self.old conn piece.now) }
@@ -81,7 +81,7 @@ impl Front {
     }
 
     /// The client of a connection closes it. It takes no memory, and what the connection held is let go.
-    #[tactic(auto, unfolding(crate::specs::Front::hang, crate::specs::Front::hang_at))]
+    #[tactic(auto, unfolding(crate::specs::Front::hang, crate::specs::Front::front_hang_at))]
     pub fn hang(&mut self, alloc: Global, conn: u64)
         ensures { self.new ≡ hang self.old conn }
     {

@@ -9,7 +9,7 @@ ghost use Rattle.imap_reply.specs.Continuation.{continuation_line};
 ghost use Rattle.imap_reply.specs.ReplyText.{reply_text};
 ghost use Rattle.imap_types.specs.Reply.{reply_of};
 ghost use Rattle.session_core.specs.Begin.{MayNeed};
-ghost use Rattle.front_core.specs.Taken.{input_comes, input_in, request_in, need_in, answers, answers_last, behind_outs};
+ghost use Rattle.front_core.specs.Taken.{input_comes, input_in, request_in, turned_by_need, answers_now, answers_last, behind_outs};
 
 use crate::asks::asks;
 use crate::connection::{Connection, Stage};
@@ -146,7 +146,7 @@ fn request_in(
 }
 
 /// Does what the session needs behind a command.
-#[tactic(auto, unfolding(crate::specs::Taken::need_in, session_core::specs::Begin::MayNeed))]
+#[tactic(auto, unfolding(crate::specs::Taken::turned_by_need, session_core::specs::Begin::MayNeed))]
 fn need_in(
     alloc: Global,
     home: &NodeName,
@@ -159,7 +159,7 @@ fn need_in(
     requires room { connection.old.answered + 1 < 2 ^ 64 }
     requires fits { MayNeed connection.old.session need }
     ensures { OnOk result (record { connection = connection.new; outs = outs.new }
-        ≡ behind_outs outs.old (need_in home.now conn connection.old tag need)) }
+        ≡ behind_outs outs.old (turned_by_need home.now conn connection.old tag need)) }
 {
     match need {
         Need::Reply(reply) => answers(alloc, conn, connection, &tag, reply, outs),
@@ -169,7 +169,7 @@ fn need_in(
 }
 
 /// The last answer of a connection.
-#[tactic(auto, using(std::proofs::lemmas::Grind::common_steps), unfolding(crate::specs::Taken::answers_last, crate::specs::Taken::answers))]
+#[tactic(auto, using(std::proofs::lemmas::Grind::common_steps), unfolding(crate::specs::Taken::answers_last, crate::specs::Taken::answers_now))]
 fn answers_last(
     alloc: Global,
     conn: u64,
@@ -197,7 +197,7 @@ fn reply_of(alloc: Global, verdict: Verdict) -> Reply
 }
 
 /// A command that is answered, and counts as carried out in this step.
-#[tactic(auto, using(std::proofs::lemmas::Grind::common_steps), unfolding(crate::specs::Taken::answers))]
+#[tactic(auto, using(std::proofs::lemmas::Grind::common_steps), unfolding(crate::specs::Taken::answers_now))]
 fn answers(
     alloc: Global,
     conn: u64,
@@ -208,7 +208,7 @@ fn answers(
 ) -> Result<(), Memory>
     requires room { connection.old.answered + 1 < 2 ^ 64 }
     ensures { OnOk result (record { connection = connection.new; outs = outs.new }
-        ≡ behind_outs outs.old (answers conn connection.old connection.old.session tag.now reply)) }
+        ≡ behind_outs outs.old (answers_now conn connection.old connection.old.session tag.now reply)) }
 {
     connection.answered += 1;
     let id = AskId {

@@ -2,7 +2,7 @@
 use Rattle.std.proofs.Common.{◌≡◌, ℕ, suc, List, [], ◌∷◌, ◌++◌, length, Result, Ok, Err, Bool, true, false, cond, ◌⊎◌, inl, inr}
 use Rattle.std.proofs.Common.{⊎_elim, refl, sym, ap, ◌∙◌}
 use Rattle.grammar.specs.Part.{Part, ◌>>=◌, Joins, choose, starts, one_of, one_at, taken}
-use Rattle.grammar.specs.Exact.{Stops, Taken, IsViable, Follows, Good, StartsWith, StartsWithout}
+use Rattle.grammar.specs.Exact.{Stops, Taken, IsViable, FirstIsIn, Good, StartsWith, StartsWithout}
 use Rattle.grammar.proofs.Reading.{ok_parts, viable, takes_some, good_from}
 
 -- texts that begin alike up to one byte begin with the same byte
@@ -18,7 +18,7 @@ module _ {V A : Type 0} {after : ℕ → Bool} (test : ℕ → Bool) (p q : Part
   choice_sound true bytes rest a e = let s = g.sound bytes rest a e in (s.0, s.1, inl s.2)
   choice_sound false bytes rest a e = let s = h.sound bytes rest a e in (s.0, s.1, inr s.2)
 
-  module _ (next : A → List ℕ → Result V ℕ) (v : (a : A) → IsViable (next a)) (f : (a : A) → Follows after (next a)) where
+  module _ (next : A → List ℕ → Result V ℕ) (v : (a : A) → IsViable (next a)) (f : (a : A) → FirstIsIn after (next a)) where
     abbrev Spelled : List ℕ → V → Type 0
     Spelled = Joins (λ s a. p.lang s a ⊎ q.lang s a) (λ a. Taken (next a))
 

@@ -6,7 +6,7 @@ use Rattle.std.proofs.lemmas.List.{take-append-drop}
 use Rattle.std.proofs.lemmas.Slice.Eq.{bytes_eq-Decides}
 use Rattle.std.proofs.Math.Seq.{take-append_seam, drop-append_seam}
 use Rattle.grammar.specs.Part.{Part, ◌>>=◌, Joins}
-use Rattle.grammar.specs.Exact.{Stops, Exact, Taken, IsViable, Follows, Good, none, at_end, whole_at}
+use Rattle.grammar.specs.Exact.{Stops, Exact, Taken, IsViable, FirstIsIn, Good, none, at_end, whole_at}
 use Rattle.grammar.specs.Ends.{cut_by, cut_before, all_before, either_end, beside}
 use Rattle.grammar.proofs.Reading.{Went, went, good_from, takes_some, ok_parts}
 use Rattle.grammar.proofs.RepetitionLaw.{no_byte}
@@ -27,7 +27,7 @@ module _ {A : Type 0} (p : Part A) (last : (bytes rest : List ℕ) (a : A) → p
       by_went : Went (p.at bytes) at_end a → p.at bytes ≡ Ok (a, [])
       by_went s = let end = end_is s.value a s.rest s.gave in s.was ∙ ap (λ rest. Ok (s.value, rest)) end.0 ∙ ap (λ a. Ok (a, [])) end.1
 
-  module _ {V : Type 0} (next : A → List ℕ → Result V ℕ) (v : (a : A) → IsViable (next a)) (f : (a : A) → Follows none (next a)) where
+  module _ {V : Type 0} (next : A → List ℕ → Result V ℕ) (v : (a : A) → IsViable (next a)) (f : (a : A) → FirstIsIn none (next a)) where
     -- what goes on takes the end of the bytes
     takes_end : (a : A) → (w : V) × (next a [] ≡ Ok w)
     takes_end a = go (takes_some (next a) (v a))

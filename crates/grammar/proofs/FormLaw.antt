@@ -3,7 +3,7 @@ use Rattle.std.proofs.Common.{◌≡◌, ℕ, List, [], ◌∷◌, ◌++◌, Boo
 use Rattle.std.proofs.Common.{eqb-true, None, Some}
 use Rattle.grammar.specs.Part.{Part, ◌then◌, give, map, byte, choose}
 use Rattle.grammar.specs.Exact.{Begins, StartsWith}
-use Rattle.grammar.specs.Forms.{Form, Law, nothing, ◌and◌, behind, followed, ◌spaced◌, made, choice, constant, maybe, maybe_text, given_text, closed, dispatch}
+use Rattle.grammar.specs.Forms.{Form, Law, nothing, ◌and◌, preceded, followed, ◌spaced◌, made, choice, constant, maybe, maybe_text, given_text, closed, dispatch}
 use Rattle.grammar.proofs.SequenceLaw.{good_give, good_map, good_then}
 use Rattle.grammar.proofs.ChoiceLaw.{good_choose}
 use Rattle.grammar.proofs.RepetitionLaw.{no_byte}
@@ -52,7 +52,7 @@ law_and p q g h = record {
       (spell_map (λ b. (a, b)) q.part (q.text b) b (h.prints j.goes_on.front b j.goes_on.begins)));
 }
 
-pub law_behind : {A : Type 0} {middle after : ℕ → Bool} (c : ℕ) (p : Form A) → Law middle after p → Law (λ b. b == c) after (behind c p)
+pub law_behind : {A : Type 0} {middle after : ℕ → Bool} (c : ℕ) (p : Form A) → Law middle after p → Law (λ b. b == c) after (preceded c p)
 law_behind {after} c p g = record {
   good = λ V. good_behind c p.part (g.good V);
   begins = begins_from after (byte c then λ _. p.part) (starts_then (byte c) (λ _. p.part) (starts_byte c));
@@ -66,7 +66,7 @@ one_byte c wide is d h = ap wide (eqb-true d c h) ∙ is
 pub law_spaced : {A B : Type 0} {starts wide middle after : ℕ → Bool} (p : Form A) (q : Form B) → wide 32 ≡ true → Law starts wide p
     → Law middle after q → Law starts after (p spaced q)
 law_spaced {A} {B} {starts} {wide} p q is g h =
-    law_and p (behind 32 q) (law_weaker starts (λ b. b == 32) p (λ c e. e) (one_byte 32 wide is) g) (law_behind 32 q h)
+    law_and p (preceded 32 q) (law_weaker starts (λ b. b == 32) p (λ c e. e) (one_byte 32 wide is) g) (law_behind 32 q h)
 
 pub law_followed : {A : Type 0} {starts wide : ℕ → Bool} (after : ℕ → Bool) (c : ℕ) (p : Form A) → wide c ≡ true → Law starts wide p
     → Law starts after (followed p c)
@@ -127,11 +127,11 @@ apart_byte c other not_there d h = by_case (d == c) refl
 -- the one begins with a byte; each is printed as the choice prints it
 pub law_either : {A : Type 0} {middle other after : ℕ → Bool} (c : ℕ) (text : A → List ℕ) (p q : Form A) → other c ≡ false
     → ((bytes : List ℕ) (a : A) → p.part.lang bytes a → text a ≡ c ∷ p.text a) → ((bytes : List ℕ) (a : A) → q.part.lang bytes a → text a ≡ q.text a)
-    → Law middle after p → Law other after q → Law (λ b. (b == c) || other b) after (choice (λ b. b == c) text (behind c p) q)
+    → Law middle after p → Law other after q → Law (λ b. (b == c) || other b) after (choice (λ b. b == c) text (preceded c p) q)
 law_either {A} {middle} {other} c text p q not_there left right g h =
-    law_choice (λ b. b == c) text (behind c p) q (starts_then (byte c) (λ _. p.part) (starts_byte c)) (apart_byte c other not_there)
+    law_choice (λ b. b == c) text (preceded c p) q (starts_then (byte c) (λ _. p.part) (starts_byte c)) (apart_byte c other not_there)
     (law_behind c p g) h
-    (λ bytes a j. inl (subst (λ s. (behind c p).part.lang s a) (sym (left j.back a j.goes_on))
+    (λ bytes a j. inl (subst (λ s. (preceded c p).part.lang s a) (sym (left j.back a j.goes_on))
     (spell_byte c p.part (p.text a) a (g.prints j.back a j.goes_on))))
     (λ bytes a l. inr (subst (λ s. q.part.lang s a) (sym (right bytes a l)) (h.prints bytes a l)))
 

@@ -14,6 +14,7 @@ pub mod TableLaw
 pub mod RepetitionLaw
 pub mod TurnSteps
 pub mod TakenSteps
+pub mod QuotedRuns
 pub mod StartLaw
 pub mod ToolLaws
 pub mod NameSteps

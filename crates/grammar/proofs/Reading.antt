@@ -2,7 +2,7 @@
 use Rattle.std.proofs.Common.{◌≡◌, ℕ, List, [], ◌∷◌, ◌++◌, length, Result, Ok, Err, Bool, refl, sym, ap, ◌∙◌, length-append, ap₂}
 use Rattle.std.proofs.Common.{arith}
 use Rattle.grammar.specs.Part.{Part, ◌>>=◌, Joins}
-use Rattle.grammar.specs.Exact.{Stops, Exact, Taken, IsViable, Follows, Good}
+use Rattle.grammar.specs.Exact.{Stops, Exact, Taken, IsViable, FirstIsIn, Good}
 
 -- going on twice is going on with what goes on
 pub bind_assoc : {A B V : Type 0} (r : Result (A × List ℕ) ℕ) (f : A → List ℕ → Result (B × List ℕ) ℕ) (k : B → List ℕ → Result V ℕ) →
@@ -85,9 +85,9 @@ Joins-map to j = record { front = j.front; back = j.back; between = j.between; p
 -- a part is good where its reading is sound, takes each spelling that is followed, and is viable
 pub good_from : {V A : Type 0} {set : ℕ → Bool} (p : Part A) →
     ((bytes rest : List ℕ) (a : A) → p.at bytes ≡ Ok (a, rest) → (front : List ℕ) × (bytes ≡ front ++ rest) × p.lang front a) →
-    ((next : A → List ℕ → Result V ℕ) → ((a : A) → IsViable (next a)) → ((a : A) → Follows set (next a)) →
+    ((next : A → List ℕ → Result V ℕ) → ((a : A) → IsViable (next a)) → ((a : A) → FirstIsIn set (next a)) →
     (bytes : List ℕ) (w : V) → Joins p.lang (λ a. Taken (next a)) bytes w → p.at bytes >>= next ≡ Ok w) →
-    ((next : A → List ℕ → Result V ℕ) → ((a : A) → IsViable (next a)) → ((a : A) → Follows set (next a)) →
+    ((next : A → List ℕ → Result V ℕ) → ((a : A) → IsViable (next a)) → ((a : A) → FirstIsIn set (next a)) →
     IsViable (λ bytes. p.at bytes >>= next)) →
     Good V set p
 good_from {V} {A} p sound only stops = record {

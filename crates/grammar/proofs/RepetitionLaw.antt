@@ -2,7 +2,7 @@
 use Rattle.std.proofs.Common.{◌≡◌, ℕ, zero, suc, ◌+◌, ◌<◌, ◌≤◌, List, [], ◌∷◌, ◌++◌, length, Result, Ok, Err, Bool, true, false}
 use Rattle.std.proofs.Common.{cond, inl, inr, ⊎_elim, refl, sym, ap, ◌∙◌, length-append, arith}
 use Rattle.grammar.specs.Part.{Part, ◌>>=◌, Joins, give, map, one_of, ◌then◌, exactly, turns, repeat}
-use Rattle.grammar.specs.Exact.{Begins, StartsWith, Taken, IsViable, Follows, Good, any}
+use Rattle.grammar.specs.Exact.{Begins, StartsWith, Taken, IsViable, FirstIsIn, Good, any}
 use Rattle.grammar.proofs.Reading.{viable, good_from, same_split}
 use Rattle.grammar.proofs.SequenceLaw.{good_give, good_map, good_then}
 use Rattle.grammar.proofs.ChoiceLaw.{good_choose, good_one_of}
@@ -109,7 +109,7 @@ module _ {V S : Type 0} (test after between : ℕ → Bool) (turn : S → Part S
           let whole = ap length front.1 in
           again x.0 x.1 (omega arith) (omega arith)
 
-  module _ (next : S → List ℕ → Result V ℕ) (v : (a : S) → IsViable (next a)) (f : (a : S) → Follows after (next a)) (s : S) where
+  module _ (next : S → List ℕ → Result V ℕ) (v : (a : S) → IsViable (next a)) (f : (a : S) → FirstIsIn after (next a)) (s : S) where
     repeat_only : (bytes : List ℕ) (w : V) → Joins (repeat test turn s).lang (λ a. Taken (next a)) bytes w
         → (repeat test turn s).at bytes >>= next ≡ Ok w
     unfolding repeat

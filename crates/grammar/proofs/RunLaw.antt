@@ -4,7 +4,7 @@ use Rattle.std.proofs.Common.{refl, sym, ap, ◌∙◌, append-nil, append_assoc
 use Rattle.std.proofs.Common.{length-append, arith, leb, leb-true, le-leb}
 use Rattle.std.specs.List.{list_all}
 use Rattle.grammar.specs.Words.{Lawful, Apart, scan, halt}
-use Rattle.grammar.specs.Runs.{run, run_upto, some}
+use Rattle.grammar.specs.Runs.{run_of, run_upto, some}
 use Rattle.grammar.proofs.Conditions.{and_both, and_left, and_right, and_false}
 
 module _ (test : ℕ → Bool) where
@@ -29,8 +29,8 @@ module _ (test : ℕ → Bool) where
   -- a scan halts behind the bytes that pass
   run_halts_behind : (front bytes : List ℕ) (n : ℕ) → list_all test front ≡ true → n ≤ length bytes → list_all test (take n bytes) ≡ true
       → (n < length bytes → test (get_or bytes n 0) ≡ false)
-      → scan (run test) front bytes ≡ halt ((run test).whole (front ++ take n bytes)) (front ++ take n bytes) (drop n bytes)
-  run_halts_behind front [] zero all within passing ends = ap (λ s. halt ((run test).whole s) s []) (sym (append-nil front))
+      → scan (run_of test) front bytes ≡ halt ((run_of test).whole (front ++ take n bytes)) (front ++ take n bytes) (drop n bytes)
+  run_halts_behind front [] zero all within passing ends = ap (λ s. halt ((run_of test).whole s) s []) (sym (append-nil front))
   run_halts_behind front [] (suc n) all within passing ends = absurd (omega arith)
   run_halts_behind front (c ∷ bytes) zero all within passing ends =
       rw (all_push front c all, ends (omega arith), append-nil front) refl
@@ -38,18 +38,18 @@ module _ (test : ℕ → Bool) where
       let first : test c ≡ true = and_left _ _ passing in
       rw (all_push front c all, first)
       (run_halts_behind (front ++ c ∷ []) bytes n (all_push front c all ∙ first) (omega arith) (and_right _ _ passing) (λ h. ends (omega arith))
-      ∙ ap (λ s. halt ((run test).whole s) s (drop n bytes)) (append_assoc front (c ∷ []) (take n bytes)))
+      ∙ ap (λ s. halt ((run_of test).whole s) s (drop n bytes)) (append_assoc front (c ∷ []) (take n bytes)))
 
   pub run_halts : (bytes : List ℕ) (n : ℕ) → n ≤ length bytes → list_all test (take n bytes) ≡ true
       → (n < length bytes → test (get_or bytes n 0) ≡ false)
-      → scan (run test) [] bytes ≡ halt ((run test).whole (take n bytes)) (take n bytes) (drop n bytes)
+      → scan (run_of test) [] bytes ≡ halt ((run_of test).whole (take n bytes)) (take n bytes) (drop n bytes)
   run_halts bytes n within passing ends = run_halts_behind [] bytes n refl within passing ends
 
   pub some_push : (s : List ℕ) (c : ℕ) → some (s ++ c ∷ []) ≡ true
   some_push [] c = refl
   some_push (d ∷ s) c = refl
 
-  pub lawful_run : (example : ℕ) → test example ≡ true → Lawful (run test)
+  pub lawful_run : (example : ℕ) → test example ≡ true → Lawful (run_of test)
   lawful_run example passes = record {
     empty_begins = refl;
     front = all_front;
@@ -57,7 +57,7 @@ module _ (test : ℕ → Bool) where
     goes_on = λ s h. (example ∷ [], and_both _ _ (all_push s example h ∙ passes) (some_push s example));
   }
 
-  pub apart_run : (after : ℕ → Bool) → ((c : ℕ) → after c ≡ true → test c ≡ false) → Apart (run test) after
+  pub apart_run : (after : ℕ → Bool) → ((c : ℕ) → after c ≡ true → test c ≡ false) → Apart (run_of test) after
   apart_run after other s h c k = all_push s c (and_left _ _ h) ∙ other c k
 
   module _ (most : ℕ) where

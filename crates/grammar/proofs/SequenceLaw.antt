@@ -1,14 +1,14 @@
 -- Nothing, one part behind another, and the end of the bytes.
 use Rattle.std.proofs.Common.{◌≡◌, ℕ, List, [], ◌∷◌, ◌++◌, Result, Ok, Bool, true, refl, sym, ap, subst, ◌∙◌, append_assoc, append-nil}
 use Rattle.grammar.specs.Part.{Part, ◌>>=◌, Joins, give, ◌then◌, map}
-use Rattle.grammar.specs.Exact.{Exact, Taken, IsViable, Follows, Good, Begins, at_end, whole_at}
+use Rattle.grammar.specs.Exact.{Exact, Taken, IsViable, FirstIsIn, Good, Begins, at_end, whole_at}
 use Rattle.grammar.proofs.Reading.{bind_assoc, Went, went, ok_parts, viable, Exact-map, Joins-map, exact_from}
 
 module _ {V : Type 0} where
   -- what follows a part that begins with `starts` follows with `starts`
   pub follows_begins : {A : Type 0} {starts after : ℕ → Bool} (p : Part A) (next : A → List ℕ → Result V ℕ) →
       Begins starts after p → Good V after p →
-      ((a : A) → IsViable (next a)) → ((a : A) → Follows after (next a)) → Follows starts (λ bytes. p.at bytes >>= next)
+      ((a : A) → IsViable (next a)) → ((a : A) → FirstIsIn after (next a)) → FirstIsIn starts (λ bytes. p.at bytes >>= next)
   follows_begins {A} {starts} {after} p next b g v f c tail w h = go ((g.exact next v f).found (c ∷ tail) w h)
     where
       by_front : (front back : List ℕ) (a : A) → (let s : List ℕ = c ∷ tail in s ≡ front ++ back) → p.lang front a → next a back ≡ Ok w
@@ -103,7 +103,7 @@ module _ {V : Type 0} where
   }
 
   -- nothing follows but the end
-  pub follows_end : (set : ℕ → Bool) (a : V) → Follows set (at_end a)
+  pub follows_end : (set : ℕ → Bool) (a : V) → FirstIsIn set (at_end a)
   follows_end set a c tail v h = cc
 
   -- a part with nothing behind it: what is read is spelled, what is spelled is read, and a stop is at the longest prefix

@@ -4,7 +4,7 @@ use Rattle.std.proofs.Common.{append-nil, append_assoc}
 use Rattle.std.specs.Prelude.{⊤}
 use Rattle.grammar.specs.Part.{Part, map, byte, turns, repeat}
 use Rattle.grammar.specs.Exact.{Good, Begins, StartsWith}
-use Rattle.grammar.specs.Forms.{Form, Law, several, one_more, more_text, list_text}
+use Rattle.grammar.specs.Forms.{Form, Law, several, next_value, more_text, list_text}
 use Rattle.grammar.proofs.SequenceLaw.{good_map, good_then}
 use Rattle.grammar.proofs.RepetitionLaw.{good_repeat, begins_repeat}
 use Rattle.grammar.proofs.StartLaw.{starts_then, starts_byte}
@@ -23,7 +23,7 @@ module _ {A : Type 0} (c : ℕ) (p : Form A) where
   each_push (b ∷ list) a e l = (e.0, each_push list a e.1 l)
 
   abbrev turn : List A → Part (List A)
-  turn = one_more c p.part
+  turn = next_value c p.part
 
   abbrev is_it : ℕ → Bool
   is_it b = b == c
@@ -91,20 +91,20 @@ module _ {A : Type 0} (c : ℕ) (p : Form A) where
 
 module _ {A : Type 0} {starts between : ℕ → Bool} (after : ℕ → Bool) (c : ℕ) (p : Form A) (g : Law starts between p) (more : between c ≡ true)
     (apart : (d : ℕ) → after d ≡ true → (d == c) ≡ false) (ends : Within after between) where
-  starts_more : (so_far : List A) → StartsWith (λ b. b == c) (one_more c p.part so_far)
+  starts_more : (so_far : List A) → StartsWith (λ b. b == c) (next_value c p.part so_far)
   starts_more so_far = starts_then (byte c) (λ _. map (λ a. so_far ++ a ∷ []) p.part) (starts_byte c)
 
-  good_more : (V : Type 0) (so_far : List A) → Good V between (one_more c p.part so_far)
+  good_more : (V : Type 0) (so_far : List A) → Good V between (next_value c p.part so_far)
   good_more V so_far = good_behind c (map (λ a. so_far ++ a ∷ []) p.part) (good_map (λ a. so_far ++ a ∷ []) p.part (g.good V))
 
-  begins_more : (so_far : List A) → Begins between after (repeat (λ b. b == c) (one_more c p.part) so_far)
+  begins_more : (so_far : List A) → Begins between after (repeat (λ b. b == c) (next_value c p.part) so_far)
   begins_more so_far =
-      begins_repeat {V = ℕ} (λ b. b == c) after between (one_more c p.part) (good_more ℕ) starts_more apart (one_byte c between more) ends so_far
+      begins_repeat {V = ℕ} (λ b. b == c) after between (next_value c p.part) (good_more ℕ) starts_more apart (one_byte c between more) ends so_far
 
   pub law_several : Law starts after (several c p)
   law_several = record {
-    good = λ V. good_then (map (λ a. a ∷ []) p.part) (repeat (λ b. b == c) (one_more c p.part)) (good_map (λ a. a ∷ []) p.part (g.good V))
-        (good_repeat (λ b. b == c) after between (one_more c p.part) (good_more V) starts_more apart (one_byte c between more) ends) begins_more;
-    begins = begins_then (map (λ a. a ∷ []) p.part) (repeat (λ b. b == c) (one_more c p.part)) (begins_map (λ a. a ∷ []) p.part g.begins) begins_more;
+    good = λ V. good_then (map (λ a. a ∷ []) p.part) (repeat (λ b. b == c) (next_value c p.part)) (good_map (λ a. a ∷ []) p.part (g.good V))
+        (good_repeat (λ b. b == c) after between (next_value c p.part) (good_more V) starts_more apart (one_byte c between more) ends) begins_more;
+    begins = begins_then (map (λ a. a ∷ []) p.part) (repeat (λ b. b == c) (next_value c p.part)) (begins_map (λ a. a ∷ []) p.part g.begins) begins_more;
     prints = prints_list c p g.prints;
   }

@@ -2,7 +2,7 @@
 use Rattle.std.proofs.Common.{◌≡◌, ℕ, List, [], ◌∷◌, ◌++◌, Result, Ok, Err, Bool, true, false, cond, refl, sym, ap, subst, ◌∙◌}
 use Rattle.std.proofs.Common.{append_assoc, append-nil}
 use Rattle.grammar.specs.Part.{◌>>=◌, Joins}
-use Rattle.grammar.specs.Exact.{Stops, Taken, IsViable, Follows, Good}
+use Rattle.grammar.specs.Exact.{Stops, Taken, IsViable, FirstIsIn, Good}
 use Rattle.grammar.specs.Words.{Words, Lawful, Apart, word, scan, halt}
 use Rattle.grammar.proofs.Reading.{ok_parts, takes_some, good_from}
 
@@ -49,7 +49,7 @@ module _ (w : Words) (lawful : Lawful w) where
       scan_over [] front (c ∷ rest) (lawful.whole front whole) ∙ scan_step front c rest false ends ∙ ap (λ b. halt b front (c ∷ rest)) whole
 
 module _ {V : Type 0} (w : Words) (lawful : Lawful w) (after : ℕ → Bool) (apart : Apart w after)
-    (next : List ℕ → List ℕ → Result V ℕ) (v : (a : List ℕ) → IsViable (next a)) (f : (a : List ℕ) → Follows after (next a)) where
+    (next : List ℕ → List ℕ → Result V ℕ) (v : (a : List ℕ) → IsViable (next a)) (f : (a : List ℕ) → FirstIsIn after (next a)) where
   -- behind a whole word the reading goes on with what follows
   at_word : (front rest : List ℕ) (x : V) → w.whole front ≡ true → next front rest ≡ Ok x → scan w front rest >>= next ≡ Ok x
   at_word front [] x whole n = ap (λ b. halt b front [] >>= next) whole ∙ n

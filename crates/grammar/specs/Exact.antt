@@ -42,13 +42,13 @@ abbrev pub none : ℕ → Bool
 none c = false
 
 -- what a reader takes begins, unless it is empty, with a byte that passes the test
-abbrev pub Follows : {V : Type 0} → (ℕ → Bool) → (List ℕ → Result V ℕ) → Type 0
-Follows set read = (c : ℕ) (tail : List ℕ) (v : _) → read (c ∷ tail) ≡ Ok v → set c ≡ true
+abbrev pub FirstIsIn : {V : Type 0} → (ℕ → Bool) → (List ℕ → Result V ℕ) → Type 0
+FirstIsIn set read = (c : ℕ) (tail : List ℕ) (v : _) → read (c ∷ tail) ≡ Ok v → set c ≡ true
 
 -- a part reads what it spells, whatever exact reader goes on behind it with a byte that passes the test or with nothing
 pub record Good (V : Type 0) {A : Type 0} (set : ℕ → Bool) (p : Part A) : Type 0 where
   pub sound : (bytes rest : List ℕ) (a : A) → p.at bytes ≡ Ok (a, rest) → (front : List ℕ) × (bytes ≡ front ++ rest) × p.lang front a
-  pub exact : (next : A → List ℕ → Result V ℕ) → ((a : A) → IsViable (next a)) → ((a : A) → Follows set (next a)) →
+  pub exact : (next : A → List ℕ → Result V ℕ) → ((a : A) → IsViable (next a)) → ((a : A) → FirstIsIn set (next a)) →
       Exact (Joins p.lang (λ a. Taken (next a))) (λ bytes. p.at bytes >>= next)
 
 -- what the spellings of a part begin with: a byte of `starts`, or nothing, where then each byte of `after` is one of `starts`

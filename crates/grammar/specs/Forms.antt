@@ -38,8 +38,8 @@ p and q = record {
 }
 
 -- a byte and a form
-abbrev pub behind : {A : Type 0} → ℕ → Form A → Form A
-behind c p = record { part = byte c then λ _. p.part; text = λ a. c ∷ p.text a }
+abbrev pub preceded : {A : Type 0} → ℕ → Form A → Form A
+preceded c p = record { part = byte c then λ _. p.part; text = λ a. c ∷ p.text a }
 
 -- a form and a byte
 abbrev pub followed : {A : Type 0} → Form A → ℕ → Form A
@@ -51,7 +51,7 @@ worded name p = record { part = word (any_case (name ∷ [])) then λ _. p.part;
 
 -- two forms with a space between them (SP of RFC 5234, B.1)
 abbrev pub ◌spaced◌ : {A B : Type 0} → Form A → Form B → Form (A × B)
-p spaced q = p and behind space q
+p spaced q = p and preceded space q
 
 -- the values that a function makes, with their text
 abbrev pub made : {A B : Type 0} → (A → B) → (B → List ℕ) → Form A → Form B
@@ -77,11 +77,11 @@ given_text text (Some a) = text a
 
 -- a form behind a byte, both of which may be left out
 abbrev pub maybe : {A : Type 0} → ℕ → Form A → Form (Option A)
-maybe c p = choice (λ b. b == c) (maybe_text c p.text) (behind c (made Some (given_text p.text) p)) (constant None (maybe_text c p.text))
+maybe c p = choice (λ b. b == c) (maybe_text c p.text) (preceded c (made Some (given_text p.text) p)) (constant None (maybe_text c p.text))
 
 -- a form between two bytes
 abbrev pub closed : {A : Type 0} → ℕ → Form A → ℕ → Form A
-closed open_byte p close_byte = behind open_byte (followed p close_byte)
+closed open_byte p close_byte = preceded open_byte (followed p close_byte)
 
 -- a name and the value that it stands for
 abbrev pub Row : Type 0 → Type 0
@@ -125,13 +125,13 @@ list_text c text [] = []
 list_text c text (a ∷ list) = text a ++ more_text c text list
 
 -- one value more behind a byte
-abbrev pub one_more : {A : Type 0} → ℕ → Part A → List A → Part (List A)
-one_more c p so_far = byte c then λ _. map_part (λ a. so_far ++ a ∷ []) p
+abbrev pub next_value : {A : Type 0} → ℕ → Part A → List A → Part (List A)
+next_value c p so_far = byte c then λ _. map_part (λ a. so_far ++ a ∷ []) p
 
 -- one or more of a form, a byte between any two (RFC 5234, 3.6: X *(c X))
 abbrev pub several : {A : Type 0} → ℕ → Form A → Form (List A)
 several c p = record {
-  part = map_part (λ a. a ∷ []) p.part then repeat (λ b. b == c) (one_more c p.part);
+  part = map_part (λ a. a ∷ []) p.part then repeat (λ b. b == c) (next_value c p.part);
   text = list_text c p.text;
 }
 

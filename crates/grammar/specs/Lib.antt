@@ -6,6 +6,7 @@ pub mod Members
 pub mod Nested
 pub mod Numbers
 pub mod Part
+pub mod Quoted
 pub mod Runs
 pub mod Tables
 pub mod Words

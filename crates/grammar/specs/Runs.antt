@@ -9,8 +9,8 @@ some [] = false
 some (c ∷ rest) = true
 
 -- one byte or more that pass the test (RFC 5234, 3.6: 1*X)
-abbrev pub run : (ℕ → Bool) → Words
-run test = record { begins = list_all test; whole = λ s. list_all test s && some s }
+abbrev pub run_of : (ℕ → Bool) → Words
+run_of test = record { begins = list_all test; whole = λ s. list_all test s && some s }
 
 -- one byte to `most` bytes that pass the test (RFC 5234, 3.6: 1*nX)
 abbrev pub run_upto : ℕ → (ℕ → Bool) → Words

@@ -1,6 +1,6 @@
 // Forms: readers and printers of the same parts.
 ghost use Rattle.std.specs.Prelude.{◌≡◌, ◌==◌, ◌++◌, OnOk};
-ghost use Rattle.grammar.specs.Forms.{Form, several, one_more, more_text, list_text};
+ghost use Rattle.grammar.specs.Forms.{Form, several, next_value, more_text, list_text};
 ghost use Rattle.grammar.specs.Gives.{Gives};
 
 use crate::class::byte_of;
@@ -47,7 +47,7 @@ impl<P: Production> Turn for OneMore<'_, P> {
 
     ghost starts = { λ more c. c == more.separator };
 
-    ghost part = { λ more. one_more more.separator (P.form more.of.now).part };
+    ghost part = { λ more. next_value more.separator (P.form more.of.now).part };
 
     fn starts(&self, byte: u8) -> bool {
         byte == self.separator

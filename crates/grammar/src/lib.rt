@@ -18,7 +18,7 @@
 //!
 //! ```text
 //! abbrev pub copy : Form (List SetPart × List ℕ)
-//! copy = behind space (set spaced argument)
+//! copy = preceded space (set spaced argument)
 //! ```
 //!
 //! Its reader and its printer are the same text as code, and need no proof file:
@@ -55,6 +55,7 @@ mod form;
 mod laws;
 mod members;
 mod number;
+mod quoted;
 mod rows;
 mod run;
 mod table;
@@ -74,6 +75,9 @@ pub use laws::{
 };
 pub use members::Members;
 pub use number::{counted_of, number_of, put_decimal};
+pub use quoted::{
+    QuotedPlain, QuotedSpecial, escaped_char_of, plain_char_of, plain_run_of, put_literal,
+};
 pub use rows::table_of;
 pub use run::{Run, RunUpTo};
 pub use table::AnyCase;

@@ -1,5 +1,5 @@
 // Runs of bytes of a set.
-ghost use Rattle.grammar.specs.Runs.{run, run_upto};
+ghost use Rattle.grammar.specs.Runs.{run_of, run_upto};
 
 use crate::class::Class;
 use crate::word::Kind;
@@ -11,7 +11,7 @@ pub struct Run<C> {
 }
 
 impl<C: Class> Kind for Run<C> {
-    ghost words = { λ kind. run (C.test kind.of) };
+    ghost words = { λ kind. run_of (C.test kind.of) };
 
     fn goes_on(&self, _front: &[u8], byte: u8) -> bool {
         self.of.holds(byte)

@@ -2,18 +2,18 @@
 use Rattle.std.proofs.Common.{ℕ, List, ◌∷◌, Bool, ◌||◌, ◌==◌, inl, inr, refl, sym, subst}
 use Rattle.std.proofs.Common.{None, Some}
 use Rattle.grammar.specs.Exact.{StartsWith, any}
-use Rattle.grammar.specs.Forms.{Law, behind, ◌spaced◌}
+use Rattle.grammar.specs.Forms.{Law, preceded, ◌spaced◌}
 use Rattle.grammar.specs.Part.{map, byte}
 use Rattle.grammar.proofs.FormLaw.{apart_byte, law_choice, law_made, law_spaced, law_weaker}
 use Rattle.grammar.proofs.Spelling.{spell_then, spell_map, spell_byte}
 use Rattle.grammar.proofs.StartLaw.{starts_byte, starts_then, begins_from}
 use Rattle.mail_message.specs.FlagSets.{Flags, no_flags}
-use Rattle.imap_command.specs.Append.{Dated, dated_text, with_date, without_date, dated, flagged_text, without_flags, flagged, append}
-use Rattle.imap_command.specs.Date.{date_time}
-use Rattle.imap_command.specs.Flags.{flag_list, flag_list_part, flags_text}
+use Rattle.imap_command.specs.Append.{Dated, dated_text, with_date, without_date, dated, flagged_text, without_flags, flagged, append_form}
+use Rattle.text_parts.specs.Dates.{date_time}
+use Rattle.imap_command.specs.Flags.{flag_list, flag_list_part, flag_list_text}
 use Rattle.imap_text.specs.Strings.{literal, message, argument}
 use Rattle.imap_command.proofs.ArgumentsLaw.{ends_atom, ends_line, law_argument, law_message, arguments_behind}
-use Rattle.imap_command.proofs.DateLaw.{law_date_time}
+use Rattle.text_parts.proofs.DatesLaw.{law_date_time}
 use Rattle.imap_command.proofs.FlagsPrinted.{law_flag_list, no_flags_printed}
 
 abbrev is_quote : ℕ → Bool
@@ -72,9 +72,9 @@ law_without_flags = law_made (λ x. (no_flags, x)) (λ x. dated_text x.1) dated 
 spell_listed : (s : List ℕ) (x : Dated) → dated.part.lang s x → (flag_list spaced dated).part.lang (flagged_text (no_flags, x)) (no_flags, x)
 unfolding flagged_text
 spell_listed s x l =
-    spell_then flag_list_part (λ flags. map (λ y. (flags, y)) (behind 32 dated).part) (flags_text no_flags) (32 ∷ dated_text x) no_flags (no_flags, x)
+    spell_then flag_list_part (λ flags. map (λ y. (flags, y)) (preceded 32 dated).part) (flag_list_text no_flags) (32 ∷ dated_text x) no_flags (no_flags, x)
     no_flags_printed
-    (spell_map (λ y. (no_flags, y)) (behind 32 dated).part (32 ∷ dated_text x) x
+    (spell_map (λ y. (no_flags, y)) (preceded 32 dated).part (32 ∷ dated_text x) x
     (spell_byte 32 dated.part (dated_text x) x (law_dated.prints s x l)))
 
 print_without : (bytes : List ℕ) (x : Flags × Dated) → without_flags.part.lang bytes x → (flag_list spaced dated).part.lang (flagged_text x) x
@@ -91,5 +91,5 @@ law_flagged =
     (law_choice is_paren flagged_text (flag_list spaced dated) without_flags starts_listed (apart_byte 40 starts_dated refl) law_listed law_without_flags
     (λ bytes x l. inl (print_listed bytes x l)) (λ bytes x l. inl (print_without bytes x l)))
 
-pub law_append : Law ends_atom ends_line append
+pub law_append : Law ends_atom ends_line append_form
 law_append = arguments_behind _ refl (law_spaced argument flagged refl law_argument law_flagged)

@@ -1,8 +1,8 @@
 -- Arguments of commands: strings and atoms, which a space or the end of the line ends, and what stands behind a space.
 use Rattle.std.proofs.Common.{◌≡◌, ℕ, [], ◌∷◌, Bool, true, false, not, ◌==◌, refl}
 use Rattle.grammar.specs.Exact.{any, among}
-use Rattle.grammar.specs.Forms.{Form, Law, behind, several, ◌spaced◌}
-use Rattle.grammar.specs.Runs.{run}
+use Rattle.grammar.specs.Forms.{Form, Law, preceded, several, ◌spaced◌}
+use Rattle.grammar.specs.Runs.{run_of}
 use Rattle.grammar.proofs.Conditions.{not_true, among_all}
 use Rattle.grammar.proofs.FormLaw.{Within, one_byte, apart_byte, law_weaker, law_behind, law_maybe, law_spaced}
 use Rattle.grammar.proofs.RepetitionLaw.{begins_any}
@@ -43,15 +43,15 @@ law_message after = record { good = λ V. good_literal after; begins = begins_an
 pub law_atom : Law any ends_atom atom
 unfolding is_astring_char is_atom_char
 law_atom = record {
-  good = λ V. good_word (run is_atom_char) (lawful_run is_atom_char 97 refl) ends_atom (apart_run is_atom_char ends_atom atom_ends);
+  good = λ V. good_word (run_of is_atom_char) (lawful_run is_atom_char 97 refl) ends_atom (apart_run is_atom_char ends_atom atom_ends);
   begins = begins_any ends_atom atom.part;
   prints = λ bytes text l. (refl, l.1);
 }
 
 -- what stands behind a space, up to the end of the line
-pub arguments_behind : {A : Type 0} {starts wide : ℕ → Bool} (p : Form A) → wide 13 ≡ true → Law starts wide p → Law ends_atom ends_line (behind 32 p)
+pub arguments_behind : {A : Type 0} {starts wide : ℕ → Bool} (p : Form A) → wide 13 ≡ true → Law starts wide p → Law ends_atom ends_line (preceded 32 p)
 arguments_behind {A} {starts} {wide} p is g =
-    law_weaker ends_atom ends_line (behind 32 p) (one_byte 32 ends_atom refl) (one_byte 13 wide is) (law_behind 32 p g)
+    law_weaker ends_atom ends_line (preceded 32 p) (one_byte 32 ends_atom refl) (one_byte 13 wide is) (law_behind 32 p g)
 
 pub law_one_string : Law ends_atom ends_line one_string
 law_one_string = arguments_behind argument refl law_argument
@@ -76,5 +76,5 @@ law_optional_string =
     line_within : Within line_only ends_atom
     line_within = among_all ends_atom (13 ∷ []) refl
 
-pub law_atoms : Law ends_atom ends_line (behind 32 (several 32 atom))
+pub law_atoms : Law ends_atom ends_line (preceded 32 (several 32 atom))
 law_atoms = arguments_behind (several 32 atom) refl (law_several ends_line 32 atom law_atom refl (apart_byte 32 ends_line refl) line_ends_atom)

@@ -4,7 +4,7 @@ use Rattle.std.proofs.Common.{ap, ◌∙◌, subst, arith, leb, leb-true, le-leb
 use Rattle.std.specs.List.{list_all}
 use Rattle.mur_base.specs.Number.{is_digit, digits_behind}
 use Rattle.grammar.specs.Exact.{any, among}
-use Rattle.grammar.specs.Forms.{Form, Law, ◌and◌, behind, begins_row, closed, numeral}
+use Rattle.grammar.specs.Forms.{Form, Law, ◌and◌, preceded, begins_row, closed, numeral}
 use Rattle.grammar.specs.Numbers.{value_of, numerals, decimal_text}
 use Rattle.grammar.specs.Part.{give, byte, one_of}
 use Rattle.grammar.proofs.ChoiceLaw.{good_one_of}
@@ -89,7 +89,7 @@ unfolding is_digit digits_behind
 law_day =
     let small = law_number 9 refl in
     let g = law_number 31 refl in
-    law_choice (λ c. c == 48) decimal_text (behind 48 (numeral false 9)) (numeral false 31) (starts_then (byte 48) _ (starts_byte 48))
+    law_choice (λ c. c == 48) decimal_text (preceded 48 (numeral false 9)) (numeral false 31) (starts_then (byte 48) _ (starts_byte 48))
     (apart_byte 48 is_first refl) (law_behind 48 (numeral false 9) small) g
     (λ bytes n j. inr (g.prints j.back n (small_day j.back n j.goes_on))) (λ bytes n l. inr (g.prints bytes n l))
 
@@ -158,10 +158,10 @@ starts_day c = (c == 48) || is_first c
 
 law_date_text : (after : ℕ → Bool) → Law starts_day after date_text
 law_date_text after =
-    law_made day_at date_text_of (date_day and behind 45 (date_month and behind 45 date_year)) (λ x. refl)
-    (law_and date_day (behind 45 (date_month and behind 45 date_year)) law_day
-    (law_behind 45 (date_month and behind 45 date_year)
-    (law_and date_month (behind 45 date_year) law_month (law_behind 45 date_year (law_year after)))))
+    law_made day_at date_text_of (date_day and preceded 45 (date_month and preceded 45 date_year)) (λ x. refl)
+    (law_and date_day (preceded 45 (date_month and preceded 45 date_year)) law_day
+    (law_behind 45 (date_month and preceded 45 date_year)
+    (law_and date_month (preceded 45 date_year) law_month (law_behind 45 date_year (law_year after)))))
 
 abbrev pub starts_date : ℕ → Bool
 starts_date c = (c == 34) || starts_day c

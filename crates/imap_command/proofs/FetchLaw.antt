@@ -2,7 +2,7 @@
 use Rattle.std.proofs.Common.{◌≡◌, ℕ, List, [], ◌∷◌, ◌++◌, Bool, true, false, ◌==◌, ◌||◌, Option, None, Some, inl, refl, sym, ap, ◌∙◌, subst, eqb-true}
 use Rattle.grammar.specs.Part.{give, byte}
 use Rattle.grammar.specs.Exact.{among}
-use Rattle.grammar.specs.Forms.{Law, ◌and◌, behind, begins_row, made, nothing, numeral, several, table}
+use Rattle.grammar.specs.Forms.{Law, ◌and◌, preceded, begins_row, made, nothing, numeral, several, table}
 use Rattle.grammar.proofs.Conditions.{among_all}
 use Rattle.grammar.proofs.FormLaw.{Branch, branch, one_byte, apart_byte, law_and, law_behind, law_choice, law_closed, law_dispatch, law_followed}
 use Rattle.grammar.proofs.FormLaw.{law_made, law_maybe, law_nothing, law_spaced, law_weaker, spell_closed}
@@ -16,9 +16,9 @@ use Rattle.mail_message.specs.declared.item.Item.{Item}
 use Rattle.mail_message.specs.declared.item.Item.TheVariants as item_is
 use Rattle.imap_command.specs.declared.items.ItemName.{ItemName}
 use Rattle.imap_command.specs.declared.items.ItemName.TheVariants as name
-use Rattle.imap_command.specs.Fetch.{number64_most, octets, partial_at, partial_text, partial, item_rows, item_name_text, name_of, behind_name, item_of}
+use Rattle.imap_command.specs.Fetch.{number64_most, octets, partial_at, partial_text, partial, fetch_item_rows, item_name_text, name_of, behind_name, item_of}
 use Rattle.imap_command.specs.Fetch.{item_name, item, single_rows, single_name_text, fast_items, single_name_of, behind_single, single_of, single}
-use Rattle.imap_command.specs.Fetch.{item_list, items, fetch}
+use Rattle.imap_command.specs.Fetch.{item_list, items, fetch_form}
 use Rattle.imap_command.specs.Sets.{set}
 use Rattle.imap_command.proofs.ArgumentsLaw.{ends_atom, ends_line, arguments_behind}
 use Rattle.imap_command.proofs.SetsLaw.{law_set}
@@ -42,8 +42,8 @@ angle_ends c h = ap is_digit (eqb-true c 62 h)
 law_octets : (after : ℕ → Bool) → Law is_digit after octets
 unfolding is_digit digits_behind
 law_octets after =
-    law_followed after 62 (numeral true number64_most and behind 46 (numeral false number64_most)) refl
-    (law_and (numeral true number64_most) (behind 46 (numeral false number64_most)) (law_numeral true number64_most 48 refl (λ c. c == 46) dot_ends)
+    law_followed after 62 (numeral true number64_most and preceded 46 (numeral false number64_most)) refl
+    (law_and (numeral true number64_most) (preceded 46 (numeral false number64_most)) (law_numeral true number64_most 48 refl (λ c. c == 46) dot_ends)
     (law_behind 46 (numeral false number64_most) (law_numeral false number64_most 49 refl (λ c. c == 62) angle_ends)))
 
 law_partial : Law ends_name ends_item partial
@@ -76,19 +76,19 @@ behind_text name.BodyPeek i = refl
 pub behind_item : (i : Item) → item.text i ≡ item_name_text (name_of i) ++ behind_name i
 behind_item i = ap (λ s. item_name_text (name_of i) ++ s) (behind_text (name_of i) i)
 
-law_item : Law (begins_row item_rows) ends_item item
+law_item : Law (begins_row fetch_item_rows) ends_item item
 unfolding item_name_text
 law_item =
-    law_dispatch item_name name_of item_of (law_table name.Flags item_rows item_name_text refl refl (60 ∷ 32 ∷ 41 ∷ 13 ∷ []) refl refl) item_branch
+    law_dispatch item_name name_of item_of (law_table name.Flags fetch_item_rows item_name_text refl refl (60 ∷ 32 ∷ 41 ∷ 13 ∷ []) refl refl) item_branch
 
 spelled_name : (n : ItemName) → item_name.part.lang (item_name_text n) n
 unfolding item_name_text
-spelled_name name.Flags = spell_name name.Flags item_rows item_name_text name.Flags refl refl
-spelled_name name.Uid = spell_name name.Flags item_rows item_name_text name.Uid refl refl
-spelled_name name.InternalDate = spell_name name.Flags item_rows item_name_text name.InternalDate refl refl
-spelled_name name.Size = spell_name name.Flags item_rows item_name_text name.Size refl refl
-spelled_name name.Body = spell_name name.Flags item_rows item_name_text name.Body refl refl
-spelled_name name.BodyPeek = spell_name name.Flags item_rows item_name_text name.BodyPeek refl refl
+spelled_name name.Flags = spell_name name.Flags fetch_item_rows item_name_text name.Flags refl refl
+spelled_name name.Uid = spell_name name.Flags fetch_item_rows item_name_text name.Uid refl refl
+spelled_name name.InternalDate = spell_name name.Flags fetch_item_rows item_name_text name.InternalDate refl refl
+spelled_name name.Size = spell_name name.Flags fetch_item_rows item_name_text name.Size refl refl
+spelled_name name.Body = spell_name name.Flags fetch_item_rows item_name_text name.Body refl refl
+spelled_name name.BodyPeek = spell_name name.Flags fetch_item_rows item_name_text name.BodyPeek refl refl
 
 -- an item whose rest is spelled is spelled as it is printed
 spelled_item : (n : ItemName) (bytes : List ℕ) (i : Item) → (item_of n).part.lang bytes i → item.part.lang (item.text i) i
@@ -146,5 +146,5 @@ law_items =
     law_item_list law_single (λ bytes list l. inl (law_item_list.prints bytes list l))
     (λ bytes list l. inl (listed_by l.between l.back list l.goes_on))
 
-pub law_fetch : Law ends_atom ends_line fetch
+pub law_fetch : Law ends_atom ends_line fetch_form
 law_fetch = arguments_behind _ refl (law_spaced set items refl law_set law_items)

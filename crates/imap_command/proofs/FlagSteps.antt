@@ -5,14 +5,14 @@ use Rattle.std.proofs.lemmas.Bool.Decides.{nat_tests}
 use Rattle.std.specs.List.{list_all}
 use Rattle.grammar.proofs.Conditions.{and_left, and_right}
 use Rattle.mail_message.specs.FlagSets.{Flags, with_flag, has_too_many, IsMade, IsMadeBy}
-use Rattle.mail_message.specs.Keywords.{is_atom_byte, is_atom, keyword_fault}
+use Rattle.mail_message.specs.Keywords.{is_atom_byte, has_atom_bytes, keyword_fault}
 use Rattle.mail_message.specs.declared.flag_name.FlagFault.TheVariants.{TooMany}
 use Rattle.mail_message.specs.declared.flag_name.FlagName.{FlagName}
 use Rattle.imap_command.specs.Flags.{any_keyword, put_flag}
 
 -- a keyword breaks no rule of keywords
 pub no_fault : (text : List ℕ) → any_keyword.whole text ≡ true → keyword_fault text ≡ None
-unfolding keyword_fault is_atom
+unfolding keyword_fault has_atom_bytes
 no_fault [] h = let no : false ≡ true = and_right (any_keyword.begins []) false h in cc
 no_fault (c ∷ text) h =
     let small : nat_le (length (c ∷ text)) 64 ≡ true = and_right (list_all is_atom_byte (c ∷ text)) _ (and_left _ _ h) in

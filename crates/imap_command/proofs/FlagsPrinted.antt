@@ -31,7 +31,7 @@ use Rattle.mail_message.specs.declared.system_flags.SystemFlags.{SystemFlags}
 use Rattle.mail_message.specs.Keywords.{is_atom_byte}
 use Rattle.imap_text.specs.FlagNames.{system_text}
 use Rattle.imap_command.specs.Flags.{system_rows, system_flag, any_keyword, is_full, keywords_beside, put_flag, flag, some_flags}
-use Rattle.imap_command.specs.Flags.{flag_list_part, text_if, system_texts, flags_text, flag_list, store_flags_part, store_flags}
+use Rattle.imap_command.specs.Flags.{flag_list_part, text_if, system_texts, flag_list_text, flag_list, store_flags_part, store_flags}
 use Rattle.imap_command.proofs.ArgumentsLaw.{ends_line}
 use Rattle.imap_command.proofs.FlagsLaw.{ends_flag, is_space, are_keywords, good_list, good_store}
 use Rattle.imap_command.proofs.KeywordsKept.{all_insert, length_insert, sorted_insert, insert_present, insert_last}
@@ -233,13 +233,13 @@ keyword_steps system known (k ∷ rest) sorted few valid =
           (subst (λ keys. length keys ≤ 16) (sym together) few) (and_right (any_keyword.whole k) _ valid)),
     )
 
-spell_flags : (flags : Flags) → IsKept flags → flag_list_part.lang (flags_text flags) flags
+spell_flags : (flags : Flags) → IsKept flags → flag_list_part.lang (flag_list_text flags) flags
 spell_flags flags kept =
     list_from (system_texts flags.system ++ flags.keywords) flags
     (steps_append (system_texts flags.system) flags.keywords no_flags (record { system = flags.system; keywords = [] }) flags
     (system_steps flags.system) (keyword_steps flags.system [] flags.keywords kept.sorted kept.few kept.valid))
 
-pub no_flags_printed : flag_list_part.lang (flags_text no_flags) no_flags
+pub no_flags_printed : flag_list_part.lang (flag_list_text no_flags) no_flags
 no_flags_printed = spell_flags no_flags kept_none
 
 pub law_flag_list : (after : ℕ → Bool) → Law any after flag_list

@@ -4,7 +4,7 @@ use Rattle.std.proofs.lemmas.Bool.Decides.{nat_tests}
 use Rattle.std.specs.List.{list_all}
 use Rattle.mur_base.specs.Number.{is_digit, digits_behind}
 use Rattle.grammar.specs.Exact.{among, StartsWith}
-use Rattle.grammar.specs.Forms.{Form, Law, behind, begins_row, several, ◌spaced◌}
+use Rattle.grammar.specs.Forms.{Form, Law, preceded, begins_row, several, ◌spaced◌}
 use Rattle.grammar.specs.Nested.{told}
 use Rattle.grammar.specs.Part.{Part, give, map, byte}
 use Rattle.grammar.specs.Words.{word}
@@ -30,7 +30,7 @@ use Rattle.imap_command.specs.Dates.{date}
 use Rattle.imap_command.specs.Fetch.{number64_most}
 use Rattle.imap_command.specs.Flags.{any_keyword}
 use Rattle.imap_text.specs.FlagNames.{flag_text}
-use Rattle.imap_command.specs.Keys.{keyword, size, text_by, key_text, flat_rows, flat_name_text, behind_flat, flat_name, flat_key}
+use Rattle.imap_command.specs.Keys.{keyword, size_form, text_by, key_text, flat_rows, flat_name_text, behind_flat, flat_name, flat_key}
 use Rattle.imap_command.specs.Keys.{numbers_or, key_rows, key_name_text, behind_key, key_name, group, deep_key, key, keys}
 use Rattle.imap_command.specs.Sets.{is_set_start, set}
 use Rattle.imap_command.proofs.DatesLaw.{law_date}
@@ -54,12 +54,12 @@ no_digit : (c : ℕ) → ends_set c ≡ true → is_digit c ≡ false
 unfolding is_digit
 no_digit c h = not_true (is_digit c) (among_all (λ c. not (is_digit c)) (32 ∷ 13 ∷ 41 ∷ []) refl c h)
 
-law_size : Law is_digit ends_set size
+law_size : Law is_digit ends_set size_form
 unfolding is_digit digits_behind
 law_size = law_numeral true number64_most 48 refl ends_set no_digit
 
-law_space : {A : Type 0} {starts : ℕ → Bool} (p : Form A) → Law starts ends_set p → Law ends_set ends_set (behind 32 p)
-law_space p g = law_weaker ends_set ends_set (behind 32 p) (one_byte 32 ends_set refl) (λ c h. h) (law_behind 32 p g)
+law_space : {A : Type 0} {starts : ℕ → Bool} (p : Form A) → Law starts ends_set p → Law ends_set ends_set (preceded 32 p)
+law_space p g = law_weaker ends_set ends_set (preceded 32 p) (one_byte 32 ends_set refl) (λ c h. h) (law_behind 32 p g)
 
 -- ---- keys that hold no key
 
@@ -88,28 +88,28 @@ told_flat flat.Unflagged =
 told_flat flat.Unseen =
     told_give ends_set key_text _ key_is.Unseen (ap key_text (sym key_is.rolls-Unseen) ∙ fold-roll-Key (List ℕ) text_by Key-F.Unseen)
 told_flat flat.Keyword =
-    told_made key_text _ key_is.Keyword (behind 32 keyword) (law_space keyword law_keyword)
+    told_made key_text _ key_is.Keyword (preceded 32 keyword) (law_space keyword law_keyword)
     (λ x. ap key_text (sym (key_is.rolls-Keyword x)) ∙ fold-roll-Key (List ℕ) text_by (Key-F.Keyword x))
 told_flat flat.Unkeyword =
-    told_made key_text _ key_is.Unkeyword (behind 32 keyword) (law_space keyword law_keyword)
+    told_made key_text _ key_is.Unkeyword (preceded 32 keyword) (law_space keyword law_keyword)
     (λ x. ap key_text (sym (key_is.rolls-Unkeyword x)) ∙ fold-roll-Key (List ℕ) text_by (Key-F.Unkeyword x))
 told_flat flat.Larger =
-    told_made key_text _ key_is.Larger (behind 32 size) (law_space size law_size)
+    told_made key_text _ key_is.Larger (preceded 32 size_form) (law_space size_form law_size)
     (λ x. ap key_text (sym (key_is.rolls-Larger x)) ∙ fold-roll-Key (List ℕ) text_by (Key-F.Larger x))
 told_flat flat.Smaller =
-    told_made key_text _ key_is.Smaller (behind 32 size) (law_space size law_size)
+    told_made key_text _ key_is.Smaller (preceded 32 size_form) (law_space size_form law_size)
     (λ x. ap key_text (sym (key_is.rolls-Smaller x)) ∙ fold-roll-Key (List ℕ) text_by (Key-F.Smaller x))
 told_flat flat.Before =
-    told_made key_text _ key_is.Before (behind 32 date) (law_space date (law_date ends_set))
+    told_made key_text _ key_is.Before (preceded 32 date) (law_space date (law_date ends_set))
     (λ x. ap key_text (sym (key_is.rolls-Before x)) ∙ fold-roll-Key (List ℕ) text_by (Key-F.Before x))
 told_flat flat.On =
-    told_made key_text _ key_is.On (behind 32 date) (law_space date (law_date ends_set))
+    told_made key_text _ key_is.On (preceded 32 date) (law_space date (law_date ends_set))
     (λ x. ap key_text (sym (key_is.rolls-On x)) ∙ fold-roll-Key (List ℕ) text_by (Key-F.On x))
 told_flat flat.Since =
-    told_made key_text _ key_is.Since (behind 32 date) (law_space date (law_date ends_set))
+    told_made key_text _ key_is.Since (preceded 32 date) (law_space date (law_date ends_set))
     (λ x. ap key_text (sym (key_is.rolls-Since x)) ∙ fold-roll-Key (List ℕ) text_by (Key-F.Since x))
 told_flat flat.Uid =
-    told_made key_text _ key_is.Uid (behind 32 set) (law_space set law_set)
+    told_made key_text _ key_is.Uid (preceded 32 set) (law_space set law_set)
     (λ x. ap key_text (sym (key_is.rolls-Uid x)) ∙ fold-roll-Key (List ℕ) text_by (Key-F.Uid x))
 
 -- ---- a set or a named key
@@ -166,10 +166,10 @@ module _ (p : Part Key) (g : Law starts_key ends_set (with_text key_text p)) whe
   told_key : (n : KeyName) → Told ends_set ends_set key_text (key_name_text n) (behind_key (with_text key_text p) n)
   unfolding behind_key key_text
   told_key deep.Not =
-      told_made key_text _ key_is.Not (behind 32 (with_text key_text p)) (law_space (with_text key_text p) g)
+      told_made key_text _ key_is.Not (preceded 32 (with_text key_text p)) (law_space (with_text key_text p) g)
       (λ x. ap key_text (sym (key_is.rolls-Not x)) ∙ fold-roll-Key (List ℕ) text_by (Key-F.Not x))
   told_key deep.Or =
-      told_made key_text _ (λ x. key_is.Or x.0 x.1) (behind 32 (with_text key_text p spaced with_text key_text p))
+      told_made key_text _ (λ x. key_is.Or x.0 x.1) (preceded 32 (with_text key_text p spaced with_text key_text p))
       (law_space _ (law_spaced (with_text key_text p) (with_text key_text p) refl g g))
       (λ x. ap key_text (sym (key_is.rolls-Or x.0 x.1)) ∙ fold-roll-Key (List ℕ) text_by (Key-F.Or x.0 x.1))
   told_key (deep.Flat n) = told_flat n

@@ -15,7 +15,7 @@ use Rattle.grammar.proofs.ToolLaws.{begins_then}
 use Rattle.imap_command.specs.Commands.{arguments, printed_as, uid_arguments, uid_command, verb_of}
 use Rattle.imap_text.specs.Strings.{crlf_part}
 use Rattle.imap_command.specs.Spells.{line, known}
-use Rattle.imap_command.specs.Verbs.{is_uid, verbs, verb_form, name_text, uid_verbs}
+use Rattle.imap_command.specs.Verbs.{is_uid_verb, verbs, verb_form, name_text, uid_verbs}
 use Rattle.imap_command.specs.declared.verb.Verb.{Verb}
 use Rattle.imap_command.specs.declared.verb.Verb.TheVariants as verb
 use Rattle.imap_types.specs.declared.command.Command.{Command}
@@ -97,10 +97,10 @@ begins_by names p s bytes name (c ∷ rest) a e l is = record { name = name; nex
 
 -- the first words of known commands; of UID and the word behind it
 abbrev pub known_names : List (List ℕ)
-known_names = names_with (λ v. not (is_uid v)) verbs ++ each (λ name. codes "UID " ++ name) (names_of uid_verbs)
+known_names = names_with (λ v. not (is_uid_verb v)) verbs ++ each (λ name. codes "UID " ++ name) (names_of uid_verbs)
 
-uid_only : (v : Verb) → is_uid v ≡ true → v ≡ verb.Uid
-unfolding is_uid
+uid_only : (v : Verb) → is_uid_verb v ≡ true → v ≡ verb.Uid
+unfolding is_uid_verb
 uid_only verb.Uid h = refl
 uid_only v h = cc
 
@@ -109,9 +109,9 @@ or_false true h = refl
 or_false false h = h
 
 -- where the first word is UID
-uid_name : (name : List ℕ) → is_some (names_of verbs) name ≡ true → is_uid (named verb.Uid verbs name) ≡ true
-    → is_some (names_with is_uid verbs) name ≡ true
-uid_name name whole h = named_with is_uid verb.Uid verbs name whole h
+uid_name : (name : List ℕ) → is_some (names_of verbs) name ≡ true → is_uid_verb (named verb.Uid verbs name) ≡ true
+    → is_some (names_with is_uid_verb verbs) name ≡ true
+uid_name name whole h = named_with is_uid_verb verb.Uid verbs name whole h
 
 uid_begins : (bytes name back : List ℕ) (it : Command) → bytes ≡ name ++ back → is_some (codes "UID" ∷ []) name ≡ true
     → (line uid_command).part.lang back it → BeginsWith known_names bytes
@@ -132,26 +132,26 @@ uid_begins bytes name back it e is m =
     begins_by known_names (line (uid_arguments d.between)).part (starts_line (uid_arguments d.between) (uid_branch d.between).law) bytes text
     (d.back ++ m.back) it parts
     (record { front = d.back; back = m.back; between = m.between; parts = refl; begins = d.goes_on; goes_on = m.goes_on })
-    (some_right (names_with (λ v. not (is_uid v)) verbs) (each (λ name. codes "UID " ++ name) (names_of uid_verbs)) text
+    (some_right (names_with (λ v. not (is_uid_verb v)) verbs) (each (λ name. codes "UID " ++ name) (names_of uid_verbs)) text
     (some_behind (codes "UID ") (names_of uid_verbs) (name ++ 32 ∷ []) more
     (name_append (codes "UID") (32 ∷ []) name (32 ∷ []) (or_false _ is) refl) u.begins.1))
 
 -- what a known command begins with
 pub known_begins : (bytes : List ℕ) (it : Command) → known.part.lang bytes it → BeginsWith known_names bytes
-unfolding arguments is_uid
+unfolding arguments is_uid_verb
 known_begins bytes it j =
     let w = j.begins in
     let name = w.between in
     let front : j.front ≡ name = w.parts ∙ ap (λ s. w.front ++ s) w.goes_on.0 ∙ append-nil w.front ∙ w.begins.0 in
     let v : j.between ≡ named verb.Uid verbs name = w.goes_on.1 in
-    by_uid name (is_uid j.between) (j.parts ∙ ap (λ s. s ++ j.back) front) w.begins.1 v refl
+    by_uid name (is_uid_verb j.between) (j.parts ∙ ap (λ s. s ++ j.back) front) w.begins.1 v refl
   where
     by_uid : (name : List ℕ) (b : Bool) → bytes ≡ name ++ j.back → is_some (names_of verbs) name ≡ true → j.between ≡ named verb.Uid verbs name
-        → is_uid j.between ≡ b → BeginsWith known_names bytes
+        → is_uid_verb j.between ≡ b → BeginsWith known_names bytes
     by_uid name true e whole v is =
-        uid_begins bytes name j.back it e (uid_name name whole (ap is_uid (sym v) ∙ is))
+        uid_begins bytes name j.back it e (uid_name name whole (ap is_uid_verb (sym v) ∙ is))
         (subst (λ v. (line (arguments v)).part.lang j.back it) (uid_only j.between is) j.goes_on)
     by_uid name false e whole v is =
         begins_by known_names (line (arguments j.between)).part (starts_line (arguments j.between) (branch_of j.between).law) bytes name j.back it e j.goes_on
-        (some_left (names_with (λ v. not (is_uid v)) verbs) (each (λ name. codes "UID " ++ name) (names_of uid_verbs)) name
-        (named_with (λ v. not (is_uid v)) verb.Uid verbs name whole (ap (λ v. not (is_uid v)) (sym v) ∙ ap not is)))
+        (some_left (names_with (λ v. not (is_uid_verb v)) verbs) (each (λ name. codes "UID " ++ name) (names_of uid_verbs)) name
+        (named_with (λ v. not (is_uid_verb v)) verb.Uid verbs name whole (ap (λ v. not (is_uid_verb v)) (sym v) ∙ ap not is)))

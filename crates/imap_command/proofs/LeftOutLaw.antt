@@ -19,7 +19,7 @@ use Rattle.imap_types.specs.declared.command.Command.TheVariants as command
 use Rattle.imap_command.specs.LeftOut.{left_out_names, to_the_end, left_out}
 use Rattle.imap_command.specs.Spells.{known, command_text}
 use Rattle.imap_text.specs.Strings.{crlf_part}
-use Rattle.imap_command.specs.Verbs.{is_uid}
+use Rattle.imap_command.specs.Verbs.{is_uid_verb}
 use Rattle.imap_command.proofs.ArgumentsLaw.{ends_atom, ends_line, line_ends_atom}
 use Rattle.imap_command.proofs.KnownLaw.{BeginsWith, begins_by, known_begins, known_names, starts_crlf}
 use Rattle.imap_text.proofs.StringsLaw.{good_crlf}
@@ -97,7 +97,7 @@ left_out_begins bytes it j =
     (ap (is_some left_out_names) j.begins.0 ∙ j.begins.1)
 
 pub known_apart : (bytes : List ℕ) (it other : Command) → known.part.lang bytes it → left_out.lang bytes other → ⊥
-unfolding is_uid
+unfolding is_uid_verb
 known_apart bytes it other h k =
     let one = known_begins bytes it h in
     let two = left_out_begins bytes other k in

@@ -18,7 +18,6 @@ pub mod FlagsPrinted
 pub mod FlagSteps
 pub mod RuledLaw
 pub mod StoreLaw
-pub mod DateLaw
 pub mod AppendLaw
 pub mod KeySteps
 pub mod DatesLaw

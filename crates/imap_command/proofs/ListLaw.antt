@@ -3,7 +3,7 @@ use Rattle.std.proofs.Common.{◌≡◌, ℕ, List, [], ◌∷◌, Bool, true, f
 use Rattle.std.specs.List.{list_all}
 use Rattle.grammar.specs.Exact.{any}
 use Rattle.grammar.specs.Forms.{Law}
-use Rattle.grammar.specs.Runs.{run}
+use Rattle.grammar.specs.Runs.{run_of}
 use Rattle.grammar.specs.Words.{word}
 use Rattle.grammar.proofs.ChoiceLaw.{good_choose}
 use Rattle.grammar.proofs.Conditions.{and_both, and_left, and_right, or_left, not_true, among_all}
@@ -62,9 +62,9 @@ prints_pattern bytes text l =
 law_pattern : Law any ends_line pattern
 unfolding list_mailbox is_list_char is_astring_char
 law_pattern = record {
-  good = λ V. good_choose is_list_char (word (run is_list_char)) string
-      (good_word (run is_list_char) (lawful_run is_list_char 97 refl) ends_line (apart_run is_list_char ends_line list_ends)) (good_string ends_line)
-      (starts_word (run is_list_char) is_list_char (lawful_run is_list_char 97 refl) refl (λ c h. and_left (is_list_char c) true h))
+  good = λ V. good_choose is_list_char (word (run_of is_list_char)) string
+      (good_word (run_of is_list_char) (lawful_run is_list_char 97 refl) ends_line (apart_run is_list_char ends_line list_ends)) (good_string ends_line)
+      (starts_word (run_of is_list_char) is_list_char (lawful_run is_list_char 97 refl) refl (λ c h. and_left (is_list_char c) true h))
       (without_from is_list_char ends_line string no_list_char starts_string);
   begins = begins_any ends_line list_mailbox;
   prints = prints_pattern;

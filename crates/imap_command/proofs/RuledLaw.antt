@@ -5,7 +5,7 @@ use Rattle.std.proofs.Common.{length-append}
 use Rattle.std.specs.List.{list_all}
 use Rattle.std.specs.Prelude.{All, IfSome}
 use Rattle.std.proofs.lemmas.List.Elements.{All-nil, All-cons}
-use Rattle.grammar.specs.Forms.{Form, ◌and◌, behind, ◌spaced◌}
+use Rattle.grammar.specs.Forms.{Form, ◌and◌, preceded, ◌spaced◌}
 use Rattle.grammar.specs.Numbers.{value_of}
 use Rattle.grammar.specs.Part.{Part, byte, choose, exactly, map, ◌then◌}
 use Rattle.grammar.proofs.Conditions.{and_left, and_right}
@@ -22,15 +22,15 @@ use Rattle.imap_command.specs.declared.verb.MailboxVerb.{MailboxVerb}
 use Rattle.imap_command.specs.declared.verb.MailboxVerb.TheVariants as mailbox_verb
 use Rattle.imap_command.specs.declared.verb.UidVerb.{UidVerb}
 use Rattle.imap_command.specs.declared.verb.UidVerb.TheVariants as uid
-use Rattle.imap_command.specs.Append.{Dated, append, dated, flagged, with_date, without_date, without_flags}
+use Rattle.imap_command.specs.Append.{Dated, append_form, dated, flagged, with_date, without_date, without_flags}
 use Rattle.imap_text.specs.Characters.{is_char8}
 use Rattle.imap_command.specs.Commands.{arguments, mailbox_command, uid_arguments}
-use Rattle.imap_command.specs.Date.{date_time}
+use Rattle.text_parts.specs.Dates.{date_time}
 use Rattle.imap_command.specs.Flags.{any_keyword, flag_list, flag_list_part, store_flags, store_flags_part}
 use Rattle.imap_command.specs.Ruled.{IsDate, IsRuled}
 use Rattle.imap_command.specs.Spells.{Spells, commands, line, tagged_command}
 use Rattle.imap_command.specs.Sets.{set}
-use Rattle.imap_command.specs.Store.{store, store_mode}
+use Rattle.imap_command.specs.Store.{store_form, store_mode}
 use Rattle.imap_text.specs.Strings.{argument, literal, message}
 use Rattle.imap_command.proofs.FlagSteps.{no_fault}
 use Rattle.imap_command.proofs.FlagsPrinted.{IsKept, only_list, only_store}
@@ -96,7 +96,7 @@ module _ (limit : ℕ) where
 
   under_spaced : {A B : Type 0} (p : Form A) (q : Form B) (P : A → Type 0) (Q : B → Type 0) → Under p.part P → Under q.part Q
       → Under {A = A × B} (p spaced q).part (λ x. P x.0 × Q x.1)
-  under_spaced p q P Q is other = under_and p (behind 32 q) P Q is (under_behind 32 q.part Q other)
+  under_spaced p q P Q is other = under_and p (preceded 32 q) P Q is (under_behind 32 q.part Q other)
 
   under_choose : {A : Type 0} (test : ℕ → Bool) (p q : Part A) (P : A → Type 0) → Under p P → Under q P → Under (choose test p q) P
   under_choose test p q P one other bytes value (inl l) below = one bytes value l below
@@ -163,7 +163,7 @@ module _ (limit : ℕ) where
       (under_made (λ x. (no_flags, x)) dated.part OfFlagged
       (λ bytes x l below. (All-nil (λ keyword. keyword_fault keyword ≡ None), short_dated bytes x l below)))
 
-  ruled_append : Under append.part (λ x. OfFlagged x.1)
+  ruled_append : Under append_form.part (λ x. OfFlagged x.1)
   ruled_append =
       under_behind 32 (argument spaced flagged).part (λ x. OfFlagged x.1)
       (λ bytes x l below. (under_spaced argument flagged Any OfFlagged (any_under argument.part) ruled_flagged bytes x l below).1)
@@ -171,7 +171,7 @@ module _ (limit : ℕ) where
   abbrev OfStore : List SetPart × ((Mode × Bool) × Flags) → Type 0
   OfStore x = HasRuledKeywords x.1.1
 
-  stored : Under store.part OfStore
+  stored : Under store_form.part OfStore
   stored =
       under_behind 32 (set spaced (store_mode spaced store_flags)).part OfStore
       (λ bytes x l below.
@@ -182,7 +182,7 @@ module _ (limit : ℕ) where
   uid_ruled : (k : UidVerb) → Under (uid_arguments k).part (IsRuled limit)
   unfolding uid_arguments
   uid_ruled uid.Store bytes it j below =
-      under_made (λ x. command.Store true x.0 x.1.0.0 x.1.0.1 x.1.1) store.part (IsRuled limit) stored bytes it j below
+      under_made (λ x. command.Store true x.0 x.1.0.0 x.1.0.1 x.1.1) store_form.part (IsRuled limit) stored bytes it j below
   uid_ruled k bytes it j below = subst (IsRuled limit) (sym j.goes_on.1) tt
 
   mailbox_ruled : (name : MailboxVerb) (mailbox : List ℕ) → IsRuled limit (mailbox_command name mailbox)
@@ -192,10 +192,10 @@ module _ (limit : ℕ) where
   command_ruled : (v : Verb) → Under (arguments v).part (IsRuled limit)
   unfolding arguments
   command_ruled verb.Append bytes it j below =
-      under_made (λ x. command.Append x.0 x.1.0 x.1.1.0 x.1.1.1) append.part (IsRuled limit) ruled_append bytes it j below
+      under_made (λ x. command.Append x.0 x.1.0 x.1.1.0 x.1.1.1) append_form.part (IsRuled limit) ruled_append bytes it j below
   command_ruled (verb.Mailbox name) bytes it j below = subst (IsRuled limit) (sym j.goes_on.1) (mailbox_ruled name j.between)
   command_ruled verb.Store bytes it j below =
-      under_made (λ x. command.Store false x.0 x.1.0.0 x.1.0.1 x.1.1) store.part (IsRuled limit) stored bytes it j below
+      under_made (λ x. command.Store false x.0 x.1.0.0 x.1.0.1 x.1.1) store_form.part (IsRuled limit) stored bytes it j below
   command_ruled verb.Uid bytes it j below =
       let behind_space = back_below bytes j.front j.back j.parts below in
       let k = j.goes_on in

@@ -16,7 +16,7 @@ use Rattle.grammar.proofs.TableLaw.{lawful_any_case, apart_any_case}
 use Rattle.grammar.proofs.ToolLaws.{good_sp}
 use Rattle.grammar.proofs.WordLaw.{good_word}
 use Rattle.imap_command.specs.Keys.{keys}
-use Rattle.imap_command.specs.Search.{key_depth, return_names, option_names, returned, begins_return, search}
+use Rattle.imap_command.specs.Search.{key_depth, return_names, option_names, returned, begins_return, search_form}
 use Rattle.imap_command.proofs.ArgumentsLaw.{ends_atom, ends_line, arguments_behind}
 use Rattle.imap_command.proofs.KeysLaw.{starts_key, law_keys}
 
@@ -58,7 +58,7 @@ starts_keys : StartsWith starts_key (keys key_depth).part
 unfolding is_digit
 starts_keys = starts_from (keys key_depth).part 13 refl refl (law_keys key_depth).begins
 
-pub law_search : Law ends_atom ends_line search
+pub law_search : Law ends_atom ends_line search_form
 law_search =
     arguments_behind (after_maybe begins_return returned (keys key_depth)) refl
     (law_after_maybe begins_return returned (keys key_depth) good_returned refl starts_returned key_apart starts_keys (law_keys key_depth))

@@ -9,7 +9,7 @@ use Rattle.grammar.proofs.SeveralLaw.{law_several}
 use Rattle.mur_base.specs.Number.{is_digit, digits_behind}
 use Rattle.mail_message.specs.declared.set.SetEnd.{SetEnd}
 use Rattle.mail_message.specs.declared.set.SetEnd.TheVariants.{Number, Last}
-use Rattle.imap_command.specs.Sets.{set_number, end_text, star_text, set_end, is_set_start, part_of, part_text, set_part, set}
+use Rattle.imap_command.specs.Sets.{set_number, end_text, star_text, set_end, is_set_start, part_of, set_part_text, set_part, set}
 
 -- a space, the end of the line or a closing parenthesis
 abbrev pub ends_set : ℕ → Bool
@@ -36,13 +36,13 @@ no_part_digit : (c : ℕ) → ends_part c ≡ true → is_digit c ≡ false
 unfolding is_digit
 no_part_digit c h = not_true (is_digit c) (among_all (λ c. not (is_digit c)) (44 ∷ 32 ∷ 13 ∷ 41 ∷ []) refl c h)
 
-same_text : (x : SetEnd × Option SetEnd) → part_text (part_of x) ≡ end_text x.0 ++ maybe_text 58 end_text x.1
+same_text : (x : SetEnd × Option SetEnd) → set_part_text (part_of x) ≡ end_text x.0 ++ maybe_text 58 end_text x.1
 same_text (one, None) = refl
 same_text (one, Some other) = refl
 
 law_part : Law is_set_start ends_part set_part
 law_part =
-    law_made part_of part_text _ same_text
+    law_made part_of set_part_text _ same_text
     (law_and set_end (maybe 58 set_end) (law_end (58 ∷ 44 ∷ 32 ∷ 13 ∷ 41 ∷ []) no_digit)
     (law_maybe ends_part 58 set_end refl (law_end (44 ∷ 32 ∷ 13 ∷ 41 ∷ []) no_part_digit)))
 

@@ -6,12 +6,12 @@ use Rattle.grammar.proofs.NamesLaw.{law_table}
 use Rattle.mail_message.specs.declared.mode.Mode.TheVariants.{Replace}
 use Rattle.imap_command.specs.Flags.{store_flags}
 use Rattle.imap_command.specs.Sets.{set}
-use Rattle.imap_command.specs.Store.{mode_rows, mode_text, store_mode, store}
+use Rattle.imap_command.specs.Store.{mode_rows, mode_text, store_mode, store_form}
 use Rattle.imap_command.proofs.ArgumentsLaw.{ends_atom, ends_line, arguments_behind}
 use Rattle.imap_command.proofs.FlagsPrinted.{law_store_flags}
 use Rattle.imap_command.proofs.SetsLaw.{law_set}
 
-pub law_store : Law ends_atom ends_line store
+pub law_store : Law ends_atom ends_line store_form
 unfolding mode_text
 law_store =
     arguments_behind _ refl

@@ -7,7 +7,7 @@ use Rattle.imap_command.specs.declared.verb.UidVerb.{UidVerb}
 use Rattle.imap_command.specs.declared.verb.UidVerb.TheVariants as uid
 use Rattle.imap_command.specs.Commands.{arguments, arguments_text, uid_arguments, uid_words, verb_of, words_text}
 use Rattle.imap_command.specs.Spells.{known}
-use Rattle.imap_command.specs.Verbs.{is_uid, name_text, uid_name_text, uid_verb_of}
+use Rattle.imap_command.specs.Verbs.{is_uid_verb, name_text, uid_name_text, uid_verb_of}
 
 uid_text : (k : UidVerb) (it : Command) → (uid_arguments k).text it ≡ arguments_text it
 unfolding uid_arguments
@@ -18,7 +18,7 @@ uid_text uid.Search it = refl
 uid_text uid.Store it = refl
 
 text_behind : (v : Verb) (it : Command) → (arguments v).text it ≡ uid_words v it ++ arguments_text it
-unfolding arguments is_uid
+unfolding arguments is_uid_verb
 text_behind verb.Uid it = ap (λ s. 32 ∷ (uid_name_text (uid_verb_of it) ++ s)) (uid_text (uid_verb_of it) it)
 text_behind v it = refl
 

@@ -2,14 +2,14 @@
 use Rattle.std.specs.Prelude.{ℕ, ◌+◌, ◌-◌, ◌*◌, ◌/◌, ◌%◌, ◌==◌, false, List, [], ◌∷◌, codes, if◌then◌else◌}
 use Rattle.mur_base.specs.Ascii.{digit_zero, dash, quote}
 use Rattle.mur_base.specs.Number.{is_digit}
-use Rattle.grammar.specs.Forms.{Form, Row, ◌and◌, behind, choice, closed, made, numeral, table}
+use Rattle.grammar.specs.Forms.{Form, Row, ◌and◌, preceded, choice, closed, made, numeral, table}
 use Rattle.grammar.specs.Numbers.{decimal_text}
 use Rattle.grammar.specs.Part.{map, one_of}
 use Rattle.mail_message.specs.declared.day.Day.{Day}
 
 -- date-day = 1*2DIGIT, from 1 to 31
 abbrev pub date_day : Form ℕ
-date_day = choice (λ c. c == digit_zero) decimal_text (behind digit_zero (numeral false 9)) (numeral false 31)
+date_day = choice (λ c. c == digit_zero) decimal_text (preceded digit_zero (numeral false 9)) (numeral false 31)
 
 -- date-month, in any case
 abbrev pub month_rows : List (Row ℕ)
@@ -47,14 +47,14 @@ abbrev pub day_at : ℕ × (ℕ × ℕ) → Day
 day_at x = record { day = x.0; month = x.1.0; year = x.1.1 }
 
 abbrev pub parts_text : ℕ × (ℕ × ℕ) → List ℕ
-parts_text = (date_day and behind dash (date_month and behind dash date_year)).text
+parts_text = (date_day and preceded dash (date_month and preceded dash date_year)).text
 
 abbrev pub date_text_of : Day → List ℕ
 date_text_of day = parts_text (day.day, (day.month, day.year))
 
 -- date-text = date-day "-" date-month "-" date-year
 abbrev pub date_text : Form Day
-date_text = made day_at date_text_of (date_day and behind dash (date_month and behind dash date_year))
+date_text = made day_at date_text_of (date_day and preceded dash (date_month and preceded dash date_year))
 
 -- date, printed without quotes
 abbrev pub date : Form Day

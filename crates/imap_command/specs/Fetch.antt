@@ -2,7 +2,7 @@
 -- body the whole is asked for, or so many octets from a place on; FAST stands for three items, and not in a list.
 use Rattle.std.specs.Prelude.{ℕ, true, false, ◌==◌, List, [], ◌∷◌, map, Option, None, Some, codes}
 use Rattle.mur_base.specs.Ascii.{space, open_paren, close_paren, dot}
-use Rattle.grammar.specs.Forms.{Form, Row, ◌and◌, behind, choice, closed, constant, dispatch, followed, made, maybe, numeral, several, ◌spaced◌, table}
+use Rattle.grammar.specs.Forms.{Form, Row, ◌and◌, preceded, choice, closed, constant, dispatch, followed, made, maybe, numeral, several, ◌spaced◌, table}
 use Rattle.mail_message.specs.declared.item.Item.{Item}
 use Rattle.mail_message.specs.declared.item.Item.TheVariants as item_is
 use Rattle.mail_message.specs.declared.item.Partial.{Partial}
@@ -17,7 +17,7 @@ number64_most = 9223372036854775807
 
 -- number64 "." nz-number64 ">"
 abbrev pub octets : Form (ℕ × ℕ)
-octets = followed (numeral true number64_most and behind dot (numeral false number64_most)) 62
+octets = followed (numeral true number64_most and preceded dot (numeral false number64_most)) 62
 
 abbrev pub partial_at : ℕ × ℕ → Partial
 partial_at x = record { from = x.0; count = x.1 }
@@ -29,8 +29,8 @@ partial_text partial = octets.text (partial.from, partial.count)
 abbrev pub partial : Form (Option Partial)
 partial = maybe 60 (made partial_at partial_text octets)
 
-abbrev pub item_rows : List (Row ItemName)
-item_rows =
+abbrev pub fetch_item_rows : List (Row ItemName)
+fetch_item_rows =
     (codes "FLAGS", name.Flags) ∷ (codes "UID", name.Uid) ∷ (codes "INTERNALDATE", name.InternalDate) ∷ (codes "RFC822.SIZE", name.Size)
     ∷ (codes "BODY[]", name.Body) ∷ (codes "BODY.PEEK[]", name.BodyPeek) ∷ []
 
@@ -65,7 +65,7 @@ item_of name.Body = made item_is.Body behind_name partial
 item_of name.BodyPeek = made item_is.BodyPeek behind_name partial
 
 abbrev pub item_name : Form ItemName
-item_name = table name.Flags item_rows item_name_text
+item_name = table name.Flags fetch_item_rows item_name_text
 
 -- fetch-att
 abbrev pub item : Form Item
@@ -73,7 +73,7 @@ item = dispatch item_name name_of item_of
 
 -- FAST, or an item
 abbrev pub single_rows : List (Row (Option ItemName))
-single_rows = (codes "FAST", None) ∷ map (λ row. (row.0, Some row.1)) item_rows
+single_rows = (codes "FAST", None) ∷ map (λ row. (row.0, Some row.1)) fetch_item_rows
 
 abbrev pub single_name_text : Option ItemName → List ℕ
 single_name_text None = codes "FAST"
@@ -104,5 +104,5 @@ abbrev pub items : Form (List Item)
 items = choice (λ c. c == open_paren) item_list.text item_list single
 
 -- SP sequence-set SP the items
-abbrev pub fetch : Form (List SetPart × List Item)
-fetch = behind space (set spaced items)
+abbrev pub fetch_form : Form (List SetPart × List Item)
+fetch_form = preceded space (set spaced items)

@@ -3,7 +3,7 @@
 use Rattle.std.specs.Prelude.{ℕ, Bool, ◌==◌, ◌&&◌, nat_le, List, [], ◌∷◌, ◌++◌, length, codes, if◌then◌else◌}
 use Rattle.std.specs.List.{list_all}
 use Rattle.mur_base.specs.Ascii.{space, open_paren, close_paren, backslash}
-use Rattle.grammar.specs.Forms.{Form, Row, behind, list_text, table}
+use Rattle.grammar.specs.Forms.{Form, Row, preceded, list_text, table}
 use Rattle.grammar.specs.Members.{members}
 use Rattle.grammar.specs.Part.{Part, ◌then◌, byte, choose, map, repeat, spaced}
 use Rattle.grammar.specs.Runs.{run_upto}
@@ -22,7 +22,7 @@ system_rows = (codes "Answered", Answered) ∷ (codes "Flagged", Flagged) ∷ (c
 
 -- a system flag, behind its backslash
 abbrev pub system_flag : Form SystemFlag
-system_flag = behind backslash (table Answered system_rows system_text)
+system_flag = preceded backslash (table Answered system_rows system_text)
 
 -- flag-keyword = atom, of at most 64 bytes
 abbrev pub any_keyword : Words
@@ -64,15 +64,15 @@ abbrev pub system_texts : SystemFlags → List (List ℕ)
 system_texts s =
     text_if s.answered Answered ++ (text_if s.flagged Flagged ++ (text_if s.deleted Deleted ++ (text_if s.seen Seen ++ text_if s.draft Draft)))
 
-abbrev pub flags_text : Flags → List ℕ
-flags_text flags = open_paren ∷ (list_text space (λ s. s) (system_texts flags.system ++ flags.keywords) ++ close_paren ∷ [])
+abbrev pub flag_list_text : Flags → List ℕ
+flag_list_text flags = open_paren ∷ (list_text space (λ s. s) (system_texts flags.system ++ flags.keywords) ++ close_paren ∷ [])
 
 abbrev pub flag_list : Form Flags
-flag_list = record { part = flag_list_part; text = flags_text }
+flag_list = record { part = flag_list_part; text = flag_list_text }
 
 -- flag-list / (flag *(SP flag)), as STORE takes them
 unfoldable pub store_flags_part : Part Flags
 store_flags_part = choose (λ c. c == open_paren) flag_list_part some_flags
 
 abbrev pub store_flags : Form Flags
-store_flags = record { part = store_flags_part; text = flags_text }
+store_flags = record { part = store_flags_part; text = flag_list_text }

@@ -1,7 +1,7 @@
 -- search-key (RFC 9051, 6.4.4 and 9): how each key is spelled and printed, to the depth to which keys nest.
 use Rattle.std.specs.Prelude.{ℕ, zero, suc, true, ◌==◌, List, [], ◌∷◌, ◌++◌, map, codes}
 use Rattle.mur_base.specs.Ascii.{space, open_paren, close_paren}
-use Rattle.grammar.specs.Forms.{Form, Row, as_it_stands, behind, closed, made, numeral, one_more, several, ◌spaced◌, table, list_text}
+use Rattle.grammar.specs.Forms.{Form, Row, as_it_stands, preceded, closed, made, numeral, next_value, several, ◌spaced◌, table, list_text}
 use Rattle.grammar.specs.Nested.{nested, told}
 use Rattle.grammar.specs.Part.{Part, choose, give, map as map_part, repeat}
 use Rattle.mail_message.specs.declared.flag_name.FlagName.{FlagName}
@@ -25,8 +25,8 @@ abbrev pub keyword : Form FlagName
 keyword = made Keyword flag_text (as_it_stands any_keyword)
 
 -- number64
-abbrev pub size : Form ℕ
-size = numeral true number64_most
+abbrev pub size_form : Form ℕ
+size_form = numeral true number64_most
 
 -- how a key is printed, where the texts of the keys in it stand in their places
 abbrev pub text_by : Key-F (List ℕ) → List ℕ
@@ -41,14 +41,14 @@ text_by Key-F.Undeleted = codes "UNDELETED"
 text_by Key-F.Undraft = codes "UNDRAFT"
 text_by Key-F.Unflagged = codes "UNFLAGGED"
 text_by Key-F.Unseen = codes "UNSEEN"
-text_by (Key-F.Keyword flag) = codes "KEYWORD" ++ (behind space keyword).text flag
-text_by (Key-F.Unkeyword flag) = codes "UNKEYWORD" ++ (behind space keyword).text flag
-text_by (Key-F.Larger octets) = codes "LARGER" ++ (behind space size).text octets
-text_by (Key-F.Smaller octets) = codes "SMALLER" ++ (behind space size).text octets
-text_by (Key-F.Before day) = codes "BEFORE" ++ (behind space date).text day
-text_by (Key-F.On day) = codes "ON" ++ (behind space date).text day
-text_by (Key-F.Since day) = codes "SINCE" ++ (behind space date).text day
-text_by (Key-F.Uid parts) = codes "UID" ++ (behind space set).text parts
+text_by (Key-F.Keyword flag) = codes "KEYWORD" ++ (preceded space keyword).text flag
+text_by (Key-F.Unkeyword flag) = codes "UNKEYWORD" ++ (preceded space keyword).text flag
+text_by (Key-F.Larger octets) = codes "LARGER" ++ (preceded space size_form).text octets
+text_by (Key-F.Smaller octets) = codes "SMALLER" ++ (preceded space size_form).text octets
+text_by (Key-F.Before day) = codes "BEFORE" ++ (preceded space date).text day
+text_by (Key-F.On day) = codes "ON" ++ (preceded space date).text day
+text_by (Key-F.Since day) = codes "SINCE" ++ (preceded space date).text day
+text_by (Key-F.Uid parts) = codes "UID" ++ (preceded space set).text parts
 text_by (Key-F.Numbers parts) = set.text parts
 text_by (Key-F.Not text) = codes "NOT" ++ space ∷ text
 text_by (Key-F.Or one other) = codes "OR" ++ space ∷ (one ++ space ∷ other)
@@ -100,14 +100,14 @@ behind_flat flat.Undeleted = give key_is.Undeleted
 behind_flat flat.Undraft = give key_is.Undraft
 behind_flat flat.Unflagged = give key_is.Unflagged
 behind_flat flat.Unseen = give key_is.Unseen
-behind_flat flat.Keyword = map_part key_is.Keyword (behind space keyword).part
-behind_flat flat.Unkeyword = map_part key_is.Unkeyword (behind space keyword).part
-behind_flat flat.Larger = map_part key_is.Larger (behind space size).part
-behind_flat flat.Smaller = map_part key_is.Smaller (behind space size).part
-behind_flat flat.Before = map_part key_is.Before (behind space date).part
-behind_flat flat.On = map_part key_is.On (behind space date).part
-behind_flat flat.Since = map_part key_is.Since (behind space date).part
-behind_flat flat.Uid = map_part key_is.Uid (behind space set).part
+behind_flat flat.Keyword = map_part key_is.Keyword (preceded space keyword).part
+behind_flat flat.Unkeyword = map_part key_is.Unkeyword (preceded space keyword).part
+behind_flat flat.Larger = map_part key_is.Larger (preceded space size_form).part
+behind_flat flat.Smaller = map_part key_is.Smaller (preceded space size_form).part
+behind_flat flat.Before = map_part key_is.Before (preceded space date).part
+behind_flat flat.On = map_part key_is.On (preceded space date).part
+behind_flat flat.Since = map_part key_is.Since (preceded space date).part
+behind_flat flat.Uid = map_part key_is.Uid (preceded space set).part
 
 abbrev pub flat_name : Form FlatName
 flat_name = table flat.All flat_rows flat_name_text
@@ -131,8 +131,8 @@ key_name_text (deep.Flat name) = flat_name_text name
 
 -- what stands behind the name of a key that may hold such keys, and the key
 unfoldable pub behind_key : Form Key → KeyName → Part Key
-behind_key inner deep.Not = map_part key_is.Not (behind space inner).part
-behind_key inner deep.Or = map_part (λ x. key_is.Or x.0 x.1) (behind space (inner spaced inner)).part
+behind_key inner deep.Not = map_part key_is.Not (preceded space inner).part
+behind_key inner deep.Or = map_part (λ x. key_is.Or x.0 x.1) (preceded space (inner spaced inner)).part
 behind_key inner (deep.Flat name) = behind_flat name
 
 abbrev pub key_name : Form KeyName
@@ -153,7 +153,7 @@ key depth = nested key_text flat_key deep_key depth
 
 -- *(SP search-key), behind keys
 abbrev pub more_keys : ℕ → List Key → Part (List Key)
-more_keys depth so_far = repeat (λ c. c == space) (one_more space (key depth).part) so_far
+more_keys depth so_far = repeat (λ c. c == space) (next_value space (key depth).part) so_far
 
 -- search-key *(SP search-key)
 abbrev pub keys : ℕ → Form (List Key)

@@ -2,7 +2,6 @@ pub mod Append
 pub mod Arguments
 pub mod Bad
 pub mod Commands
-pub mod Date
 pub mod Print
 pub mod Request
 pub mod Ruled

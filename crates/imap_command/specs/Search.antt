@@ -2,7 +2,7 @@
 -- ALL is what is returned where nothing is asked for, so a command says no more with it than without.
 use Rattle.std.specs.Prelude.{ℕ, Bool, List, [], ◌∷◌, codes}
 use Rattle.mur_base.specs.Ascii.{space}
-use Rattle.grammar.specs.Forms.{Form, behind}
+use Rattle.grammar.specs.Forms.{Form, preceded}
 use Rattle.grammar.specs.Nested.{after_maybe}
 use Rattle.grammar.specs.Part.{Part, ◌sp◌}
 use Rattle.grammar.specs.Tables.{any_case, begins_some}
@@ -29,5 +29,5 @@ abbrev pub begins_return : ℕ → Bool
 begins_return c = begins_some return_names (c ∷ [])
 
 -- SP what is returned SP the keys
-abbrev pub search : Form (List Key)
-search = behind space (after_maybe begins_return returned (keys key_depth))
+abbrev pub search_form : Form (List Key)
+search_form = preceded space (after_maybe begins_return returned (keys key_depth))

@@ -1,7 +1,7 @@
 -- setacl = "SETACL" SP mailbox SP identifier SP mod-rights, all of them astrings (RFC 4314, 4).
 use Rattle.std.specs.Prelude.{ℕ, ◌==◌, List, [], ◌∷◌, if◌then◌else◌}
 use Rattle.mur_base.specs.Ascii.{space, plus, dash}
-use Rattle.grammar.specs.Forms.{Form, behind, made, ◌spaced◌}
+use Rattle.grammar.specs.Forms.{Form, preceded, made, ◌spaced◌}
 use Rattle.mail_message.specs.declared.mode.Mode.{Mode}
 use Rattle.mail_message.specs.declared.mode.Mode.TheVariants.{Replace, Add, Remove}
 use Rattle.imap_text.specs.Strings.{argument, astring_text}
@@ -20,4 +20,4 @@ abbrev pub mod_rights : Form (Mode × List ℕ)
 mod_rights = made rights_of (λ x. astring_text (signed x)) argument
 
 abbrev pub set_acl : Form (List ℕ × (List ℕ × (Mode × List ℕ)))
-set_acl = behind space (argument spaced (argument spaced mod_rights))
+set_acl = preceded space (argument spaced (argument spaced mod_rights))

@@ -2,7 +2,7 @@
 use Rattle.std.specs.Prelude.{ℕ, Bool, false, ◌||◌, ◌==◌, List, [], ◌∷◌, ◌++◌, Option, None, Some}
 use Rattle.mur_base.specs.Ascii.{comma, colon, star}
 use Rattle.mur_base.specs.Number.{is_digit}
-use Rattle.grammar.specs.Forms.{Form, ◌and◌, behind, choice, constant, made, maybe, numeral, several}
+use Rattle.grammar.specs.Forms.{Form, ◌and◌, preceded, choice, constant, made, maybe, numeral, several}
 use Rattle.grammar.specs.Numbers.{decimal_text}
 use Rattle.mail_message.specs.declared.set.SetEnd.{SetEnd}
 use Rattle.mail_message.specs.declared.set.SetEnd.TheVariants.{Number, Last}
@@ -23,15 +23,15 @@ star_text end = []
 
 -- seq-number = nz-number / "*"
 abbrev pub set_end : Form SetEnd
-set_end = choice (λ c. c == star) end_text (behind star (constant Last star_text)) (made Number end_text set_number)
+set_end = choice (λ c. c == star) end_text (preceded star (constant Last star_text)) (made Number end_text set_number)
 
 abbrev pub part_of : SetEnd × Option SetEnd → SetPart
 part_of (one, None) = One one
 part_of (one, Some other) = Range one other
 
-abbrev pub part_text : SetPart → List ℕ
-part_text (One one) = end_text one ++ []
-part_text (Range one other) = end_text one ++ colon ∷ end_text other
+abbrev pub set_part_text : SetPart → List ℕ
+set_part_text (One one) = end_text one ++ []
+set_part_text (Range one other) = end_text one ++ colon ∷ end_text other
 
 -- what a set begins with
 abbrev pub is_set_start : ℕ → Bool
@@ -39,7 +39,7 @@ is_set_start c = (c == star) || is_digit c
 
 -- seq-number / seq-range, in which the ends may stand in either order
 abbrev pub set_part : Form SetPart
-set_part = made part_of part_text (set_end and maybe colon set_end)
+set_part = made part_of set_part_text (set_end and maybe colon set_end)
 
 abbrev pub set : Form (List SetPart)
 set = several comma set_part

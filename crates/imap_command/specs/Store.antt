@@ -1,7 +1,7 @@
 -- store = "STORE" SP sequence-set SP store-att-flags (RFC 9051, 6.4.6 and 9).
 use Rattle.std.specs.Prelude.{ℕ, Bool, true, false, List, [], ◌∷◌, codes}
 use Rattle.mur_base.specs.Ascii.{space}
-use Rattle.grammar.specs.Forms.{Form, Row, behind, ◌spaced◌, table}
+use Rattle.grammar.specs.Forms.{Form, Row, preceded, ◌spaced◌, table}
 use Rattle.mail_message.specs.FlagSets.{Flags}
 use Rattle.mail_message.specs.declared.mode.Mode.{Mode}
 use Rattle.mail_message.specs.declared.mode.Mode.TheVariants.{Replace, Add, Remove}
@@ -27,5 +27,5 @@ abbrev pub store_mode : Form (Mode × Bool)
 store_mode = table (Replace, false) mode_rows mode_text
 
 -- SP sequence-set SP the mode SP the flags
-abbrev pub store : Form (List SetPart × ((Mode × Bool) × Flags))
-store = behind space (set spaced (store_mode spaced store_flags))
+abbrev pub store_form : Form (List SetPart × ((Mode × Bool) × Flags))
+store_form = preceded space (set spaced (store_mode spaced store_flags))

@@ -76,6 +76,6 @@ uid_verb_of (command.Search by_uid keys) = uid.Search
 uid_verb_of (command.Store by_uid set mode is_silent flags) = uid.Store
 uid_verb_of it = uid.Copy
 
-unfoldable pub is_uid : Verb → Bool
-is_uid verb.Uid = true
-is_uid it = false
+unfoldable pub is_uid_verb : Verb → Bool
+is_uid_verb verb.Uid = true
+is_uid_verb it = false

@@ -1,15 +1,15 @@
 // APPEND (RFC 9051, 6.3.12).
 ghost use Rattle.std.specs.Prelude.{◌≡◌, ◌++◌, OnOk};
 ghost use Rattle.grammar.specs.Gives.{Gives};
-ghost use Rattle.imap_command.specs.Append.{dated, dated_text, flagged, append};
+ghost use Rattle.imap_command.specs.Append.{dated, dated_text, flagged, append_form};
 
-use crate::date::{date_named, date_time_of, put_date_time};
 use crate::flags::{flag_list_of, put_flags};
-use grammar::{Only, ReadError, begins, byte_of};
-use imap_text::{astring_of, literal_of, put_astring, put_literal};
+use grammar::{Only, ReadError, begins, byte_of, put_literal};
+use imap_text::{astring_of, literal_of, put_astring};
 use mail_message::{DateText, FlagSet};
 use mur_base::{Bytes, Memory};
 use std::alloc::Global;
+use text_parts::{date_named, date_time_of, put_date_time};
 
 /// A message with its date, where one is given.
 pub type Dated = (Option<DateText>, Bytes);
@@ -49,7 +49,7 @@ pub fn append_of(
     alloc: Global,
     bytes: &[u8],
 ) -> Result<((Bytes, (FlagSet, Dated)), &[u8]), ReadError>
-    ensures { Gives (λ x. (x.0, x.1.now)) result (append.part.at bytes.now) }
+    ensures { Gives (λ x. (x.0, x.1.now)) result (append_form.part.at bytes.now) }
 {
     let rest = byte_of(b' ', bytes)?;
     let (mailbox, rest) = astring_of(alloc, rest)?;
@@ -80,7 +80,7 @@ pub fn put_append(
     message: &Bytes,
     out: &mut Bytes,
 ) -> Result<(), Memory>
-    ensures { OnOk result (out.new ≡ out.old ++ append.text (mailbox.now, (flags.now, (date.now, message.now)))) }
+    ensures { OnOk result (out.new ≡ out.old ++ append_form.text (mailbox.now, (flags.now, (date.now, message.now)))) }
 {
     out.push(b' ')?;
     put_astring(mailbox.as_slice(), out)?;

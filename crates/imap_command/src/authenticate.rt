@@ -1,7 +1,7 @@
 // AUTHENTICATE PLAIN (RFC 9051, 6.2.2; RFC 4616).
 ghost use Rattle.std.specs.Prelude.{◌≡◌, ◌++◌, OnOk};
 ghost use Rattle.grammar.specs.Gives.{Gives};
-ghost use Rattle.imap_command.specs.Authenticate.{is_base64_char, authenticate};
+ghost use Rattle.imap_command.specs.Authenticate.{is_base64_char, authenticate_form};
 
 use grammar::{AnyCase, Class, Only, ReadError, Run, begins, byte_of, word_of};
 use mur_base::{Bytes, Memory};
@@ -25,7 +25,7 @@ const MECHANISM: [&[u8]; 1] = [b"PLAIN"];
 
 /// Reads what stands behind the name AUTHENTICATE.
 pub fn authenticate_of(alloc: Global, bytes: &[u8]) -> Result<(Option<Bytes>, &[u8]), ReadError>
-    ensures { Gives (λ x. (x.0, x.1.now)) result (authenticate.part.at bytes.now) }
+    ensures { Gives (λ x. (x.0, x.1.now)) result (authenticate_form.part.at bytes.now) }
 {
     let rest = byte_of(b' ', bytes)?;
     let (_, rest) = word_of(&AnyCase { names: &MECHANISM }, rest)?;
@@ -41,7 +41,7 @@ pub fn authenticate_of(alloc: Global, bytes: &[u8]) -> Result<(Option<Bytes>, &[
 /// Prints what stands behind the name AUTHENTICATE.
 #[tactic(auto, using(std::proofs::lemmas::Grind::common_steps))]
 pub fn put_authenticate(response: &Option<Bytes>, out: &mut Bytes) -> Result<(), Memory>
-    ensures { OnOk result (out.new ≡ out.old ++ authenticate.text response.now) }
+    ensures { OnOk result (out.new ≡ out.old ++ authenticate_form.text response.now) }
 {
     match response {
         Some(response) => {

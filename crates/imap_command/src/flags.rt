@@ -7,7 +7,7 @@ ghost use Rattle.grammar.specs.Gives.{Finds, Gives};
 ghost use Rattle.grammar.specs.Words.{word};
 ghost use Rattle.mail_message.specs.Keywords.{is_atom_byte};
 ghost use Rattle.imap_command.specs.Flags.{system_flag, any_keyword, is_full, keywords_beside, put_flag, flag, some_flags, flag_list_part};
-ghost use Rattle.imap_command.specs.Flags.{store_flags_part, text_if, system_texts, flags_text};
+ghost use Rattle.imap_command.specs.Flags.{store_flags_part, text_if, system_texts, flag_list_text};
 
 use grammar::{
     Class, Members, Only, ReadError, RunUpTo, Stop, Turn, begins, byte_of, repeated_of, table_of,
@@ -308,7 +308,7 @@ fn flag_texts<'k>(alloc: Global, flags: &'k FlagSet) -> Result<Items<&'k [u8]>, 
 /// Prints flags in parentheses.
 #[tactic(auto, using(std::proofs::lemmas::Grind::common_steps))]
 pub fn put_flags(alloc: Global, flags: &FlagSet, out: &mut Bytes) -> Result<(), Memory>
-    ensures { OnOk result (out.new ≡ out.old ++ flags_text flags.now) }
+    ensures { OnOk result (out.new ≡ out.old ++ flag_list_text flags.now) }
 {
     let texts = flag_texts(alloc, flags)?;
     out.push(b'(')?;

@@ -2,7 +2,7 @@
 ghost use Rattle.std.specs.Prelude.{◌≡◌, ◌++◌, OnOk, Some};
 ghost use Rattle.grammar.specs.Gives.{Finds, Gives};
 ghost use Rattle.imap_command.specs.Fetch.{partial, item_name_text, name_of, behind_name, item_of, item, single_of, item_list, items};
-ghost use Rattle.imap_command.specs.Fetch.{fetch};
+ghost use Rattle.imap_command.specs.Fetch.{fetch_form};
 
 use crate::sets::{put_set, set_of};
 use grammar::{
@@ -209,7 +209,7 @@ fn put_items(list: &FetchItems, out: &mut Bytes) -> Result<(), Memory>
 
 /// Reads what stands behind the name FETCH.
 pub fn fetch_of(alloc: Global, bytes: &[u8]) -> Result<((SetParts, FetchItems), &[u8]), ReadError>
-    ensures { Gives (λ x. (x.0, x.1.now)) result (fetch.part.at bytes.now) }
+    ensures { Gives (λ x. (x.0, x.1.now)) result (fetch_form.part.at bytes.now) }
 {
     let rest = byte_of(b' ', bytes)?;
     let (set, rest) = set_of(alloc, rest)?;
@@ -221,7 +221,7 @@ pub fn fetch_of(alloc: Global, bytes: &[u8]) -> Result<((SetParts, FetchItems), 
 /// Prints what stands behind the name FETCH.
 #[tactic(auto, using(std::proofs::lemmas::Grind::common_steps))]
 pub fn put_fetch(set: &SetParts, list: &FetchItems, out: &mut Bytes) -> Result<(), Memory>
-    ensures { OnOk result (out.new ≡ out.old ++ fetch.text (set.now, list.now)) }
+    ensures { OnOk result (out.new ≡ out.old ++ fetch_form.text (set.now, list.now)) }
 {
     out.push(b' ')?;
     put_set(set, out)?;

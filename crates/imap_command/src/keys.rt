@@ -1,10 +1,10 @@
 // Search keys (RFC 9051, 6.4.4).
 ghost use Rattle.std.specs.Prelude.{◌≡◌, ◌++◌, OnOk, codes};
 ghost use Rattle.mur_base.specs.Ascii.{space};
-ghost use Rattle.grammar.specs.Forms.{behind, one_more, list_text};
+ghost use Rattle.grammar.specs.Forms.{preceded, next_value, list_text};
 ghost use Rattle.grammar.specs.Gives.{Finds, Gives};
 ghost use Rattle.imap_command.specs.Dates.{date};
-ghost use Rattle.imap_command.specs.Keys.{keyword, size as size_form, key_text, behind_flat, flat_key, behind_key, deep_key, group, key};
+ghost use Rattle.imap_command.specs.Keys.{keyword, size_form, key_text, behind_flat, flat_key, behind_key, deep_key, group, key};
 ghost use Rattle.imap_command.specs.Keys.{more_keys, keys, separator};
 ghost use Rattle.imap_command.specs.Sets.{set as set_form};
 
@@ -23,23 +23,23 @@ use std::alloc::Global;
 pub enum FlatName {
     All,
     Answered,
+    Before,
     Deleted,
     Draft,
     Flagged,
+    Keyword,
+    Larger,
+    On,
     Seen,
+    Since,
+    Smaller,
+    Uid,
     Unanswered,
     Undeleted,
     Undraft,
     Unflagged,
-    Unseen,
-    Keyword,
     Unkeyword,
-    Larger,
-    Smaller,
-    Before,
-    On,
-    Since,
-    Uid,
+    Unseen,
 }
 
 /// The name of a key.
@@ -99,7 +99,7 @@ const KEY_ROWS: [(&[u8], KeyName); 21] = [
 ];
 
 fn spaced_keyword_of(alloc: Global, bytes: &[u8]) -> Result<(FlagName, &[u8]), ReadError>
-    ensures { Gives (λ x. (x.0, x.1.now)) result ((behind space keyword).part.at bytes.now) }
+    ensures { Gives (λ x. (x.0, x.1.now)) result ((preceded space keyword).part.at bytes.now) }
 {
     let rest = byte_of(b' ', bytes)?;
     let (keyword, rest) = lone_keyword_of(alloc, rest)?;
@@ -107,21 +107,21 @@ fn spaced_keyword_of(alloc: Global, bytes: &[u8]) -> Result<(FlagName, &[u8]), R
 }
 
 fn spaced_size_of(bytes: &[u8]) -> Result<(u64, &[u8]), Stop>
-    ensures { Finds (λ x. (x.0, x.1.now)) result ((behind space size_form).part.at bytes.now) }
+    ensures { Finds (λ x. (x.0, x.1.now)) result ((preceded space size_form).part.at bytes.now) }
 {
     let rest = byte_of(b' ', bytes)?;
     number_of(true, NUMBER64_MOST, rest)
 }
 
 fn spaced_date_of(bytes: &[u8]) -> Result<(Day, &[u8]), Stop>
-    ensures { Finds (λ x. (x.0, x.1.now)) result ((behind space date).part.at bytes.now) }
+    ensures { Finds (λ x. (x.0, x.1.now)) result ((preceded space date).part.at bytes.now) }
 {
     let rest = byte_of(b' ', bytes)?;
     date_of(rest)
 }
 
 fn spaced_set_of(alloc: Global, bytes: &[u8]) -> Result<(SetParts, &[u8]), ReadError>
-    ensures { Gives (λ x. (x.0, x.1.now)) result ((behind space set_form).part.at bytes.now) }
+    ensures { Gives (λ x. (x.0, x.1.now)) result ((preceded space set_form).part.at bytes.now) }
 {
     let rest = byte_of(b' ', bytes)?;
     set_of(alloc, rest)
@@ -305,7 +305,7 @@ fn next_key_of(
     list: Keys,
     bytes: &[u8],
 ) -> Result<(Keys, &[u8]), ReadError>
-    ensures { Gives (λ x. (x.0, x.1.now)) result ((one_more space (key depth).part list).at bytes.now) }
+    ensures { Gives (λ x. (x.0, x.1.now)) result ((next_value space (key depth).part list).at bytes.now) }
 {
     let mut list = list;
     let rest = byte_of(b' ', bytes)?;
@@ -317,7 +317,7 @@ fn next_key_of(
 /// Prints the name of a key, and a flag behind a space.
 #[tactic(auto, using(std::proofs::lemmas::Grind::common_steps))]
 fn put_keyword(name: &[u8], flag: &FlagName, out: &mut Bytes) -> Result<(), Memory>
-    ensures { OnOk result (out.new ≡ out.old ++ (name.now ++ (behind space keyword).text flag.now)) }
+    ensures { OnOk result (out.new ≡ out.old ++ (name.now ++ (preceded space keyword).text flag.now)) }
 {
     out.extend_from_slice(name)?;
     out.push(b' ')?;
@@ -326,7 +326,7 @@ fn put_keyword(name: &[u8], flag: &FlagName, out: &mut Bytes) -> Result<(), Memo
 
 #[tactic(auto, using(std::proofs::lemmas::Grind::common_steps))]
 fn put_size(name: &[u8], size: u64, out: &mut Bytes) -> Result<(), Memory>
-    ensures { OnOk result (out.new ≡ out.old ++ (name.now ++ (behind space size_form).text size)) }
+    ensures { OnOk result (out.new ≡ out.old ++ (name.now ++ (preceded space size_form).text size)) }
 {
     out.extend_from_slice(name)?;
     out.push(b' ')?;
@@ -335,7 +335,7 @@ fn put_size(name: &[u8], size: u64, out: &mut Bytes) -> Result<(), Memory>
 
 #[tactic(auto, using(std::proofs::lemmas::Grind::common_steps))]
 fn put_day(name: &[u8], day: Day, out: &mut Bytes) -> Result<(), Memory>
-    ensures { OnOk result (out.new ≡ out.old ++ (name.now ++ (behind space date).text day)) }
+    ensures { OnOk result (out.new ≡ out.old ++ (name.now ++ (preceded space date).text day)) }
 {
     out.extend_from_slice(name)?;
     out.push(b' ')?;
@@ -344,7 +344,7 @@ fn put_day(name: &[u8], day: Day, out: &mut Bytes) -> Result<(), Memory>
 
 #[tactic(auto, using(std::proofs::lemmas::Grind::common_steps))]
 fn put_uids(set: &SetParts, out: &mut Bytes) -> Result<(), Memory>
-    ensures { OnOk result (out.new ≡ out.old ++ (codes "UID" ++ (behind space set_form).text set.now)) }
+    ensures { OnOk result (out.new ≡ out.old ++ (codes "UID" ++ (preceded space set_form).text set.now)) }
 {
     out.extend_from_slice(b"UID ")?;
     put_set(set, out)

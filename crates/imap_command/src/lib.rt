@@ -17,7 +17,6 @@ mod append;
 mod arguments;
 mod authenticate;
 mod commands;
-mod date;
 mod dates;
 mod fault;
 mod flags;

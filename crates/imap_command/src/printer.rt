@@ -1,7 +1,7 @@
 // The printer of commands.
 ghost use Rattle.std.specs.Prelude.{◌≡◌, ◌++◌, OnOk, IfOk};
 ghost use Rattle.mur_base.specs.Ascii.{space};
-ghost use Rattle.grammar.specs.Forms.{behind, several};
+ghost use Rattle.grammar.specs.Forms.{preceded, several};
 ghost use Rattle.imap_command.specs.Commands.{arguments_text};
 ghost use Rattle.imap_command.specs.Sets.{set as set_form};
 ghost use Rattle.imap_text.specs.Strings.{atom};
@@ -27,7 +27,7 @@ use std::alloc::Global;
 
 #[tactic(auto, using(std::proofs::lemmas::Grind::common_steps))]
 fn put_names(names: &Atoms, out: &mut Bytes) -> Result<(), Memory>
-    ensures { OnOk result (out.new ≡ out.old ++ (behind space (several space atom)).text names.now) }
+    ensures { OnOk result (out.new ≡ out.old ++ (preceded space (several space atom)).text names.now) }
 {
     out.push(b' ')?;
     put_several(b' ', &Atom, names.as_slice(), out)
@@ -35,7 +35,7 @@ fn put_names(names: &Atoms, out: &mut Bytes) -> Result<(), Memory>
 
 #[tactic(auto, using(std::proofs::lemmas::Grind::common_steps))]
 fn put_spaced_set(set: &SetParts, out: &mut Bytes) -> Result<(), Memory>
-    ensures { OnOk result (out.new ≡ out.old ++ (behind space set_form).text set.now) }
+    ensures { OnOk result (out.new ≡ out.old ++ (preceded space set_form).text set.now) }
 {
     out.push(b' ')?;
     put_set(set, out)

@@ -1,7 +1,7 @@
 // SEARCH (RFC 9051, 6.4.4).
 ghost use Rattle.std.specs.Prelude.{◌≡◌, ◌++◌, OnOk};
 ghost use Rattle.grammar.specs.Gives.{Finds, Gives};
-ghost use Rattle.imap_command.specs.Search.{begins_return, returned, search};
+ghost use Rattle.imap_command.specs.Search.{begins_return, returned, search_form};
 
 use crate::keys::{keys_of, put_keys};
 use grammar::{AnyCase, Class, ReadError, Stop, begins, byte_of, word_of};
@@ -51,7 +51,7 @@ fn returned_of(bytes: &[u8]) -> Result<(&[u8], &[u8]), Stop>
 
 /// Reads what stands behind the name SEARCH.
 pub fn search_of(alloc: Global, bytes: &[u8]) -> Result<(Keys, &[u8]), ReadError>
-    ensures { Gives (λ x. (x.0, x.1.now)) result (search.part.at bytes.now) }
+    ensures { Gives (λ x. (x.0, x.1.now)) result (search_form.part.at bytes.now) }
 {
     let rest = byte_of(b' ', bytes)?;
     if begins(&ReturnStart, rest) {
@@ -66,7 +66,7 @@ pub fn search_of(alloc: Global, bytes: &[u8]) -> Result<(Keys, &[u8]), ReadError
 /// Prints what stands behind the name SEARCH.
 #[tactic(auto, using(std::proofs::lemmas::Grind::common_steps))]
 pub fn put_search(keys: &Keys, out: &mut Bytes) -> Result<(), Memory>
-    ensures { OnOk result (out.new ≡ out.old ++ search.text keys.now) }
+    ensures { OnOk result (out.new ≡ out.old ++ search_form.text keys.now) }
 {
     out.push(b' ')?;
     put_keys(keys.as_slice(), out)

@@ -1,7 +1,7 @@
 // STATUS (RFC 9051, 6.3.11).
 ghost use Rattle.std.specs.Prelude.{◌≡◌, ◌++◌, OnOk};
 ghost use Rattle.grammar.specs.Gives.{Gives};
-ghost use Rattle.imap_command.specs.Status.{status_items, status};
+ghost use Rattle.imap_command.specs.Status.{status_items, status_form};
 
 use grammar::{ReadError, byte_of, put_several, several_of};
 use imap_text::{StatusItemForm, astring_of, put_astring};
@@ -31,7 +31,7 @@ fn put_status_items(items: &StatusItems, out: &mut Bytes) -> Result<(), Memory>
 
 /// Reads what stands behind the name STATUS.
 pub fn status_of(alloc: Global, bytes: &[u8]) -> Result<((Bytes, StatusItems), &[u8]), ReadError>
-    ensures { Gives (λ x. (x.0, x.1.now)) result (status.part.at bytes.now) }
+    ensures { Gives (λ x. (x.0, x.1.now)) result (status_form.part.at bytes.now) }
 {
     let rest = byte_of(b' ', bytes)?;
     let (mailbox, rest) = astring_of(alloc, rest)?;
@@ -43,7 +43,7 @@ pub fn status_of(alloc: Global, bytes: &[u8]) -> Result<((Bytes, StatusItems), &
 /// Prints what stands behind the name STATUS.
 #[tactic(auto, using(std::proofs::lemmas::Grind::common_steps))]
 pub fn put_status(mailbox: &Bytes, items: &StatusItems, out: &mut Bytes) -> Result<(), Memory>
-    ensures { OnOk result (out.new ≡ out.old ++ status.text (mailbox.now, items.now)) }
+    ensures { OnOk result (out.new ≡ out.old ++ status_form.text (mailbox.now, items.now)) }
 {
     out.push(b' ')?;
     put_astring(mailbox.as_slice(), out)?;

@@ -1,7 +1,7 @@
 // STORE (RFC 9051, 6.4.6).
 ghost use Rattle.std.specs.Prelude.{◌≡◌, ◌++◌, OnOk};
 ghost use Rattle.grammar.specs.Gives.{Gives};
-ghost use Rattle.imap_command.specs.Store.{mode_text, store};
+ghost use Rattle.imap_command.specs.Store.{mode_text, store_form};
 
 use crate::flags::{put_flags, store_flags_of};
 use crate::sets::{put_set, set_of};
@@ -25,7 +25,7 @@ pub fn store_of(
     alloc: Global,
     bytes: &[u8],
 ) -> Result<((SetParts, ((Mode, bool), FlagSet)), &[u8]), ReadError>
-    ensures { Gives (λ x. (x.0, x.1.now)) result (store.part.at bytes.now) }
+    ensures { Gives (λ x. (x.0, x.1.now)) result (store_form.part.at bytes.now) }
 {
     let rest = byte_of(b' ', bytes)?;
     let (set, rest) = set_of(alloc, rest)?;
@@ -61,7 +61,7 @@ pub fn put_store(
     flags: &FlagSet,
     out: &mut Bytes,
 ) -> Result<(), Memory>
-    ensures { OnOk result (out.new ≡ out.old ++ store.text (set.now, ((mode, is_silent), flags.now))) }
+    ensures { OnOk result (out.new ≡ out.old ++ store_form.text (set.now, ((mode, is_silent), flags.now))) }
 {
     out.push(b' ')?;
     put_set(set, out)?;

@@ -93,7 +93,7 @@ pub const UID_VERBS: [(&[u8], UidVerb); 5] = [
 ];
 
 /// The words that a command begins with; of one that is left out, which is printed as it stands, they say nothing.
-#[tactic(auto, unfolding(crate::specs::Commands::printed_as, crate::specs::Commands::words_text, crate::specs::Verbs::name_text, crate::specs::Verbs::is_uid))]
+#[tactic(auto, unfolding(crate::specs::Commands::printed_as, crate::specs::Commands::words_text, crate::specs::Verbs::name_text, crate::specs::Verbs::is_uid_verb))]
 pub fn words_of(command: &Command) -> &'static [u8]
     ensures { result.now ≡ words_text command.now }
 {

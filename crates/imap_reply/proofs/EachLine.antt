@@ -25,11 +25,11 @@ use Rattle.imap_reply.specs.Capability.{capability_line}
 use Rattle.imap_reply.specs.Enabled.{enabled_line}
 use Rattle.imap_reply.specs.ExistsLine.{exists_line}
 use Rattle.imap_reply.specs.ExpungeLine.{expunge_line}
-use Rattle.imap_reply.specs.FlagsLine.{flags_text, flags_line}
+use Rattle.imap_reply.specs.FlagsLine.{flag_names_text, flags_line}
 use Rattle.imap_reply.specs.ListLine.{attribute_text, list_line}
 use Rattle.imap_reply.specs.Mailbox.{mailbox_text}
 use Rattle.imap_reply.specs.OkLines.{closed_line, new_keywords, permanent_texts, permanent_line, uid_next_line, uid_validity_line}
-use Rattle.imap_reply.specs.Spaced.{spaced}
+use Rattle.imap_reply.specs.Spaced.{spaced_text}
 use Rattle.imap_reply.specs.StatusLine.{count_text, more_counts_text, counts_text, status_line}
 use Rattle.mail_message.proofs.PlainTexts.{all_append, decimal_plain, keyword_plain}
 use Rattle.imap_reply.proofs.LineLaws.{line_of, end_fits, mailbox_state}
@@ -90,9 +90,9 @@ flags_plain : (flags : List FlagName) → All IsSoundFlag flags → All IsPlain 
 flags_plain flags sound = All-map IsPlain flag_text flags (All-weaker IsSoundFlag (λ flag. IsPlain (flag_text flag)) flag_plain flags sound)
 
 pub flags_is_line : (flags : List FlagName) → All IsSoundFlag flags → IsLine (flags_line flags)
-unfolding flags_line flags_text after_text after_byte is_digit
+unfolding flags_line flag_names_text after_text after_byte is_digit
 flags_is_line flags sound =
-    line_of (codes "* FLAGS (" ++ spaced (map flag_text flags)) (codes ")") (spaced_plain (map flag_text flags) (flags_plain flags sound)) refl (λ state. refl)
+    line_of (codes "* FLAGS (" ++ spaced_text (map flag_text flags)) (codes ")") (spaced_plain (map flag_text flags) (flags_plain flags sound)) refl (λ state. refl)
 
 permanent_plain : (flags : List FlagName) (new : Bool) → All IsSoundFlag flags → All IsPlain (permanent_texts flags new)
 unfolding permanent_texts
@@ -103,7 +103,7 @@ permanent_plain flags false sound = flags_plain flags sound
 pub permanent_is_line : (flags : List FlagName) (new : Bool) → All IsSoundFlag flags → IsLine (permanent_line flags new)
 unfolding permanent_line after_text after_byte is_digit
 permanent_is_line flags new sound =
-    line_of (codes "* OK [PERMANENTFLAGS (" ++ spaced (permanent_texts flags new)) (codes ")] flags")
+    line_of (codes "* OK [PERMANENTFLAGS (" ++ spaced_text (permanent_texts flags new)) (codes ")] flags")
     (spaced_plain (permanent_texts flags new) (permanent_plain flags new sound)) refl (λ state. refl)
 
 -- names

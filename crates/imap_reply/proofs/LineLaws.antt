@@ -9,13 +9,13 @@ use Rattle.std.proofs.lemmas.List.Elements.{All-head, All-tail}
 use Rattle.mur_base.specs.Ascii.{crlf}
 use Rattle.mur_base.specs.Number.{is_digit}
 use Rattle.imap_text.specs.Strings.{escaped_text, quoted_text, is_atom}
-use Rattle.mail_message.specs.Literals.{IsPlain, literal, is_within, IsPart}
+use Rattle.mail_message.specs.Literals.{IsPlain, server_literal, is_within, IsPart}
 use Rattle.imap_reply.specs.Lines.{Announcing, after_byte, after_text, is_announced, IsLine}
 use Rattle.imap_reply.specs.Lines.Announcing.{nothing}
 use Rattle.imap_reply.specs.Lines.IsLine.{ends, goes_on}
 use Rattle.mail_message.specs.Literals.IsPart.{plain, with_literal}
 use Rattle.imap_reply.specs.Mailbox.{mailbox_text}
-use Rattle.imap_reply.specs.Spaced.{more_spaced, spaced}
+use Rattle.imap_reply.specs.Spaced.{more_spaced, spaced_text}
 use Rattle.imap_reply.specs.SoundTexts.{is_calm, IsCalm}
 use Rattle.mail_message.proofs.PlainTexts.{all_append}
 use Rattle.imap_reply.proofs.Texts.{atom_calm}
@@ -71,7 +71,7 @@ part_fits _ line (with_literal text octets rest one counted inner) fits =
     let behind : IsLine (rest ++ line) = (part_fits rest line inner fits).before [] refl in
     record {
       before = λ front before.
-          subst IsLine (regroup front text (literal octets) rest line)
+          subst IsLine (regroup front text (server_literal octets) rest line)
           (goes_on (front ++ text) octets (rest ++ line) (all_append is_within front text before one) counted behind);
     }
   where
@@ -87,8 +87,8 @@ more_parts_fit (part ∷ parts) line all fits =
     (part_fits part (more_spaced parts ++ line) (All-head IsPart part parts all)
     (more_parts_fit parts line (All-tail IsPart part parts all) fits)))
 
-pub parts_fit : (parts : List (List ℕ)) (line : List ℕ) → All IsPart parts → Fits line → Fits (spaced parts ++ line)
-unfolding spaced
+pub parts_fit : (parts : List (List ℕ)) (line : List ℕ) → All IsPart parts → Fits line → Fits (spaced_text parts ++ line)
+unfolding spaced_text
 parts_fit [] line all fits = fits
 parts_fit (part ∷ parts) line all fits =
     subst Fits (sym (append_assoc part (more_spaced parts) line))

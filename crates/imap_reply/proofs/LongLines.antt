@@ -15,8 +15,8 @@ use Rattle.imap_reply.specs.SoundTexts.{IsSoundTag, IsCalm, is_calm}
 use Rattle.imap_reply.specs.AccessLines.{is_tab, is_create, is_delete, create_text, delete_text, rights_text, entries_text, acl_line, my_rights_line}
 use Rattle.imap_reply.specs.FetchLine.{fetch_line}
 use Rattle.imap_reply.specs.Mailbox.{mailbox_text}
-use Rattle.imap_reply.specs.SearchLine.{uid_text, all_text, search_line}
-use Rattle.imap_reply.specs.Spaced.{spaced}
+use Rattle.imap_reply.specs.SearchLine.{uid_word, all_text, search_line}
+use Rattle.imap_reply.specs.Spaced.{spaced_text}
 use Rattle.imap_text.specs.Tags.{tag_text}
 use Rattle.mail_message.proofs.PlainTexts.{all_append, one_of}
 use Rattle.imap_reply.proofs.LineLaws.{line_of, fits_of, parts_fit, end_fits, mailbox_state, after_append, after_calm}
@@ -29,8 +29,8 @@ unfolding tag_text IsSoundTag
 tag_plain Star sound = refl
 tag_plain (Text text) sound = calm_plain text (tag_calm text sound.bytes)
 
-found_calm : (by_uid : Bool) (numbers : List ℕ) → IsCalm (uid_text by_uid ++ all_text numbers)
-unfolding uid_text all_text
+found_calm : (by_uid : Bool) (numbers : List ℕ) → IsCalm (uid_word by_uid ++ all_text numbers)
+unfolding uid_word all_text
 found_calm true [] = refl
 found_calm false [] = refl
 found_calm true (number ∷ numbers) = set_calm (number ∷ numbers)
@@ -39,9 +39,9 @@ found_calm false (number ∷ numbers) = set_calm (number ∷ numbers)
 pub search_is_line : (tag : Tag) (by_uid : Bool) (numbers : List ℕ) → IsSoundTag tag → IsLine (search_line tag by_uid numbers)
 unfolding search_line after_text after_byte is_digit
 search_is_line tag by_uid numbers sound =
-    let found = uid_text by_uid ++ all_text numbers in
+    let found = uid_word by_uid ++ all_text numbers in
     let calm : IsCalm found = found_calm by_uid numbers in
-    subst IsLine (regroup (codes "* ESEARCH (TAG \"") (tag_text tag) (codes "\")") (uid_text by_uid) (all_text numbers) crlf)
+    subst IsLine (regroup (codes "* ESEARCH (TAG \"") (tag_text tag) (codes "\")") (uid_word by_uid) (all_text numbers) crlf)
     (line_of (codes "* ESEARCH (TAG \"" ++ tag_text tag) (codes "\")" ++ found) (tag_plain tag sound) (calm_plain found calm)
     (λ state. ap is_announced (after_calm found calm)))
   where
@@ -54,7 +54,7 @@ pub fetch_is_line : (number : ℕ) (parts : List (List ℕ)) → All IsPart part
 unfolding fetch_line after_text after_byte is_digit
 fetch_is_line number parts sound =
     let front = codes "* " ++ decimal number ++ codes " FETCH (" in
-    subst IsLine (sym (append_assoc front (spaced parts) (codes ")\r\n")))
+    subst IsLine (sym (append_assoc front (spaced_text parts) (codes ")\r\n")))
     ((parts_fit parts (codes ")\r\n") sound (fits_of (codes ")") refl (λ state. refl))).before front
     (all_append is_within (decimal number) (codes " FETCH (") (calm_plain (decimal number) (decimal_calm number)) refl))
 

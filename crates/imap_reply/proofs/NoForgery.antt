@@ -18,7 +18,7 @@ use Rattle.imap_types.specs.declared.reply.Verdict.{Verdict}
 use Rattle.imap_types.specs.declared.reply.Verdict.TheVariants.{Nothing, Ok as ok_reply, No as no_reply, Bad as bad_reply}
 use Rattle.imap_reply.specs.Lines.{IsLine}
 use Rattle.imap_reply.specs.SoundTexts.{IsTag, IsSoundTag, IsSoundLine, IsSoundVerdict, IsSound}
-use Rattle.imap_reply.specs.ReadAsMeant.{begins_with, untagged_lines, last_line, meant_lines, IsReadAsMeant}
+use Rattle.imap_reply.specs.ReadAsMeant.{line_begins_with, untagged_lines, last_line, meant_lines, IsReadAsMeant}
 use Rattle.imap_reply.specs.AccessLines.{acl_line, my_rights_line}
 use Rattle.imap_reply.specs.ByeLine.{bye_line}
 use Rattle.imap_reply.specs.Capability.{capability_line}
@@ -96,8 +96,8 @@ pub no_star : (c : ℕ) → is_tag_byte c ≡ true → (c == 42) ≡ false
 unfolding is_tag_byte
 no_star c h = grind (arith, nat_tests, h)
 
-star_first : (tag : Tag) (line : ReplyLine) (c : ℕ) (word : List ℕ) → (c == 42) ≡ false → begins_with (c ∷ word) (line_text tag line) ≡ false
-unfolding begins_with line_text capability_line bye_line enabled_line closed_line flags_line exists_line list_line
+star_first : (tag : Tag) (line : ReplyLine) (c : ℕ) (word : List ℕ) → (c == 42) ≡ false → line_begins_with (c ∷ word) (line_text tag line) ≡ false
+unfolding line_begins_with line_text capability_line bye_line enabled_line closed_line flags_line exists_line list_line
     permanent_line uid_next_line uid_validity_line status_line search_line expunge_line fetch_line acl_line my_rights_line
 star_first tag Capability c word h = rw h refl
 star_first tag (Bye bye) c word h = rw h refl
@@ -116,13 +116,13 @@ star_first tag (Fetch number parts) c word h = rw h refl
 star_first tag (Acl name acl) c word h = rw h refl
 star_first tag (MyRights name rights) c word h = rw h refl
 
-no_tag_first : (tag : Tag) (word : List ℕ) → IsTag word → (line : ReplyLine) → begins_with word (line_text tag line) ≡ false
+no_tag_first : (tag : Tag) (word : List ℕ) → IsTag word → (line : ReplyLine) → line_begins_with word (line_text tag line) ≡ false
 no_tag_first tag [] is_tag line = absurd (omega (arith, is_tag.some))
 no_tag_first tag (c ∷ word) is_tag line = star_first tag line c word (no_star c (and_parts (is_tag_byte c) (list_all is_tag_byte word) is_tag.bytes).0)
 
-untagged_are : (tag : Tag) (reply : Reply) (word : List ℕ) → IsTag word → All (λ line. begins_with word line ≡ false) (untagged_lines tag reply)
+untagged_are : (tag : Tag) (reply : Reply) (word : List ℕ) → IsTag word → All (λ line. line_begins_with word line ≡ false) (untagged_lines tag reply)
 untagged_are tag reply word is_tag =
-    All-map (λ line. begins_with word line ≡ false) (line_text tag) reply.lines (λ k d within. no_tag_first tag word is_tag _)
+    All-map (λ line. line_begins_with word line ≡ false) (line_text tag) reply.lines (λ k d within. no_tag_first tag word is_tag _)
 
 are_lines : (tag : Tag) (reply : Reply) → IsSound tag reply → All IsLine (meant_lines tag reply)
 are_lines tag reply sound =

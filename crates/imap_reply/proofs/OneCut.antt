@@ -11,7 +11,7 @@ use Rattle.std.proofs.lemmas.List.Folds.{list_all-append}
 use Rattle.std.proofs.lemmas.List.Elements.{All-head, All-tail}
 use Rattle.mur_base.specs.Ascii.{crlf}
 use Rattle.mur_base.specs.Number.{is_digit}
-use Rattle.mail_message.specs.Literals.{IsPlain, is_within, literal}
+use Rattle.mail_message.specs.Literals.{IsPlain, is_within, server_literal}
 use Rattle.imap_reply.specs.Lines.{IsLine, after_byte, after_text, is_announced, announces}
 use Rattle.imap_reply.specs.Lines.Announcing.{nothing, opened, sized}
 use Rattle.imap_reply.specs.Lines.IsLine.{ends, goes_on}
@@ -135,8 +135,8 @@ regroup : (text digits octets line x : List ℕ)
     → (text ++ ((codes "{" ++ digits ++ codes "}\r\n" ++ octets) ++ line)) ++ x ≡ (text ++ (123 ∷ (digits ++ 125 ∷ []))) ++ (13 ∷ 10 ∷ (octets ++ (line ++ x)))
 regroup text digits octets line x = simp append_assoc refl
 
-spread : (text octets line x : List ℕ) → (text ++ (literal octets ++ line)) ++ x ≡ announcement text octets ++ (13 ∷ 10 ∷ (octets ++ (line ++ x)))
-unfolding literal
+spread : (text octets line x : List ℕ) → (text ++ (server_literal octets ++ line)) ++ x ≡ announcement text octets ++ (13 ∷ 10 ∷ (octets ++ (line ++ x)))
+unfolding server_literal
 spread text octets line x = regroup text (decimal (length octets)) octets line x
 
 differs : (s text octets x y : List ℕ) → IsPlain s → announces s ≡ false → IsPlain text → length octets < 2 ^ 64

@@ -5,7 +5,7 @@ use Rattle.std.proofs.lemmas.Grind.{common_steps}
 use Rattle.std.proofs.lemmas.List.{append-nil}
 use Rattle.std.proofs.lemmas.Bool.Decides.{nat_tests}
 use Rattle.mur_base.specs.Ascii.{comma}
-use Rattle.imap_reply.specs.Sets.{Run, before_runs, runs_of, run_text, more_runs_text, runs_text}
+use Rattle.imap_reply.specs.Sets.{Run, before_runs, runs_of, number_run_text, more_runs_text, runs_text}
 
 abbrev pub run : ℕ → ℕ → Run
 run first last = record { first = first; last = last }
@@ -20,7 +20,7 @@ run_goes_on first last next (other ∷ runs) e = grind (arith, nat_tests, e)
 -- else it is told before the next
 pub run_ends : (first last next : ℕ) (runs : List Run) → suc last ≢ next
     → runs_text (before_runs (run first last) (before_runs (run next next) runs))
-    ≡ run_text (run first last) ++ comma ∷ runs_text (before_runs (run next next) runs)
+    ≡ number_run_text (run first last) ++ comma ∷ runs_text (before_runs (run next next) runs)
 unfolding before_runs more_runs_text runs_text
 run_ends first last next [] e = grind (arith, nat_tests, e)
 run_ends first last next (other ∷ runs) e = grind (arith, nat_tests, e)
@@ -39,12 +39,12 @@ makes out text first last numbers at = out ++ runs_text (before_runs (run first 
 
 pub next_ends : (out text : List ℕ) (first last : ℕ) (numbers : List ℕ) (at : ℕ) → at < length numbers → makes out text first last numbers at
     → suc last ≢ get_or numbers at 0
-    → makes (out ++ run_text (run first last) ++ comma ∷ []) text (get_or numbers at 0) (get_or numbers at 0) numbers (at + 1)
+    → makes (out ++ number_run_text (run first last) ++ comma ∷ []) text (get_or numbers at 0) (get_or numbers at 0) numbers (at + 1)
 next_ends out text first last numbers at below so_far apart =
     let next = get_or numbers at 0 in
     let rest = runs_of (drop (at + 1) numbers) in
-    append_assoc (out ++ run_text (run first last)) (comma ∷ []) (runs_text (before_runs (run next next) rest))
-    ∙ append_assoc out (run_text (run first last)) (comma ∷ runs_text (before_runs (run next next) rest))
+    append_assoc (out ++ number_run_text (run first last)) (comma ∷ []) (runs_text (before_runs (run next next) rest))
+    ∙ append_assoc out (number_run_text (run first last)) (comma ∷ runs_text (before_runs (run next next) rest))
     ∙ ap (λ t. out ++ t) (sym (run_ends first last next rest apart))
     ∙ ap (λ runs. out ++ runs_text (before_runs (run first last) runs)) (sym (runs_from numbers at below))
     ∙ so_far
@@ -61,9 +61,9 @@ next_goes_on out text first last numbers at below so_far together =
 
 -- behind the last number the run that has begun is the last
 pub numbers_end : (out text : List ℕ) (first last : ℕ) (numbers : List ℕ) (at : ℕ) → length numbers ≤ at → makes out text first last numbers at
-    → out ++ run_text (run first last) ≡ text
+    → out ++ number_run_text (run first last) ≡ text
 unfolding before_runs runs_of runs_text more_runs_text
 numbers_end out text first last numbers at past so_far =
     let none : drop at numbers ≡ [] = grind (arith, common_steps) in
     let P : List ℕ → Type 0 = λ left. out ++ runs_text (before_runs (run first last) (runs_of left)) ≡ text in
-    ap (λ t. out ++ t) (sym (append-nil (run_text (run first last)))) ∙ subst P none so_far
+    ap (λ t. out ++ t) (sym (append-nil (number_run_text (run first last)))) ∙ subst P none so_far

@@ -7,14 +7,15 @@ use Rattle.std.proofs.lemmas.Bool.{and_parts}
 use Rattle.std.proofs.lemmas.Bool.Decides.{nat_tests}
 use Rattle.std.proofs.lemmas.List.Elements.{All-head, All-tail}
 use Rattle.mur_base.specs.Number.{is_digit}
-use Rattle.imap_text.specs.Characters.{is_astring_char, is_atom_char, is_tag_byte, is_quoted_special}
+use Rattle.grammar.specs.Quoted.{is_quoted_special}
+use Rattle.imap_text.specs.Characters.{is_astring_char, is_atom_char, is_tag_byte}
 use Rattle.imap_text.specs.Strings.{escaped, escaped_text, quoted_text, is_atom}
 use Rattle.mail_message.specs.Literals.{is_within, IsPlain}
 use Rattle.mail_message.proofs.PlainTexts.{all_append, all_weaker, one_of, decimal_digits}
 use Rattle.imap_reply.specs.Mailbox.{mailbox_text}
-use Rattle.imap_reply.specs.Sets.{Run, runs_of, run_text, more_runs_text, runs_text, set_text}
+use Rattle.imap_reply.specs.Sets.{Run, runs_of, number_run_text, more_runs_text, runs_text, set_text}
 use Rattle.imap_reply.specs.SoundTexts.{is_calm, IsCalm}
-use Rattle.imap_reply.specs.Spaced.{more_spaced, spaced}
+use Rattle.imap_reply.specs.Spaced.{more_spaced, spaced_text}
 
 pub calm_plain : (text : List ℕ) → IsCalm text → IsPlain text
 calm_plain text calm = all_weaker is_calm is_within (λ c h. (and_parts (is_within c) _ h).0) text calm
@@ -30,8 +31,8 @@ decimal_calm n = all_weaker is_digit is_calm digit_calm (decimal n) (decimal_dig
 
 -- sets of numbers
 
-run_calm : (run : Run) → IsCalm (run_text run)
-unfolding run_text
+run_calm : (run : Run) → IsCalm (number_run_text run)
+unfolding number_run_text
 run_calm run =
     one_of is_calm (run.first == run.last) (decimal run.first) (decimal run.first ++ 58 ∷ decimal run.last) (decimal_calm run.first)
     (all_append is_calm (decimal run.first) (58 ∷ decimal run.last) (decimal_calm run.first) (decimal_calm run.last))
@@ -39,12 +40,12 @@ run_calm run =
 more_runs_calm : (runs : List Run) → IsCalm (more_runs_text runs)
 unfolding more_runs_text
 more_runs_calm [] = refl
-more_runs_calm (run ∷ runs) = all_append is_calm (run_text run) (more_runs_text runs) (run_calm run) (more_runs_calm runs)
+more_runs_calm (run ∷ runs) = all_append is_calm (number_run_text run) (more_runs_text runs) (run_calm run) (more_runs_calm runs)
 
 runs_calm : (runs : List Run) → IsCalm (runs_text runs)
 unfolding runs_text
 runs_calm [] = refl
-runs_calm (run ∷ runs) = all_append is_calm (run_text run) (more_runs_text runs) (run_calm run) (more_runs_calm runs)
+runs_calm (run ∷ runs) = all_append is_calm (number_run_text run) (more_runs_text runs) (run_calm run) (more_runs_calm runs)
 
 pub set_calm : (numbers : List ℕ) → IsCalm (set_text numbers)
 unfolding set_text
@@ -58,8 +59,8 @@ more_spaced_plain [] all = refl
 more_spaced_plain (text ∷ texts) all =
     all_append is_within text (more_spaced texts) (All-head IsPlain text texts all) (more_spaced_plain texts (All-tail IsPlain text texts all))
 
-pub spaced_plain : (texts : List (List ℕ)) → All IsPlain texts → IsPlain (spaced texts)
-unfolding spaced
+pub spaced_plain : (texts : List (List ℕ)) → All IsPlain texts → IsPlain (spaced_text texts)
+unfolding spaced_text
 spaced_plain [] all = refl
 spaced_plain (text ∷ texts) all =
     all_append is_within text (more_spaced texts) (All-head IsPlain text texts all) (more_spaced_plain texts (All-tail IsPlain text texts all))

@@ -12,17 +12,17 @@ use Rattle.imap_types.specs.declared.reply.NoText.TheVariants.{AuthenticationFai
 use Rattle.imap_types.specs.declared.reply.NoText.TheVariants.{BeingMoved, NotReached}
 use Rattle.imap_types.specs.declared.reply.Verdict.{Verdict}
 use Rattle.imap_types.specs.declared.reply.Verdict.TheVariants.{Nothing, Ok as ok_reply, No as no_reply, Bad as bad_reply}
-use Rattle.imap_reply.specs.ReadAsMeant.{begins_with, last_line}
+use Rattle.imap_reply.specs.ReadAsMeant.{line_begins_with, last_line}
 use Rattle.imap_reply.specs.TaggedLine.{tagged_line, under, ok_text, no_text, bad_text}
 use Rattle.imap_text.specs.Tags.{tag_text}
-use Rattle.imap_reply.specs.VerdictBegins.{code_of, verdict_begins}
+use Rattle.imap_reply.specs.VerdictBegins.{refusal_code, verdict_begins}
 
 -- what stands behind the tag, with the end of the line
 abbrev behind_tag : List ℕ → List ℕ
 behind_tag text = text ++ codes "\r\n"
 
-behind_front : (front first text : List ℕ) → begins_with first text ≡ true → begins_with (front ++ first) (front ++ text) ≡ true
-unfolding begins_with
+behind_front : (front first text : List ℕ) → line_begins_with first text ≡ true → line_begins_with (front ++ first) (front ++ text) ≡ true
+unfolding line_begins_with
 behind_front [] first text h = h
 behind_front (c ∷ front) first text h = grind (arith, nat_tests, behind_front front first text h)
 
@@ -33,21 +33,21 @@ under_parts tag text = append_assoc (tag_text tag ++ codes " ") text (codes "\r\
 -- it begins so
 
 abbrev Begins : Tag → List ℕ → List ℕ → Type 0
-Begins tag first line = begins_with (tag_text tag ++ codes " " ++ first) line ≡ true
+Begins tag first line = line_begins_with (tag_text tag ++ codes " " ++ first) line ≡ true
 
-under_begins : (tag : Tag) (first text : List ℕ) → begins_with first (behind_tag text) ≡ true → Begins tag first (under tag text)
+under_begins : (tag : Tag) (first text : List ℕ) → line_begins_with first (behind_tag text) ≡ true → Begins tag first (under tag text)
 under_begins tag first text h =
-    ap (begins_with (tag_text tag ++ codes " " ++ first)) (under_parts tag text) ∙ behind_front (tag_text tag ++ codes " ") first (behind_tag text) h
+    ap (line_begins_with (tag_text tag ++ codes " " ++ first)) (under_parts tag text) ∙ behind_front (tag_text tag ++ codes " ") first (behind_tag text) h
 
-one_begins : (tag : Tag) (first text : List ℕ) → begins_with first (behind_tag text) ≡ true → All (Begins tag first) (under tag text ∷ [])
+one_begins : (tag : Tag) (first text : List ℕ) → line_begins_with first (behind_tag text) ≡ true → All (Begins tag first) (under tag text ∷ [])
 one_begins tag first text h = All-cons (Begins tag first) (under tag text) [] (under_begins tag first text h) (All-nil (Begins tag first))
 
-ok_begins : (code : Code) (name : List ℕ) → begins_with (codes "OK ") (behind_tag (ok_text code name)) ≡ true
-unfolding begins_with ok_text
+ok_begins : (code : Code) (name : List ℕ) → line_begins_with (codes "OK ") (behind_tag (ok_text code name)) ≡ true
+unfolding line_begins_with ok_text
 ok_begins code name = refl
 
-no_begins : (why : NoText) → begins_with (codes "NO " ++ code_of why) (behind_tag (codes "NO " ++ no_text why)) ≡ true
-unfolding begins_with code_of no_text
+no_begins : (why : NoText) → line_begins_with (codes "NO " ++ refusal_code why) (behind_tag (codes "NO " ++ no_text why)) ≡ true
+unfolding line_begins_with refusal_code no_text
 no_begins AuthenticationFailed = refl
 no_begins AlreadyExists = refl
 no_begins NonExistent = refl
@@ -58,15 +58,15 @@ no_begins Limit = refl
 no_begins BeingMoved = refl
 no_begins NotReached = refl
 
-bad_begins : (why : BadText) → begins_with (codes "BAD ") (behind_tag (codes "BAD " ++ bad_text why)) ≡ true
-unfolding begins_with
+bad_begins : (why : BadText) → line_begins_with (codes "BAD ") (behind_tag (codes "BAD " ++ bad_text why)) ≡ true
+unfolding line_begins_with
 bad_begins why = refl
 
 pub last_begins : (tag : Tag) (verdict : Verdict) → All (Begins tag (verdict_begins verdict)) (last_line tag verdict)
 unfolding last_line tagged_line verdict_begins
 last_begins tag Nothing = All-nil (Begins tag [])
 last_begins tag (ok_reply code name) = one_begins tag (codes "OK ") (ok_text code name) (ok_begins code name)
-last_begins tag (no_reply why) = one_begins tag (codes "NO " ++ code_of why) (codes "NO " ++ no_text why) (no_begins why)
+last_begins tag (no_reply why) = one_begins tag (codes "NO " ++ refusal_code why) (codes "NO " ++ no_text why) (no_begins why)
 last_begins tag (bad_reply why) = one_begins tag (codes "BAD ") (codes "BAD " ++ bad_text why) (bad_begins why)
 
 -- which refusals a text behind the tag tells
@@ -76,10 +76,10 @@ every =
     AuthenticationFailed ∷ AlreadyExists ∷ NonExistent ∷ TryCreate ∷ NoPerm ∷ Cannot ∷ Limit ∷ BeingMoved ∷ NotReached ∷ []
 
 abbrev refusals_in : List ℕ → List NoText
-refusals_in text = filter (λ why. begins_with (codes "NO " ++ code_of why) text) every
+refusals_in text = filter (λ why. line_begins_with (codes "NO " ++ refusal_code why) text) every
 
 of_no : (why : NoText) → refusals_in (behind_tag (codes "NO " ++ no_text why)) ≡ why ∷ []
-unfolding begins_with code_of no_text every
+unfolding line_begins_with refusal_code no_text every
 of_no AuthenticationFailed = refl
 of_no AlreadyExists = refl
 of_no NonExistent = refl
@@ -91,11 +91,11 @@ of_no BeingMoved = refl
 of_no NotReached = refl
 
 of_ok : (code : Code) (name : List ℕ) → refusals_in (behind_tag (ok_text code name)) ≡ []
-unfolding begins_with code_of ok_text every
+unfolding line_begins_with refusal_code ok_text every
 of_ok code name = refl
 
 of_bad : (why : BadText) → refusals_in (behind_tag (codes "BAD " ++ bad_text why)) ≡ []
-unfolding begins_with code_of every
+unfolding line_begins_with refusal_code every
 of_bad why = refl
 
 -- a line that two texts make tells the same refusals by both

@@ -3,7 +3,7 @@
 use Rattle.std.specs.Prelude.{◌≡◌, ℕ, ◌<◌, ◌^◌, Bool, true, false, ◌==◌, if◌then◌else◌, List, [], ◌∷◌, ◌++◌, length}
 use Rattle.mur_base.specs.Ascii.{plus, open_brace, close_brace, crlf}
 use Rattle.mur_base.specs.Number.{is_digit}
-use Rattle.mail_message.specs.Literals.{IsPlain, literal}
+use Rattle.mail_message.specs.Literals.{IsPlain, server_literal}
 
 -- how far the end of a text has come to announce a literal: "{" number64 ["+"] "}"
 pub data Announcing : Type 0 where
@@ -50,4 +50,4 @@ announces text = is_announced (after_text nothing text)
 -- one line
 pub data IsLine : List ℕ → Type 0 where
   ends : (text : List ℕ) → IsPlain text → announces text ≡ false → IsLine (text ++ crlf)
-  goes_on : (text octets line : List ℕ) → IsPlain text → length octets < 2 ^ 64 → IsLine line → IsLine (text ++ (literal octets ++ line))
+  goes_on : (text octets line : List ℕ) → IsPlain text → length octets < 2 ^ 64 → IsLine line → IsLine (text ++ (server_literal octets ++ line))

@@ -12,10 +12,10 @@ use Rattle.imap_reply.specs.TaggedLine.{tagged_line}
 use Rattle.imap_text.specs.Tags.{tag_text}
 use Rattle.imap_reply.specs.VerdictBegins.{verdict_begins}
 
-unfoldable pub begins_with : List ℕ → List ℕ → Bool
-begins_with [] text = true
-begins_with (c ∷ front) [] = false
-begins_with (c ∷ front) (d ∷ text) = c == d && begins_with front text
+unfoldable pub line_begins_with : List ℕ → List ℕ → Bool
+line_begins_with [] text = true
+line_begins_with (c ∷ front) [] = false
+line_begins_with (c ∷ front) (d ∷ text) = c == d && line_begins_with front text
 
 -- the untagged lines that are meant
 abbrev pub untagged_lines : Tag → Reply → List (List ℕ)
@@ -34,7 +34,7 @@ meant_lines tag reply = untagged_lines tag reply ++ last_line tag reply.verdict
 pub record IsReadAsMeant (tag : Tag) (reply : Reply) : Type 0 where
   pub read : IsReadAs (reply_text tag reply) (meant_lines tag reply)
   -- no untagged line begins with a tag, and the tagged one with its own and its verdict
-  pub untagged : (word : List ℕ) → IsTag word → All (λ line. begins_with word line ≡ false) (untagged_lines tag reply)
-  pub tagged : All (λ line. begins_with (tag_text tag ++ codes " " ++ verdict_begins reply.verdict) line ≡ true) (last_line tag reply.verdict)
+  pub untagged : (word : List ℕ) → IsTag word → All (λ line. line_begins_with word line ≡ false) (untagged_lines tag reply)
+  pub tagged : All (λ line. line_begins_with (tag_text tag ++ codes " " ++ verdict_begins reply.verdict) line ≡ true) (last_line tag reply.verdict)
   -- of a refusal it tells which: no other verdict has its line
   pub refusal : (why : NoText) → last_line tag reply.verdict ≡ last_line tag (no_reply why) → reply.verdict ≡ no_reply why

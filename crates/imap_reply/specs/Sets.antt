@@ -20,18 +20,18 @@ runs_of [] = []
 runs_of (number ∷ numbers) = before_runs (record { first = number; last = number }) (runs_of numbers)
 
 -- seq-number, or seq-range
-unfoldable pub run_text : Run → List ℕ
-run_text run = if run.first == run.last then decimal run.first else decimal run.first ++ colon ∷ decimal run.last
+unfoldable pub number_run_text : Run → List ℕ
+number_run_text run = if run.first == run.last then decimal run.first else decimal run.first ++ colon ∷ decimal run.last
 
 -- a comma before each
 unfoldable pub more_runs_text : List Run → List ℕ
 more_runs_text [] = []
-more_runs_text (run ∷ runs) = comma ∷ (run_text run ++ more_runs_text runs)
+more_runs_text (run ∷ runs) = comma ∷ (number_run_text run ++ more_runs_text runs)
 
 -- a comma between each two
 unfoldable pub runs_text : List Run → List ℕ
 runs_text [] = []
-runs_text (run ∷ runs) = run_text run ++ more_runs_text runs
+runs_text (run ∷ runs) = number_run_text run ++ more_runs_text runs
 
 unfoldable pub set_text : List ℕ → List ℕ
 set_text numbers = runs_text (runs_of numbers)

@@ -7,6 +7,6 @@ unfoldable pub more_spaced : List (List ℕ) → List ℕ
 more_spaced [] = []
 more_spaced (text ∷ texts) = space ∷ (text ++ more_spaced texts)
 
-unfoldable pub spaced : List (List ℕ) → List ℕ
-spaced [] = []
-spaced (text ∷ texts) = text ++ more_spaced texts
+unfoldable pub spaced_text : List (List ℕ) → List ℕ
+spaced_text [] = []
+spaced_text (text ∷ texts) = text ++ more_spaced texts

@@ -7,19 +7,19 @@ use Rattle.imap_types.specs.declared.reply.NoText.TheVariants.{AuthenticationFai
 use Rattle.imap_types.specs.declared.reply.NoText.TheVariants.{BeingMoved, NotReached}
 
 -- the last two have one code, so their text behind it tells which
-unfoldable pub code_of : NoText → List ℕ
-code_of AuthenticationFailed = codes "[AUTHENTICATIONFAILED] "
-code_of AlreadyExists = codes "[ALREADYEXISTS] "
-code_of NonExistent = codes "[NONEXISTENT] "
-code_of TryCreate = codes "[TRYCREATE] "
-code_of NoPerm = codes "[NOPERM] "
-code_of Cannot = codes "[CANNOT] "
-code_of Limit = codes "[LIMIT] "
-code_of BeingMoved = codes "[UNAVAILABLE] mailbox is being moved\r\n"
-code_of NotReached = codes "[UNAVAILABLE] server not reached\r\n"
+unfoldable pub refusal_code : NoText → List ℕ
+refusal_code AuthenticationFailed = codes "[AUTHENTICATIONFAILED] "
+refusal_code AlreadyExists = codes "[ALREADYEXISTS] "
+refusal_code NonExistent = codes "[NONEXISTENT] "
+refusal_code TryCreate = codes "[TRYCREATE] "
+refusal_code NoPerm = codes "[NOPERM] "
+refusal_code Cannot = codes "[CANNOT] "
+refusal_code Limit = codes "[LIMIT] "
+refusal_code BeingMoved = codes "[UNAVAILABLE] mailbox is being moved\r\n"
+refusal_code NotReached = codes "[UNAVAILABLE] server not reached\r\n"
 
 unfoldable pub verdict_begins : Verdict → List ℕ
 verdict_begins Nothing = []
 verdict_begins (ok_reply code name) = codes "OK "
-verdict_begins (no_reply why) = codes "NO " ++ code_of why
+verdict_begins (no_reply why) = codes "NO " ++ refusal_code why
 verdict_begins (bad_reply why) = codes "BAD "

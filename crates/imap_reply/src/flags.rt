@@ -1,7 +1,7 @@
 // The flags of a mailbox (RFC 9051, 7.3.5).
 ghost use Rattle.std.specs.Prelude.{◌≡◌, ◌++◌, map, OnOk};
 ghost use Rattle.imap_reply.specs.Spaced.{more_spaced};
-ghost use Rattle.imap_reply.specs.FlagsLine.{flags_text, flags_line};
+ghost use Rattle.imap_reply.specs.FlagsLine.{flag_names_text, flags_line};
 ghost use Rattle.imap_text.specs.FlagNames.{flag_text};
 
 use imap_text::put_flag;
@@ -19,9 +19,9 @@ pub fn put_flags_line(flags: &[FlagName], out: &mut Bytes) -> Result<(), Memory>
 }
 
 /// Writes flags with a space between each two.
-#[tactic(auto, using(std::proofs::lemmas::Grind::common_steps), unfolding(crate::specs::FlagsLine::flags_text, crate::specs::Spaced::spaced))]
+#[tactic(auto, using(std::proofs::lemmas::Grind::common_steps), unfolding(crate::specs::FlagsLine::flag_names_text, crate::specs::Spaced::spaced_text))]
 pub fn put_flags(flags: &[FlagName], out: &mut Bytes) -> Result<(), Memory>
-    ensures { OnOk result (out.new ≡ out.old ++ flags_text flags.now) }
+    ensures { OnOk result (out.new ≡ out.old ++ flag_names_text flags.now) }
 {
     match flags {
         [] => Ok(()),

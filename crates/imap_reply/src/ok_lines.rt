@@ -1,6 +1,6 @@
 // Untagged lines OK about the mailbox that is selected (RFC 9051, 7.1 and 7.1.1).
 ghost use Rattle.std.specs.Prelude.{◌≡◌, [], ◌∷◌, ◌++◌, map, OnOk};
-ghost use Rattle.imap_reply.specs.Spaced.{spaced};
+ghost use Rattle.imap_reply.specs.Spaced.{spaced_text};
 ghost use Rattle.imap_text.specs.FlagNames.{flag_text};
 ghost use Rattle.imap_reply.specs.OkLines.{closed_line, new_keywords, permanent_texts, permanent_line, uid_next_line, uid_validity_line};
 
@@ -28,9 +28,9 @@ pub fn put_permanent(flags: &[FlagName], new: bool, out: &mut Bytes) -> Result<(
     out.extend_from_slice(b")] flags\r\n")
 }
 
-#[tactic(auto, unfolding(crate::specs::OkLines::permanent_texts, crate::specs::FlagsLine::flags_text))]
+#[tactic(auto, unfolding(crate::specs::OkLines::permanent_texts, crate::specs::FlagsLine::flag_names_text))]
 fn put_permanent_flags(flags: &[FlagName], new: bool, out: &mut Bytes) -> Result<(), Memory>
-    ensures { OnOk result (out.new ≡ out.old ++ spaced (permanent_texts flags.now new)) }
+    ensures { OnOk result (out.new ≡ out.old ++ spaced_text (permanent_texts flags.now new)) }
 {
     if new {
         put_flags_and_new(flags, out)
@@ -41,7 +41,7 @@ fn put_permanent_flags(flags: &[FlagName], new: bool, out: &mut Bytes) -> Result
 
 /// Writes flags with a space between each two, and `\*` as the last of them.
 fn put_flags_and_new(flags: &[FlagName], out: &mut Bytes) -> Result<(), Memory>
-    ensures { OnOk result (out.new ≡ out.old ++ spaced (map flag_text flags.now ++ new_keywords ∷ [])) }
+    ensures { OnOk result (out.new ≡ out.old ++ spaced_text (map flag_text flags.now ++ new_keywords ∷ [])) }
 {
     match flags {
         [] => out.extend_from_slice(b"\\*"),

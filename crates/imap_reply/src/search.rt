@@ -1,6 +1,6 @@
 // What a SEARCH found (RFC 9051, 7.3.4).
 ghost use Rattle.std.specs.Prelude.{◌≡◌, ◌++◌, OnOk};
-ghost use Rattle.imap_reply.specs.SearchLine.{uid_text, all_text, search_line};
+ghost use Rattle.imap_reply.specs.SearchLine.{uid_word, all_text, search_line};
 
 use crate::sets::put_set;
 use imap_text::put_tag;
@@ -20,9 +20,9 @@ pub fn put_search(tag: &Tag, by_uid: bool, numbers: &[u32], out: &mut Bytes) -> 
     out.extend_from_slice(b"\r\n")
 }
 
-#[tactic(auto, unfolding(crate::specs::SearchLine::uid_text))]
+#[tactic(auto, unfolding(crate::specs::SearchLine::uid_word))]
 fn uid_text(by_uid: bool) -> &'static [u8]
-    ensures { result.now ≡ uid_text by_uid }
+    ensures { result.now ≡ uid_word by_uid }
 {
     if by_uid { b" UID" } else { b"" }
 }

@@ -1,6 +1,6 @@
 // Numbers as a set (RFC 9051, 9: sequence-set).
 ghost use Rattle.std.specs.Prelude.{◌≡◌, suc, ◌∷◌, ◌++◌, IsTrue, ◌↔◌, OnOk};
-ghost use Rattle.imap_reply.specs.Sets.{run_text, set_text};
+ghost use Rattle.imap_reply.specs.Sets.{number_run_text, set_text};
 
 use mur_base::{Bytes, Memory, put_number};
 
@@ -40,9 +40,9 @@ fn goes_on(last: u32, next: u32) -> bool
 }
 
 /// Writes the numbers from the first to the last.
-#[tactic(auto, using(std::proofs::lemmas::Grind::common_steps), unfolding(crate::specs::Sets::run_text))]
+#[tactic(auto, using(std::proofs::lemmas::Grind::common_steps), unfolding(crate::specs::Sets::number_run_text))]
 fn put_run(first: u32, last: u32, out: &mut Bytes) -> Result<(), Memory>
-    ensures { OnOk result (out.new ≡ out.old ++ run_text (record { first = first; last = last })) }
+    ensures { OnOk result (out.new ≡ out.old ++ number_run_text (record { first = first; last = last })) }
 {
     put_number(u64::from(first), out)?;
     if first == last {

@@ -16,13 +16,10 @@ use Rattle.mail_store.specs.declared.fault.StoreFault.{StoreFault}
 use Rattle.imap_types.specs.declared.command.Command.{Command}
 use Rattle.imap_types.specs.declared.command.StatusItem.{StatusItem}
 use Rattle.mur_model.specs.declared.fetch.Fetching.{Fetching}
-use Rattle.mur_model.specs.declared.need.Need.{Need}
-use Rattle.mur_model.specs.declared.need.Need.TheVariants.{Refusal, Turned, Mailbox}
-use Rattle.mur_model.specs.declared.need.NewsFor.{NewsFor}
-use Rattle.mur_model.specs.declared.need.ViewWork.{ViewWork}
-use Rattle.mur_model.specs.declared.need.ViewWork.TheVariants as view_work
-use Rattle.mur_model.specs.declared.need.Work.{Work}
-use Rattle.mur_model.specs.declared.need.Work.TheVariants.{Make, Append as append_work, Status as status_work, Select as select_work, Viewed as viewed_work}
+use Rattle.mur_model.specs.Needed.{Needed, Refusal, Turned, Mailbox, Work, Make, Append as append_work, Status as status_work, Select as select_work, Viewed as viewed_work}
+use Rattle.mur_model.specs.declared.work.NewsFor.{NewsFor}
+use Rattle.mur_model.specs.declared.work.ViewWork.{ViewWork}
+use Rattle.mur_model.specs.declared.work.ViewWork.TheVariants as view_work
 use Rattle.mur_model.specs.declared.news.Told.{Told}
 use Rattle.imap_types.specs.declared.reply.NoText.{NoText}
 use Rattle.imap_types.specs.declared.reply.NoText.TheVariants.{NonExistent}
@@ -60,7 +57,7 @@ use Rattle.mur_model.specs.Status.{status_on, status_reply}
 use Rattle.mur_model.specs.Store.{box_at, is_spent}
 use Rattle.mur_model.specs.StoreFlags.{stored_at, store_told, store_refused, own_lines}
 use Rattle.mur_model.specs.Viewing.{found_gone, viewed_on, work_there}
-use Rattle.mur_model.proofs.EachNeed.{OfAnswers, OfNeeds, each_need}
+use Rattle.mur_model.proofs.EachNeed.{OfAnswers, OfWorks, each_by_works, of_refusals}
 use Rattle.imap_talk.specs.SessionEnds.{has_ended, ends_session, TurnEnds}
 use Rattle.imap_talk.specs.Transcript.{is_bye, ends}
 use Rattle.imap_talk.proofs.TurnLines.{OfLines, each_news, each_own, each_fetch}
@@ -224,42 +221,26 @@ worked_ends store name work serial = work_ends name work serial (is_spent store.
 -- what a command needs
 
 -- what comes of a command at once
-abbrev pub NeedEnds : Need → Type 0
+abbrev pub NeedEnds : Needed → Type 0
 NeedEnds (Turned turn) = TurnEnds turn
 NeedEnds need = ⊤
 
 answers_end : OfAnswers NeedEnds
 unfolding is_bye ends
-answers_end = record {
-  refused = λ why. tt;
-  bad = λ why. tt;
-  completed = λ name plain. refl;
-  begun = λ name user plain. refl;
-  capability = refl;
-  logout = refl;
-}
+answers_end = of_refusals (λ verdict. tt) (λ name plain. refl) (λ name user plain. refl) refl refl
 
-needs_end : (setting : Setting) → OfNeeds setting IsAny NeedEnds
+works_end : OfWorks NeedEnds
 unfolding is_bye ends
-needs_end setting = record {
+works_end = record {
   answers = answers_end;
   enable = refl;
   unselected = unselected_ends;
   left = λ view name plain. left_ends view name;
-  make = λ name. tt;
-  append = λ name text flags date body asked. tt;
-  status = λ user name items named. tt;
-  select = λ user name is_writable was_selected named. tt;
-  news = λ view why. tt;
-  close = λ view. tt;
-  expunge = λ view only. tt;
-  store = λ view by_uid set mode is_silent flags asked. tt;
-  fetch = λ view it. tt;
-  search = λ view it. tt;
+  work = λ name it. tt;
 }
 
 pub need_ends : (setting : Setting) (session : Sess) (it : Command) → NeedEnds (need_of setting session it)
-need_ends setting session it = each_need (needs_end setting) session it tt
+need_ends setting session it = each_by_works setting works_end session it
 
 pub turned_ends : (setting : Setting) (session : Sess) (it : Command) (turn : Turn) → need_of setting session it ≡ Turned turn → TurnEnds turn
 turned_ends setting session it turn is = subst NeedEnds is (need_ends setting session it)
@@ -270,21 +251,3 @@ turned_ends setting session it turn is = subst NeedEnds is (need_ends setting se
 pub ended_by : (session : Sess) (later : Option Sess) → has_ended session ≡ false → has_ended (session_after session later) ≡ ends_session later
 ended_by session None goes_on = goes_on
 ended_by session (Some later) goes_on = refl
-
-pub act_ends : (store : Store) (session : Sess) (serial : ℕ) (need : Need) → has_ended session ≡ false → NeedEnds need
-    → ends (act_by store session serial need).reply ≡ has_ended (act_by store session serial need).session
-unfolding act_by ends
-act_ends store session serial (Refusal verdict) goes_on is = sym goes_on
-act_ends store session serial (Turned turn) goes_on is = is ∙ sym (ended_by session turn.session goes_on)
-act_ends store session serial (Mailbox name work) goes_on is =
-    let turn = (worked_at store name work serial).turn in
-    worked_ends store name work serial ∙ sym (ended_by session turn.session goes_on)
-
--- of a session that hasn't ended an answer ends the connection exactly where the session behind it has ended
-pub answer_ends : (setting : Setting) (store : Store) (session : Sess) (request : Request) (serial : ℕ) → has_ended session ≡ false
-    → ends (answer_of setting store session request serial).answer.reply ≡ has_ended (answer_of setting store session request serial).session
-unfolding answer_of act_of ends
-answer_ends setting store session (a_command tag it) serial goes_on =
-    act_ends store session serial (need_of setting session it) goes_on (need_ends setting session it)
-answer_ends setting store session (unknown tag) serial goes_on = sym goes_on
-answer_ends setting store session (too_big tag) serial goes_on = sym goes_on

@@ -9,7 +9,7 @@ use Rattle.imap_talk.specs.declared.inputs.Before.TheVariants.{Hears, Waits}
 use Rattle.imap_talk.specs.declared.inputs.Given.{Given}
 use Rattle.imap_talk.specs.declared.inputs.Input.{Input}
 use Rattle.imap_talk.specs.declared.inputs.Input.TheVariants.{GoesOn, Asks, Faults}
-use Rattle.imap_talk.specs.Inputs.{at_first, before_next, command_by, input_at, inputs_from, inputs_of, line_at, request_at, requests_in, too_big_at, whole_at}
+use Rattle.imap_talk.specs.Inputs.{at_first, before_next, command_by, input_at, inputs_from, inputs_of, line_at, request_at, requests_in, too_big_at, whole_given}
 use Rattle.imap_talk.specs.Transcript.{stop_told, replies_to}
 use Rattle.imap_talk.specs.Transcript.Stop.{silent}
 use Rattle.imap_talk.proofs.TranscriptGrows.{AreAnswered, unanswered_told}
@@ -69,7 +69,7 @@ module _ (setting : Setting) (frames : List Frame) (requests : List Request) whe
 
   frame_more : (before : Before) (frame : Frame) → AskFor setting frames requests before
       → AsksMore setting frames requests frame (input_at setting before frame)
-  unfolding input_at whole_at too_big_at line_at asked_by request_at behind_request too_big_request
+  unfolding input_at whole_given too_big_at line_at asked_by request_at behind_request too_big_request
   frame_more (Hears begun) (Whole bytes) asked = request_more begun bytes (request_of bytes) asked (request_is bytes)
   frame_more (Waits tag wait) (Whole bytes) asked = a_line frames requests bytes tag wait asked
   frame_more (Hears begun) (TooBig bytes) asked = a_big_one frames requests begun bytes (too_big_request bytes) asked (too_big_is bytes)

@@ -5,9 +5,7 @@ use Rattle.std.specs.Prelude.{IfSome, unwrap_or}
 use Rattle.std.proofs.lemmas.List.Elements.{All-nil, All-cons}
 use Rattle.mail_message.specs.Literals.{IsPlain}
 use Rattle.imap_types.specs.declared.command.Command.{Command}
-use Rattle.mur_model.specs.declared.need.Need.{Need}
-use Rattle.mur_model.specs.declared.need.Need.TheVariants.{Refusal, Turned, Mailbox}
-use Rattle.mur_model.specs.declared.need.Work.{Work}
+use Rattle.mur_model.specs.Needed.{Needed, Refusal, Turned, Mailbox, Work}
 use Rattle.imap_types.specs.declared.reply.Bye.TheVariants.{Logout as logout_bye}
 use Rattle.imap_types.specs.declared.reply.Reply.{Reply}
 use Rattle.imap_types.specs.declared.reply.ReplyLine.{ReplyLine}
@@ -17,12 +15,13 @@ use Rattle.imap_types.specs.declared.request.Request.TheVariants.{Command as a_c
 use Rattle.mur_model.specs.declared.session.Sess.{Sess}
 use Rattle.mur_model.specs.declared.setting.Setting.{Setting}
 use Rattle.mur_model.specs.declared.store.Store.{Store}
+use Rattle.mur_model.specs.declared.view.View.{View}
 use Rattle.mur_model.specs.Act.{act_by, act_of, worked_at, need_of}
 use Rattle.mur_model.specs.Answer.{answer_of}
 use Rattle.mur_model.specs.AtOnce.{told_at_once}
 use Rattle.mur_model.specs.History.{Course}
 use Rattle.mur_model.specs.Store.{box_at, is_spent}
-use Rattle.mur_model.proofs.EachNeed.{OfAnswers, OfNeeds, each_need}
+use Rattle.mur_model.proofs.EachNeed.{OfAnswers, OfBegun, OfViewed, each_need}
 use Rattle.mur_model.proofs.EachAnswer.{Keeps}
 use Rattle.imap_command.specs.Ruled.{IsDate, IsRuled}
 use Rattle.imap_talk.specs.SoundRequests.{IsSoundRequest, IsSoundStore}
@@ -36,7 +35,7 @@ use Rattle.imap_talk.proofs.SoundWorks.{SoundReply, SoundWork, SoundWorked, left
 use Rattle.imap_reply.specs.ReadAsMeant.{IsReadAsMeant}
 use Rattle.imap_types.specs.declared.command.Tag.{Tag}
 
-abbrev SoundNeed : Need → Type 0
+abbrev SoundNeed : Needed → Type 0
 SoundNeed (Refusal verdict) = IsSoundVerdict verdict
 SoundNeed (Turned turn) = SoundReply turn.reply
 SoundNeed (Mailbox name work) = SoundWork work
@@ -66,28 +65,32 @@ answers_sound = record {
   logout = at_once_sound (Bye logout_bye) (codes "LOGOUT") tt refl;
 }
 
-needs_sound : (setting : Setting) → IsDate setting.date → OfNeeds setting IsSoundCommand SoundNeed
+begun_sound : (setting : Setting) → IsDate setting.date → OfBegun setting IsSoundCommand SoundNeed
 unfolding IsSoundLine
-needs_sound setting date_is = record {
+begun_sound setting date_is = record {
   answers = answers_sound;
   enable = at_once_sound Enabled (codes "ENABLE") tt refl;
   unselected = unselected_sound;
-  left = left_sound;
   make = λ name. tt;
   append = λ name text flags date body sound.
       record { ruled = sound.0; dated = new_dated date setting.date date_is sound.1.0; counted = sound.1.1 };
   status = λ user name items named. shown_plain user name named;
   select = λ user name is_writable was_selected named. shown_plain user name named;
-  news = λ view why. tt;
-  close = λ view. tt;
-  expunge = λ view only. tt;
-  store = λ view by_uid set mode is_silent flags sound. sound;
-  fetch = λ view it. tt;
-  search = λ view it. tt;
+}
+
+viewed_sound : (view : View) → OfViewed IsSoundCommand SoundNeed view
+viewed_sound view = record {
+  left = left_sound view;
+  news = λ why. tt;
+  close = tt;
+  expunge = λ only. tt;
+  store = λ by_uid set mode is_silent flags sound. sound;
+  fetch = λ it. tt;
+  search = λ it. tt;
 }
 
 need_sound : (setting : Setting) (session : Sess) (it : Command) → IsDate setting.date → IsSoundCommand it → SoundNeed (need_of setting session it)
-need_sound setting session it date_is sound = each_need (needs_sound setting date_is) session it sound
+need_sound setting session it date_is sound = each_need (begun_sound setting date_is) session (λ view is. viewed_sound view) it sound
 
 -- what comes of it
 
@@ -95,14 +98,14 @@ worked_sound : (store : Store) (name : List ℕ) (work : Work) (serial : ℕ) �
     → SoundWorked (worked_at store name work serial)
 worked_sound store name work serial all sound = work_sound name work serial (is_spent store.given) (box_at store name) sound (box_is store name all)
 
-act_sound : (store : Store) (session : Sess) (serial : ℕ) (need : Need) → IsSoundStore store → SoundNeed need
+act_sound : (store : Store) (session : Sess) (serial : ℕ) (need : Needed) → IsSoundStore store → SoundNeed need
     → SoundReply (act_by store session serial need).reply
 unfolding act_by IsSoundVerdict
 act_sound store session serial (Refusal verdict) all sound = record { lines = All-nil IsSoundLine; verdict = sound }
 act_sound store session serial (Turned turn) all sound = sound
 act_sound store session serial (Mailbox name work) all sound = (worked_sound store name work serial all sound).reply
 
-act_kept : (store : Store) (session : Sess) (serial : ℕ) (need : Need) → IsSoundStore store → SoundNeed need
+act_kept : (store : Store) (session : Sess) (serial : ℕ) (need : Needed) → IsSoundStore store → SoundNeed need
     → IsSoundStore (act_by store session serial need).store
 unfolding act_by
 act_kept store session serial (Refusal verdict) all sound = all

@@ -20,12 +20,11 @@ use Rattle.mail_store.specs.Store.{stored, rows_stored, has_too_many_flags}
 use Rattle.mail_store.specs.declared.fault.StoreFault.{StoreFault}
 use Rattle.imap_types.specs.declared.command.StatusItem.{StatusItem}
 use Rattle.mur_model.specs.declared.fetch.Fetching.{Fetching}
-use Rattle.mur_model.specs.declared.need.NewsFor.{NewsFor}
-use Rattle.mur_model.specs.declared.need.NewsFor.TheVariants as news_for
-use Rattle.mur_model.specs.declared.need.ViewWork.{ViewWork}
-use Rattle.mur_model.specs.declared.need.ViewWork.TheVariants as view_work
-use Rattle.mur_model.specs.declared.need.Work.{Work}
-use Rattle.mur_model.specs.declared.need.Work.TheVariants.{Make, Append as append_work, Status as status_work, Select as select_work, Viewed as viewed_work}
+use Rattle.mur_model.specs.declared.work.NewsFor.{NewsFor}
+use Rattle.mur_model.specs.declared.work.NewsFor.TheVariants as news_for
+use Rattle.mur_model.specs.declared.work.ViewWork.{ViewWork}
+use Rattle.mur_model.specs.declared.work.ViewWork.TheVariants as view_work
+use Rattle.mur_model.specs.Needed.{Work, Make, Append as append_work, Status as status_work, Select as select_work, Viewed as viewed_work}
 use Rattle.imap_types.specs.declared.reply.Attribute.TheVariants.{None as no_attribute}
 use Rattle.imap_types.specs.declared.reply.NoText.{NoText}
 use Rattle.imap_types.specs.declared.reply.NoText.TheVariants.{NonExistent}
@@ -46,7 +45,7 @@ use Rattle.mur_model.specs.Expunge.{expunge_at, expunge_name}
 use Rattle.mur_model.specs.Fetch.{fetch_at, fetch_told, fetch_name, fetch_lines, items_told, sees, seen_flags}
 use Rattle.mur_model.specs.Left.{Worked, kept, changed}
 use Rattle.mur_model.specs.News.{news, flag_parts}
-use Rattle.mur_model.specs.Select.{closed_lines, flags_of, keywords_in, permanent_line, select_lines, select_name}
+use Rattle.mur_model.specs.Select.{closed_lines, flags_of, keywords_in, permanent_reply_line, select_lines, select_name}
 use Rattle.mur_model.specs.Select.{select_on, system_flags, unselected}
 use Rattle.mur_model.specs.Search.{found_uids, numbers_told, search_at, search_name}
 use Rattle.mur_model.specs.Selected.{rows_of, with_news}
@@ -115,7 +114,7 @@ flags_sound keywords all =
     (All-from_recursion IsSoundFlag system_flags (tt, (tt, (tt, (tt, (tt, tt))))))
     (All-map IsSoundFlag Keyword keywords all)
 
-permanent_sound : (is_writable : Bool) (keywords : List (List ℕ)) → All IsKeyword keywords → IsSoundLine (permanent_line is_writable keywords)
+permanent_sound : (is_writable : Bool) (keywords : List (List ℕ)) → All IsKeyword keywords → IsSoundLine (permanent_reply_line is_writable keywords)
 unfolding IsSoundLine
 permanent_sound true keywords all = flags_sound keywords all
 permanent_sound false keywords all = All-nil IsSoundFlag
@@ -124,7 +123,7 @@ permanent_sound false keywords all = All-nil IsSoundFlag
 abbrev lines_of : Opening → Snapshot → List ReplyLine
 lines_of it seen =
     Flags (flags_of (keywords_in seen.rows)) ∷ Exists (length seen.rows) ∷ Listed no_attribute it.shown
-    ∷ permanent_line it.is_writable (keywords_in seen.rows) ∷ UidNext seen.next ∷ UidValidity seen.serial ∷ []
+    ∷ permanent_reply_line it.is_writable (keywords_in seen.rows) ∷ UidNext seen.next ∷ UidValidity seen.serial ∷ []
 
 opened_sound : (it : Opening) (seen : Snapshot) → IsPlain it.shown → All IsSoundRow seen.rows → All IsSoundLine (select_lines it seen)
 unfolding IsSoundLine

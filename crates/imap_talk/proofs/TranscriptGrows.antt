@@ -11,7 +11,7 @@ use Rattle.imap_talk.specs.declared.inputs.Input.TheVariants.{GoesOn, Asks, Faul
 use Rattle.imap_reply.specs.ByeLine.{bye_line}
 use Rattle.imap_talk.specs.FaultBye.{bye_of}
 use Rattle.imap_reply.specs.Continuation.{continuation_line}
-use Rattle.imap_talk.specs.Transcript.{answer_text, ends, behind, Stop, stop_text, told_till, replies_till}
+use Rattle.imap_talk.specs.Transcript.{answer_text, ends, unless_ended, Stop, stop_text, told_till, replies_till}
 use Rattle.imap_talk.specs.Transcript.Stop.{silent}
 
 -- every request in the inputs has its answer, no answer ends the connection, and no input is a fault
@@ -32,8 +32,8 @@ in_front front text more whole e = ap (λ t. front ++ t) e ∙ sym (append_assoc
 
 -- behind an answer that doesn't end the connection
 goes_on : (front : List ℕ) (is_end : Bool) (text more whole : List ℕ) → is_end ≡ false → whole ≡ text ++ more
-    → front ++ behind is_end whole ≡ (front ++ behind is_end text) ++ more
-unfolding behind
+    → front ++ unless_ended is_end whole ≡ (front ++ unless_ended is_end text) ++ more
+unfolding unless_ended
 goes_on front true text more whole stays e = cc
 goes_on front false text more whole stays e = in_front front text more whole e
 
@@ -63,12 +63,12 @@ pub record Grows (inputs next : List Input) (answers more : List Answer) (text :
   pub answered : AreAnswered next more
   pub text_is : replies_till silent next more ≡ replies_till silent inputs answers ++ text
 
-nothing_behind : (is_end : Bool) → behind {T = ℕ} is_end [] ≡ []
-unfolding behind
+nothing_behind : (is_end : Bool) → unless_ended {T = ℕ} is_end [] ≡ []
+unfolding unless_ended
 nothing_behind true = refl
 nothing_behind false = refl
 
-one_text : (answer : Answer) → answer_text answer ++ behind (ends answer.reply) [] ≡ answer_text answer
+one_text : (answer : Answer) → answer_text answer ++ unless_ended (ends answer.reply) [] ≡ answer_text answer
 one_text answer = ap (λ t. answer_text answer ++ t) (nothing_behind (ends answer.reply)) ∙ append-nil (answer_text answer)
 
 -- the answer to the last request is told, whether it ends the connection or not
@@ -116,8 +116,8 @@ unanswered_told stop inputs answers request more all =
     ap (λ a. replies_till stop (inputs ++ Asks request ∷ more) a) (sym (no_more answers))
     ∙ all_given stop inputs (Asks request ∷ more) answers [] (stop_text stop) all refl
 
-cut_off : (text : List ℕ) (is_end : Bool) (more : List ℕ) → is_end ≡ true → text ++ behind is_end more ≡ text
-unfolding behind
+cut_off : (text : List ℕ) (is_end : Bool) (more : List ℕ) → is_end ≡ true → text ++ unless_ended is_end more ≡ text
+unfolding unless_ended
 cut_off text true more e = append-nil text
 cut_off text false more e = cc
 

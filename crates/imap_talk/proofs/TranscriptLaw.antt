@@ -24,11 +24,11 @@ use Rattle.imap_reply.specs.Continuation.{challenge, continuation_line, idling, 
 use Rattle.imap_reply.specs.Greeting.{greeting}
 use Rattle.imap_talk.specs.Inputs.{inputs_from}
 use Rattle.imap_reply.specs.Lines.{IsLine, after_text, after_byte}
-use Rattle.imap_reply.specs.ReadAsMeant.{begins_with, untagged_lines, meant_lines}
+use Rattle.imap_reply.specs.ReadAsMeant.{line_begins_with, untagged_lines, meant_lines}
 use Rattle.imap_reply.specs.SoundTexts.{IsTag}
-use Rattle.imap_talk.specs.Transcript.{answer_text, ends, behind, Stop, Telling, stop_told, told_till, all_told_till, as_bytes, transcript_of}
+use Rattle.imap_talk.specs.Transcript.{answer_text, ends, unless_ended, Stop, Telling, stop_told, told_till, all_told_till, as_bytes, transcript_of}
 use Rattle.imap_talk.specs.Transcript.Stop.{silent, is_lost}
-use Rattle.imap_talk.specs.TranscriptRead.{as_lines, as_untagged, lines_of, untagged_of, IsAnswerReadAsMeant, IsAllReadAsMeant}
+use Rattle.imap_talk.specs.TranscriptRead.{as_lines, as_untagged, lines_meant, untagged_of, IsAnswerReadAsMeant, IsAllReadAsMeant}
 use Rattle.imap_reply.proofs.EachLine.{bye_is_line}
 use Rattle.imap_reply.proofs.LineLaws.{line_of}
 use Rattle.imap_reply.proofs.NoForgery.{no_star}
@@ -36,8 +36,8 @@ use Rattle.imap_reply.proofs.ReadParts.{read_by}
 
 -- what is so of each thing that is told
 
-all_behind : {T : Type 0} (P : T → Type 0) (is_end : Bool) (items : List T) → All P items → All P (behind is_end items)
-unfolding behind
+all_behind : {T : Type 0} (P : T → Type 0) (is_end : Bool) (items : List T) → All P items → All P (unless_ended is_end items)
+unfolding unless_ended
 all_behind P true items all = All-nil P
 all_behind P false items all = all
 
@@ -48,9 +48,9 @@ all_stopped P telling last silent = All-nil P
 all_stopped P telling last is_lost = last Lost
 
 all_answered : {T : Type 0} (P : T → Type 0) (telling : Telling T) (answer : Answer) (items : List T) → All P (telling.answers answer) → All P items
-    → All P (telling.answers answer ++ behind (ends answer.reply) items)
+    → All P (telling.answers answer ++ unless_ended (ends answer.reply) items)
 all_answered P telling answer items one rest =
-    All-append P (telling.answers answer) (behind (ends answer.reply) items) one (all_behind P (ends answer.reply) items rest)
+    All-append P (telling.answers answer) (unless_ended (ends answer.reply) items) one (all_behind P (ends answer.reply) items rest)
 
 all_till : {T : Type 0} (P : T → Type 0) (telling : Telling T) → ((why : Continuation) → All P (telling.goes_on why)) → ((why : bye.Bye)
     → All P (telling.ends_by why))
@@ -77,8 +77,8 @@ all_told P telling first on last stop setting (Some bytes) answers each =
 
 -- the lines make the bytes
 
-cut_behind : (is_end : Bool) (lines : List (List ℕ)) (bytes : List ℕ) → concat lines ≡ bytes → concat (behind is_end lines) ≡ behind is_end bytes
-unfolding behind
+cut_behind : (is_end : Bool) (lines : List (List ℕ)) (bytes : List ℕ) → concat lines ≡ bytes → concat (unless_ended is_end lines) ≡ unless_ended is_end bytes
+unfolding unless_ended
 cut_behind true lines bytes e = refl
 cut_behind false lines bytes e = e
 
@@ -91,9 +91,9 @@ cut_stop silent = refl
 cut_stop is_lost = append-nil (bye_line Lost)
 
 cut_answer : (answer : Answer) (lines : List (List ℕ)) (bytes : List ℕ) → IsAnswerReadAsMeant answer → concat lines ≡ bytes
-    → concat (meant_lines answer.tag answer.reply ++ behind (ends answer.reply) lines) ≡ answer_text answer ++ behind (ends answer.reply) bytes
+    → concat (meant_lines answer.tag answer.reply ++ unless_ended (ends answer.reply) lines) ≡ answer_text answer ++ unless_ended (ends answer.reply) bytes
 cut_answer answer lines bytes meant e =
-    cut_both (meant_lines answer.tag answer.reply) (behind (ends answer.reply) lines) (answer_text answer) (behind (ends answer.reply) bytes)
+    cut_both (meant_lines answer.tag answer.reply) (unless_ended (ends answer.reply) lines) (answer_text answer) (unless_ended (ends answer.reply) bytes)
     meant.read.whole (cut_behind (ends answer.reply) lines bytes e)
 
 cut_till : (stop : Stop) (inputs : List Input) (answers : List Answer) → All IsAnswerReadAsMeant answers
@@ -107,7 +107,7 @@ cut_till stop (Asks request ∷ inputs) (answer ∷ answers) meant =
     cut_answer answer _ _ (All-head IsAnswerReadAsMeant answer answers meant)
     (cut_till stop inputs answers (All-tail IsAnswerReadAsMeant answer answers meant))
 
-cut_all : (setting : Setting) (bytes : Option (List ℕ)) (answers : List Answer) → All IsAnswerReadAsMeant answers → concat (lines_of setting bytes answers)
+cut_all : (setting : Setting) (bytes : Option (List ℕ)) (answers : List Answer) → All IsAnswerReadAsMeant answers → concat (lines_meant setting bytes answers)
     ≡ transcript_of setting bytes answers
 unfolding all_told_till
 cut_all setting None answers meant = refl
@@ -133,7 +133,7 @@ one : (P : List ℕ → Type 0) (line : List ℕ) → P line → All P (line ∷
 one P line is = All-cons P line [] is (All-nil P)
 
 lines_are : (setting : Setting) (bytes : Option (List ℕ)) (answers : List Answer) → All IsAnswerReadAsMeant answers
-    → All IsLine (lines_of setting bytes answers)
+    → All IsLine (lines_meant setting bytes answers)
 lines_are setting bytes answers meant =
     all_told IsLine as_lines (one IsLine greeting greeting_is_line) (λ why. one IsLine (continuation_line why) (continuation_is_line why)) (λ why. one IsLine
     (bye_line why) (bye_is_line why))
@@ -149,33 +149,33 @@ no_plus c h = grind (arith, nat_tests, h)
 tag_first : (c : ℕ) (word : List ℕ) → IsTag (c ∷ word) → is_tag_byte c ≡ true
 tag_first c word is = (and_parts (is_tag_byte c) (list_all is_tag_byte word) is.bytes).0
 
-greeting_untagged : (word : List ℕ) → IsTag word → begins_with word greeting ≡ false
-unfolding begins_with greeting
+greeting_untagged : (word : List ℕ) → IsTag word → line_begins_with word greeting ≡ false
+unfolding line_begins_with greeting
 greeting_untagged [] is = absurd (omega (arith, is.some))
 greeting_untagged (c ∷ word) is = rw (no_star c (tag_first c word is)) refl
 
-ready_untagged : (word : List ℕ) → IsTag word → begins_with word ready ≡ false
-unfolding begins_with ready
+ready_untagged : (word : List ℕ) → IsTag word → line_begins_with word ready ≡ false
+unfolding line_begins_with ready
 ready_untagged [] is = absurd (omega (arith, is.some))
 ready_untagged (c ∷ word) is = rw (no_plus c (tag_first c word is)) refl
 
-continuation_untagged : (word : List ℕ) → IsTag word → (why : Continuation) → begins_with word (continuation_line why) ≡ false
-unfolding begins_with continuation_line challenge idling
+continuation_untagged : (word : List ℕ) → IsTag word → (why : Continuation) → line_begins_with word (continuation_line why) ≡ false
+unfolding line_begins_with continuation_line challenge idling
 continuation_untagged word is Literal = ready_untagged word is
 continuation_untagged [] is Response = absurd (omega (arith, is.some))
 continuation_untagged (c ∷ word) is Response = rw (no_plus c (tag_first c word is)) refl
 continuation_untagged [] is Done = absurd (omega (arith, is.some))
 continuation_untagged (c ∷ word) is Done = rw (no_plus c (tag_first c word is)) refl
 
-bye_untagged : (word : List ℕ) → IsTag word → (why : bye.Bye) → begins_with word (bye_line why) ≡ false
-unfolding begins_with bye_line
+bye_untagged : (word : List ℕ) → IsTag word → (why : bye.Bye) → line_begins_with word (bye_line why) ≡ false
+unfolding line_begins_with bye_line
 bye_untagged [] is why = absurd (omega (arith, is.some))
 bye_untagged (c ∷ word) is why = rw (no_star c (tag_first c word is)) refl
 
 untagged_are : (word : List ℕ) → IsTag word → (setting : Setting) (bytes : Option (List ℕ)) (answers : List Answer) → All IsAnswerReadAsMeant answers
-    → All (λ line. begins_with word line ≡ false) (untagged_of setting bytes answers)
+    → All (λ line. line_begins_with word line ≡ false) (untagged_of setting bytes answers)
 untagged_are word is setting bytes answers meant =
-    let P : List ℕ → Type 0 = λ line. begins_with word line ≡ false in
+    let P : List ℕ → Type 0 = λ line. line_begins_with word line ≡ false in
     all_told P as_untagged (one P greeting (greeting_untagged word is)) (λ why. one P (continuation_line why) (continuation_untagged word is why))
     (λ why. one P (bye_line why) (bye_untagged word is why)) silent setting bytes answers
     (All-weaker IsAnswerReadAsMeant (λ answer. All P (untagged_lines answer.tag answer.reply)) (λ answer so. so.untagged word is) answers meant)
@@ -183,7 +183,7 @@ untagged_are word is setting bytes answers meant =
 pub all_read_as_meant : (setting : Setting) (given : List ℕ) (bytes : Option (List ℕ)) (answers : List Answer) → given ≡ transcript_of setting bytes answers
     → All IsAnswerReadAsMeant answers → IsAllReadAsMeant setting given bytes answers
 all_read_as_meant setting given bytes answers is meant = record {
-  lines = read_by given (lines_of setting bytes answers) (cut_all setting bytes answers meant ∙ sym is) (lines_are setting bytes answers meant);
+  lines = read_by given (lines_meant setting bytes answers) (cut_all setting bytes answers meant ∙ sym is) (lines_are setting bytes answers meant);
   untagged = λ word tagged. untagged_are word tagged setting bytes answers meant;
   replies = meant;
 }

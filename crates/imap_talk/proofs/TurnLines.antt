@@ -13,7 +13,7 @@ use Rattle.mur_model.specs.declared.fetch.Fetching.{Fetching}
 use Rattle.imap_types.specs.declared.reply.ReplyLine.{ReplyLine}
 use Rattle.imap_types.specs.declared.reply.ReplyLine.TheVariants.{Exists, Expunge, Fetch}
 use Rattle.mur_model.specs.declared.store_flags.FlagStore.{FlagStore}
-use Rattle.mur_model.specs.Fetch.{items_told, number_in, fetch_line, fetch_lines}
+use Rattle.mur_model.specs.Fetch.{items_told, number_in, fetch_reply_line, fetch_lines}
 use Rattle.mur_model.specs.News.{news, told_of, has_row, is_among, expunge_lines, rows_there, rows_behind}
 use Rattle.mur_model.specs.News.{exists_lines, changed_lines, changed_line, flag_parts}
 use Rattle.mur_model.specs.SameFlags.{is_same_flags}
@@ -101,7 +101,7 @@ fetched it number message row changes = Fetch number (map (λ asked. part_text a
 
 module _ (P : ReplyLine → Type 0) (Q : Row → Type 0) (R : Message → Type 0) (it : Fetching)
     (of : (number : ℕ) (message : Message) (row : Row) (changes : Bool) → R message → Q row → P (fetched it number message row changes)) where
-  line : (message : Message) (number : Option ℕ) (row : Option Row) → R message → IfSome row Q → All P (fetch_line it message number row)
+  line : (message : Message) (number : Option ℕ) (row : Option Row) → R message → IfSome row Q → All P (fetch_reply_line it message number row)
   line message None row one is = All-nil P
   line message (Some number) None one is = All-nil P
   line message (Some number) (Some row) one is =
@@ -111,6 +111,6 @@ module _ (P : ReplyLine → Type 0) (Q : Row → Type 0) (R : Message → Type 0
   pub each_fetch : (rows now : List Row) (before : List Message) → All Q now → All R before → All P (fetch_lines it rows now before)
   each_fetch rows now [] all each = All-nil P
   each_fetch rows now (message ∷ before) all each =
-      All-append P (fetch_line it message (number_in rows message.uid) (row_at now message.uid)) (fetch_lines it rows now before)
+      All-append P (fetch_reply_line it message (number_in rows message.uid) (row_at now message.uid)) (fetch_lines it rows now before)
       (line message (number_in rows message.uid) (row_at now message.uid) (All-head R message before each) (found Q (is_row_of message.uid) now all))
       (each_fetch rows now before all (All-tail R message before each))

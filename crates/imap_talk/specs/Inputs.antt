@@ -25,8 +25,8 @@ continuation_of response = Response
 continuation_of done = Done
 
 -- the line in a frame
-abbrev pub line_in : List ℕ → List ℕ
-line_in bytes = take (length bytes - 2) bytes
+abbrev pub line_of_frame : List ℕ → List ℕ
+line_of_frame bytes = take (length bytes - 2) bytes
 
 abbrev pub asks_for : Request → Before → Given
 asks_for request next = record { input = Asks request; next = next }
@@ -47,16 +47,16 @@ line_at setting tag wait line =
     let it = with_line wait line in
     asks_for (a_command tag it) (Hears (begun_behind setting (waits_begun wait) it))
 
-unfoldable pub whole_at : Setting → Before → List ℕ → Given
-whole_at setting (Hears begun) bytes = request_at setting begun (request_of bytes)
-whole_at setting (Waits tag wait) bytes = line_at setting tag wait (line_in bytes)
+unfoldable pub whole_given : Setting → Before → List ℕ → Given
+whole_given setting (Hears begun) bytes = request_at setting begun (request_of bytes)
+whole_given setting (Waits tag wait) bytes = line_at setting tag wait (line_of_frame bytes)
 
 unfoldable pub too_big_at : Setting → Before → List ℕ → Given
 too_big_at setting (Hears begun) bytes = request_at setting begun (too_big_request bytes)
-too_big_at setting (Waits tag wait) bytes = line_at setting tag wait (line_in bytes)
+too_big_at setting (Waits tag wait) bytes = line_at setting tag wait (line_of_frame bytes)
 
 unfoldable pub input_at : Setting → Before → Frame → Given
-input_at setting before (Whole bytes) = whole_at setting before bytes
+input_at setting before (Whole bytes) = whole_given setting before bytes
 input_at setting before (TooBig bytes) = too_big_at setting before bytes
 input_at setting before (NeedLiteral size) = record { input = GoesOn Literal; next = before }
 input_at setting before (Fault fault) = record { input = Faults fault; next = before }

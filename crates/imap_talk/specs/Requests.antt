@@ -4,7 +4,7 @@ use Rattle.std.specs.Prelude.{◌≡◌, ℕ, ⊤, Bool, List, [], ◌∷◌, �
 use Rattle.imap_command.specs.Request.{IsRequest, IsTooBig}
 use Rattle.imap_talk.specs.declared.inputs.Before.{Before}
 use Rattle.imap_talk.specs.declared.inputs.Before.TheVariants.{Hears, Waits}
-use Rattle.imap_talk.specs.Inputs.{at_first, line_in}
+use Rattle.imap_talk.specs.Inputs.{at_first, line_of_frame}
 use Rattle.imap_wire.specs.declared.frame.Frame.{Frame}
 use Rattle.imap_wire.specs.declared.frame.FrameFault.{FrameFault}
 use Rattle.imap_wire.specs.declared.frame.Frame.TheVariants.{Whole, NeedLiteral, TooBig, Fault}
@@ -28,7 +28,7 @@ IsWhole begun request = ⊤
 
 -- the request of a command whose line has come
 abbrev pub lined : Tag → Wait → List ℕ → Request
-lined tag wait bytes = a_command tag (with_line wait (line_in bytes))
+lined tag wait bytes = a_command tag (with_line wait (line_of_frame bytes))
 
 -- what these frames ask for, in order, and what stands behind the last of them
 pub data AskFor (setting : Setting) : List Frame → List Request → Before → Type 0 where

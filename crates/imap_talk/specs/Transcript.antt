@@ -33,9 +33,9 @@ unfoldable pub ends : Reply → Bool
 ends reply = list_any is_bye reply.lines
 
 -- what is given behind a reply: nothing where it ends the connection
-unfoldable pub behind : {T : Type 0} → Bool → List T → List T
-behind true told = []
-behind false told = told
+unfoldable pub unless_ended : {T : Type 0} → Bool → List T → List T
+unless_ended true told = []
+unless_ended false told = told
 
 -- what stands in place of the first answer that never came: nothing, or the line of a command that is lost
 pub data Stop : Type 0 where
@@ -60,7 +60,7 @@ told_till telling stop (GoesOn why ∷ inputs) answers = telling.goes_on why ++ 
 told_till telling stop (Faults fault ∷ inputs) answers = telling.ends_by (bye_of fault)
 told_till telling stop (Asks request ∷ inputs) [] = stop_told telling stop
 told_till telling stop (Asks request ∷ inputs) (answer ∷ answers) =
-    telling.answers answer ++ behind (ends answer.reply) (told_till telling stop inputs answers)
+    telling.answers answer ++ unless_ended (ends answer.reply) (told_till telling stop inputs answers)
 
 -- what is given to a client that has sent these bytes; nothing to one that was never connected
 unfoldable pub all_told_till : {T : Type 0} → Telling T → Stop → Setting → Option (List ℕ) → List Answer → List T

@@ -7,7 +7,7 @@ use Rattle.imap_reply.specs.ByeLine.{bye_line}
 use Rattle.imap_reply.specs.Continuation.{continuation_line}
 use Rattle.imap_reply.specs.Greeting.{greeting}
 use Rattle.imap_reply.specs.ReadAs.{IsReadAs}
-use Rattle.imap_reply.specs.ReadAsMeant.{begins_with, untagged_lines, meant_lines, IsReadAsMeant}
+use Rattle.imap_reply.specs.ReadAsMeant.{line_begins_with, untagged_lines, meant_lines, IsReadAsMeant}
 use Rattle.imap_reply.specs.SoundTexts.{IsTag}
 use Rattle.imap_talk.specs.Transcript.{Telling, all_told_till}
 use Rattle.imap_talk.specs.Transcript.Stop.{silent}
@@ -23,8 +23,8 @@ abbrev pub as_untagged : Telling (List ℕ)
 as_untagged = with_lines (λ answer. untagged_lines answer.tag answer.reply)
 
 -- the lines that are meant for a client that has sent these bytes
-abbrev pub lines_of : Setting → Option (List ℕ) → List Answer → List (List ℕ)
-lines_of setting bytes answers = all_told_till as_lines silent setting bytes answers
+abbrev pub lines_meant : Setting → Option (List ℕ) → List Answer → List (List ℕ)
+lines_meant setting bytes answers = all_told_till as_lines silent setting bytes answers
 
 abbrev pub untagged_of : Setting → Option (List ℕ) → List Answer → List (List ℕ)
 untagged_of setting bytes answers = all_told_till as_untagged silent setting bytes answers
@@ -35,6 +35,6 @@ IsAnswerReadAsMeant answer = IsReadAsMeant answer.tag answer.reply
 -- a client that has sent these bytes, and whose requests have these answers, reads just the lines that were meant; no line begins with a tag
 -- but the last of each reply, which begins with its own and says its verdict
 pub record IsAllReadAsMeant (setting : Setting) (given : List ℕ) (bytes : Option (List ℕ)) (answers : List Answer) : Type 0 where
-  pub lines : IsReadAs given (lines_of setting bytes answers)
-  pub untagged : (word : List ℕ) → IsTag word → All (λ line. begins_with word line ≡ false) (untagged_of setting bytes answers)
+  pub lines : IsReadAs given (lines_meant setting bytes answers)
+  pub untagged : (word : List ℕ) → IsTag word → All (λ line. line_begins_with word line ≡ false) (untagged_of setting bytes answers)
   pub replies : All IsAnswerReadAsMeant answers

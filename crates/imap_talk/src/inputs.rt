@@ -1,7 +1,7 @@
 // What the frames of a connection are to its session.
 ghost use Rattle.std.specs.Prelude.{◌≡◌, IfOk};
 ghost use Rattle.imap_talk.specs.declared.inputs.Before.TheVariants.{Hears};
-ghost use Rattle.imap_talk.specs.Inputs.{asks_for, continuation_of, input_at, line_at, line_in, request_at, too_big_at, whole_at};
+ghost use Rattle.imap_talk.specs.Inputs.{asks_for, continuation_of, input_at, line_at, line_of_frame, request_at, too_big_at, whole_given};
 
 use imap_command::{read_request, too_big};
 use imap_reply::Continuation;
@@ -61,9 +61,9 @@ pub fn input_at(
     }
 }
 
-#[tactic(auto, unfolding(crate::specs::Inputs::whole_at))]
+#[tactic(auto, unfolding(crate::specs::Inputs::whole_given))]
 fn whole_at(alloc: Global, setting: &Setting, before: Before, bytes: &[u8]) -> Result<Given, Memory>
-    ensures { IfOk result (λ given. given ≡ whole_at setting.now before bytes.now) }
+    ensures { IfOk result (λ given. given ≡ whole_given setting.now before bytes.now) }
 {
     match before {
         Before::Hears(begun) => {
@@ -94,7 +94,7 @@ fn too_big_at(
 
 /// The line in a frame: without the CRLF at its end.
 fn line_in(bytes: &[u8]) -> &[u8]
-    ensures { result.now ≡ line_in bytes.now }
+    ensures { result.now ≡ line_of_frame bytes.now }
 {
     &bytes[..bytes.len().saturating_sub(2)]
 }

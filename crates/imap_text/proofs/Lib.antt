@@ -1,7 +1,6 @@
 pub mod StringsLaw
 pub mod StringsHold
 pub mod StringsPrinted
-pub mod QuotedRuns
 pub mod Utf8Law
 pub mod NoNul
 pub mod Values

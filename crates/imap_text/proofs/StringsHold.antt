@@ -1,15 +1,16 @@
 -- Each string that is spelled has no NUL.
 use Rattle.std.proofs.Common.{◌≡◌, ℕ, ◌≤◌, List, [], ◌∷◌, ◌++◌, Bool, true, false, ◌||◌, not, ◌==◌, nat_le, refl, ap, eqb-true, leb-true, arith, ne_eqb, lit≤}
 use Rattle.std.specs.List.{list_all}
+use Rattle.grammar.specs.Quoted.{is_quoted_plain, is_quoted_special, is_no_quote}
 use Rattle.grammar.specs.Part.{◌then◌, map, byte, choose, exactly, repeat, between}
 use Rattle.grammar.specs.Words.{word}
-use Rattle.grammar.specs.Runs.{run}
+use Rattle.grammar.specs.Runs.{run_of}
 use Rattle.grammar.specs.Numbers.{value_of}
 use Rattle.grammar.proofs.Conditions.{and_left, and_right, and_both}
 use Rattle.grammar.proofs.RunLaw.{all_join}
-use Rattle.imap_text.specs.Characters.{is_astring_char, is_quoted_plain, is_quoted_special, is_char8, is_utf8_tail}
+use Rattle.imap_text.specs.Characters.{is_astring_char, is_char8, is_utf8_tail}
 use Rattle.imap_text.specs.Utf8.{led, utf8_2, utf8_3, utf8_4, utf8_char}
-use Rattle.imap_text.specs.Strings.{quoted_char, is_no_quote, quoted, literal, string, astring, IsString}
+use Rattle.imap_text.specs.Strings.{quoted_char, quoted, literal, string, astring, IsString}
 use Rattle.imap_text.proofs.StringsLaw.{escaped, plain, unescaped}
 use Rattle.imap_text.proofs.Values.{Only, only_then, only_map, only_behind, only_choose, only_exactly, only_repeat}
 
@@ -130,5 +131,5 @@ only_string = only_choose IsString (λ c. c == 34) quoted literal only_quoted on
 pub only_astring : Only astring IsString
 unfolding astring
 only_astring =
-    only_choose IsString is_astring_char (word (run is_astring_char)) string
+    only_choose IsString is_astring_char (word (run_of is_astring_char)) string
     (λ bytes text l. all_char8 is_astring_char atom_char8 text (and_left _ _ l.1)) only_string

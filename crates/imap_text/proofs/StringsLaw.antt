@@ -1,10 +1,11 @@
 -- Strings are exact parts.
-use Rattle.std.proofs.Common.{◌≡◌, ℕ, ◌<◌, ◌≤◌, List, [], ◌∷◌, ◌++◌, Bool, true, false, ◌&&◌, not, ◌==◌, nat_le, refl, ap, eqb-true, leb-true, arith, ne_eqb}
+use Rattle.std.proofs.Common.{◌≡◌, ℕ, ◌<◌, ◌≤◌, List, [], ◌∷◌, ◌++◌, Bool, true, false, ◌&&◌, not, ◌==◌, nat_le, Ok, refl, ap, eqb-true, leb-true, arith, ne_eqb}
 use borrow.Author.Tests.{lt-leb}
+use Rattle.grammar.specs.Quoted.{is_quoted_plain, is_quoted_special, is_no_quote}
 use Rattle.grammar.specs.Part.{Part, give, ◌then◌, map, byte, choose, exactly, optional, repeat, between}
 use Rattle.grammar.specs.Exact.{Good, Begins, StartsWith, any, among}
 use Rattle.grammar.specs.Words.{word}
-use Rattle.grammar.specs.Runs.{run}
+use Rattle.grammar.specs.Runs.{run_of}
 use Rattle.mur_base.specs.Number.{is_digit}
 use Rattle.grammar.specs.Numbers.{value_of}
 use Rattle.grammar.proofs.Conditions.{and_left, and_right, and_false, and_false_right, not_true, among_all}
@@ -14,10 +15,11 @@ use Rattle.grammar.proofs.WordLaw.{good_word}
 use Rattle.grammar.proofs.RunLaw.{lawful_run, apart_run}
 use Rattle.grammar.proofs.RepetitionLaw.{good_exactly, good_repeat, begins_any}
 use Rattle.grammar.proofs.StartLaw.{starts_then, starts_exactly, starts_byte, starts_word, starts_choose, starts_weaker, begins_from, without_from}
+use Rattle.grammar.proofs.QuotedRuns.{plain_no_quote, plain_no_backslash, plain_is_no_backslash}
 use Rattle.grammar.proofs.ToolLaws.{good_byte, good_behind, good_optional, begins_optional, begins_then}
-use Rattle.imap_text.specs.Characters.{is_astring_char, is_quoted_plain, is_quoted_special, is_char8}
+use Rattle.imap_text.specs.Characters.{is_astring_char, is_char8}
 use Rattle.imap_text.specs.Utf8.{utf8_char}
-use Rattle.imap_text.specs.Strings.{crlf_part, quoted_char, is_no_quote, quoted, literal, string, astring}
+use Rattle.imap_text.specs.Strings.{crlf_part, quoted_char, quoted, literal, string, astring}
 use Rattle.imap_text.proofs.Utf8Law.{ranged_utf8}
 
 -- the first byte of a character of more bytes than one is no byte of 7 bits
@@ -33,13 +35,10 @@ not_plain c h =
 not_byte : (d : ℕ) → d ≤ 127 → (c : ℕ) → between 194 244 c ≡ true → not (c == d) ≡ true
 not_byte d small c h = ap not (ne_eqb c d (λ e. absurd (omega (arith, above_seven c h))))
 
-pub plain_no_quote : (c : ℕ) → is_quoted_plain c ≡ true → not (c == 34) ≡ true
-unfolding is_quoted_plain
-plain_no_quote c h = and_right (nat_le 1 c && nat_le c 127 && not (c == 13) && not (c == 10)) _ (and_left _ _ h)
-
-pub plain_no_backslash : (c : ℕ) → is_quoted_plain c ≡ true → not (c == 92) ≡ true
-unfolding is_quoted_plain
-plain_no_backslash c h = and_right (nat_le 1 c && nat_le c 127 && not (c == 13) && not (c == 10) && not (c == 34)) _ h
+-- a character that stands for itself is put after the text so far
+pub puts_plain : (so_far : List ℕ) (c : ℕ) (rest : List ℕ) → is_quoted_plain c ≡ true → (quoted_char so_far).at (c ∷ rest) ≡ Ok (so_far ++ c ∷ [], rest)
+unfolding quoted_char exactly
+puts_plain so_far c rest h = rw (plain_is_no_backslash c h, h) refl
 
 -- a backslash and what may stand behind it
 abbrev pub escaped : List ℕ → Part (List ℕ)
@@ -88,7 +87,7 @@ behind_length digits = optional 43 then λ _. byte 125 then λ _. octets (value_
 
 starts_literal : StartsWith (λ c. c == 123) literal
 unfolding literal
-starts_literal = starts_then (byte 123) (λ _. word (run is_digit) then behind_length) (starts_byte 123)
+starts_literal = starts_then (byte 123) (λ _. word (run_of is_digit) then behind_length) (starts_byte 123)
 
 -- the bytes that strings begin with
 abbrev pub string_starts : ℕ → Bool
@@ -168,9 +167,9 @@ module _ {V : Type 0} (after : ℕ → Bool) where
   pub good_literal : Good V after literal
   unfolding literal is_digit
   good_literal =
-      good_behind 123 (word (run is_digit) then behind_length)
-      (good_then (word (run is_digit)) behind_length
-      (good_word (run is_digit) (lawful_run is_digit 48 refl) behind_digits (apart_run is_digit behind_digits no_digit))
+      good_behind 123 (word (run_of is_digit) then behind_length)
+      (good_then (word (run_of is_digit)) behind_length
+      (good_word (run_of is_digit) (lawful_run is_digit 48 refl) behind_digits (apart_run is_digit behind_digits no_digit))
       good_behind_length (begins_behind_length after))
 
   pub good_string : Good V after string
@@ -183,7 +182,7 @@ module _ {V : Type 0} (after : ℕ → Bool) where
   pub good_astring : ((c : ℕ) → after c ≡ true → is_astring_char c ≡ false) → Good V after astring
   unfolding astring is_astring_char
   good_astring apart =
-      good_choose is_astring_char (word (run is_astring_char)) string
-      (good_word (run is_astring_char) (lawful_run is_astring_char 97 refl) after (apart_run is_astring_char after apart)) good_string
-      (starts_word (run is_astring_char) is_astring_char (lawful_run is_astring_char 97 refl) refl (λ c h. and_left (is_astring_char c) true h))
+      good_choose is_astring_char (word (run_of is_astring_char)) string
+      (good_word (run_of is_astring_char) (lawful_run is_astring_char 97 refl) after (apart_run is_astring_char after apart)) good_string
+      (starts_word (run_of is_astring_char) is_astring_char (lawful_run is_astring_char 97 refl) refl (λ c h. and_left (is_astring_char c) true h))
       (without_from is_astring_char after string no_astring_char starts_string)

@@ -3,14 +3,15 @@ use Rattle.std.proofs.Common.{◌≡◌, ℕ, ◌+◌, ◌<◌, List, [], ◌∷
 use Rattle.std.proofs.Common.{append-nil, append_assoc, drop, drop-cons, add-one, get_or}
 use Rattle.std.specs.List.{list_all}
 use Rattle.mur_base.specs.Number.{is_digit}
+use Rattle.grammar.specs.Quoted.{is_quoted_plain, is_quoted_special, is_no_quote, literal_text}
 use Rattle.grammar.specs.Part.{◌then◌, map, byte, exactly, optional, turns, repeat}
 use Rattle.grammar.specs.Words.{word}
-use Rattle.grammar.specs.Runs.{run}
+use Rattle.grammar.specs.Runs.{run_of}
 use Rattle.grammar.specs.Numbers.{value_of, decimal_text}
 use Rattle.grammar.proofs.Conditions.{and_left, and_right, and_both}
-use Rattle.imap_text.specs.Characters.{is_quoted_plain, is_quoted_special, is_text_char, is_char8}
-use Rattle.imap_text.specs.Strings.{crlf_part, quoted_char, is_no_quote, quoted, literal, string, astring, IsString, escaped, escaped_text, quoted_text}
-use Rattle.imap_text.specs.Strings.{literal_text, is_astring_atom, is_quotable, astring_text}
+use Rattle.imap_text.specs.Characters.{is_text_char, is_char8}
+use Rattle.imap_text.specs.Strings.{crlf_part, quoted_char, quoted, literal, string, astring, IsString, escaped, escaped_text, quoted_text}
+use Rattle.imap_text.specs.Strings.{is_astring_atom, is_quotable, astring_text}
 use Rattle.imap_text.proofs.StringsLaw.{octets, behind_length}
 use Rattle.imap_text.proofs.StringsHold.{only_astring, only_literal}
 use Rattle.grammar.proofs.NumeralLaw.{decimal_writes}
@@ -29,8 +30,8 @@ unfolding literal literal_text
 spell_literal text octets_only =
     let digits = decimal_text (length text) in
     let d = decimal_writes (length text) in
-    spell_byte 123 (word (run is_digit) then behind_length) (digits ++ (43 ∷ 125 ∷ 13 ∷ 10 ∷ text)) text
-    (spell_then (word (run is_digit)) behind_length digits (43 ∷ 125 ∷ 13 ∷ 10 ∷ text) digits text (refl, and_both _ _ d.digits d.there)
+    spell_byte 123 (word (run_of is_digit) then behind_length) (digits ++ (43 ∷ 125 ∷ 13 ∷ 10 ∷ text)) text
+    (spell_then (word (run_of is_digit)) behind_length digits (43 ∷ 125 ∷ 13 ∷ 10 ∷ text) digits text (refl, and_both _ _ d.digits d.there)
     (spell_then (optional 43) (λ _. byte 125 then λ _. octets (value_of digits)) (43 ∷ []) (125 ∷ 13 ∷ 10 ∷ text) true text spell_plus
     (spell_byte 125 (octets (value_of digits)) (13 ∷ 10 ∷ text) text
     (spell_then crlf_part (λ _. exactly is_char8 (value_of digits)) (13 ∷ 10 ∷ []) text 10 text spell_crlf

@@ -1,6 +1,7 @@
 -- The character classes of the grammar (RFC 9051, 9).
 use Rattle.std.specs.Prelude.{ℕ, Bool, ◌&&◌, ◌||◌, not, ◌==◌, nat_le}
 use Rattle.std.specs.Char.{is_ascii_graphic}
+use Rattle.grammar.specs.Quoted.{is_quoted_plain, is_quoted_special}
 use Rattle.mur_base.specs.Ascii.{nul, lf, cr, quote, percent, open_paren, close_paren, star, plus, backslash, close_bracket, open_brace, delete}
 
 -- printable ASCII other than a space
@@ -23,14 +24,6 @@ is_atom_char c = is_astring_char c && not (c == close_bracket)
 -- a byte of a tag: ASTRING-CHAR except +
 unfoldable pub is_tag_byte : ℕ → Bool
 is_tag_byte b = is_visible b && not (is_atom_special b) && not (b == plus)
-
--- TEXT-CHAR except quoted-specials: 7 bits, and neither NUL, CR, LF nor one of " and \
-unfoldable pub is_quoted_plain : ℕ → Bool
-is_quoted_plain c = nat_le 1 c && nat_le c delete && not (c == cr) && not (c == lf) && not (c == quote) && not (c == backslash)
-
--- quoted-specials: " and \
-unfoldable pub is_quoted_special : ℕ → Bool
-is_quoted_special c = c == quote || c == backslash
 
 -- TEXT-CHAR: what a quoted string may hold of 7 bits, with a backslash before it or without
 unfoldable pub is_text_char : ℕ → Bool

@@ -4,8 +4,8 @@ use Rattle.grammar.specs.Forms.{Form, Row, table}
 use Rattle.imap_types.specs.declared.command.StatusItem.{StatusItem}
 use Rattle.imap_types.specs.declared.command.StatusItem.TheVariants.{Messages, UidNext, UidValidity, Unseen, Deleted, Size}
 
-abbrev pub item_rows : List (Row StatusItem)
-item_rows =
+abbrev pub status_item_rows : List (Row StatusItem)
+status_item_rows =
     (codes "MESSAGES", Messages) ∷ (codes "UIDNEXT", UidNext) ∷ (codes "UIDVALIDITY", UidValidity) ∷ (codes "UNSEEN", Unseen)
     ∷ (codes "DELETED", Deleted) ∷ (codes "SIZE", Size) ∷ []
 
@@ -18,4 +18,4 @@ item_text Deleted = codes "DELETED"
 item_text Size = codes "SIZE"
 
 abbrev pub status_item : Form StatusItem
-status_item = table Messages item_rows item_text
+status_item = table Messages status_item_rows item_text

@@ -3,12 +3,13 @@ use Rattle.std.specs.Prelude.{◌≡◌, ℕ, Bool, true, ◌&&◌, not, ◌==�
 use Rattle.std.specs.List.{list_all}
 use Rattle.mur_base.specs.Ascii.{lf, cr, quote, plus, backslash, open_brace, close_brace}
 use Rattle.mur_base.specs.Number.{is_digit}
+use Rattle.grammar.specs.Quoted.{is_quoted_plain, is_quoted_special, is_no_quote, escaped_char, plain_char, literal_text}
 use Rattle.grammar.specs.Part.{Part, ◌then◌, map, byte, choose, exactly, optional, repeat}
 use Rattle.grammar.specs.Forms.{Form, as_it_stands}
 use Rattle.grammar.specs.Words.{word}
-use Rattle.grammar.specs.Runs.{run, some}
+use Rattle.grammar.specs.Runs.{run_of, some}
 use Rattle.grammar.specs.Numbers.{value_of, decimal_text}
-use Rattle.imap_text.specs.Characters.{is_astring_char, is_atom_char, is_quoted_plain, is_quoted_special, is_text_char, is_char8}
+use Rattle.imap_text.specs.Characters.{is_astring_char, is_atom_char, is_text_char, is_char8}
 use Rattle.imap_text.specs.Utf8.{utf8_char}
 
 -- CRLF
@@ -18,12 +19,7 @@ crlf_part = byte cr then λ _. byte lf
 -- QUOTED-CHAR = <any TEXT-CHAR except quoted-specials> / "\" quoted-specials / UTF8-2 / UTF8-3 / UTF8-4, behind a text
 unfoldable pub quoted_char : List ℕ → Part (List ℕ)
 quoted_char so_far =
-    choose (λ c. c == backslash) (byte backslash then λ _. map (λ char. so_far ++ char) (exactly is_quoted_special 1))
-    (choose is_quoted_plain (map (λ char. so_far ++ char) (exactly is_quoted_plain 1)) (utf8_char so_far))
-
--- a byte that doesn't end a quoted string
-abbrev pub is_no_quote : ℕ → Bool
-is_no_quote c = not (c == quote)
+    choose (λ c. c == backslash) (escaped_char so_far) (choose is_quoted_plain (plain_char so_far) (utf8_char so_far))
 
 -- quoted = DQUOTE *QUOTED-CHAR DQUOTE
 unfoldable pub quoted : Part (List ℕ)
@@ -32,7 +28,7 @@ quoted = byte quote then λ _. repeat is_no_quote quoted_char [] then λ text. m
 -- literal = "{" number64 ["+"] "}" CRLF *CHAR8, where the number counts the octets
 unfoldable pub literal : Part (List ℕ)
 literal =
-    byte open_brace then λ _. word (run is_digit) then λ digits. optional plus then λ _. byte close_brace then λ _. crlf_part then λ _.
+    byte open_brace then λ _. word (run_of is_digit) then λ digits. optional plus then λ _. byte close_brace then λ _. crlf_part then λ _.
     exactly is_char8 (value_of digits)
 
 -- string = quoted / literal
@@ -41,7 +37,7 @@ string = choose (λ c. c == quote) quoted literal
 
 -- astring = 1*ASTRING-CHAR / string
 unfoldable pub astring : Part (List ℕ)
-astring = choose is_astring_char (word (run is_astring_char)) string
+astring = choose is_astring_char (word (run_of is_astring_char)) string
 
 -- a string that some spelling stands for
 abbrev pub IsString : List ℕ → Type 0
@@ -61,10 +57,6 @@ escaped_text (c ∷ text) = escaped c ++ escaped_text text
 -- in quotes
 unfoldable pub quoted_text : List ℕ → List ℕ
 quoted_text text = quote ∷ (escaped_text text ++ quote ∷ [])
-
--- "{" number64 "+}" CRLF *CHAR8
-unfoldable pub literal_text : List ℕ → List ℕ
-literal_text text = open_brace ∷ (decimal_text (length text) ++ (plus ∷ close_brace ∷ cr ∷ lf ∷ text))
 
 -- 1*ASTRING-CHAR
 unfoldable pub is_astring_atom : List ℕ → Bool
@@ -90,4 +82,4 @@ message = record { part = literal; text = literal_text }
 
 -- atom = 1*ATOM-CHAR
 abbrev pub atom : Form (List ℕ)
-atom = as_it_stands (run is_atom_char)
+atom = as_it_stands (run_of is_atom_char)

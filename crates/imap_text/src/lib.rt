@@ -10,7 +10,7 @@ mod utf8;
 pub use flag_names::{put_flag, system_name};
 pub use status_items::{StatusItemForm, put_item};
 pub use strings::{
-    AstringChar, Atom, are_all, astring_of, crlf_of, is_atom, literal_of, put_astring, put_literal,
-    put_quoted, string_of,
+    AstringChar, Atom, are_all, astring_of, crlf_of, is_atom, literal_of, put_astring, put_quoted,
+    string_of,
 };
 pub use tags::put_tag;

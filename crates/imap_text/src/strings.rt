@@ -2,15 +2,17 @@
 ghost use Rattle.std.specs.Prelude.{◌≡◌, ◌++◌, OnOk};
 ghost use Rattle.std.specs.List.{list_all};
 ghost use Rattle.mur_base.specs.Ascii.{lf};
+ghost use Rattle.grammar.specs.Quoted.{is_no_quote};
 ghost use Rattle.grammar.specs.Gives.{Finds, Gives};
-ghost use Rattle.imap_text.specs.Characters.{is_astring_char, is_atom_char, is_quoted_plain, is_quoted_special, is_text_char, is_char8};
-ghost use Rattle.imap_text.specs.Strings.{crlf_part, quoted_char, is_no_quote, quoted, literal, string, astring, atom, escaped, escaped_text};
-ghost use Rattle.imap_text.specs.Strings.{quoted_text, literal_text, is_astring_atom, is_atom, is_quotable, astring_text};
+ghost use Rattle.imap_text.specs.Characters.{is_astring_char, is_atom_char, is_text_char, is_char8};
+ghost use Rattle.imap_text.specs.Strings.{crlf_part, quoted_char, quoted, literal, string, astring, atom, escaped, escaped_text};
+ghost use Rattle.imap_text.specs.Strings.{quoted_text, is_astring_atom, is_atom, is_quotable, astring_text};
 
 use crate::utf8::utf8_of;
 use grammar::{
-    Class, Digit, Only, Production, ReadError, Run, Stop, Turn, begins, byte_of, counted_of,
-    exactly_of, optional_of, passing_upto, put_decimal, repeated_of, word_of,
+    Class, Digit, Only, Production, QuotedPlain, QuotedSpecial, ReadError, Run, Stop, Turn, begins,
+    byte_of, counted_of, escaped_char_of, optional_of, plain_char_of, plain_run_of, put_literal,
+    repeated_of, word_of,
 };
 use memchr::memchr;
 use mur_base::{Bytes, Memory};
@@ -39,32 +41,6 @@ impl Class for AtomChar {
     #[tactic(auto, unfolding(crate::specs::Characters::is_atom_char))]
     fn holds(&self, byte: u8) -> bool {
         AstringChar.holds(byte) && byte != b']'
-    }
-}
-
-/// A character of a quoted string that stands for itself.
-#[derive(Clone, Copy)]
-struct QuotedPlain;
-
-impl Class for QuotedPlain {
-    ghost test = { λ _. is_quoted_plain };
-
-    #[tactic(auto, unfolding(crate::specs::Characters::is_quoted_plain))]
-    fn holds(&self, byte: u8) -> bool {
-        matches!(byte, 1..=127) && !matches!(byte, b'\r' | b'\n' | b'"' | b'\\')
-    }
-}
-
-/// A character that stands behind a backslash in a quoted string.
-#[derive(Clone, Copy)]
-struct QuotedSpecial;
-
-impl Class for QuotedSpecial {
-    ghost test = { λ _. is_quoted_special };
-
-    #[tactic(auto, unfolding(crate::specs::Characters::is_quoted_special))]
-    fn holds(&self, byte: u8) -> bool {
-        matches!(byte, b'"' | b'\\')
     }
 }
 
@@ -125,18 +101,12 @@ impl Turn for QuotedChars {
 
     #[tactic(auto, unfolding(crate::specs::Strings::quoted_char))]
     fn turn<'a>(&self, state: Bytes, bytes: &'a [u8]) -> Result<(Bytes, &'a [u8]), ReadError> {
-        let mut text = state;
         if begins(&Only(b'\\'), bytes) {
-            let rest = byte_of(b'\\', bytes)?;
-            let (char, rest) = exactly_of(&QuotedSpecial, 1, rest)?;
-            text.extend_from_slice(char)?;
-            Ok((text, rest))
+            escaped_char_of(state, bytes)
         } else if begins(&QuotedPlain, bytes) {
-            let (char, rest) = exactly_of(&QuotedPlain, 1, bytes)?;
-            text.extend_from_slice(char)?;
-            Ok((text, rest))
+            plain_char_of(state, bytes)
         } else {
-            utf8_of(text, bytes)
+            utf8_of(state, bytes)
         }
     }
 
@@ -147,15 +117,12 @@ impl Turn for QuotedChars {
         state: Bytes,
         bytes: &'a [u8],
     ) -> Result<(Bytes, &'a [u8], usize), ReadError> {
-        let len = passing_upto(&QuotedPlain, most, bytes);
-        if len == 0 {
-            let (text, rest) = self.turn(state, bytes)?;
-            return Ok((text, rest, 1));
+        let (text, rest, taken) = plain_run_of(most, state, bytes)?;
+        if taken > 0 {
+            return Ok((text, rest, taken));
         }
-        let mut text = state;
-        let (plain, rest) = bytes.split_at(len);
-        text.extend_from_slice(plain)?;
-        Ok((text, rest, len))
+        let (text, rest) = self.turn(text, rest)?;
+        Ok((text, rest, 1))
     }
 }
 
@@ -298,18 +265,6 @@ pub fn put_quoted(text: &[u8], out: &mut Bytes) -> Result<(), Memory>
     out.push(b'"')?;
     put_escaped_text(text, out)?;
     out.push(b'"')
-}
-
-/// Prints a literal that waits for nothing.
-#[tactic(auto, using(std::proofs::lemmas::Grind::common_steps), unfolding(crate::specs::Strings::literal_text))]
-pub fn put_literal(text: &[u8], out: &mut Bytes) -> Result<(), Memory>
-    ensures { OnOk result (out.new ≡ out.old ++ literal_text text.now) }
-{
-    out.push(b'{')?;
-    put_decimal(text.len() as u64, out)?;
-    out.extend_from_slice(b"+}\r\n")?;
-    out.extend_from_slice(text)?;
-    Ok(())
 }
 
 /// Prints a string as an atom, in quotes or as a literal, the first of them that it can be.

@@ -7,11 +7,11 @@ use Rattle.std.specs.List.{AllByRecursion}
 use Rattle.imap_wire.specs.declared.frame.Frame.{Frame}
 use Rattle.imap_wire.specs.declared.frame.Frame.TheVariants.{Whole, NeedLiteral, TooBig, Fault}
 use Rattle.imap_wire.specs.declared.frame.FrameFault.TheVariants.{LineTooLong, PlusTooLong}
-use Rattle.imap_wire.specs.FrameLaws.{Brings, LiteralLine, IsInLine, IsLine, IsTaken, IsFront, AnnouncesNone, announcement, text_of, size_of}
-use Rattle.imap_wire.specs.FrameLaws.{texts_length, literals_length, bytes_of, asked_for}
+use Rattle.imap_wire.specs.FrameLaws.{Brings, LiteralLine, IsInLine, IsLiteralLine, IsTaken, IsCommandFront, AnnouncesNone, announcement, literal_line_text, announced_size}
+use Rattle.imap_wire.specs.FrameLaws.{texts_length, literals_length, lines_bytes, literals_asked_for}
 use Rattle.imap_wire.specs.Frames.{PartialCommand, empty_command, Cut, frames, begun, cut}
 use Rattle.imap_wire.specs.Literal.{IsDigit, announced}
-use Rattle.imap_wire.specs.Steps.{start, after}
+use Rattle.imap_wire.specs.Steps.{start_state, state_after}
 use Rattle.imap_wire.proofs.AnnouncedLaws.{announced_number, announced_none}
 use Rattle.imap_wire.proofs.CommandCut.{cut_from, cut_from_start, with_frames, nothing_more, open_cut}
 use Rattle.imap_wire.proofs.CommandCut.{taken_cut, whole_cut, asked_cut, refused_cut, plus_cut, long_cut}
@@ -22,10 +22,10 @@ use Rattle.imap_wire.proofs.LiteralLaws.{digit_value-digit}
 -- where no command has begun, bytes bring what they would bring to a new connection
 brings : (bytes : List ℕ) (new : List Frame) (left : Option (List ℕ)) → cut bytes ≡ record { frames = new; begun = left } → Brings bytes new left
 brings bytes new left is past none =
-    let state : after start past ≡ start = past-state start past refl (IsReached-start start refl) none in
+    let state : state_after start_state past ≡ start_state = past-state start_state past refl (IsReached-start start_state refl) none in
     let shown = sym (cut-shown bytes) ∙ is in (
-      frames-past start past bytes state ∙ ap (λ (c : Cut). frames past ++ c.frames) shown,
-      begun-past start past bytes state ∙ ap (λ (c : Cut). c.begun) shown,
+      frames-past start_state past bytes state ∙ ap (λ (c : Cut). frames past ++ c.frames) shown,
+      begun-past start_state past bytes state ∙ ap (λ (c : Cut). c.begun) shown,
     )
 
 in_line_append : (front back : List ℕ) → IsInLine front → IsInLine back → IsInLine (front ++ back)
@@ -50,14 +50,14 @@ announcement_in_line digits false each = (
   in_line_append digits (43 ∷ 125 ∷ []) (digits_in_line digits each) (other_than 43 10 refl, (other_than 125 10 refl, tt)),
 )
 
-text_in_line : (it : LiteralLine) → IsLine it → IsInLine (text_of it)
+text_in_line : (it : LiteralLine) → IsLiteralLine it → IsInLine (literal_line_text it)
 text_in_line it line =
     in_line_append it.front (announcement it.digits it.waits) line.0 (announcement_in_line it.digits it.waits line.1.1)
 
 -- the command behind lines and their literals
 abbrev behind : PartialCommand → List LiteralLine → PartialCommand
 behind c lines = record {
-  bytes = c.bytes ++ bytes_of lines;
+  bytes = c.bytes ++ lines_bytes lines;
   line_room = c.line_room - texts_length lines;
   literal_room = c.literal_room - literals_length lines;
 }
@@ -70,30 +70,30 @@ none_behind c =
 
 more_behind : (c : PartialCommand) (it : LiteralLine) (lines : List LiteralLine) → behind (behind c (it ∷ [])) lines ≡ behind c (it ∷ lines)
 more_behind c it lines =
-    let one : c.line_room - (length (text_of it) + 0) - texts_length lines ≡ c.line_room - (length (text_of it) + texts_length lines) = omega arith in
-    let other : c.literal_room - (size_of it + 0) - literals_length lines ≡ c.literal_room - (size_of it + literals_length lines) = omega arith in
-    let bytes : c.bytes ++ (bytes_of (it ∷ [])) ++ bytes_of lines ≡ c.bytes ++ bytes_of (it ∷ lines) =
-    append_assoc c.bytes (bytes_of (it ∷ [])) (bytes_of lines)
-    ∙ ap (λ b. c.bytes ++ (b ++ bytes_of lines)) (append-nil (text_of it ++ 13 ∷ 10 ∷ [] ++ it.octets)) in
+    let one : c.line_room - (length (literal_line_text it) + 0) - texts_length lines ≡ c.line_room - (length (literal_line_text it) + texts_length lines) = omega arith in
+    let other : c.literal_room - (announced_size it + 0) - literals_length lines ≡ c.literal_room - (announced_size it + literals_length lines) = omega arith in
+    let bytes : c.bytes ++ (lines_bytes (it ∷ [])) ++ lines_bytes lines ≡ c.bytes ++ lines_bytes (it ∷ lines) =
+    append_assoc c.bytes (lines_bytes (it ∷ [])) (lines_bytes lines)
+    ∙ ap (λ b. c.bytes ++ (b ++ lines_bytes lines)) (append-nil (literal_line_text it ++ 13 ∷ 10 ∷ [] ++ it.octets)) in
     ap (λ b. record { bytes = b; line_room = (behind (behind c (it ∷ [])) lines).line_room; literal_room = (behind (behind c (it ∷ [])) lines).literal_room })
     bytes
-    ∙ ap (λ room. record { bytes = c.bytes ++ bytes_of (it ∷ lines); line_room = room; literal_room = (behind (behind c (it ∷ [])) lines).literal_room }) one
-    ∙ ap (λ room. record { bytes = c.bytes ++ bytes_of (it ∷ lines); line_room = c.line_room - texts_length (it ∷ lines); literal_room = room }) other
+    ∙ ap (λ room. record { bytes = c.bytes ++ lines_bytes (it ∷ lines); line_room = room; literal_room = (behind (behind c (it ∷ [])) lines).literal_room }) one
+    ∙ ap (λ room. record { bytes = c.bytes ++ lines_bytes (it ∷ lines); line_room = c.line_room - texts_length (it ∷ lines); literal_room = room }) other
 
 front_cut : (lines : List LiteralLine) (c : PartialCommand) (rest : List ℕ) → AllByRecursion IsTaken lines → texts_length lines ≤ c.line_room
     → literals_length lines ≤ c.literal_room
-    → cut_from c (bytes_of lines ++ rest) ≡ with_frames (asked_for lines) (cut_from (behind c lines) rest)
+    → cut_from c (lines_bytes lines ++ rest) ≡ with_frames (literals_asked_for lines) (cut_from (behind c lines) rest)
 front_cut [] c rest each texts literals = ap (λ it. cut_from it rest) (sym (none_behind c))
 front_cut (it ∷ lines) c rest each texts literals =
     let line = each.0.0 in
-    let text = text_of it in
-    let size = size_of it in
+    let text = literal_line_text it in
+    let size = announced_size it in
     let next = behind c (it ∷ []) in
     let asked = if it.waits then NeedLiteral size ∷ [] else [] in
-    let regrouped : bytes_of (it ∷ lines) ++ rest ≡ text ++ 13 ∷ 10 ∷ (it.octets ++ (bytes_of lines ++ rest)) =
-    append_assoc (text ++ 13 ∷ 10 ∷ [] ++ it.octets) (bytes_of lines) rest
-    ∙ append_assoc (text ++ 13 ∷ 10 ∷ []) it.octets (bytes_of lines ++ rest)
-    ∙ append_assoc text (13 ∷ 10 ∷ []) (it.octets ++ (bytes_of lines ++ rest)) in
+    let regrouped : lines_bytes (it ∷ lines) ++ rest ≡ text ++ 13 ∷ 10 ∷ (it.octets ++ (lines_bytes lines ++ rest)) =
+    append_assoc (text ++ 13 ∷ 10 ∷ [] ++ it.octets) (lines_bytes lines) rest
+    ∙ append_assoc (text ++ 13 ∷ 10 ∷ []) it.octets (lines_bytes lines ++ rest)
+    ∙ append_assoc text (13 ∷ 10 ∷ []) (it.octets ++ (lines_bytes lines ++ rest)) in
     let stands : record {
       bytes = c.bytes ++ (text ++ 13 ∷ 10 ∷ [] ++ it.octets);
       line_room = c.line_room - length text;
@@ -102,86 +102,86 @@ front_cut (it ∷ lines) c rest each texts literals =
     (let one : c.line_room - length text ≡ c.line_room - (length text + 0) = omega arith in
     let other : c.literal_room - size ≡ c.literal_room - (size + 0) = omega arith in
     rw (one, other, append-nil) refl) in
-    let first = taken_cut it.waits c text size it.octets (bytes_of lines ++ rest) (text_in_line it line) (omega arith)
+    let first = taken_cut it.waits c text size it.octets (lines_bytes lines ++ rest) (text_in_line it line) (omega arith)
     (announced_number it.front it.digits it.waits line.1) each.0.1 each.0.2 (omega arith) in
     let further = front_cut lines next rest each.1 (omega arith) (omega arith) in
-    ap (cut_from c) regrouped ∙ first ∙ ap (λ at. with_frames asked (cut_from at (bytes_of lines ++ rest))) stands ∙ ap (with_frames asked) further
-    ∙ ap (λ at. with_frames asked (with_frames (asked_for lines) (cut_from at rest))) (more_behind c it lines)
+    ap (cut_from c) regrouped ∙ first ∙ ap (λ at. with_frames asked (cut_from at (lines_bytes lines ++ rest))) stands ∙ ap (with_frames asked) further
+    ∙ ap (λ at. with_frames asked (with_frames (literals_asked_for lines) (cut_from at rest))) (more_behind c it lines)
     ∙ ap (λ f. record { frames = f; begun = (cut_from (behind c (it ∷ lines)) rest).begun })
-    (sym (append_assoc asked (asked_for lines) (cut_from (behind c (it ∷ lines)) rest).frames))
+    (sym (append_assoc asked (literals_asked_for lines) (cut_from (behind c (it ∷ lines)) rest).frames))
 
 abbrev at_front : List LiteralLine → PartialCommand
 at_front lines = behind empty_command lines
 
-front_first : (lines : List LiteralLine) (rest : List ℕ) → IsFront lines
-    → cut (bytes_of lines ++ rest) ≡ with_frames (asked_for lines) (cut_from (at_front lines) rest)
-front_first lines rest front = cut_from_start (bytes_of lines ++ rest) ∙ front_cut lines empty_command rest front.0 front.1 front.2
+front_first : (lines : List LiteralLine) (rest : List ℕ) → IsCommandFront lines
+    → cut (lines_bytes lines ++ rest) ≡ with_frames (literals_asked_for lines) (cut_from (at_front lines) rest)
+front_first lines rest front = cut_from_start (lines_bytes lines ++ rest) ∙ front_cut lines empty_command rest front.0 front.1 front.2
 
-pub open_brings : (lines : List LiteralLine) (text : List ℕ) → IsFront lines → IsInLine text → texts_length lines + length text ≤ 8192
-    → Brings (bytes_of lines ++ text) (asked_for lines) (Some (bytes_of lines ++ text))
+pub open_brings : (lines : List LiteralLine) (text : List ℕ) → IsCommandFront lines → IsInLine text → texts_length lines + length text ≤ 8192
+    → Brings (lines_bytes lines ++ text) (literals_asked_for lines) (Some (lines_bytes lines ++ text))
 open_brings lines text front calm room =
     brings _ _ _
     (front_first lines text front
-    ∙ ap (with_frames (asked_for lines)) (open_cut (at_front lines) text calm (omega arith))
-    ∙ ap (λ f. record { frames = f; begun = Some (bytes_of lines ++ text) }) (append-nil (asked_for lines)))
+    ∙ ap (with_frames (literals_asked_for lines)) (open_cut (at_front lines) text calm (omega arith))
+    ∙ ap (λ f. record { frames = f; begun = Some (lines_bytes lines ++ text) }) (append-nil (literals_asked_for lines)))
 
-pub command_brings : (lines : List LiteralLine) (text : List ℕ) → IsFront lines → IsInLine text → AnnouncesNone text → texts_length lines + length text ≤ 8192
-    → Brings (bytes_of lines ++ (text ++ 13 ∷ 10 ∷ [])) (asked_for lines ++ Whole (bytes_of lines ++ (text ++ 13 ∷ 10 ∷ [])) ∷ []) (Some [])
+pub command_brings : (lines : List LiteralLine) (text : List ℕ) → IsCommandFront lines → IsInLine text → AnnouncesNone text → texts_length lines + length text ≤ 8192
+    → Brings (lines_bytes lines ++ (text ++ 13 ∷ 10 ∷ [])) (literals_asked_for lines ++ Whole (lines_bytes lines ++ (text ++ 13 ∷ 10 ∷ [])) ∷ []) (Some [])
 command_brings lines text front calm none room =
     brings _ _ _
     (front_first lines (text ++ 13 ∷ 10 ∷ []) front
-    ∙ ap (with_frames (asked_for lines)) (whole_cut (at_front lines) text [] calm (omega arith) (announced_none text none))
-    ∙ ap (λ (c : Cut). record { frames = asked_for lines ++ Whole (bytes_of lines ++ text ++ 13 ∷ 10 ∷ []) ∷ c.frames; begun = c.begun })
+    ∙ ap (with_frames (literals_asked_for lines)) (whole_cut (at_front lines) text [] calm (omega arith) (announced_none text none))
+    ∙ ap (λ (c : Cut). record { frames = literals_asked_for lines ++ Whole (lines_bytes lines ++ text ++ 13 ∷ 10 ∷ []) ∷ c.frames; begun = c.begun })
     (nothing_more empty_command)
-    ∙ ap (λ b. record { frames = asked_for lines ++ Whole b ∷ []; begun = Some [] }) (append_assoc (bytes_of lines) text (13 ∷ 10 ∷ [])))
+    ∙ ap (λ b. record { frames = literals_asked_for lines ++ Whole b ∷ []; begun = Some [] }) (append_assoc (lines_bytes lines) text (13 ∷ 10 ∷ [])))
 
 pub line_brings : (text : List ℕ) → IsInLine text → AnnouncesNone text → length text ≤ 8192
     → Brings (text ++ 13 ∷ 10 ∷ []) (Whole (text ++ 13 ∷ 10 ∷ []) ∷ []) (Some [])
 line_brings text calm none room = command_brings [] text (tt, omega arith, omega arith) calm none (omega arith)
 
-module _ (lines : List LiteralLine) (it : LiteralLine) (front : IsFront lines) (line : IsLine it)
-    (room : texts_length lines + length (text_of it) ≤ 8192) where
-  literal : (waits : Bool) → it.waits ≡ waits → announced (text_of it) ≡ Some (record { size = size_of it; waits = waits })
-  literal waits is = announced_number it.front it.digits it.waits line.1 ∙ ap (λ w. Some (record { size = size_of it; waits = w })) is
+module _ (lines : List LiteralLine) (it : LiteralLine) (front : IsCommandFront lines) (line : IsLiteralLine it)
+    (room : texts_length lines + length (literal_line_text it) ≤ 8192) where
+  literal : (waits : Bool) → it.waits ≡ waits → announced (literal_line_text it) ≡ Some (record { size = announced_size it; waits = waits })
+  literal waits is = announced_number it.front it.digits it.waits line.1 ∙ ap (λ w. Some (record { size = announced_size it; waits = w })) is
 
-  pub asked_brings : it.waits ≡ true → size_of it ≤ 1048576 → literals_length lines + size_of it ≤ 1056768
-      → Brings (bytes_of lines ++ (text_of it ++ 13 ∷ 10 ∷ [])) (asked_for lines ++ NeedLiteral (size_of it) ∷ [])
-      (Some (bytes_of lines ++ (text_of it ++ 13 ∷ 10 ∷ [])))
+  pub asked_brings : it.waits ≡ true → announced_size it ≤ 1048576 → literals_length lines + announced_size it ≤ 1056768
+      → Brings (lines_bytes lines ++ (literal_line_text it ++ 13 ∷ 10 ∷ [])) (literals_asked_for lines ++ NeedLiteral (announced_size it) ∷ [])
+      (Some (lines_bytes lines ++ (literal_line_text it ++ 13 ∷ 10 ∷ [])))
   asked_brings waits small fits =
       brings _ _ _
-      (front_first lines (text_of it ++ 13 ∷ 10 ∷ []) front
-      ∙ ap (with_frames (asked_for lines))
-      (asked_cut (at_front lines) (text_of it) (size_of it) (text_in_line it line) (omega arith) (literal true waits) small (omega arith))
-      ∙ ap (λ b. record { frames = asked_for lines ++ NeedLiteral (size_of it) ∷ []; begun = Some b })
-      (append_assoc (bytes_of lines) (text_of it) (13 ∷ 10 ∷ [])))
+      (front_first lines (literal_line_text it ++ 13 ∷ 10 ∷ []) front
+      ∙ ap (with_frames (literals_asked_for lines))
+      (asked_cut (at_front lines) (literal_line_text it) (announced_size it) (text_in_line it line) (omega arith) (literal true waits) small (omega arith))
+      ∙ ap (λ b. record { frames = literals_asked_for lines ++ NeedLiteral (announced_size it) ∷ []; begun = Some b })
+      (append_assoc (lines_bytes lines) (literal_line_text it) (13 ∷ 10 ∷ [])))
 
-  past_room : (limit : ℕ) → (limit < size_of it) ⊎ (1056768 < literals_length lines + size_of it)
-      → (limit < size_of it) ⊎ ((at_front lines).literal_room < size_of it)
+  past_room : (limit : ℕ) → (limit < announced_size it) ⊎ (1056768 < literals_length lines + announced_size it)
+      → (limit < announced_size it) ⊎ ((at_front lines).literal_room < announced_size it)
   past_room limit (inl large) = inl large
   past_room limit (inr large) = inr (omega (arith, front.2))
 
-  pub refused_brings : it.waits ≡ true → (1048576 < size_of it) ⊎ (1056768 < literals_length lines + size_of it)
-      → Brings (bytes_of lines ++ (text_of it ++ 13 ∷ 10 ∷ [])) (asked_for lines ++ TooBig (bytes_of lines ++ (text_of it ++ 13 ∷ 10 ∷ [])) ∷ []) (Some [])
+  pub refused_brings : it.waits ≡ true → (1048576 < announced_size it) ⊎ (1056768 < literals_length lines + announced_size it)
+      → Brings (lines_bytes lines ++ (literal_line_text it ++ 13 ∷ 10 ∷ [])) (literals_asked_for lines ++ TooBig (lines_bytes lines ++ (literal_line_text it ++ 13 ∷ 10 ∷ [])) ∷ []) (Some [])
   refused_brings waits large =
       brings _ _ _
-      (front_first lines (text_of it ++ 13 ∷ 10 ∷ []) front
-      ∙ ap (with_frames (asked_for lines))
-      (refused_cut (at_front lines) (text_of it) [] (size_of it) (text_in_line it line) (omega arith) (literal true waits) (past_room 1048576 large))
-      ∙ ap (λ (c : Cut). record { frames = asked_for lines ++ TooBig (bytes_of lines ++ text_of it ++ 13 ∷ 10 ∷ []) ∷ c.frames; begun = c.begun })
+      (front_first lines (literal_line_text it ++ 13 ∷ 10 ∷ []) front
+      ∙ ap (with_frames (literals_asked_for lines))
+      (refused_cut (at_front lines) (literal_line_text it) [] (announced_size it) (text_in_line it line) (omega arith) (literal true waits) (past_room 1048576 large))
+      ∙ ap (λ (c : Cut). record { frames = literals_asked_for lines ++ TooBig (lines_bytes lines ++ literal_line_text it ++ 13 ∷ 10 ∷ []) ∷ c.frames; begun = c.begun })
       (nothing_more empty_command)
-      ∙ ap (λ b. record { frames = asked_for lines ++ TooBig b ∷ []; begun = Some [] }) (append_assoc (bytes_of lines) (text_of it) (13 ∷ 10 ∷ [])))
+      ∙ ap (λ b. record { frames = literals_asked_for lines ++ TooBig b ∷ []; begun = Some [] }) (append_assoc (lines_bytes lines) (literal_line_text it) (13 ∷ 10 ∷ [])))
 
-  pub plus_brings : it.waits ≡ false → (4096 < size_of it) ⊎ (1056768 < literals_length lines + size_of it)
-      → Brings (bytes_of lines ++ (text_of it ++ 13 ∷ 10 ∷ [])) (asked_for lines ++ Fault PlusTooLong ∷ []) None
+  pub plus_brings : it.waits ≡ false → (4096 < announced_size it) ⊎ (1056768 < literals_length lines + announced_size it)
+      → Brings (lines_bytes lines ++ (literal_line_text it ++ 13 ∷ 10 ∷ [])) (literals_asked_for lines ++ Fault PlusTooLong ∷ []) None
   plus_brings waits large =
       brings _ _ _
-      (front_first lines (text_of it ++ 13 ∷ 10 ∷ []) front
-      ∙ ap (with_frames (asked_for lines))
-      (plus_cut (at_front lines) (text_of it) [] (size_of it) (text_in_line it line) (omega arith) (literal false waits) (past_room 4096 large)))
+      (front_first lines (literal_line_text it ++ 13 ∷ 10 ∷ []) front
+      ∙ ap (with_frames (literals_asked_for lines))
+      (plus_cut (at_front lines) (literal_line_text it) [] (announced_size it) (text_in_line it line) (omega arith) (literal false waits) (past_room 4096 large)))
 
-pub long_brings : (lines : List LiteralLine) (text : List ℕ) → IsFront lines → IsInLine text → 8192 < texts_length lines + length text
-    → Brings (bytes_of lines ++ (text ++ 13 ∷ 10 ∷ [])) (asked_for lines ++ Fault LineTooLong ∷ []) None
+pub long_brings : (lines : List LiteralLine) (text : List ℕ) → IsCommandFront lines → IsInLine text → 8192 < texts_length lines + length text
+    → Brings (lines_bytes lines ++ (text ++ 13 ∷ 10 ∷ [])) (literals_asked_for lines ++ Fault LineTooLong ∷ []) None
 long_brings lines text front calm long =
     brings _ _ _
     (front_first lines (text ++ 13 ∷ 10 ∷ []) front
-    ∙ ap (with_frames (asked_for lines)) (long_cut (at_front lines) text [] calm (omega (arith, front.1))))
+    ∙ ap (with_frames (literals_asked_for lines)) (long_cut (at_front lines) text [] calm (omega (arith, front.1))))

@@ -11,22 +11,22 @@ use Rattle.imap_wire.specs.declared.begun.Begun.{Begun}
 use Rattle.imap_wire.specs.declared.frame.Frame.{Frame}
 use Rattle.mur_base.specs.Ascii.{ends_with_cr}
 use Rattle.imap_wire.specs.Line.{least_length}
-use Rattle.imap_wire.specs.Kept.{filled}
-use Rattle.imap_wire.specs.Steps.{State, start, step, after, begun_of, IsReached}
+use Rattle.imap_wire.specs.Kept.{filled_room}
+use Rattle.imap_wire.specs.Steps.{State, start_state, step, state_after, begun_bytes, IsReached}
 use Rattle.imap_wire.specs.Begun.{Moves, state_of}
 use Rattle.imap_wire.specs.Bulk.{line_feeds, most_moves, frame_moves, IsUpTo, IsInBulk, credit, IsPaid}
 use Rattle.imap_wire.proofs.StepLaws.{step-line, line_step-fits, line_step-too_long}
 use Rattle.imap_wire.proofs.LineLaws.{least_length-ge}
 
 -- a block has room for a byte, or the new one behind it where it is full
-filled-less : (block : Block) → filled block < BLOCK_ROOM
+filled-less : (block : Block) → filled_room block < BLOCK_ROOM
 filled-less block = grind (arith, nat_tests)
 
 credit-most : (s : State) → credit s ≤ 4
 credit-most s = grind (arith, nat_tests)
 
-line_feeds-more : (s : State) (a b : List ℕ) → line_feeds s (a ++ b) ≡ line_feeds s a + line_feeds (after s a) b
-unfolding line_feeds after
+line_feeds-more : (s : State) (a b : List ℕ) → line_feeds s (a ++ b) ≡ line_feeds s a + line_feeds (state_after s a) b
+unfolding line_feeds state_after
 line_feeds-more s [] b = omega arith
 line_feeds-more s (x ∷ a) b = elim (cases_Bool (x == 10 && nat_eq s.literal_left 0)) [
   | inl ends ↦ rw ends (let rest = line_feeds-more (step s x).after a b in omega arith)
@@ -75,7 +75,7 @@ line-paid s mid to piece frame taken moves going in_line same within stops frame
     ]
 
 pub account-paid : (from to : Begun) (bytes : List ℕ) → to.kept.moves ≤ from.kept.moves + 3
-    → filled to.kept.last ≤ filled from.kept.last + length bytes
+    → filled_room to.kept.last ≤ filled_room from.kept.last + length bytes
     → 3 + credit (state_of to) ≤ credit (state_of from) + 7 * line_feeds (state_of from) bytes → IsPaid from bytes to
 account-paid from to bytes moves bytes_fill pays = omega arith
 
@@ -85,7 +85,7 @@ paid-nothing begun = omega arith
 
 -- one stretch behind another
 pub paid-more : (from mid to : Begun) (piece : List ℕ) (taken more : ℕ) → taken ≤ length piece
-    → state_of mid ≡ after (state_of from) (take taken piece)
+    → state_of mid ≡ state_after (state_of from) (take taken piece)
     → IsPaid from (take taken piece) mid → IsPaid mid (take more (drop taken piece)) to → IsPaid from (take (taken + more) piece) to
 paid-more from mid to piece taken more within mid_is before behind =
     let feeds = line_feeds-more (state_of from) (take taken piece) (take more (drop taken piece)) in
@@ -103,8 +103,8 @@ bulk-end from mid behind bytes more frame paid rises few =
 
 -- the same of a framer, whose state the bytes of its command lead to
 pub bulk-own : (s : State) (held : Option (List ℕ)) (bytes : List ℕ) (frame : Option Frame) (before behind : ℕ) → s.spent ≡ false → IsReached s
-    → begun_of s ≡ held → IsUpTo before (most_moves s bytes + frame_moves frame) behind → IsInBulk held bytes frame before behind
+    → begun_bytes s ≡ held → IsUpTo before (most_moves s bytes + frame_moves frame) behind → IsInBulk held bytes frame before behind
 bulk-own s held bytes frame before behind going reached is most =
-    let some : begun_of s ≡ Some s.bytes = rw going refl in
-    let same : after start s.bytes ≡ s = reached going in
+    let some : begun_bytes s ≡ Some s.bytes = rw going refl in
+    let same : state_after start_state s.bytes ≡ s = reached going in
     rw (sym is ∙ some, same) most

@@ -15,18 +15,18 @@ use Rattle.mur_base.specs.Ascii.{ends_with_cr}
 use Rattle.imap_wire.specs.Line.{without_last, split_line, least_length}
 use Rattle.imap_wire.specs.Literal.{announced, admission_of}
 use Rattle.imap_wire.specs.Frames.{PartialCommand, empty_command, Cut, with_frame, ends_at, cut_literal, cut_announced, cut_after, cut_line, cut_lines, cut}
-use Rattle.imap_wire.specs.Steps.{State, Step, start, giving, step, announced_step, line_end, at_line_end, line_step, given, after, begun_of}
+use Rattle.imap_wire.specs.Steps.{State, Step, start_state, giving, step, announced_step, line_end, at_line_end, line_step, given, state_after, begun_bytes}
 use Rattle.imap_wire.proofs.StepLaws.{step-end, step-line, line_step-fits, line_step-too_long, after-append, given-append, given-spent, after-spent}
 use Rattle.imap_wire.proofs.StepLaws.{after-literal, given-literal}
 use Rattle.imap_wire.proofs.LineLaws.{without_last-cr, split_line-push, split_line-end, least_length-append, least_length-split}
 
 -- what the machine makes of bytes
 abbrev pub shown : State → List ℕ → Cut
-shown state bytes = record { frames = given state bytes; begun = begun_of (after state bytes) }
+shown state bytes = record { frames = given state bytes; begun = begun_bytes (state_after state bytes) }
 
 -- what it makes of bytes behind a step
 abbrev pub shown_after : Step → List ℕ → Cut
-shown_after first bytes = record { frames = option_to_list first.frame ++ given first.after bytes; begun = begun_of (after first.after bytes) }
+shown_after first bytes = record { frames = option_to_list first.frame ++ given first.after bytes; begun = begun_bytes (state_after first.after bytes) }
 
 -- within a line of the command, of which this much has come
 abbrev pub in_line : PartialCommand → List ℕ → State
@@ -43,15 +43,15 @@ in_literal c left = record (before_line c) { literal_left = left }
 in_line-nil : (c : PartialCommand) → in_line c [] ≡ before_line c
 in_line-nil c = rw append-nil refl
 
-shown-append : (s : State) (a b : List ℕ) → given s a ≡ [] → shown s (a ++ b) ≡ shown (after s a) b
+shown-append : (s : State) (a b : List ℕ) → given s a ≡ [] → shown s (a ++ b) ≡ shown (state_after s a) b
 shown-append s a b none = rw (given-append s a b, after-append s a b, none) refl
 
-shown-nil : (s : State) → shown s [] ≡ record { frames = []; begun = begun_of s }
-unfolding given after
+shown-nil : (s : State) → shown s [] ≡ record { frames = []; begun = begun_bytes s }
+unfolding given state_after
 shown-nil s = refl
 
 shown-step : (s : State) (byte : ℕ) (bytes : List ℕ) → shown s (byte ∷ bytes) ≡ shown_after (step s byte) bytes
-unfolding given after
+unfolding given state_after
 shown-step s byte bytes = refl
 
 shown_after-fault : (s : State) (fault : Frame) (bytes : List ℕ) → shown_after (giving fault (record s { spent = true })) bytes ≡ ends_at fault
@@ -170,6 +170,6 @@ shown-lines (suc lines) c bytes fits =
     rw (← in_line-nil c) (shown-line (cut_lines lines) lines (shown-lines lines) bytes c [] (omega arith) refl (omega arith))
 
 -- the machine gives the frames of the bytes, and holds the command that has begun
-pub cut-shown : (bytes : List ℕ) → cut bytes ≡ shown start bytes
+pub cut-shown : (bytes : List ℕ) → cut bytes ≡ shown start_state bytes
 unfolding cut
 cut-shown bytes = sym (shown-lines (suc (length bytes)) empty_command bytes (omega arith))

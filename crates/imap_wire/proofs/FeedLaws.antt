@@ -8,33 +8,33 @@ use Rattle.std.proofs.Math.Seq.{take-add}
 use Rattle.std.proofs.lemmas.Bool.{cases_Bool}
 use Rattle.imap_wire.specs.declared.frame.Frame.{Frame}
 use Rattle.imap_wire.specs.Frames.{Cut, frames, begun}
-use Rattle.imap_wire.specs.Steps.{State, start, step, given, after, begun_of, IsReached}
-use Rattle.imap_wire.specs.Begun.{Takes}
-use Rattle.imap_wire.specs.Feeding.{Gives}
+use Rattle.imap_wire.specs.Steps.{State, start_state, step, given, state_after, begun_bytes, IsReached}
+use Rattle.imap_wire.specs.Begun.{TakesFrame}
+use Rattle.imap_wire.specs.Feeding.{GivesFrame}
 use Rattle.imap_wire.proofs.StepLaws.{step-spent, after-append, given-append, after-spent, given-spent}
 use Rattle.imap_wire.proofs.TakeLaws.{step-effect}
 use Rattle.imap_wire.proofs.CutLaws.{cut-shown}
 
 IsReached-step : (s : State) (byte : ℕ) → IsReached s → IsReached (step s byte).after
-unfolding after
+unfolding state_after
 IsReached-step s byte reached = elim (cases_Bool s.spent) [
   | inl spent ↦ rw (step-spent s byte spent) reached
   | inr going ↦ elim (step-effect s byte going) [
-    | inl grows ↦ (λ _. rw (grows.1, after-append start s.bytes (byte ∷ []), reached going) refl)
+    | inl grows ↦ (λ _. rw (grows.1, after-append start_state s.bytes (byte ∷ []), reached going) refl)
     | inr (inl restarts) ↦ (λ _. rw restarts refl)
     | inr (inr fails) ↦ (λ still. cc)
   ]
 ]
 
-pub IsReached-after : (s : State) (bytes : List ℕ) → IsReached s → IsReached (after s bytes)
-unfolding after
+pub IsReached-after : (s : State) (bytes : List ℕ) → IsReached s → IsReached (state_after s bytes)
+unfolding state_after
 IsReached-after s [] reached = reached
 IsReached-after s (x ∷ bytes) reached = IsReached-after (step s x).after bytes (IsReached-step s x reached)
 
-frames-shown : (bytes : List ℕ) → frames bytes ≡ given start bytes
+frames-shown : (bytes : List ℕ) → frames bytes ≡ given start_state bytes
 frames-shown bytes = ap (λ (c : Cut). c.frames) (cut-shown bytes)
 
-begun-shown : (bytes : List ℕ) → begun bytes ≡ begun_of (after start bytes)
+begun-shown : (bytes : List ℕ) → begun bytes ≡ begun_bytes (state_after start_state bytes)
 begun-shown bytes = ap (λ (c : Cut). c.begun) (cut-shown bytes)
 
 begun_of-some : (spent : Bool) (held bytes : List ℕ) → cond spent None (Some held) ≡ Some bytes → (spent ≡ false) × (held ≡ bytes)
@@ -42,22 +42,22 @@ begun_of-some true held bytes h = cc
 begun_of-some false held bytes h = (refl, cc)
 
 -- all bytes of a connection lead where those of the command that has begun lead
-pub past-state : (s : State) (past : List ℕ) → s.spent ≡ false → IsReached s → begun past ≡ begun_of s → after start past ≡ s
-unfolding after
+pub past-state : (s : State) (past : List ℕ) → s.spent ≡ false → IsReached s → begun past ≡ begun_bytes s → state_after start_state past ≡ s
+unfolding state_after
 past-state s past going reached held =
-    let now = after start past in
+    let now = state_after start_state past in
     let parts = begun_of-some now.spent now.bytes s.bytes (sym (begun-shown past) ∙ (held ∙ (rw going refl))) in
-    let same : after start now.bytes ≡ now = IsReached-after start past (λ _. refl) parts.0 in
-    sym same ∙ (ap (λ (b : List ℕ). after start b) parts.1 ∙ reached going)
+    let same : state_after start_state now.bytes ≡ now = IsReached-after start_state past (λ _. refl) parts.0 in
+    sym same ∙ (ap (λ (b : List ℕ). state_after start_state b) parts.1 ∙ reached going)
 
-pub frames-past : (s : State) (past bytes : List ℕ) → after start past ≡ s → frames (past ++ bytes) ≡ frames past ++ given s bytes
-frames-past s past bytes is = rw (frames-shown (past ++ bytes), frames-shown past, given-append start past bytes, is) refl
+pub frames-past : (s : State) (past bytes : List ℕ) → state_after start_state past ≡ s → frames (past ++ bytes) ≡ frames past ++ given s bytes
+frames-past s past bytes is = rw (frames-shown (past ++ bytes), frames-shown past, given-append start_state past bytes, is) refl
 
-pub begun-past : (s : State) (past bytes : List ℕ) → after start past ≡ s → begun (past ++ bytes) ≡ begun_of (after s bytes)
-begun-past s past bytes is = rw (begun-shown (past ++ bytes), after-append start past bytes, is) refl
+pub begun-past : (s : State) (past bytes : List ℕ) → state_after start_state past ≡ s → begun (past ++ bytes) ≡ begun_bytes (state_after s bytes)
+begun-past s past bytes is = rw (begun-shown (past ++ bytes), after-append start_state past bytes, is) refl
 
-pub Gives-takes : (s to : State) (past piece : List ℕ) (frame : Option Frame) (taken : ℕ) → after start past ≡ s → Takes s piece frame taken to
-    → (frame ≡ None → taken ≡ length piece) → Gives past piece frame taken
+pub Gives-takes : (s to : State) (past piece : List ℕ) (frame : Option Frame) (taken : ℕ) → state_after start_state past ≡ s → TakesFrame s piece frame taken to
+    → (frame ≡ None → taken ≡ length piece) → GivesFrame past piece frame taken
 Gives-takes s to past piece None taken is takes whole =
     let all = whole refl in
     let none : given s piece ≡ [] = rw (take_all taken piece (omega arith)) at takes.gives in
@@ -68,24 +68,24 @@ Gives-takes s to past piece (Some frame) taken is takes whole = record {
   not_before = λ n before. rw (frames-past s past (take n piece) is, takes.first n before) (append-nil (frames past));
 }
 
-pub begun-takes : (s to : State) (past piece : List ℕ) (frame : Option Frame) (taken : ℕ) → after start past ≡ s → Takes s piece frame taken to
-    → begun (past ++ take taken piece) ≡ begun_of to
-begun-takes s to past piece frame taken is takes = begun-past s past (take taken piece) is ∙ ap begun_of (sym takes.arrives)
+pub begun-takes : (s to : State) (past piece : List ℕ) (frame : Option Frame) (taken : ℕ) → state_after start_state past ≡ s → TakesFrame s piece frame taken to
+    → begun (past ++ take taken piece) ≡ begun_bytes to
+begun-takes s to past piece frame taken is takes = begun-past s past (take taken piece) is ∙ ap begun_bytes (sym takes.arrives)
 
-pub IsReached-takes : (s to : State) (piece : List ℕ) (frame : Option Frame) (taken : ℕ) → IsReached s → Takes s piece frame taken to → IsReached to
+pub IsReached-takes : (s to : State) (piece : List ℕ) (frame : Option Frame) (taken : ℕ) → IsReached s → TakesFrame s piece frame taken to → IsReached to
 IsReached-takes s to piece frame taken reached takes = rw takes.arrives (IsReached-after s (take taken piece) reached)
 
 -- a new framer
-pub IsReached-start : (s : State) → s ≡ start → IsReached s
-unfolding after
+pub IsReached-start : (s : State) → s ≡ start_state → IsReached s
+unfolding state_after
 IsReached-start s is = rw is (λ _. refl)
 
-pub begun-start : (s : State) → s ≡ start → begun_of s ≡ begun []
-unfolding after
+pub begun-start : (s : State) → s ≡ start_state → begun_bytes s ≡ begun []
+unfolding state_after
 begun-start s is = rw is (sym (begun-shown []))
 
 -- of a piece that has bytes some are taken
-pub Takes-some : (s to : State) (piece : List ℕ) (frame : Option Frame) (taken : ℕ) → Takes s piece frame taken to
+pub Takes-some : (s to : State) (piece : List ℕ) (frame : Option Frame) (taken : ℕ) → TakesFrame s piece frame taken to
     → (frame ≡ None → taken ≡ length piece)
     → 0 < length piece → 0 < taken
 unfolding given
@@ -98,18 +98,18 @@ begun_of-none : (spent : Bool) (held : List ℕ) → cond spent None (Some held)
 begun_of-none true held h = refl
 begun_of-none false held h = cc
 
-ended : (past : List ℕ) → begun past ≡ None → (after start past).spent ≡ true
-ended past none = begun_of-none (after start past).spent (after start past).bytes (sym (begun-shown past) ∙ none)
+ended : (past : List ℕ) → begun past ≡ None → (state_after start_state past).spent ≡ true
+ended past none = begun_of-none (state_after start_state past).spent (state_after start_state past).bytes (sym (begun-shown past) ∙ none)
 
 pub frames-ended : (past more : List ℕ) → begun past ≡ None → frames (past ++ more) ≡ frames past
-frames-ended past more none = rw (frames-past (after start past) past more refl, given-spent (after start past) more (ended past none))
+frames-ended past more none = rw (frames-past (state_after start_state past) past more refl, given-spent (state_after start_state past) more (ended past none))
     (append-nil (frames past))
 
 pub begun-ended : (past more : List ℕ) → begun past ≡ None → begun (past ++ more) ≡ None
-begun-ended past more none = rw (begun-past (after start past) past more refl, after-spent (after start past) more (ended past none), ended past none) refl
+begun-ended past more none = rw (begun-past (state_after start_state past) past more refl, after-spent (state_after start_state past) more (ended past none), ended past none) refl
 
 -- the frames with the one that `feed` gives, if there is one
-pub frames-given : (past piece : List ℕ) (frame : Option Frame) (taken : ℕ) → Gives past piece frame taken
+pub frames-given : (past piece : List ℕ) (frame : Option Frame) (taken : ℕ) → GivesFrame past piece frame taken
     → frames (past ++ take taken piece) ≡ frames past ++ option_to_list frame
 frames-given past piece None taken gives = rw (take_all taken piece (omega (arith, gives.whole))) (gives.no_more ∙ sym (append-nil (frames past)))
 frames-given past piece (Some frame) taken gives = gives.one_more
@@ -121,7 +121,7 @@ past-more past piece taken more =
     rw (take_rest piece taken, take-add taken more piece) (sym (append_assoc past (take taken piece) (take more (drop taken piece))))
 
 pub frames-more : (past piece : List ℕ) (taken more : ℕ) (frame : Option Frame) (old new : List Frame)
-    → Gives (past ++ take taken piece) (take (length piece - taken) (drop taken piece)) frame more
+    → GivesFrame (past ++ take taken piece) (take (length piece - taken) (drop taken piece)) frame more
     → old ≡ frames (past ++ take taken piece) → new ≡ old ++ option_to_list frame → new ≡ frames (past ++ take (taken + more) piece)
 frames-more past piece taken more frame old new gives old_is new_is =
     rw (past-more past piece taken more, frames-given (past ++ take taken piece) (take (length piece - taken) (drop taken piece)) frame more gives)
@@ -165,8 +165,8 @@ pub concat-more : (pieces : List (List ℕ)) (i : ℕ) (piece : List ℕ) → i 
 concat-more pieces i piece within is = rw (take_more pieces i piece within, ← is) (concat-push (take i pieces) piece)
 
 -- the bytes of the command that has begun would lead to it alone
-pub begun-own : (s : State) (held : Option (List ℕ)) → IsReached s → begun_of s ≡ held → IfSome held (λ bytes. begun bytes ≡ held)
+pub begun-own : (s : State) (held : Option (List ℕ)) → IsReached s → begun_bytes s ≡ held → IfSome held (λ bytes. begun bytes ≡ held)
 begun-own s None reached is = tt
 begun-own s (Some bytes) reached is =
     let parts = begun_of-some s.spent s.bytes bytes is in
-    begun-shown bytes ∙ (ap (λ (b : List ℕ). begun_of (after start b)) (sym parts.1) ∙ (ap begun_of (reached parts.0) ∙ is))
+    begun-shown bytes ∙ (ap (λ (b : List ℕ). begun_bytes (state_after start_state b)) (sym parts.1) ∙ (ap begun_bytes (reached parts.0) ∙ is))

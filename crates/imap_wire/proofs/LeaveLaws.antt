@@ -12,15 +12,15 @@ use Rattle.imap_wire.specs.declared.literal.Admission.TheVariants.{Asked, Unaske
 use Rattle.mur_base.specs.Ascii.{ends_with_cr}
 use Rattle.imap_wire.specs.Line.{without_last, least_length}
 use Rattle.imap_wire.specs.Literal.{announced, admission_of}
-use Rattle.imap_wire.specs.Steps.{State, Step, step, given, after, begun_of, line_end, announced_step, at_line_end}
-use Rattle.imap_wire.specs.Begun.{Takes}
+use Rattle.imap_wire.specs.Steps.{State, Step, step, given, state_after, begun_bytes, line_end, announced_step, at_line_end}
+use Rattle.imap_wire.specs.Begun.{TakesFrame}
 use Rattle.imap_wire.specs.Feeding.{Leaves}
 use Rattle.imap_wire.proofs.StepLaws.{step-literal, step-end, step-line, line_step-fits, line_step-too_long, given-append, after-append}
 use Rattle.imap_wire.proofs.TakeLaws.{spent-none}
 
 -- a step leaves what its frame has to, if it gives one
 abbrev pub StepLeaves : Step → Type 0
-StepLeaves next = IfSome next.frame (λ frame. Leaves frame (begun_of next.after))
+StepLeaves next = IfSome next.frame (λ frame. Leaves frame (begun_bytes next.after))
 
 announced_step-leaves : (admission : Admission) (s : State) (literal : Literal) → s.spent ≡ false → StepLeaves (announced_step admission s literal)
 unfolding announced_step
@@ -56,13 +56,13 @@ last-frame : (given_last : Option Frame) (frame : Frame) → option_to_list give
 last-frame None frame h = cc
 last-frame (Some last) frame h = cc
 
-pub Takes-leaves : (s to : State) (piece : List ℕ) (frame : Option Frame) (taken : ℕ) → s.spent ≡ false → Takes s piece frame taken to
-    → IfSome frame (λ f. Leaves f (begun_of to))
-unfolding given after
+pub Takes-leaves : (s to : State) (piece : List ℕ) (frame : Option Frame) (taken : ℕ) → s.spent ≡ false → TakesFrame s piece frame taken to
+    → IfSome frame (λ f. Leaves f (begun_bytes to))
+unfolding given state_after
 Takes-leaves s to piece None taken going takes = tt
 Takes-leaves s to piece (Some frame) zero going takes = let none = takes.gives in cc
 Takes-leaves s to piece (Some frame) (suc before) going takes =
-    let mid = after s (take before piece) in
+    let mid = state_after s (take before piece) in
     let byte = get_or piece before 0 in
     let silent : given s (take before piece) ≡ [] = takes.first before (omega arith) in
     let next : suc before ≡ before + 1 = omega arith in

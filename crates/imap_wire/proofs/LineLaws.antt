@@ -6,7 +6,7 @@ use Rattle.std.proofs.lemmas.Bool.{cases_Bool}
 use Rattle.std.proofs.lemmas.Bool.Decides.{nat_tests}
 use Rattle.std.specs.Option.{option_map}
 use Rattle.mur_base.specs.Ascii.{begins_with_lf, ends_with_cr}
-use Rattle.imap_wire.specs.Line.{without_last, with_byte, split_line, least_length}
+use Rattle.imap_wire.specs.Line.{without_last, with_first_byte, split_line, least_length}
 
 pub ends_with_cr-push : (xs : List ℕ) (byte : ℕ) → ends_with_cr (xs ++ byte ∷ []) ≡ (byte == 13)
 unfolding ends_with_cr
@@ -43,7 +43,7 @@ and-swap a b h = elim a as (λ v. (v && b) ≡ false → (b && v) ≡ false) [
 
 -- no CRLF begins at the head, and none follows
 none-parts : (test : Bool) (now : Option (List ℕ × List ℕ)) (x : ℕ) (later : Option (List ℕ × List ℕ)) (head : List ℕ × List ℕ)
-    → cond test (Some head) (option_map (with_byte x) later) ≡ None → (test ≡ false) × (later ≡ None)
+    → cond test (Some head) (option_map (with_first_byte x) later) ≡ None → (test ≡ false) × (later ≡ None)
 none-parts true now x later head h = cc
 none-parts false now x None head h = (refl, refl)
 none-parts false now x (Some split) head h = cc
@@ -54,7 +54,7 @@ unfolding split_line
 split_line-none x rest h = none-parts (x == 13 && begins_with_lf rest) None x (split_line rest) _ h
 
 pub split_line-more : (x : ℕ) (rest : List ℕ) → (x == 13 && begins_with_lf rest) ≡ false
-    → split_line (x ∷ rest) ≡ option_map (with_byte x) (split_line rest)
+    → split_line (x ∷ rest) ≡ option_map (with_first_byte x) (split_line rest)
 unfolding split_line
 split_line-more x rest h = rw h refl
 
@@ -106,7 +106,7 @@ least_length-more x y xs =
     (λ v. cond v (suc (length (without_last (y ∷ xs)))) (suc (suc (length xs))) ≡ suc
     (cond v (length (without_last (y ∷ xs))) (suc (length xs)))) [ true ↦ refl | false ↦ refl ]
 
-some-parts : (o : Option (List ℕ × List ℕ)) (x : ℕ) (text rest : List ℕ) → option_map (with_byte x) o ≡ Some (text, rest)
+some-parts : (o : Option (List ℕ × List ℕ)) (x : ℕ) (text rest : List ℕ) → option_map (with_first_byte x) o ≡ Some (text, rest)
     → (shorter : List ℕ) × (o ≡ Some (shorter, rest)) × (text ≡ x ∷ shorter)
 some-parts None x text rest h = cc
 some-parts (Some split) x text rest h =

@@ -5,31 +5,31 @@ use Rattle.std.proofs.lemmas.List.{append-nil, take-append-drop}
 use Rattle.std.specs.Option.{option_to_list}
 use Rattle.imap_wire.specs.declared.frame.Frame.{Frame}
 use Rattle.imap_wire.specs.Frames.{frames, begun}
-use Rattle.imap_wire.specs.Feeding.{Gives}
+use Rattle.imap_wire.specs.Feeding.{GivesFrame}
 use Rattle.imap_wire.specs.More.{frames_of_more, begun_by_more}
-use Rattle.imap_wire.specs.Steps.{State, start, step, given, after, begun_of, IsReached}
+use Rattle.imap_wire.specs.Steps.{State, start_state, step, given, state_after, begun_bytes, IsReached}
 use Rattle.imap_wire.proofs.FeedLaws.{IsReached-after, IsReached-start, frames-past, begun-past, frames-ended, begun-ended, frames-given}
 
 -- the state at which a connection stands, by the bytes of the command that has begun
 pub record Stands (past bytes : List ℕ) : Type 0 where
   pub state : State
-  pub here : after start past ≡ state
-  pub own : after start bytes ≡ state
+  pub here : state_after start_state past ≡ state
+  pub own : state_after start_state bytes ≡ state
 
-going : (s : State) (bytes : List ℕ) → begun_of s ≡ Some bytes → (s.spent ≡ false) × (s.bytes ≡ bytes)
+going : (s : State) (bytes : List ℕ) → begun_bytes s ≡ Some bytes → (s.spent ≡ false) × (s.bytes ≡ bytes)
 going s bytes h = by s.spent refl
   where
     by : (spent : _) → s.spent ≡ spent → (s.spent ≡ false) × (s.bytes ≡ bytes)
-    by true e = let none : begun_of s ≡ None = (rw e refl) in cc
-    by false e = (e, (let some : begun_of s ≡ Some s.bytes = (rw e refl) in cc))
+    by true e = let none : begun_bytes s ≡ None = (rw e refl) in cc
+    by false e = (e, (let some : begun_bytes s ≡ Some s.bytes = (rw e refl) in cc))
 
 pub stands : (past bytes : List ℕ) → begun past ≡ Some bytes → Stands past bytes
-unfolding after
+unfolding state_after
 stands past bytes held =
-    let reached : IsReached (after start past) = IsReached-after start past (IsReached-start start refl) in
-    let is : begun past ≡ begun_of (after start past) = begun-past start [] past refl in
-    let parts = going (after start past) bytes (sym is ∙ held) in
-    record { state = after start past; here = refl; own = ap (after start) (sym parts.1) ∙ reached parts.0 }
+    let reached : IsReached (state_after start_state past) = IsReached-after start_state past (IsReached-start start_state refl) in
+    let is : begun past ≡ begun_bytes (state_after start_state past) = begun-past start_state [] past refl in
+    let parts = going (state_after start_state past) bytes (sym is ∙ held) in
+    record { state = state_after start_state past; here = refl; own = ap (state_after start_state) (sym parts.1) ∙ reached parts.0 }
 
 drop_front : {T : Type 0} (front back : List T) → drop (length front) (front ++ back) ≡ back
 drop_front [] back = refl
@@ -73,13 +73,13 @@ pub frames_of_more-length : (held : Option (List ℕ)) (more : List ℕ) → len
 unfolding frames_of_more
 frames_of_more-length None more = omega arith
 frames_of_more-length (Some bytes) more =
-    let cut : drop (length (frames bytes)) (frames (bytes ++ more)) ≡ given (after start bytes) more =
-    ap (drop (length (frames bytes))) (frames-past (after start bytes) bytes more refl) ∙ drop_front (frames bytes) (given (after start bytes) more) in
-    omega (arith, given_length (after start bytes) more, ap length cut)
+    let cut : drop (length (frames bytes)) (frames (bytes ++ more)) ≡ given (state_after start_state bytes) more =
+    ap (drop (length (frames bytes))) (frames-past (state_after start_state bytes) bytes more refl) ∙ drop_front (frames bytes) (given (state_after start_state bytes) more) in
+    omega (arith, given_length (state_after start_state bytes) more, ap length cut)
 
 -- a piece is taken up to the end of its first frame, and then the rest
 pub more_fed : (bytes piece : List ℕ) (frame : Option Frame) (taken : ℕ) (held : Option (List ℕ)) → begun bytes ≡ Some bytes
-    → Gives bytes piece frame taken → begun (bytes ++ take taken piece) ≡ held
+    → GivesFrame bytes piece frame taken → begun (bytes ++ take taken piece) ≡ held
     → frames_of_more (Some bytes) piece ≡ option_to_list frame ++ frames_of_more held (drop taken piece)
 more_fed bytes piece frame taken held own gives next =
     let whole : bytes ++ piece ≡ (bytes ++ take taken piece) ++ drop taken piece = ap (λ p. bytes ++ p) (sym (take-append-drop taken piece))
@@ -122,5 +122,5 @@ no_more (Some bytes) = ap (λ b. drop (length (frames bytes)) (frames b)) (appen
 
 -- nothing of a connection has come at first
 pub begins_empty : begun [] ≡ Some []
-unfolding after
-begins_empty = begun-past start [] [] refl
+unfolding state_after
+begins_empty = begun-past start_state [] [] refl

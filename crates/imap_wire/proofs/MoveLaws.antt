@@ -7,7 +7,7 @@ use Rattle.std.proofs.lemmas.Bool.Decides.{nat_tests}
 use Rattle.memchr.specs.Find.{IsFirstByte, is_byte}
 use Rattle.mur_base.specs.Ascii.{ends_with_cr}
 use Rattle.imap_wire.specs.Line.{least_length}
-use Rattle.imap_wire.specs.Steps.{State, step, given, after}
+use Rattle.imap_wire.specs.Steps.{State, step, given, state_after}
 use Rattle.imap_wire.specs.Begun.{Moves}
 use Rattle.imap_wire.proofs.StepLaws.{step-line, line_step-fits, after-literal, given-literal, literal_moved}
 use Rattle.imap_wire.proofs.LineLaws.{least_length-le}
@@ -30,8 +30,8 @@ line-goes_on s byte going in_line other room =
 
 pub after-text : (s : State) (bytes : List ℕ) → s.spent ≡ false → s.literal_left ≡ 0 → IsOneLine bytes
     → length s.line + length bytes ≤ s.line_room
-    → after s bytes ≡ line_moved s (s.bytes ++ bytes) (s.line ++ bytes)
-unfolding after
+    → state_after s bytes ≡ line_moved s (s.bytes ++ bytes) (s.line ++ bytes)
+unfolding state_after
 after-text s [] going in_line one room = rw (append-nil, append-nil) refl
 after-text s (x ∷ bytes) going in_line one room =
     let longer = length-append s.line (x ∷ []) in
@@ -81,7 +81,7 @@ Moves-literal s to piece taken going left within is =
     }
 
 Moves-none : (s to : State) (piece : List ℕ) → to ≡ line_moved s (s.bytes ++ []) (s.line ++ []) → Moves s piece 0 to
-unfolding given after
+unfolding given state_after
 Moves-none s to piece is = record { within = omega arith; silent = refl; arrives = rw (append-nil s.bytes, append-nil s.line) at is }
 
 pub Moves-text : (s to : State) (piece : List ℕ) (found : Option ℕ) (taken : ℕ) → s.spent ≡ false → s.literal_left ≡ 0

@@ -8,7 +8,7 @@ use Rattle.imap_wire.specs.declared.frame.FrameFault.TheVariants.{LineTooLong}
 use Rattle.mur_base.specs.Ascii.{ends_with_cr}
 use Rattle.imap_wire.specs.Line.{without_last, least_length}
 use Rattle.imap_wire.specs.Literal.{announced}
-use Rattle.imap_wire.specs.Steps.{State, step, given, after, silent, failing, literal_step, line_step, line_end, at_line_end}
+use Rattle.imap_wire.specs.Steps.{State, step, given, state_after, silent, failing, literal_step, line_step, line_end, at_line_end}
 
 pub step-spent : (s : State) (byte : ℕ) → s.spent ≡ true → step s byte ≡ silent s
 unfolding step
@@ -35,25 +35,25 @@ line_step-fits s byte fits = let t : nat_lt s.line_room (least_length (s.line ++
 pub line_step-too_long : (s : State) (byte : ℕ) → s.line_room < least_length (s.line ++ byte ∷ []) → line_step s byte ≡ failing LineTooLong s
 line_step-too_long s byte long = let t : nat_lt s.line_room (least_length (s.line ++ byte ∷ [])) ≡ true = grind (arith, nat_tests) in rw t
 
-pub after-append : (s : State) (a b : List ℕ) → after s (a ++ b) ≡ after (after s a) b
-unfolding after
+pub after-append : (s : State) (a b : List ℕ) → state_after s (a ++ b) ≡ state_after (state_after s a) b
+unfolding state_after
 after-append s [] b = refl
 after-append s (x ∷ a) b = after-append (step s x).after a b
 
-pub given-append : (s : State) (a b : List ℕ) → given s (a ++ b) ≡ given s a ++ given (after s a) b
-unfolding given after
+pub given-append : (s : State) (a b : List ℕ) → given s (a ++ b) ≡ given s a ++ given (state_after s a) b
+unfolding given state_after
 given-append s [] b = refl
 given-append s (x ∷ a) b =
     rw (given-append (step s x).after a b)
-    (sym (append_assoc (option_to_list (step s x).frame) (given (step s x).after a) (given (after (step s x).after a) b)))
+    (sym (append_assoc (option_to_list (step s x).frame) (given (step s x).after a) (given (state_after (step s x).after a) b)))
 
 pub given-spent : (s : State) (bytes : List ℕ) → s.spent ≡ true → given s bytes ≡ []
 unfolding given
 given-spent s [] spent = refl
 given-spent s (x ∷ bytes) spent = rw (step-spent s x spent) (given-spent s bytes spent)
 
-pub after-spent : (s : State) (bytes : List ℕ) → s.spent ≡ true → after s bytes ≡ s
-unfolding after
+pub after-spent : (s : State) (bytes : List ℕ) → s.spent ≡ true → state_after s bytes ≡ s
+unfolding state_after
 after-spent s [] spent = refl
 after-spent s (x ∷ bytes) spent = rw (step-spent s x spent) (after-spent s bytes spent)
 
@@ -62,8 +62,8 @@ abbrev pub literal_moved : State → List ℕ → ℕ → State
 literal_moved s bytes left = record s { bytes = bytes; literal_left = left }
 
 pub after-literal : (s : State) (bytes : List ℕ) → s.spent ≡ false → length bytes ≤ s.literal_left
-    → after s bytes ≡ literal_moved s (s.bytes ++ bytes) (s.literal_left - length bytes)
-unfolding after
+    → state_after s bytes ≡ literal_moved s (s.bytes ++ bytes) (s.literal_left - length bytes)
+unfolding state_after
 after-literal s [] going fits = let none : s.literal_left - 0 ≡ s.literal_left = omega arith in rw (append-nil, none) refl
 after-literal s (x ∷ bytes) going fits =
     rw (step-literal s x going (omega arith))

@@ -13,14 +13,14 @@ use Rattle.imap_wire.specs.declared.literal.Admission.TheVariants.{Asked, Unaske
 use Rattle.mur_base.specs.Ascii.{ends_with_cr}
 use Rattle.imap_wire.specs.Line.{without_last, least_length}
 use Rattle.imap_wire.specs.Literal.{announced, admission_of}
-use Rattle.imap_wire.specs.Steps.{State, Step, start, step, given, after, line_end, announced_step, at_line_end, line_step}
-use Rattle.imap_wire.specs.Begun.{Moves, Takes}
+use Rattle.imap_wire.specs.Steps.{State, Step, start_state, step, given, state_after, line_end, announced_step, at_line_end, line_step}
+use Rattle.imap_wire.specs.Begun.{Moves, TakesFrame}
 use Rattle.imap_wire.proofs.StepLaws.{step-literal, step-end, step-line, line_step-fits, line_step-too_long, given-append, after-append}
 
 -- what a step does to the bytes of the command: they grow, or a new command begins, or the framer is spent
 abbrev pub Effect : Step → List ℕ → Type 0
 Effect next bytes =
-    ((next.after.spent ≡ false) × (next.after.bytes ≡ bytes)) ⊎ ((next.after ≡ start) ⊎ ((next.after.spent ≡ true) × IsSome next.frame))
+    ((next.after.spent ≡ false) × (next.after.bytes ≡ bytes)) ⊎ ((next.after ≡ start_state) ⊎ ((next.after.spent ≡ true) × IsSome next.frame))
 
 announced_step-effect : (admission : Admission) (s : State) (literal : Literal) → s.spent ≡ false → Effect (announced_step admission s literal) s.bytes
 unfolding announced_step
@@ -67,8 +67,8 @@ some-frame None rest some none = cc
 some-frame (Some frame) rest some none = cc
 
 -- no frame, no end
-pub spent-none : (s : State) (bytes : List ℕ) → s.spent ≡ false → given s bytes ≡ [] → (after s bytes).spent ≡ false
-unfolding given after
+pub spent-none : (s : State) (bytes : List ℕ) → s.spent ≡ false → given s bytes ≡ [] → (state_after s bytes).spent ≡ false
+unfolding given state_after
 spent-none s [] going none = going
 spent-none s (x ∷ bytes) going none = elim (step-effect s x going) [
   | inl grows ↦ spent-none (step s x).after bytes grows.0 (rest-none (step s x).frame _ none)
@@ -78,7 +78,7 @@ spent-none s (x ∷ bytes) going none = elim (step-effect s x going) [
 
 -- before a frame there is none
 pub given-prefix : (s : State) (a b : List ℕ) → given s (a ++ b) ≡ [] → given s a ≡ []
-given-prefix s a b none = first-none (given s a) (given (after s a) b) (sym (given-append s a b) ∙ none)
+given-prefix s a b none = first-none (given s a) (given (state_after s a) b) (sym (given-append s a b) ∙ none)
 
 pub given-take : (s : State) (piece : List ℕ) (taken n : ℕ) → n ≤ taken → given s (take taken piece) ≡ [] → given s (take n piece) ≡ []
 given-take s piece taken n before none =
@@ -86,7 +86,7 @@ given-take s piece taken n before none =
     ap (λ (k : ℕ). take k piece) (omega arith) ∙ take-add n (taken - n) piece in
     given-prefix s (take n piece) (take (taken - n) (drop n piece)) (rw split at none)
 
-pub Takes-silent : (s to : State) (piece : List ℕ) (taken : ℕ) → Moves s piece taken to → Takes s piece None taken to
+pub Takes-silent : (s to : State) (piece : List ℕ) (taken : ℕ) → Moves s piece taken to → TakesFrame s piece None taken to
 Takes-silent s to piece taken moves = record {
   within = moves.within;
   gives = moves.silent;
@@ -96,8 +96,8 @@ Takes-silent s to piece taken moves = record {
 
 -- a piece that begins with one byte
 pub Takes-byte : (s mid to : State) (piece : List ℕ) (frame : Option Frame) → 0 < length piece → mid ≡ s
-    → frame ≡ (step mid (get_or piece 0 0)).frame → to ≡ (step mid (get_or piece 0 0)).after → Takes s piece frame 1 to
-unfolding given after
+    → frame ≡ (step mid (get_or piece 0 0)).frame → to ≡ (step mid (get_or piece 0 0)).after → TakesFrame s piece frame 1 to
+unfolding given state_after
 Takes-byte s mid to [] frame some same frame_is to_is = absurd (omega arith)
 Takes-byte s mid to (byte ∷ piece) frame some same frame_is to_is = record {
   within = omega arith;
@@ -107,9 +107,9 @@ Takes-byte s mid to (byte ∷ piece) frame some same frame_is to_is = record {
 }
 
 -- one stretch behind another
-pub Takes-more : (s mid to : State) (piece : List ℕ) (frame : Option Frame) (taken more : ℕ) → Takes s piece None taken mid
-    → Takes mid (drop taken piece) frame more to
-    → Takes s piece frame (taken + more) to
+pub Takes-more : (s mid to : State) (piece : List ℕ) (frame : Option Frame) (taken more : ℕ) → TakesFrame s piece None taken mid
+    → TakesFrame mid (drop taken piece) frame more to
+    → TakesFrame s piece frame (taken + more) to
 Takes-more s mid to piece frame taken more before behind =
     let rest = length-drop taken piece in
     let mid_is = before.arrives in
@@ -129,25 +129,25 @@ Takes-more s mid to piece frame taken more before behind =
 
 -- bytes of a line, and the byte behind them
 pub Takes-text : (s mid to : State) (piece : List ℕ) (frame : Option Frame) (taken : ℕ) → taken < length piece → Moves s piece taken mid
-    → frame ≡ (step mid (get_or piece taken 0)).frame → to ≡ (step mid (get_or piece taken 0)).after → Takes s piece frame (taken + 1) to
+    → frame ≡ (step mid (get_or piece taken 0)).frame → to ≡ (step mid (get_or piece taken 0)).after → TakesFrame s piece frame (taken + 1) to
 Takes-text s mid to piece frame taken within moves frame_is to_is =
     let here : taken + 0 ≡ taken = omega arith in
     let byte : get_or (drop taken piece) 0 0 ≡ get_or piece taken 0 = rw here at (get_or-drop taken piece 0 0) in
     Takes-more s mid to piece frame taken 1 (Takes-silent s mid piece taken moves)
     (Takes-byte mid mid to (drop taken piece) frame (omega (arith, length-drop taken piece)) refl (rw byte frame_is) (rw byte to_is))
 
-pub Takes-going : (s to : State) (piece : List ℕ) (taken : ℕ) → s.spent ≡ false → Takes s piece None taken to → to.spent ≡ false
+pub Takes-going : (s to : State) (piece : List ℕ) (taken : ℕ) → s.spent ≡ false → TakesFrame s piece None taken to → to.spent ≡ false
 Takes-going s to piece taken going takes = rw takes.arrives (spent-none s (take taken piece) going takes.gives)
 
-pub Takes-nothing : (s : State) (piece : List ℕ) → Takes s piece None 0 s
-unfolding given after
+pub Takes-nothing : (s : State) (piece : List ℕ) → TakesFrame s piece None 0 s
+unfolding given state_after
 Takes-nothing s piece = record { within = omega arith; gives = refl; first = λ n before. absurd (omega arith); arrives = refl }
 
 pub none_of : (frame : Option Frame) → is_some frame ≡ false → frame ≡ None
 none_of None none = refl
 none_of (Some frame) none = cc
 
-pub Takes-none : (s to : State) (piece : List ℕ) (frame : Option Frame) (taken : ℕ) → is_some frame ≡ false → Takes s piece frame taken to
-    → Takes s piece None taken to
+pub Takes-none : (s to : State) (piece : List ℕ) (frame : Option Frame) (taken : ℕ) → is_some frame ≡ false → TakesFrame s piece frame taken to
+    → TakesFrame s piece None taken to
 Takes-none s to piece None taken none takes = takes
 Takes-none s to piece (Some frame) taken none takes = cc

@@ -4,7 +4,7 @@ use Rattle.std.specs.Option.{option_to_list}
 use Rattle.imap_wire.specs.declared.frame.Frame.{Frame}
 use Rattle.imap_wire.specs.declared.begun.Begun.{Begun}
 use Rattle.imap_wire.specs.Kept.{joined}
-use Rattle.imap_wire.specs.Steps.{State, given, after}
+use Rattle.imap_wire.specs.Steps.{State, given, state_after}
 
 -- the present line of the command
 abbrev pub present_line : Begun → List ℕ
@@ -32,11 +32,11 @@ IsBetween begun = begun.line_at ≡ length begun.kept.last.bytes.items
 pub record Moves (from : State) (piece : List ℕ) (taken : ℕ) (to : State) : Type 0 where
   pub within : taken ≤ length piece
   pub silent : given from (take taken piece) ≡ []
-  pub arrives : to ≡ after from (take taken piece)
+  pub arrives : to ≡ state_after from (take taken piece)
 
 -- so many bytes of the piece are taken, and the frame, if there is one, is the only one and ends with the last of them
-pub record Takes (from : State) (piece : List ℕ) (frame : Option Frame) (taken : ℕ) (to : State) : Type 0 where
+pub record TakesFrame (from : State) (piece : List ℕ) (frame : Option Frame) (taken : ℕ) (to : State) : Type 0 where
   pub within : taken ≤ length piece
   pub gives : given from (take taken piece) ≡ option_to_list frame
   pub first : (n : ℕ) → n < taken → given from (take n piece) ≡ []
-  pub arrives : to ≡ after from (take taken piece)
+  pub arrives : to ≡ state_after from (take taken piece)

@@ -7,8 +7,8 @@ use Rattle.imap_wire.specs.declared.frame.Frame.{Frame}
 use Rattle.imap_wire.specs.declared.frame.Frame.TheVariants.{Whole, NeedLiteral, TooBig, Fault}
 use Rattle.imap_wire.specs.declared.block.TheConstants.{BLOCK_ROOM}
 use Rattle.imap_wire.specs.declared.begun.Begun.{Begun}
-use Rattle.imap_wire.specs.Kept.{filled}
-use Rattle.imap_wire.specs.Steps.{State, start, step, after}
+use Rattle.imap_wire.specs.Kept.{filled_room}
+use Rattle.imap_wire.specs.Steps.{State, start_state, step, state_after}
 use Rattle.imap_wire.specs.Begun.{state_of}
 
 -- how many LFs stand outside literals: they end lines, or stand in one
@@ -42,7 +42,7 @@ IsUpTo before most behind = (before ≤ behind) × (behind ≤ before + most)
 -- has where the framer is spent
 abbrev pub IsInBulk : Option (List ℕ) → List ℕ → Option Frame → ℕ → ℕ → Type 0
 IsInBulk None bytes frame before behind = behind ≡ before
-IsInBulk (Some begun) bytes frame before behind = IsUpTo before (most_moves (after start begun) bytes + frame_moves frame) behind
+IsInBulk (Some begun) bytes frame before behind = IsUpTo before (most_moves (state_after start_state begun) bytes + frame_moves frame) behind
 
 -- how many moves may come before the next LF: those of a byte past the line's limit, and of the end of a literal before the line
 abbrev pub credit : State → ℕ
@@ -50,7 +50,7 @@ credit state = if nat_lt 0 state.literal_left then 4 else (if nat_lt state.line_
 
 -- the moves that were made or may come, each counted as the bytes of a block, and the bytes that fill the present one
 abbrev pub account : Begun → ℕ
-account begun = BLOCK_ROOM * (begun.kept.moves + credit (state_of begun)) + filled begun.kept.last
+account begun = BLOCK_ROOM * (begun.kept.moves + credit (state_of begun)) + filled_room begun.kept.last
 
 -- so many moves were made with these bytes that the bytes and their LFs pay for them
 abbrev pub IsPaid : Begun → List ℕ → Begun → Type 0

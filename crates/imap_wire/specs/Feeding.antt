@@ -23,9 +23,9 @@ pub record EndsNone (past piece : List ℕ) (taken : ℕ) : Type 0 where
   pub no_more : frames (past ++ piece) ≡ frames past
 
 -- the first frame that ends in the piece, if one does, and how many bytes there are up to its end
-abbrev pub Gives : List ℕ → List ℕ → Option Frame → ℕ → Type 0
-Gives past piece None taken = EndsNone past piece taken
-Gives past piece (Some frame) taken = EndsFrame past piece frame taken
+abbrev pub GivesFrame : List ℕ → List ℕ → Option Frame → ℕ → Type 0
+GivesFrame past piece None taken = EndsNone past piece taken
+GivesFrame past piece (Some frame) taken = EndsFrame past piece frame taken
 
 -- what a frame leaves of the command that has begun: a whole one and one that is too big leave nothing, a fault ends the connection
 abbrev pub Leaves : Frame → Option (List ℕ) → Type 0

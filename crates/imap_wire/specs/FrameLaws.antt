@@ -38,38 +38,38 @@ pub record LiteralLine : Type 0 where
   pub waits : Bool
   pub octets : List ℕ
 
-abbrev pub text_of : LiteralLine → List ℕ
-text_of it = it.front ++ announcement it.digits it.waits
+abbrev pub literal_line_text : LiteralLine → List ℕ
+literal_line_text it = it.front ++ announcement it.digits it.waits
 
 -- the size that is announced
-abbrev pub size_of : LiteralLine → ℕ
-size_of it = digits_value 10 it.digits
+abbrev pub announced_size : LiteralLine → ℕ
+announced_size it = digits_value 10 it.digits
 
-abbrev pub IsLine : LiteralLine → Type 0
-IsLine it = IsInLine it.front × IsNumber it.digits
+abbrev pub IsLiteralLine : LiteralLine → Type 0
+IsLiteralLine it = IsInLine it.front × IsNumber it.digits
 
 -- the literal is within the limit of its kind, and has as many octets as the line announces
 abbrev pub IsTaken : LiteralLine → Type 0
-IsTaken it = IsLine it × (size_of it ≤ (if it.waits then 1048576 else 4096)) × (length it.octets ≡ size_of it)
+IsTaken it = IsLiteralLine it × (announced_size it ≤ (if it.waits then 1048576 else 4096)) × (length it.octets ≡ announced_size it)
 
 -- how many bytes the texts of the lines have together
 abbrev pub texts_length : List LiteralLine → ℕ
 texts_length [] = 0
-texts_length (it ∷ lines) = length (text_of it) + texts_length lines
+texts_length (it ∷ lines) = length (literal_line_text it) + texts_length lines
 
 -- how many octets their literals have together
 abbrev pub literals_length : List LiteralLine → ℕ
 literals_length [] = 0
-literals_length (it ∷ lines) = size_of it + literals_length lines
+literals_length (it ∷ lines) = announced_size it + literals_length lines
 
 -- the bytes of lines and of their literals
-abbrev pub bytes_of : List LiteralLine → List ℕ
-bytes_of lines = flat_map (λ it. text_of it ++ crlf ++ it.octets) lines
+abbrev pub lines_bytes : List LiteralLine → List ℕ
+lines_bytes lines = flat_map (λ it. literal_line_text it ++ crlf ++ it.octets) lines
 
 -- what the client is asked for
-abbrev pub asked_for : List LiteralLine → List Frame
-asked_for lines = flat_map (λ it. if it.waits then NeedLiteral (size_of it) ∷ [] else []) lines
+abbrev pub literals_asked_for : List LiteralLine → List Frame
+literals_asked_for lines = flat_map (λ it. if it.waits then NeedLiteral (announced_size it) ∷ [] else []) lines
 
 -- the front of a command, up to the end of its last literal
-abbrev pub IsFront : List LiteralLine → Type 0
-IsFront lines = AllByRecursion IsTaken lines × (texts_length lines ≤ 8192) × (literals_length lines ≤ 1056768)
+abbrev pub IsCommandFront : List LiteralLine → Type 0
+IsCommandFront lines = AllByRecursion IsTaken lines × (texts_length lines ≤ 8192) × (literals_length lines ≤ 1056768)

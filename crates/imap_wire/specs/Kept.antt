@@ -17,5 +17,5 @@ abbrev pub next_room : Block → ℕ
 next_room block = let left = block.room - length block.bytes.items in if nat_lt 0 left then left else BLOCK_ROOM
 
 -- how many bytes fewer have room there than in a new block
-abbrev pub filled : Block → ℕ
-filled block = BLOCK_ROOM - next_room block
+abbrev pub filled_room : Block → ℕ
+filled_room block = BLOCK_ROOM - next_room block

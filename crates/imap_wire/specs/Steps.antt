@@ -30,8 +30,8 @@ pub record State : Type 0 where
   pub spent : Bool
 
 -- between two commands
-abbrev pub start : State
-start = record { bytes = []; line = []; line_room = LINE_LIMIT; literal_room = COMMAND_LITERALS_LIMIT; literal_left = 0; spent = false }
+abbrev pub start_state : State
+start_state = record { bytes = []; line = []; line_room = LINE_LIMIT; literal_room = COMMAND_LITERALS_LIMIT; literal_left = 0; spent = false }
 
 -- what one byte leads to
 pub record Step : Type 0 where
@@ -54,12 +54,12 @@ with_literal state size = record state { literal_room = state.literal_room - siz
 unfoldable pub announced_step : Admission → State → Literal → Step
 announced_step Asked state literal = giving (NeedLiteral literal.size) (with_literal state literal.size)
 announced_step Unasked state literal = silent (with_literal state literal.size)
-announced_step Refused state literal = giving (TooBig state.bytes) start
+announced_step Refused state literal = giving (TooBig state.bytes) start_state
 announced_step RefusedUnasked state literal = failing PlusTooLong state
 
 -- a line has ended
 unfoldable pub line_end : State → Option Literal → Step
-line_end state None = giving (Whole state.bytes) start
+line_end state None = giving (Whole state.bytes) start_state
 line_end state (Some literal) = announced_step (admission_of literal state.literal_room) state literal
 
 -- the state at the end of the present line, of this text, where the last byte has come
@@ -90,14 +90,14 @@ given state [] = []
 given state (byte ∷ bytes) = option_to_list (step state byte).frame ++ given (step state byte).after bytes
 
 -- the state after the bytes
-unfoldable pub after : State → List ℕ → State
-after state [] = state
-after state (byte ∷ bytes) = after (step state byte).after bytes
+unfoldable pub state_after : State → List ℕ → State
+state_after state [] = state
+state_after state (byte ∷ bytes) = state_after (step state byte).after bytes
 
 -- the bytes of the command that has begun, none once the framer is spent
-abbrev pub begun_of : State → Option (List ℕ)
-begun_of state = if state.spent then None else Some state.bytes
+abbrev pub begun_bytes : State → Option (List ℕ)
+begun_bytes state = if state.spent then None else Some state.bytes
 
 -- the state is the one that the bytes of its command lead to
 abbrev pub IsReached : State → Type 0
-IsReached state = state.spent ≡ false → after start state.bytes ≡ state
+IsReached state = state.spent ≡ false → state_after start_state state.bytes ≡ state

@@ -34,17 +34,17 @@ pub struct Begun {
 }
 
 impl Begun {
-    ghost use Rattle.imap_wire.specs.Begun.{state_of, present_line, IsRoomy, IsBetween, Moves, Takes};
-    ghost use Rattle.imap_wire.specs.Kept.{next_room, filled};
+    ghost use Rattle.imap_wire.specs.Begun.{state_of, present_line, IsRoomy, IsBetween, Moves, TakesFrame};
+    ghost use Rattle.imap_wire.specs.Kept.{next_room, filled_room};
     ghost use Rattle.imap_wire.specs.Bulk.{credit, account, IsPaid, IsUpTo, most_moves, frame_moves, join_moves};
-    ghost use Rattle.imap_wire.specs.Steps.{start, step, line_step, line_end, with_literal, failing};
+    ghost use Rattle.imap_wire.specs.Steps.{start_state, step, line_step, line_end, with_literal, failing};
     ghost use Rattle.mur_base.specs.Ascii.{lf, ends_with_cr};
     ghost use Rattle.imap_wire.specs.Line.{least_length};
     ghost use Rattle.imap_wire.specs.Tally.{no_tally, more, copies, counted, fed, IsFedPart};
 
     /// The state between two commands, at the beginning of a connection.
     pub fn new(alloc: Global) -> Begun
-        ensures state { state_of result ≡ start }
+        ensures state { state_of result ≡ start_state }
         ensures tally { result.kept.tally ≡ no_tally }
         ensures count { result.kept.moves ≡ 0 }
     {
@@ -97,7 +97,7 @@ impl Begun {
         ensures cause { OnErr result (¬ IsRoomy self.old) }
         ensures tally { self.new.kept.tally ≡ self.old.kept.tally }
         ensures count { self.new.kept.moves ≡ self.old.kept.moves }
-        ensures filled { OnOk result (filled self.new.kept.last ≤ filled self.old.kept.last) }
+        ensures filled { OnOk result (filled_room self.new.kept.last ≤ filled_room self.old.kept.last) }
     {
         if self.kept.last.room() - self.line_at < self.line_room + 2 {
             self.kept.next_block(alloc)?;
@@ -118,7 +118,7 @@ impl Begun {
         ensures tally { self.new.kept.tally ≡ fed self.old.kept.tally None result }
         // The search, and the bytes.
         ensures two { self.new.kept.moves ≡ counted (self.old.kept.moves + 2) }
-        ensures filled { filled self.new.kept.last ≤ filled self.old.kept.last + result }
+        ensures filled { filled_room self.new.kept.last ≤ filled_room self.old.kept.last + result }
         ensures credit { credit (state_of self.new) ≡ credit (state_of self.old) }
         // No further byte of the piece is a line's that is sure to be allowed.
         ensures bulk { result < length piece.now
@@ -156,7 +156,7 @@ impl Begun {
     /// Takes bytes of the piece up to the end of the next frame, or all where none ends in it.
     pub fn take(&mut self, alloc: Global, piece: &[u8]) -> Result<(Option<Frame>, usize), Memory>
         requires going { self.old.spent ≡ false }
-        ensures takes { IfOk result (λ r. Takes (state_of self.old) piece.now r.0 r.1 (state_of self.new)) }
+        ensures takes { IfOk result (λ r. TakesFrame (state_of self.old) piece.now r.0 r.1 (state_of self.new)) }
         ensures whole { IfOk result (λ r. r.0 ≡ None → r.1 ≡ length piece.now) }
         ensures tally { IfOk result (λ r. self.new.kept.tally ≡ fed self.old.kept.tally r.0 r.1) }
         ensures memory { OnErr result (IsFedPart self.old.kept.tally (length piece.now) self.new.kept.tally) }
@@ -179,7 +179,7 @@ impl Begun {
     fn take_some(&mut self, alloc: Global, piece: &[u8]) -> Result<(Option<Frame>, usize), Memory>
         requires going { self.old.spent ≡ false }
         requires some { 0 < length piece.now }
-        ensures takes { IfOk result (λ r. Takes (state_of self.old) piece.now r.0 r.1 (state_of self.new)) }
+        ensures takes { IfOk result (λ r. TakesFrame (state_of self.old) piece.now r.0 r.1 (state_of self.new)) }
         ensures some { IfOk result (λ r. 0 < r.1) }
         ensures tally { IfOk result (λ r. self.new.kept.tally ≡ fed self.old.kept.tally r.0 r.1) }
         ensures memory { OnErr result (IsFedPart self.old.kept.tally (length piece.now) self.new.kept.tally) }
@@ -209,7 +209,7 @@ impl Begun {
         ensures memory { OnErr result (self.new.kept.tally ≡ fed self.old.kept.tally None 1) }
         ensures count { IfOk result (λ frame. IsUpTo self.old.kept.moves (1 + frame_moves frame) self.new.kept.moves) }
         ensures one { OnErr result (self.new.kept.moves ≡ counted (self.old.kept.moves + 1)) }
-        ensures filled { IfOk result (λ frame. frame ≡ None → filled self.new.kept.last ≤ filled self.old.kept.last + 1) }
+        ensures filled { IfOk result (λ frame. frame ≡ None → filled_room self.new.kept.last ≤ filled_room self.old.kept.last + 1) }
     {
         if byte == b'\n' && self.ends_with_cr() {
             self.take_lf(alloc)
@@ -228,7 +228,7 @@ impl Begun {
         ensures tally { self.new.kept.tally ≡ fed self.old.kept.tally result 1 }
         ensures one { self.new.kept.moves ≡ counted (self.old.kept.moves + 1) }
         ensures no_more { frame_moves result ≡ 0 }
-        ensures filled { result ≡ None → filled self.new.kept.last ≤ filled self.old.kept.last + 1 }
+        ensures filled { result ≡ None → filled_room self.new.kept.last ≤ filled_room self.old.kept.last + 1 }
     {
         if !self.has_room_for(byte) {
             self.kept.pass();
@@ -250,7 +250,7 @@ impl Begun {
         ensures memory { OnErr result (self.new.kept.tally ≡ fed self.old.kept.tally None 1) }
         ensures count { IfOk result (λ frame. IsUpTo self.old.kept.moves (1 + frame_moves frame) self.new.kept.moves) }
         ensures one { OnErr result (self.new.kept.moves ≡ counted (self.old.kept.moves + 1)) }
-        ensures filled { IfOk result (λ frame. frame ≡ None → filled self.new.kept.last ≤ filled self.old.kept.last + 1) }
+        ensures filled { IfOk result (λ frame. frame ≡ None → filled_room self.new.kept.last ≤ filled_room self.old.kept.last + 1) }
     {
         let line = self.line();
         let text = &line[..line.len() - 1];
@@ -320,7 +320,7 @@ impl Begun {
     fn restart(&mut self, alloc: Global) -> Result<Bytes, Memory>
         requires { self.old.spent ≡ false }
         ensures bytes { IfOk result (λ bytes. bytes ≡ (state_of self.old).bytes) }
-        ensures after { OnOk result (state_of self.new ≡ start) }
+        ensures after { OnOk result (state_of self.new ≡ start_state) }
         ensures tally { IfOk result (λ bytes. self.new.kept.tally ≡ more self.old.kept.tally 0 (length bytes)) }
         ensures memory { OnErr result (self.new.kept.tally ≡ self.old.kept.tally) }
         ensures count { IfOk result (λ bytes. IsUpTo self.old.kept.moves (join_moves bytes) self.new.kept.moves) }

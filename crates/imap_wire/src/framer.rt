@@ -23,18 +23,18 @@ pub struct Framer {
 impl Model for Framer {
     ghost use Rattle.imap_wire.specs.Feeding.{Progress};
     ghost use Rattle.imap_wire.specs.Begun.{state_of};
-    ghost use Rattle.imap_wire.specs.Steps.{begun_of, IsReached};
+    ghost use Rattle.imap_wire.specs.Steps.{begun_bytes, IsReached};
 
     ghost Value = { Progress };
 
-    ghost view = { λ framer. record { begun = begun_of (state_of framer.begun); tally = framer.begun.kept.tally; moves = framer.begun.kept.moves } };
+    ghost view = { λ framer. record { begun = begun_bytes (state_of framer.begun); tally = framer.begun.kept.tally; moves = framer.begun.kept.moves } };
 
     ghost invariant = { λ framer. IsReached (state_of framer.begun) };
 }
 
 impl Framer {
     ghost use Rattle.imap_wire.specs.Frames.{begun, frames as frames_of};
-    ghost use Rattle.imap_wire.specs.Feeding.{Gives, Leaves};
+    ghost use Rattle.imap_wire.specs.Feeding.{GivesFrame, Leaves};
     ghost use Rattle.imap_wire.specs.Tally.{no_tally, fed as tally_fed, IsFedPart};
     ghost use Rattle.imap_wire.specs.Bulk.{IsInBulk};
 
@@ -76,7 +76,7 @@ impl Framer {
     /// Takes bytes of the piece up to the end of the next frame, or all where none ends in it, and says how many.
     pub fn feed(&mut self, piece: &[u8]) -> Result<(Option<Frame>, usize), Memory>
         ensures frame { IfOk result (λ fed. IsSome self.old.begun → (past : List ℕ) → begun past ≡ self.old.begun
-            → Gives past piece.now fed.0 fed.1) }
+            → GivesFrame past piece.now fed.0 fed.1) }
         ensures after { IfOk result (λ fed. (past : List ℕ) → begun past ≡ self.old.begun
             → begun (past ++ take fed.1 piece.now) ≡ self.new.begun) }
         ensures leaves { IfOk result (λ fed. IfSome fed.0 (λ frame. Leaves frame self.new.begun)) }

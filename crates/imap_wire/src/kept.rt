@@ -34,7 +34,7 @@ pub struct Kept {
 
 impl Kept {
     ghost use Rattle.imap_wire.specs.Tally.{no_tally, more, IsCounted};
-    ghost use Rattle.imap_wire.specs.Kept.{filled};
+    ghost use Rattle.imap_wire.specs.Kept.{filled_room};
     ghost use Rattle.imap_wire.specs.Bulk.{IsUpTo, join_moves};
     ghost use Rattle.memchr.specs.Find.{IsFirstByte, is_byte};
     ghost use Rattle.mur_base.specs.Ascii.{lf};
@@ -121,7 +121,7 @@ impl Kept {
         ensures room { self.new.last.room ≡ self.old.last.room }
         ensures tally { self.new.tally ≡ more self.old.tally (length bytes.now) (length bytes.now) }
         ensures moves { self.new.moves ≡ counted (self.old.moves + 1) }
-        ensures filled { filled self.new.last ≤ filled self.old.last + length bytes.now }
+        ensures filled { filled_room self.new.last ≤ filled_room self.old.last + length bytes.now }
     {
         self.tally.add(bytes.len(), 0);
         self.last.put(bytes, &mut self.tally, &mut self.moves);

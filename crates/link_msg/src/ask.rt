@@ -1,5 +1,5 @@
 // What a frontend asks.
-use crate::op::Op;
+use imap_types::Op;
 use mur_base::{AskId, MailName, UserName};
 
 /// What a frontend asks of a mailbox's home.

@@ -6,14 +6,13 @@ mod answer;
 mod ask;
 mod counts;
 mod message;
-mod op;
 mod out;
 mod outcome;
 
 pub use answer::{AnswerBody, BackAnswer};
 pub use ask::FrontAsk;
 pub use counts::Counts;
+pub use imap_types::Op;
 pub use message::LinkMsg;
-pub use op::Op;
 pub use out::{Out, Outs};
 pub use outcome::Outcome;

@@ -8,20 +8,12 @@ use Rattle.mail_message.specs.declared.change.Change.{Change}
 use Rattle.mail_message.specs.declared.change.Change.TheVariants.{Put, SetFlags, Gone, NextUid}
 use Rattle.mail_message.specs.FlagSets.{Flags}
 use Rattle.mail_message.specs.Boxes.{Content, message_at, without_uid, with_flags, relabelled, messages_after, content_after_all, is_touched, IsRising}
-use Rattle.mail_message.proofs.OtherLaws.{other-after, other-after_all}
+use Rattle.mail_message.proofs.OtherLaws.{first_not, later_not, other-after, other-after_all}
 use Rattle.mail_batch.specs.Transfers.{Transfer, TransferStep, transfer_of, after_steps, lists_uid, IsAllowed, AreAllowed, IsAllowedChange}
 use Rattle.mail_batch.specs.Transfers.{puts_at, MayCarryOut, carries_out}
 use Rattle.mail_batch.proofs.StepLaws.{flagged, gone_there, flags_there}
 use Rattle.mail_batch.proofs.EndLaws.{messages-after_all, rising-content}
 use Rattle.mail_batch.proofs.TransferLaw.{IsUnderWay, under-way}
-
-first_not : (a b : Bool) → (a || b) ≡ false → a ≡ false
-first_not true b h = h
-first_not false b h = refl
-
-later_not : (a b : Bool) → (a || b) ≡ false → b ≡ false
-later_not true b h = cc
-later_not false b h = h
 
 -- ---- a message that the mailbox had keeps all but its flags, or goes
 

@@ -16,7 +16,8 @@ use Rattle.mail_batch.specs.Weights.{batch, weight_of, takes_change, batch_from}
 use Rattle.mail_batch.specs.Sweeps.{SweepState, SentMarks, is_sent, after_sending, after_sending_all, change_by, change_at, changes_left, batch_of}
 use Rattle.mail_batch.specs.Sweeps.{fits_one_batch}
 use Rattle.mail_batch.specs.Batches.{IsOfFirstLeft, AreWithinLimit}
-use Rattle.mail_batch.proofs.StepLaws.{found-is, after_sending-is}
+use Rattle.mail_message.proofs.FoundUids.{found_is}
+use Rattle.mail_batch.proofs.StepLaws.{after_sending-is}
 use Rattle.mail_batch.proofs.LimitLaws.{some-goes, few-go, light-batch, fits-all}
 
 -- ---- the lowest UIDs left
@@ -37,7 +38,7 @@ module _ (messages : List Message) (sent : ℕ → Bool) where
   first_sent : (e : ℕ × Unit {0}) (left : List (ℕ × Unit {0})) (known : SentMarks)
       → after_sending (sweep_of (e ∷ left) known) (change_of e.0) ≡ sweep_of left (known_after known e.0)
   first_sent e left known =
-      after_sending-is (sweep_of (e ∷ left) known) e.0 (sent e.0) (message_at messages e.0) (found-is messages e.0)
+      after_sending-is (sweep_of (e ∷ left) known) e.0 (sent e.0) (message_at messages e.0) (found_is messages e.0)
       ∙ ap (λ rest. sweep_of rest (known_after known e.0)) (first_less e left)
 
   front_by : (e : ℕ × Unit {0}) (left : List (ℕ × Unit {0})) (known : SentMarks) (changes : List Change)

@@ -11,25 +11,11 @@ use Rattle.mur_base.proofs.MapLaws.{numbers_apart, value_at-with_entry, value_at
 use Rattle.mail_message.specs.declared.message.Message.{Message}
 use Rattle.mail_message.specs.FlagSets.{Flags}
 use Rattle.mail_message.specs.Boxes.{message_at, with_message, without_uid, with_flags, relabelled, messages_after, is_touched}
+use Rattle.mail_message.proofs.FoundUids.{IsOf, found_is}
 use Rattle.mail_message.proofs.OtherLaws.{other-after}
 use Rattle.mail_batch.specs.Sweeps.{SweepState, is_left, is_sent, or_false, noted, settled, after_sending, change_by}
 use Rattle.mail_batch.proofs.Agreement.{Agrees, IsLabelled, MayBecome, MayChange}
 use Rattle.mail_batch.proofs.SweepLaws.{either, value_at-without_key, sent-with_place, place-made, place-others}
-
--- ---- a message that is found has its UID
-
-abbrev pub IsOf : ℕ → Option Message → Type 0
-IsOf uid None = Unit {0}
-IsOf uid (Some message) = message.uid ≡ uid
-
-of_by : (uid : ℕ) (message : Message) (rest : Option Message) (same : Bool) → nat_eq message.uid uid ≡ same → IsOf uid rest
-    → IsOf uid (cond same (Some message) rest)
-of_by uid message rest true is found = grind (arith, nat_tests, is)
-of_by uid message rest false is found = found
-
-pub found-is : (messages : List Message) (uid : ℕ) → IsOf uid (message_at messages uid)
-found-is [] uid = tt
-found-is (message ∷ messages) uid = of_by uid message (message_at messages uid) (nat_eq message.uid uid) refl (found-is messages uid)
 
 -- ---- the message with a change's UID, after the change
 
@@ -175,16 +161,16 @@ module _ (sweep : SweepState) (messages taken : List Message) (uid : ℕ) (sent 
   sent_now = messages_after taken (change_by uid sent (message_at messages uid))
 
   pub there-after : message_at sent_now uid ≡ message_at messages uid
-  there-after = change_there uid sent (message_at messages uid) taken (found-is messages uid) labelled
+  there-after = change_there uid sent (message_at messages uid) taken (found_is messages uid) labelled
 
   pub others-after : (q : ℕ) → q ≢ uid → message_at sent_now q ≡ message_at taken q
   others-after q ne =
-      other-after taken (change_by uid sent (message_at messages uid)) q (untouched uid q sent (message_at messages uid) (found-is messages uid) ne)
+      other-after taken (change_by uid sent (message_at messages uid)) q (untouched uid q sent (message_at messages uid) (found_is messages uid) ne)
 
   pub agrees-after_sending : Agrees sweep messages taken → is_some (value_at nat_cmp sweep.known uid) ≡ true
       → Agrees (after_sending sweep (change_by uid sent (message_at messages uid))) messages sent_now
   agrees-after_sending agrees place =
-      subst (λ s. Agrees s messages sent_now) (sym (after_sending-is sweep uid sent (message_at messages uid) (found-is messages uid)))
+      subst (λ s. Agrees s messages sent_now) (sym (after_sending-is sweep uid sent (message_at messages uid) (found_is messages uid)))
       (record {
         kept = λ q h. kept_by sweep messages taken sent_now uid (is_some (message_at messages uid)) there-after others-after agrees q (either q uid) h;
         sent = λ q h. sent_by sweep messages taken sent_now uid (is_some (message_at messages uid)) there-after others-after agrees q (either q uid) h;
@@ -195,7 +181,7 @@ module _ (sweep : SweepState) (messages taken : List Message) (uid : ℕ) (sent 
   pub placed-after_sending : (q : ℕ) → is_some (value_at nat_cmp sweep.known q) ≡ true
       → is_some (value_at nat_cmp (after_sending sweep (change_by uid sent (message_at messages uid))).known q) ≡ true
   placed-after_sending q h =
-      subst (λ s. is_some (value_at nat_cmp s.known q) ≡ true) (sym (after_sending-is sweep uid sent (message_at messages uid) (found-is messages uid)))
+      subst (λ s. is_some (value_at nat_cmp s.known q) ≡ true) (sym (after_sending-is sweep uid sent (message_at messages uid) (found_is messages uid)))
       (stays-placed sweep uid q (is_some (message_at messages uid)) h (either q uid))
 
   pub labelled-after : (others : ℕ → Bool) → AreLabelled others messages taken → AreLabelled others messages sent_now

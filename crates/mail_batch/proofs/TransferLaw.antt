@@ -25,7 +25,8 @@ use Rattle.mail_batch.specs.Transfers.{ChangesOnlyNoted, lists_uid}
 use Rattle.mail_batch.specs.Transfers.{content_to_come, TakerWillHaveAll, TakerHasAll}
 use Rattle.mail_batch.specs.Transfers.TransferStep.{notes, becomes, sends, comes}
 use Rattle.mail_batch.proofs.SweepLaws.{either, sent-with_place, with_value-absent}
-use Rattle.mail_batch.proofs.StepLaws.{found-is, after_sending-is, agrees-noted, agrees-changed}
+use Rattle.mail_message.proofs.FoundUids.{found_is}
+use Rattle.mail_batch.proofs.StepLaws.{after_sending-is, agrees-noted, agrees-changed}
 use Rattle.mail_batch.proofs.StartLaws.{agrees-all_left, left-noted, stays-left, none-sent}
 use Rattle.mail_batch.proofs.LimitLaws.{batch-part}
 use Rattle.mail_batch.proofs.BatchFront.{in-order-batch}
@@ -36,10 +37,6 @@ use Rattle.mail_batch.proofs.EndLaws.{agrees-content, rising-content, serial-aft
 or_later : (a b : Bool) → b ≡ true → (a || b) ≡ true
 or_later true b h = refl
 or_later false b h = h
-
-or_first : (a b : Bool) → a ≡ true → (a || b) ≡ true
-or_first true b h = refl
-or_first false b h = cc
 
 had_more : (had more : List ℕ) (q : ℕ) → lists_uid more q ≡ true → lists_uid (had ++ more) q ≡ true
 had_more [] more q h = h
@@ -93,7 +90,7 @@ HadFound messages had = (q : ℕ) → is_some (message_at messages q) ≡ true �
 had_after_sending : (sweep : SweepState) (messages : List Message) (had : List ℕ) (uid : ℕ) (sent : Bool) → HadSent sweep had → HadFound messages had
     → HadSent (after_sending sweep (change_by uid sent (message_at messages uid))) had
 had_after_sending sweep messages had uid sent was found =
-    subst (λ s. HadSent s had) (sym (after_sending-is sweep uid sent (message_at messages uid) (found-is messages uid)))
+    subst (λ s. HadSent s had) (sym (after_sending-is sweep uid sent (message_at messages uid) (found_is messages uid)))
     (λ q h. had_by sweep messages had uid q (was q) found
     (settled_by sweep uid q (is_some (message_at messages uid)) (value_at nat_cmp sweep.known uid) refl (either q uid) h))
 

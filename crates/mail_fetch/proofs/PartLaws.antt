@@ -11,14 +11,14 @@ use Rattle.mail_message.specs.declared.item.Partial.{Partial}
 use Rattle.mail_message.specs.declared.message.Message.{Message}
 use Rattle.mail_message.specs.declared.system_flags.SystemFlags.{SystemFlags}
 use Rattle.mail_message.specs.Date.{is_date, date_of}
-use Rattle.mail_message.specs.FlagNames.{backslash}
+use Rattle.mail_message.specs.FlagNames.{backslashed}
 use Rattle.mail_message.specs.FlagSets.{Flags, HasRuledKeywords}
 use Rattle.mail_message.specs.Keywords.{keyword_fault}
-use Rattle.mail_message.specs.Literals.{is_within, IsPlain, literal, IsPart}
+use Rattle.mail_message.specs.Literals.{is_within, IsPlain, server_literal, IsPart}
 use Rattle.mail_message.specs.Literals.IsPart.{plain, with_literal}
 use Rattle.mail_message.proofs.PlainTexts.{all_append, decimal_plain, keyword_plain, date_plain}
 use Rattle.mail_fetch.specs.Bodies.{octets_of, body_text}
-use Rattle.mail_fetch.specs.FlagText.{named, system_names, spaced, flags_text}
+use Rattle.mail_fetch.specs.FlagText.{name_if_set, system_names, spaced_names, flags_text}
 use Rattle.mail_fetch.specs.Parts.{uid_text, part_text}
 
 counted_part : (name : List ℕ) (n : ℕ) → IsPlain name → IsPart (name ++ decimal n)
@@ -29,7 +29,7 @@ uid_is_part uid = counted_part (codes "UID ") uid refl
 
 -- ---- flags
 
-named_plain : (is_set : Bool) (name : List ℕ) → IsPlain name → All IsPlain (named is_set name)
+named_plain : (is_set : Bool) (name : List ℕ) → IsPlain name → All IsPlain (name_if_set is_set name)
 named_plain true name one = All-cons IsPlain name [] one (All-nil IsPlain)
 named_plain false name one = All-nil IsPlain
 
@@ -38,31 +38,31 @@ both_plain names others one other = All-append IsPlain names others one other
 
 system_plain : (flags : SystemFlags) → All IsPlain (system_names flags)
 system_plain flags =
-    both_plain (named flags.answered (backslash (codes "Answered"))) _ (named_plain flags.answered (backslash (codes "Answered")) refl)
-    (both_plain (named flags.flagged (backslash (codes "Flagged"))) _ (named_plain flags.flagged (backslash (codes "Flagged")) refl)
-    (both_plain (named flags.deleted (backslash (codes "Deleted"))) _ (named_plain flags.deleted (backslash (codes "Deleted")) refl)
-    (both_plain (named flags.seen (backslash (codes "Seen"))) _ (named_plain flags.seen (backslash (codes "Seen")) refl)
-    (named_plain flags.draft (backslash (codes "Draft")) refl))))
+    both_plain (name_if_set flags.answered (backslashed (codes "Answered"))) _ (named_plain flags.answered (backslashed (codes "Answered")) refl)
+    (both_plain (name_if_set flags.flagged (backslashed (codes "Flagged"))) _ (named_plain flags.flagged (backslashed (codes "Flagged")) refl)
+    (both_plain (name_if_set flags.deleted (backslashed (codes "Deleted"))) _ (named_plain flags.deleted (backslashed (codes "Deleted")) refl)
+    (both_plain (name_if_set flags.seen (backslashed (codes "Seen"))) _ (named_plain flags.seen (backslashed (codes "Seen")) refl)
+    (named_plain flags.draft (backslashed (codes "Draft")) refl))))
 
-spaced_plain : (begun : Bool) (names : List (List ℕ)) → All IsPlain names → IsPlain (spaced begun names)
+spaced_plain : (begun : Bool) (names : List (List ℕ)) → All IsPlain names → IsPlain (spaced_names begun names)
 spaced_plain begun [] all = refl
 spaced_plain true (name ∷ names) all =
-    all_append is_within name (spaced true names) (All-head IsPlain name names all) (spaced_plain true names (All-tail IsPlain name names all))
+    all_append is_within name (spaced_names true names) (All-head IsPlain name names all) (spaced_plain true names (All-tail IsPlain name names all))
 spaced_plain false (name ∷ names) all =
-    all_append is_within name (spaced true names) (All-head IsPlain name names all) (spaced_plain true names (All-tail IsPlain name names all))
+    all_append is_within name (spaced_names true names) (All-head IsPlain name names all) (spaced_plain true names (All-tail IsPlain name names all))
 
 pub flags_is_part : (flags : Flags) → HasRuledKeywords flags → IsPart (flags_text flags)
 flags_is_part flags ruled =
     let keywords = All-weaker (λ keyword. keyword_fault keyword ≡ None) IsPlain keyword_plain flags.keywords ruled in
     let names = both_plain (system_names flags.system) flags.keywords (system_plain flags.system) keywords in
-    let text = spaced false (system_names flags.system ++ flags.keywords) in
+    let text = spaced_names false (system_names flags.system ++ flags.keywords) in
     plain (flags_text flags) (all_append is_within text (codes ")") (spaced_plain false (system_names flags.system ++ flags.keywords) names) refl)
 
 -- ---- bodies
 
-behind_plain : (text octets : List ℕ) → IsPlain text → length octets < 2 ^ 64 → IsPart (text ++ literal octets)
+behind_plain : (text octets : List ℕ) → IsPlain text → length octets < 2 ^ 64 → IsPart (text ++ server_literal octets)
 behind_plain text octets one counted =
-    subst (λ end. IsPart (text ++ end)) (append-nil (literal octets)) (with_literal text octets [] one counted (plain [] refl))
+    subst (λ end. IsPart (text ++ end)) (append-nil (server_literal octets)) (with_literal text octets [] one counted (plain [] refl))
 
 fewer : (partial : Partial) (body : List ℕ) → length body < 2 ^ 64 → length (octets_of partial body) < 2 ^ 64
 fewer partial body counted =
@@ -70,7 +70,7 @@ fewer partial body counted =
     let dropped = length-drop partial.from body in omega (arith, taken, dropped, counted)
 
 placed_part : (front place behind octets : List ℕ) → IsPlain front → IsPlain place → IsPlain behind → length octets < 2 ^ 64
-    → IsPart (front ++ place ++ behind ++ literal octets)
+    → IsPart (front ++ place ++ behind ++ server_literal octets)
 placed_part front place behind octets one two three counted =
     behind_plain (front ++ place ++ behind) octets (all_append is_within (front ++ place) behind (all_append is_within front place one two) three) counted
 

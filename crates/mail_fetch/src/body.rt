@@ -1,6 +1,6 @@
 // Bodies and parts of them.
 ghost use Rattle.std.specs.Prelude.{◌≡◌, ◌++◌, OnOk};
-ghost use Rattle.mail_message.specs.Literals.{literal};
+ghost use Rattle.mail_message.specs.Literals.{server_literal};
 ghost use Rattle.mail_fetch.specs.Bodies.{octets_of, body_text};
 
 use mail_message::Partial;
@@ -24,9 +24,9 @@ pub fn put_body(text: &mut Bytes, partial: Option<Partial>, body: &[u8]) -> Resu
     }
 }
 
-#[tactic(auto, unfolding(mail_message::specs::Literals::literal))]
+#[tactic(auto, unfolding(mail_message::specs::Literals::server_literal))]
 fn put_literal(text: &mut Bytes, octets: &[u8]) -> Result<(), Memory>
-    ensures { OnOk result (text.new ≡ text.old ++ literal octets.now) }
+    ensures { OnOk result (text.new ≡ text.old ++ server_literal octets.now) }
 {
     text.push(b'{')?;
     put_number(octets.len() as u64, text)?;

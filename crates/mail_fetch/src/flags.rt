@@ -1,6 +1,6 @@
 // The flags of a message as text.
 ghost use Rattle.std.specs.Prelude.{◌≡◌, [], ◌∷◌, ◌++◌, false, IfOk, OnOk};
-ghost use Rattle.mail_fetch.specs.FlagText.{named, system_names, spaced, begins, flags_text};
+ghost use Rattle.mail_fetch.specs.FlagText.{name_if_set, system_names, spaced_names, are_begun, flags_text};
 
 use mail_message::{FlagSet, Keywords, SystemFlags};
 use mur_base::{Bytes, Memory};
@@ -17,8 +17,8 @@ pub fn put_flags(text: &mut Bytes, flags: &FlagSet) -> Result<(), Memory>
 
 /// Puts the names of the system flags that are set, and tells whether there is one.
 fn put_system(text: &mut Bytes, flags: SystemFlags) -> Result<bool, Memory>
-    ensures text { OnOk result (text.new ≡ text.old ++ spaced false (system_names flags)) }
-    ensures begun { IfOk result (λ begun. begun ≡ begins false (system_names flags)) }
+    ensures text { OnOk result (text.new ≡ text.old ++ spaced_names false (system_names flags)) }
+    ensures begun { IfOk result (λ begun. begun ≡ are_begun false (system_names flags)) }
 {
     let begun = put_named(text, false, flags.answered, b"\\Answered")?;
     let begun = put_named(text, begun, flags.flagged, b"\\Flagged")?;
@@ -29,8 +29,8 @@ fn put_system(text: &mut Bytes, flags: SystemFlags) -> Result<bool, Memory>
 
 /// Puts the name of a flag, if it is set, and tells whether a name has been put.
 fn put_named(text: &mut Bytes, begun: bool, is_set: bool, name: &[u8]) -> Result<bool, Memory>
-    ensures text { OnOk result (text.new ≡ text.old ++ spaced begun (named is_set name.now)) }
-    ensures begun { IfOk result (λ now. now ≡ begins begun (named is_set name.now)) }
+    ensures text { OnOk result (text.new ≡ text.old ++ spaced_names begun (name_if_set is_set name.now)) }
+    ensures begun { IfOk result (λ now. now ≡ are_begun begun (name_if_set is_set name.now)) }
 {
     if is_set {
         put_name(text, begun, name)?;
@@ -39,7 +39,7 @@ fn put_named(text: &mut Bytes, begun: bool, is_set: bool, name: &[u8]) -> Result
 }
 
 fn put_name(text: &mut Bytes, begun: bool, name: &[u8]) -> Result<(), Memory>
-    ensures { OnOk result (text.new ≡ text.old ++ spaced begun (name.now ∷ [])) }
+    ensures { OnOk result (text.new ≡ text.old ++ spaced_names begun (name.now ∷ [])) }
 {
     if begun {
         text.push(b' ')?;
@@ -48,7 +48,7 @@ fn put_name(text: &mut Bytes, begun: bool, name: &[u8]) -> Result<(), Memory>
 }
 
 fn put_keywords(text: &mut Bytes, begun: bool, keywords: &Keywords) -> Result<(), Memory>
-    ensures { OnOk result (text.new ≡ text.old ++ spaced begun keywords.now) }
+    ensures { OnOk result (text.new ≡ text.old ++ spaced_names begun keywords.now) }
 {
     let mut has_begun = begun;
     for keyword in keywords.iter() {

@@ -4,6 +4,7 @@ mod KeywordLaws
 pub mod PlainTexts
 mod RowLaws
 pub mod OtherLaws
+pub mod FoundUids
 mod SlotChanges
 mod SlotLaws
 mod WordLaws

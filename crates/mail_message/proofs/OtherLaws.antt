@@ -60,11 +60,11 @@ other-after messages (SetFlags uid flags) q ne = flags_other messages uid flags 
 other-after messages (Gone uid) q ne = gone_other messages uid q ne
 other-after messages (NextUid next) q ne = refl
 
-first_not : (a b : Bool) → (a || b) ≡ false → a ≡ false
+pub first_not : (a b : Bool) → (a || b) ≡ false → a ≡ false
 first_not true b h = h
 first_not false b h = refl
 
-later_not : (a b : Bool) → (a || b) ≡ false → b ≡ false
+pub later_not : (a b : Bool) → (a || b) ≡ false → b ≡ false
 later_not true b h = cc
 later_not false b h = h
 

@@ -15,7 +15,7 @@ use Rattle.mur_base.specs.Number.{is_digit}
 use Rattle.mur_base.specs.declared.limits.TheConstants.{KEYWORD_LIMIT}
 use Rattle.mur_base.specs.declared.name.NameFault.TheVariants.{Empty, TooLong, BadByte}
 use Rattle.mail_message.specs.Date.{is_date, is_calendar, is_clock, is_zone, is_day, is_month, is_below, months}
-use Rattle.mail_message.specs.Keywords.{keyword_fault, is_atom, is_atom_byte}
+use Rattle.mail_message.specs.Keywords.{keyword_fault, has_atom_bytes, is_atom_byte}
 use Rattle.mail_message.specs.Literals.{is_within, IsPlain}
 use Rattle.mail_message.specs.Word.{is_word}
 
@@ -73,7 +73,7 @@ last_rule false true false h = cc
 last_rule false false false h = cc
 
 pub keyword_plain : (keyword : List ℕ) → keyword_fault keyword ≡ None → IsPlain keyword
-unfolding keyword_fault is_atom
+unfolding keyword_fault has_atom_bytes
 keyword_plain keyword h =
     all_weaker is_atom_byte is_within atom_byte_within keyword
     (last_rule (length keyword == 0) (nat_lt KEYWORD_LIMIT (length keyword)) (list_all is_atom_byte keyword) h)

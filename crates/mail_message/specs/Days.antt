@@ -22,8 +22,8 @@ is_before one other =
     || (one.year == other.year && (nat_lt one.month other.month || (one.month == other.month && nat_lt one.day other.day)))
 
 -- the same day
-abbrev pub is_same : Day → Day → Bool
-is_same one other = (one.year == other.year) && (one.month == other.month) && (one.day == other.day)
+abbrev pub is_same_day : Day → Day → Bool
+is_same_day one other = (one.year == other.year) && (one.month == other.month) && (one.day == other.day)
 
 -- the number that two digits write; a space stands for no tens
 unfoldable pub two_digits : ℕ → ℕ → ℕ

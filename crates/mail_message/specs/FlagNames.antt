@@ -12,17 +12,17 @@ use Rattle.mail_message.specs.Word.{is_word}
 use Rattle.mail_message.specs.Keywords.{keyword_fault}
 
 -- a word behind a backslash, in any case of letters
-abbrev pub backslash : List ℕ → List ℕ
-backslash word = 92 ∷ word
+abbrev pub backslashed : List ℕ → List ℕ
+backslashed word = 92 ∷ word
 
 -- the system flag that a text is
 unfoldable pub system_flag_of : List ℕ → Option SystemFlag
 system_flag_of text =
-    if is_word text (backslash (codes "Answered")) then Some Answered
-    else if is_word text (backslash (codes "Flagged")) then Some Flagged
-    else if is_word text (backslash (codes "Deleted")) then Some Deleted
-    else if is_word text (backslash (codes "Seen")) then Some Seen
-    else if is_word text (backslash (codes "Draft")) then Some Draft
+    if is_word text (backslashed (codes "Answered")) then Some Answered
+    else if is_word text (backslashed (codes "Flagged")) then Some Flagged
+    else if is_word text (backslashed (codes "Deleted")) then Some Deleted
+    else if is_word text (backslashed (codes "Seen")) then Some Seen
+    else if is_word text (backslashed (codes "Draft")) then Some Draft
     else None
 
 abbrev pub flag_fault : name.NameFault → FlagFault

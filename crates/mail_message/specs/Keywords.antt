@@ -17,15 +17,15 @@ is_atom_byte b =
     (nat_le 33 b && nat_le b 126) && not (b == 40) && not (b == 41) && not (b == 123) && not (b == 37) && not (b == 42) && not (b == 34) && not (b == 92)
     && not (b == 93)
 
-unfoldable pub is_atom : List ℕ → Bool
-is_atom text = list_all is_atom_byte text
+unfoldable pub has_atom_bytes : List ℕ → Bool
+has_atom_bytes text = list_all is_atom_byte text
 
 -- the first rule of keywords that a text breaks
 unfoldable pub keyword_fault : List ℕ → Option NameFault
 keyword_fault text =
     if length text == 0 then Some Empty
     else if nat_lt KEYWORD_LIMIT (length text) then Some TooLong
-    else if not (is_atom text) then Some BadByte
+    else if not (has_atom_bytes text) then Some BadByte
     else None
 
 -- the keyword is among the keywords, byte by byte
@@ -49,5 +49,5 @@ abbrev pub without_keywords : List (List ℕ) → List (List ℕ) → List (List
 without_keywords keywords others = fold without_keyword keywords others
 
 -- strictly rising byte order
-abbrev pub IsInOrder : List (List ℕ) → Type 0
-IsInOrder keywords = IsStrictlySortedBy (slice_cmp nat_cmp) keywords
+abbrev pub AreSortedKeywords : List (List ℕ) → Type 0
+AreSortedKeywords keywords = IsStrictlySortedBy (slice_cmp nat_cmp) keywords

@@ -11,10 +11,10 @@ abbrev pub IsPlain : List ℕ → Type 0
 IsPlain text = list_all is_within text ≡ true
 
 -- literal = "{" number64 "}" CRLF *CHAR8, where the number counts the octets
-unfoldable pub literal : List ℕ → List ℕ
-literal octets = codes "{" ++ decimal (length octets) ++ codes "}\r\n" ++ octets
+unfoldable pub server_literal : List ℕ → List ℕ
+server_literal octets = codes "{" ++ decimal (length octets) ++ codes "}\r\n" ++ octets
 
 -- what may stand within a line: texts with literals between them
 pub data IsPart : List ℕ → Type 0 where
   plain : (text : List ℕ) → IsPlain text → IsPart text
-  with_literal : (text octets rest : List ℕ) → IsPlain text → length octets < 2 ^ 64 → IsPart rest → IsPart (text ++ (literal octets ++ rest))
+  with_literal : (text octets rest : List ℕ) → IsPlain text → length octets < 2 ^ 64 → IsPart rest → IsPart (text ++ (server_literal octets ++ rest))

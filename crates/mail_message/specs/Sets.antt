@@ -7,8 +7,8 @@ use Rattle.mail_message.specs.declared.set.SetPart.{SetPart}
 use Rattle.mail_message.specs.declared.set.SetPart.TheVariants.{One, Range}
 
 -- nz-number: numbers of messages are those from 1 on
-abbrev pub numbered : ℕ → Option SetEnd
-numbered number = if number == 0 then None else Some (Number number)
+abbrev pub numbered_end : ℕ → Option SetEnd
+numbered_end number = if number == 0 then None else Some (Number number)
 
 -- `*` stands for the largest number in use
 abbrev pub end_at : ℕ → SetEnd → SetEnd
@@ -32,13 +32,13 @@ part_bounds (Range (Number one) Last) = None
 part_bounds (Range Last other) = None
 
 -- the number is between bounds, if there are any
-abbrev pub is_within : ℕ → Option (ℕ × ℕ) → Bool
-is_within number None = false
-is_within number (Some bounds) = nat_le bounds.0 number && nat_le number bounds.1
+abbrev pub is_in_range : ℕ → Option (ℕ × ℕ) → Bool
+is_in_range number None = false
+is_in_range number (Some bounds) = nat_le bounds.0 number && nat_le number bounds.1
 
 -- the number is in the part
 abbrev pub part_holds : SetPart → ℕ → Bool
-part_holds part number = is_within number (part_bounds part)
+part_holds part number = is_in_range number (part_bounds part)
 
 -- the number is in some part of the set
 abbrev pub set_holds : List SetPart → ℕ → Bool

@@ -1,7 +1,7 @@
 // Keywords, and sets of them in byte order.
 ghost use Rattle.std.specs.Prelude.{◌≡◌, ◌≤◌, ◌↔◌, [], length, IfOk, OnOk, OnErr, IsTrue};
-ghost use Rattle.mail_message.specs.Keywords.{keyword_fault, is_atom_byte, is_atom, keyword_in};
-ghost use Rattle.mail_message.specs.Keywords.{with_keyword, without_keyword, with_keywords, without_keywords, IsInOrder};
+ghost use Rattle.mail_message.specs.Keywords.{keyword_fault, is_atom_byte, has_atom_bytes, keyword_in};
+ghost use Rattle.mail_message.specs.Keywords.{with_keyword, without_keyword, with_keywords, without_keywords, AreSortedKeywords};
 
 use mur_base::limits::KEYWORD_LIMIT;
 use mur_base::{Copied, Memory, Name, NameFault, NameRule};
@@ -41,9 +41,9 @@ fn keyword_fault(text: &[u8]) -> Option<NameFault>
     }
 }
 
-#[tactic(auto, unfolding(crate::specs::Keywords::is_atom))]
+#[tactic(auto, unfolding(crate::specs::Keywords::has_atom_bytes))]
 fn is_atom(text: &[u8]) -> bool
-    ensures { result ≡ is_atom text.now }
+    ensures { result ≡ has_atom_bytes text.now }
 {
     text.iter().all(|byte| is_atom_byte(*byte))
 }
@@ -94,7 +94,7 @@ impl Keywords {
     /// The keywords in byte order.
     pub fn iter(&self) -> btree_set::Iter<'_, Keyword>
         ensures rest { result ≡ self.now }
-        ensures ordered { IsInOrder self.now }
+        ensures ordered { AreSortedKeywords self.now }
     {
         self.set.iter()
     }

@@ -1,6 +1,6 @@
 // Sets of message numbers as clients write them.
 ghost use Rattle.std.specs.Prelude.{◌≡◌};
-ghost use Rattle.mail_message.specs.Sets.{numbered, end_at, part_at, part_bounds, part_holds};
+ghost use Rattle.mail_message.specs.Sets.{numbered_end, end_at, part_at, part_bounds, part_holds};
 
 use mur_base::Items;
 
@@ -27,7 +27,7 @@ pub type SetParts = Items<SetPart>;
 impl SetEnd {
     /// The end at a number. `None` exactly for 0, which no message has.
     pub fn new(number: u32) -> Option<SetEnd>
-        ensures { result ≡ numbered number }
+        ensures { result ≡ numbered_end number }
     {
         if number == 0 {
             return None;

@@ -6,9 +6,9 @@ use Rattle.std.specs.List.Sorted.{IsPermutation}
 use Rattle.std.proofs.lemmas.Bool.Decides.{nat_tests}
 use Rattle.std.proofs.lemmas.List.Sorted.{list_any-IsPermutation}
 use Rattle.mail_message.specs.declared.set.SetPart.{SetPart}
-use Rattle.mail_message.specs.Sets.{part_bounds, is_within, set_holds}
+use Rattle.mail_message.specs.Sets.{part_bounds, is_in_range, set_holds}
 use Rattle.mail_search.specs.declared.spans.Span.{Span}
-use Rattle.mail_search.specs.Spans.{span_between, spans_of, in_span, reaching, reaches, is_reached, IsRising, IsPlace, IsInOrder}
+use Rattle.mail_search.specs.Spans.{span_between, spans_of, in_span, reaching, reaches, is_reached, AreRisingSpans, IsSpanPlace, AreSpansOf}
 
 -- ---- the spans of a set, as they were written, hold what the set holds
 
@@ -16,7 +16,7 @@ next_behind : (n m : ℕ) → nat_lt n (m + 1) ≡ nat_le n m
 next_behind n m = grind (arith, nat_tests)
 
 held_by : (bounds : Option (ℕ × ℕ)) (spans : List Span) (n : ℕ) (rest : Bool) → list_any (in_span n) spans ≡ rest
-    → list_any (in_span n) (span_between bounds ++ spans) ≡ (is_within n bounds || rest)
+    → list_any (in_span n) (span_between bounds ++ spans) ≡ (is_in_range n bounds || rest)
 held_by None spans n rest same = same
 held_by (Some bounds) spans n rest same = rw (next_behind n bounds.1, same) refl
 
@@ -35,7 +35,7 @@ first-reaching end [] k d = refl
 first-reaching end (span ∷ spans) zero d = refl
 first-reaching end (span ∷ spans) (suc k) d = first-reaching (max end span.end) spans k d
 
-pub rising-reaching : (end : ℕ) (spans : List Span) → IsRising spans → IsRising (reaching end spans)
+pub rising-reaching : (end : ℕ) (spans : List Span) → AreRisingSpans spans → AreRisingSpans (reaching end spans)
 rising-reaching end spans rising i j d le lt =
     rw (first-reaching end spans i d, first-reaching end spans j d) (rising i j d le (rw length-reaching at lt))
 
@@ -74,13 +74,13 @@ reached_from end n (span ∷ spans) (suc place) le until behind =
 none_below : (n : ℕ) → nat_lt n 0 ≡ false
 none_below n = grind (arith, nat_tests)
 
-reached : (n : ℕ) (spans : List Span) (place : ℕ) → place ≤ length (reaching 0 spans) → IsPlace (reaching 0 spans) n place
+reached : (n : ℕ) (spans : List Span) (place : ℕ) → place ≤ length (reaching 0 spans) → IsSpanPlace (reaching 0 spans) n place
     → is_reached (reaching 0 spans) place n ≡ list_any (in_span n) spans
 reached n spans zero le at = sym (none_behind 0 n spans at.1)
 reached n spans (suc place) le at =
     reached_from 0 n spans place le at.0 at.1 ∙ ap (λ before. before || list_any (in_span n) spans) (none_below n)
 
-pub in_order : (set : List SetPart) (spans : List Span) → IsPermutation (spans_of set) spans → IsRising spans → IsInOrder set (reaching 0 spans)
+pub in_order : (set : List SetPart) (spans : List Span) → IsPermutation (spans_of set) spans → AreRisingSpans spans → AreSpansOf set (reaching 0 spans)
 in_order set spans same rising = record {
   rising = rising-reaching 0 spans rising;
   tells = λ n place le at. reached n spans place le at ∙ sym (list_any-IsPermutation (in_span n) (spans_of set) spans same) ∙ held set n;

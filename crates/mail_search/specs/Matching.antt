@@ -6,7 +6,7 @@ use Rattle.mail_message.specs.declared.key.Key.TheOpen.{Key-F}
 use Rattle.mail_message.specs.declared.key.Key.TheFolds.{fold-Key}
 use Rattle.mail_message.specs.declared.message.Message.{Message}
 use Rattle.mail_message.specs.FlagSets.{has_flag}
-use Rattle.mail_message.specs.Days.{day_of, is_before, is_same}
+use Rattle.mail_message.specs.Days.{day_of, is_before, is_same_day}
 use Rattle.mail_message.specs.Sets.{set_holds}
 
 -- a test of a message that has a sequence number
@@ -37,7 +37,7 @@ matches_by (Key-F.Larger size) message number = nat_lt size (length message.body
 matches_by (Key-F.Smaller size) message number = nat_lt (length message.body) size
 -- messages whose internal date, disregarding time and timezone, is earlier than the date, within it, and within or later than it
 matches_by (Key-F.Before day) message number = is_before (day_of message.date) day
-matches_by (Key-F.On day) message number = is_same (day_of message.date) day
+matches_by (Key-F.On day) message number = is_same_day (day_of message.date) day
 matches_by (Key-F.Since day) message number = not (is_before (day_of message.date) day)
 -- messages whose unique identifier is in the set, and those whose sequence number is in it
 matches_by (Key-F.Uid set) message number = set_holds set message.uid

@@ -26,12 +26,12 @@ reaching end (span ∷ spans) =
     let reach = max end span.end in record { first = span.first; end = reach } ∷ reaching reach spans
 
 -- the spans stand by their first numbers
-abbrev pub IsRising : List Span → Type 0
-IsRising spans = IsNonDecreasingBy (λ (span : Span). span.first) spans
+abbrev pub AreRisingSpans : List Span → Type 0
+AreRisingSpans spans = IsNonDecreasingBy (λ (span : Span). span.first) spans
 
 -- so many spans begin at a number or before it, and the others behind it
-abbrev pub IsPlace : List Span → ℕ → ℕ → Type 0
-IsPlace spans number place = IsPartitionPoint (λ span. span.first ≤ number) (λ span. number < span.first) spans place
+abbrev pub IsSpanPlace : List Span → ℕ → ℕ → Type 0
+IsSpanPlace spans number place = IsPartitionPoint (λ span. span.first ≤ number) (λ span. number < span.first) spans place
 
 -- a span reaches behind a number, if there is one
 abbrev pub reaches : ℕ → Option Span → Bool
@@ -44,6 +44,6 @@ is_reached spans zero number = false
 is_reached spans (suc place) number = reaches number (slice_get spans place)
 
 -- the spans are a set in order: the last one that begins at a number or before it tells whether the set holds the number
-pub record IsInOrder (set : List SetPart) (spans : List Span) : Type 0 where
-  pub rising : IsRising spans
-  pub tells : (number place : ℕ) → place ≤ length spans → IsPlace spans number place → is_reached spans place number ≡ set_holds set number
+pub record AreSpansOf (set : List SetPart) (spans : List Span) : Type 0 where
+  pub rising : AreRisingSpans spans
+  pub tells : (number place : ℕ) → place ≤ length spans → IsSpanPlace spans number place → is_reached spans place number ≡ set_holds set number

@@ -2,7 +2,7 @@
 ghost use Rattle.std.specs.Prelude.{◌≡◌, ◌≤◌, ◌<◌, length, map, IfOk, IsTrue};
 ghost use Rattle.std.specs.List.{AllWithin};
 ghost use Rattle.mail_message.specs.Sets.{set_holds};
-ghost use Rattle.mail_search.specs.Spans.{spans_of, reaching, is_reached, IsRising, IsPlace, IsInOrder};
+ghost use Rattle.mail_search.specs.Spans.{spans_of, reaching, is_reached, AreRisingSpans, IsSpanPlace, AreSpansOf};
 
 use mail_message::SetPart;
 use mur_base::Memory;
@@ -33,7 +33,7 @@ pub fn marks_of_set(alloc: Global, set: &[SetPart], numbers: &[u32]) -> Result<V
 
 /// The spans of a set by their first numbers, each reaching as far as any before it.
 fn in_order(alloc: Global, set: &[SetPart]) -> Result<Vec<Span>, Memory>
-    ensures { IfOk result (λ spans. IsInOrder set.now spans.items) }
+    ensures { IfOk result (λ spans. AreSpansOf set.now spans.items) }
 {
     let mut spans = spans_of(alloc, set)?;
     spans.sort_unstable_by_key(|span| span.first);
@@ -72,9 +72,9 @@ fn reaching(alloc: Global, spans: &[Span]) -> Result<Vec<Span>, Memory>
 
 /// How many spans begin at a number or before it: looked for near a place, and then among all.
 fn place_of(spans: &[Span], number: u32, near: usize) -> usize
-    requires { IsRising spans.now }
+    requires { AreRisingSpans spans.now }
     ensures within { result ≤ length spans.now }
-    ensures place { IsPlace spans.now number result }
+    ensures place { IsSpanPlace spans.now number result }
 {
     if is_place(spans, number, near) {
         return near;
@@ -87,16 +87,16 @@ fn place_of(spans: &[Span], number: u32, near: usize) -> usize
 }
 
 fn is_place(spans: &[Span], number: u32, place: usize) -> bool
-    requires { IsRising spans.now }
+    requires { AreRisingSpans spans.now }
     ensures within { IsTrue result → place ≤ length spans.now }
-    ensures place { IsTrue result → IsPlace spans.now number place }
+    ensures place { IsTrue result → IsSpanPlace spans.now number place }
 {
     begin_until(spans, number, place) && begin_behind(spans, number, place)
 }
 
 /// Whether all of so many spans begin at a number or before it.
 fn begin_until(spans: &[Span], number: u32, place: usize) -> bool
-    requires { IsRising spans.now }
+    requires { AreRisingSpans spans.now }
     ensures { IsTrue result → AllWithin (λ span. span.first ≤ number) spans.now 0 place }
 {
     if place == 0 {
@@ -110,7 +110,7 @@ fn begin_until(spans: &[Span], number: u32, place: usize) -> bool
 
 /// Whether all spans but so many begin behind a number.
 fn begin_behind(spans: &[Span], number: u32, place: usize) -> bool
-    requires { IsRising spans.now }
+    requires { AreRisingSpans spans.now }
     ensures within { IsTrue result → place ≤ length spans.now }
     ensures behind { IsTrue result → AllWithin (λ span. number < span.first) spans.now place (length spans.now) }
 {

@@ -5,4 +5,3 @@ pub mod FollowsLaws
 pub mod UidsBelow
 pub mod AppendKeeps
 pub mod RisingUids
-pub mod FoundUids

@@ -10,7 +10,7 @@ use Rattle.mail_message.specs.RowOrder.{AreRising}
 use Rattle.mail_message.specs.declared.message.Message.{Message}
 use Rattle.mail_message.specs.declared.message.Row.{Row}
 use Rattle.mail_message.specs.declared.mode.Mode.{Mode}
-use Rattle.mail_store.proofs.FoundUids.{IsOf, found_is}
+use Rattle.mail_message.proofs.FoundUids.{IsOf, found_is}
 use Rattle.mail_store.specs.Store.{stored_row, stored_rows}
 
 abbrev Below : ℕ → List Row → Type 0

@@ -13,6 +13,6 @@ store_fault flag_faults.BadByte = Memory
 store_fault flag_faults.Memory = Memory
 
 -- the result is this value, refused by this fault or where memory is wanting
-abbrev pub IsAnswered : {A : Type 0} → Option StoreFault → A → Result A StoreFault → Type 0
-IsAnswered (Some fault) value result = result ≡ Err fault
-IsAnswered None value result = MatchResult result (λ given. given ≡ value) (λ fault. fault ≡ Memory)
+abbrev pub IsValueUnless : {A : Type 0} → Option StoreFault → A → Result A StoreFault → Type 0
+IsValueUnless (Some fault) value result = result ≡ Err fault
+IsValueUnless None value result = MatchResult result (λ given. given ≡ value) (λ fault. fault ≡ Memory)

@@ -4,8 +4,8 @@ use Rattle.mail_message.specs.Boxes.{Content, message_at}
 use Rattle.mail_message.specs.declared.message.Message.{Message}
 
 -- a mailbox's content may become this: UIDVALIDITY stays, and UIDNEXT doesn't fall (RFC 9051, 2.3.1.1)
-abbrev pub Follows : Content → Content → Type 0
-Follows content later = (later.serial ≡ content.serial) × (content.next ≤ later.next)
+abbrev pub IsLaterContent : Content → Content → Type 0
+IsLaterContent content later = (later.serial ≡ content.serial) × (content.next ≤ later.next)
 
 -- each message has a UID below UIDNEXT, as each new UID is above all that are there (RFC 9051, 2.3.1.1)
 abbrev pub AreUidsBelowNext : Content → Type 0

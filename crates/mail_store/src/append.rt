@@ -3,7 +3,7 @@ ghost use Rattle.std.specs.Prelude.{◌≡◌, ◌==◌, ℕ, false, ◌+◌, �
 ghost use Rattle.std.specs.List.{list_any};
 ghost use Rattle.mail_message.specs.Boxes.{message_at};
 ghost use Rattle.mail_store.specs.Append.{append_fault, appended, uids_from, puts_from};
-ghost use Rattle.mail_store.specs.Faults.{IsAnswered};
+ghost use Rattle.mail_store.specs.Faults.{IsValueUnless};
 
 use crate::fault::StoreFault;
 use mail_message::{Change, Changes, MailBox, Messages, Uids};
@@ -15,7 +15,7 @@ use std::alloc::Global;
 ///
 /// Each message takes time logarithmic in the box; no body is copied.
 pub fn append_all(alloc: Global, to: &mut MailBox, list: Messages) -> Result<Uids, StoreFault>
-    ensures answer { IsAnswered (append_fault to.old list) (uids_from to.old.next list) result }
+    ensures answer { IsValueUnless (append_fault to.old list) (uids_from to.old.next list) result }
     ensures ok { OnOk result (to.new ≡ appended to.old list) }
     ensures others { IfOk result (λ uids. (uid : ℕ) → list_any (λ given. given == uid) uids ≡ false
         → message_at to.new.messages uid ≡ message_at to.old.messages uid) }

@@ -9,7 +9,7 @@ use Rattle.grammar.specs.Numbers.{value_of, decimal_text}
 use Rattle.grammar.specs.Runs.{some}
 use Rattle.grammar.proofs.Conditions.{and_left, and_right}
 use Rattle.grammar.proofs.NumeralLaw.{decimal_writes}
-use Rattle.mupdate_codec.specs.Asks.{tag_of, split_dash, ask_by, ask_in, ask_of}
+use Rattle.mupdate_codec.specs.Asks.{tag_of, split_dash, ask_by, ask_in, ask_id_of}
 
 no_dash : (c : ℕ) → is_digit c ≡ true → nat_eq c 45 ≡ false
 unfolding is_digit
@@ -35,8 +35,8 @@ read_back n h =
     let value : digits_behind 0 (decimal_text n) ≡ n = w.value in
     rw (numeral (decimal_text n) w.digits w.there, value) (grind (arith, nat_tests))
 
-pub ask_again : (ask : AskId) → ask.conn < 2 ^ 64 → ask.command < 2 ^ 64 → ask_of (tag_of ask) ≡ Some ask
-unfolding ask_of tag_of
+pub ask_again : (ask : AskId) → ask.conn < 2 ^ 64 → ask.command < 2 ^ 64 → ask_id_of (tag_of ask) ≡ Some ask
+unfolding ask_id_of tag_of
 ask_again ask h k =
     let c = decimal_writes ask.conn in
     ap ask_in (split_digits [] (decimal_text ask.conn) (decimal_text ask.command) c.digits) ∙ rw (read_back ask.conn h, read_back ask.command k) refl

@@ -9,7 +9,7 @@ use Rattle.mupdate_codec.specs.Answers.{IsBegun}
 use Rattle.mupdate_codec.specs.Arguments.{exact}
 use Rattle.mupdate_codec.specs.Commands.{command_line, IsCommandLine}
 use Rattle.mupdate_codec.specs.Cut.{IsUncut, EndsLine, IsCut, waits, cuts}
-use Rattle.mupdate_codec.specs.Waits.{stops_at_end, goes_on, Holds}
+use Rattle.mupdate_codec.specs.Waits.{stops_at_end, goes_on, HasBegunLine}
 use Rattle.mupdate_codec.proofs.AnswersLaw.{more_found, more_only}
 use Rattle.mupdate_codec.proofs.LinesLaw.{law_command_line}
 
@@ -49,14 +49,14 @@ not_nothing : (front : List ℕ) (c : ℕ) (rest : List ℕ) → [] ≡ front ++
 not_nothing [] c rest e = cc
 not_nothing (d ∷ front) c rest e = cc
 
-pub holds_nothing : Holds [] 0
+pub holds_nothing : HasBegunLine [] 0
 holds_nothing = record {
   uncut = λ front rest e. absurd (not_nothing front 10 rest e);
   skips = λ text some room. absurd (omega arith);
 }
 
 -- bytes of a literal
-pub holds_literal : (bytes x : List ℕ) (left : ℕ) → Holds bytes left → 0 < left → length x ≤ left → Holds (bytes ++ x) (left - length x)
+pub holds_literal : (bytes x : List ℕ) (left : ℕ) → HasBegunLine bytes left → 0 < left → length x ≤ left → HasBegunLine (bytes ++ x) (left - length x)
 holds_literal bytes x left h some room = record {
   uncut = λ front rest e.
       ⊎_elim (λ r. h.uncut front r.0 r.1)
@@ -69,7 +69,7 @@ holds_literal bytes x left h some room = record {
 }
 
 -- bytes without an LF
-pub holds_text : (bytes x : List ℕ) → Holds bytes 0 → has_no_lf x ≡ true → Holds (bytes ++ x) 0
+pub holds_text : (bytes x : List ℕ) → HasBegunLine bytes 0 → has_no_lf x ≡ true → HasBegunLine (bytes ++ x) 0
 holds_text bytes x h none = record {
   uncut = λ front rest e. ⊎_elim (λ r. h.uncut front r.0 r.1) (λ f. absurd (no_lf f.0 rest (ap has_no_lf (sym f.2) ∙ none))) (lf_in bytes x front rest e);
   skips = λ text some room. absurd (omega arith);
@@ -80,8 +80,8 @@ only_lf [] rest e = refl
 only_lf (c ∷ f) rest e = let none : [] ≡ f ++ 10 ∷ rest = cc in absurd (not_nothing f 10 rest none)
 
 -- an LF behind which the line goes on
-pub holds_lf : (bytes : List ℕ) (left : ℕ) → Holds bytes 0 → goes_on (bytes ++ 10 ∷ []) ≡ true
-    → ((text : List ℕ) → 0 < left → length text ≤ left → goes_on ((bytes ++ 10 ∷ []) ++ text) ≡ true) → Holds (bytes ++ 10 ∷ []) left
+pub holds_lf : (bytes : List ℕ) (left : ℕ) → HasBegunLine bytes 0 → goes_on (bytes ++ 10 ∷ []) ≡ true
+    → ((text : List ℕ) → 0 < left → length text ≤ left → goes_on ((bytes ++ 10 ∷ []) ++ text) ≡ true) → HasBegunLine (bytes ++ 10 ∷ []) left
 holds_lf bytes left h goes skips = record {
   uncut = λ front rest e.
       ⊎_elim (λ r. h.uncut front r.0 r.1)
@@ -91,11 +91,11 @@ holds_lf bytes left h goes skips = record {
 }
 
 -- what is known of a line that has begun says that none has ended
-pub holds_uncut : (bytes : List ℕ) (left : ℕ) → Holds bytes left → IsUncut bytes
+pub holds_uncut : (bytes : List ℕ) (left : ℕ) → HasBegunLine bytes left → IsUncut bytes
 holds_uncut bytes left h = λ front rest e. goes_to (front ++ 10 ∷ []) (h.uncut front rest e)
 
 -- a line that ends
-pub ends_line : (bytes : List ℕ) → Holds bytes 0 → ¬ IsBegun IsCommandLine (bytes ++ 10 ∷ []) → EndsLine (bytes ++ 10 ∷ [])
+pub ends_line : (bytes : List ℕ) → HasBegunLine bytes 0 → ¬ IsBegun IsCommandLine (bytes ++ 10 ∷ []) → EndsLine (bytes ++ 10 ∷ [])
 ends_line bytes h ends = record { front = bytes; parts = refl; uncut = holds_uncut bytes 0 h; ends = ends }
 
 -- more bytes of a connection that is cut

@@ -9,7 +9,7 @@ use Rattle.grammar.proofs.Conditions.{and_both, not_then_false}
 use Rattle.mupdate_codec.specs.Answers.{IsBegun}
 use Rattle.mupdate_codec.specs.Commands.{IsCommandLine}
 use Rattle.mupdate_codec.specs.Cut.{IsUncut, EndsLine, IsCut, Feeds, waits}
-use Rattle.mupdate_codec.specs.Waits.{goes_on, Holds, Ended, TakesSome}
+use Rattle.mupdate_codec.specs.Waits.{goes_on, HasBegunLine, Ended, TakesSome}
 use Rattle.mupdate_codec.proofs.CutLaw.{has_no_lf, holds_literal, holds_text, holds_lf, holds_uncut, holds_nothing, ends_line, goes_from, cut_waits, cut_line}
 
 -- a search for LF
@@ -42,7 +42,7 @@ text_some piece at first =
       parts = ap (λ n. take n piece) (add-one at) ∙ take-suc piece at 0 within ∙ ap (λ c. take at piece ++ c ∷ []) (eqb-true (get_or piece at 0) 10 first.1);
     }
 
-pub ended_by : (begun piece : List ℕ) (at : ℕ) → Holds begun 0 → UpToLf piece at → Ended (begun ++ take (at + 1) piece)
+pub ended_by : (begun piece : List ℕ) (at : ℕ) → HasBegunLine begun 0 → UpToLf piece at → Ended (begun ++ take (at + 1) piece)
 ended_by begun piece at h u = record {
   front = begun ++ take at piece;
   parts = ap (λ s. begun ++ s) u.parts ∙ sym (append_assoc begun (take at piece) (10 ∷ []));
@@ -51,9 +51,9 @@ ended_by begun piece at h u = record {
 
 -- a line that goes on behind its LF
 pub ended_goes_on : (bytes : List ℕ) (left : ℕ) → Ended bytes → IsBegun IsCommandLine bytes
-    → ((text : List ℕ) → 0 < left → length text ≤ left → goes_on (bytes ++ text) ≡ true) → Holds bytes left
+    → ((text : List ℕ) → 0 < left → length text ≤ left → goes_on (bytes ++ text) ≡ true) → HasBegunLine bytes left
 ended_goes_on bytes left e b skips =
-    subst (λ s. Holds s left) (sym e.parts)
+    subst (λ s. HasBegunLine s left) (sym e.parts)
     (holds_lf e.front left e.holds (ap goes_on (sym e.parts) ∙ goes_from bytes b)
     (λ text some room. ap (λ s. goes_on (s ++ text)) (sym e.parts) ∙ skips text some room))
 
@@ -62,11 +62,11 @@ pub ended_ends : (bytes : List ℕ) → Ended bytes → ¬ IsBegun IsCommandLine
 ended_ends bytes e none = subst EndsLine (sym e.parts) (ends_line e.front e.holds (λ b. none (subst (IsBegun IsCommandLine) (sym e.parts) b)))
 
 -- bytes of a literal
-pub literal_taken : (begun piece : List ℕ) (left taken : ℕ) → Holds begun left → 0 < left → taken ≤ left → taken ≤ length piece
-    → Holds (begun ++ take taken piece) (left - taken)
+pub literal_taken : (begun piece : List ℕ) (left taken : ℕ) → HasBegunLine begun left → 0 < left → taken ≤ left → taken ≤ length piece
+    → HasBegunLine (begun ++ take taken piece) (left - taken)
 literal_taken begun piece left taken h some room within =
     let size : length (take taken piece) ≡ taken = length-take-le taken piece within in
-    subst (Holds (begun ++ take taken piece)) (ap (λ n. left - n) size)
+    subst (HasBegunLine (begun ++ take taken piece)) (ap (λ n. left - n) size)
     (holds_literal begun (take taken piece) left h some (omega (arith, size)))
 
 -- one step behind others
@@ -96,12 +96,9 @@ takes_then begun piece mid taken more (Some line) after within is t = (
   t.3,
 )
 
-pub takes_none : (begun piece : List ℕ) → TakesSome begun piece None 0 begun
-takes_none begun piece = (omega arith, sym (append-nil begun))
-
 -- what a call gives
 pub feeds_by : (begun piece : List ℕ) (line : Option (List ℕ)) (taken : ℕ) (after : List ℕ) (left : ℕ) → TakesSome begun piece line taken after
-    → (line ≡ None → taken ≡ length piece) → Holds after left → Feeds begun piece line taken (Some after)
+    → (line ≡ None → taken ≡ length piece) → HasBegunLine after left → Feeds begun piece line taken (Some after)
 feeds_by begun piece None taken after left t whole h =
     let all : taken ≡ length piece = whole refl in
     let same : after ≡ begun ++ piece = t.1 ∙ ap (λ s. begun ++ s) (ap (λ n. take n piece) all ∙ take_all piece) in
@@ -230,9 +227,9 @@ left_is past left None lines c e = absurd c
 left_is past left (Some s) lines c e = subst (IsCut past lines) (sym e) c
 
 -- a piece without an LF
-pub text_taken : (begun piece : List ℕ) (left : ℕ) → left ≡ 0 → Holds begun left → IsFirstByte (is_byte 10) piece None → Holds (begun ++ piece) left
+pub text_taken : (begun piece : List ℕ) (left : ℕ) → left ≡ 0 → HasBegunLine begun left → IsFirstByte (is_byte 10) piece None → HasBegunLine (begun ++ piece) left
 text_taken begun piece left none h first =
-    subst (Holds (begun ++ piece)) (sym none) (holds_text begun piece (subst (Holds begun) none h) (text_none piece first))
+    subst (HasBegunLine (begun ++ piece)) (sym none) (holds_text begun piece (subst (HasBegunLine begun) none h) (text_none piece first))
 
 pub none_from : {T : Type 0} (o : Option T) → is_some o ≡ false → o ≡ None
 none_from None h = refl
@@ -240,7 +237,7 @@ none_from (Some x) h = cc
 
 -- the bytes of a cutter that isn't spent, and what comes of a piece
 pub feeds_of : (view next : Option (List ℕ)) (spent : Bool) (begun piece : List ℕ) (line : Option (List ℕ)) (taken : ℕ) (after : List ℕ) (left : ℕ)
-    → view ≡ cond spent None (Some begun) → spent ≡ false → TakesSome begun piece line taken after → (line ≡ None → taken ≡ length piece) → Holds after left
+    → view ≡ cond spent None (Some begun) → spent ≡ false → TakesSome begun piece line taken after → (line ≡ None → taken ≡ length piece) → HasBegunLine after left
     → next ≡ cond spent None (Some after) → IfSome view (λ begun. Feeds begun piece line taken next)
 feeds_of view next spent begun piece line taken after left is live t whole h next_is =
     let some : view ≡ Some begun = is ∙ ap (λ s. cond s None (Some begun)) live in
@@ -248,7 +245,7 @@ feeds_of view next spent begun piece line taken after left is live t whole h nex
     subst (λ v. IfSome v (λ begun. Feeds begun piece line taken next)) (sym some)
     (subst (Feeds begun piece line taken) (sym then) (feeds_by begun piece line taken after left t whole h))
 
-pub uncut_of : (view : Option (List ℕ)) (spent : Bool) (begun : List ℕ) (left : ℕ) → view ≡ cond spent None (Some begun) → (spent ≡ false → Holds begun left)
+pub uncut_of : (view : Option (List ℕ)) (spent : Bool) (begun : List ℕ) (left : ℕ) → view ≡ cond spent None (Some begun) → (spent ≡ false → HasBegunLine begun left)
     → IfSome view IsUncut
 uncut_of view true begun left is h = subst (λ v. IfSome v IsUncut) (sym is) tt
 uncut_of view false begun left is h = subst (λ v. IfSome v IsUncut) (sym is) (holds_uncut begun left (h refl))

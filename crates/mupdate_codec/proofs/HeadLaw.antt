@@ -3,7 +3,7 @@ use Rattle.std.proofs.Common.{◌≡◌, ℕ, zero, suc, ◌+◌, ◌-◌, ◌<�
 use Rattle.std.proofs.Common.{append-nil, append_assoc, length-append, arith, eqb-true}
 use Rattle.grammar.specs.Part.{Part, ◌>>=◌, ◌then◌, ◌sp◌, give, map, byte, exactly}
 use Rattle.grammar.specs.Exact.{Good, any}
-use Rattle.grammar.specs.Forms.{Form, behind, dispatch, followed, made, maybe, nothing, ◌and◌, ◌spaced◌}
+use Rattle.grammar.specs.Forms.{Form, preceded, dispatch, followed, made, maybe, nothing, ◌and◌, ◌spaced◌}
 use Rattle.grammar.specs.Words.{word}
 use Rattle.grammar.proofs.Reading.{Went, went, ok_parts}
 use Rattle.grammar.proofs.NamesLaw.{law_table}
@@ -19,14 +19,14 @@ use Rattle.mupdate_codec.specs.declared.word.Verb.{Verb}
 use Rattle.mupdate_codec.specs.declared.word.Verb.TheVariants as verb
 use Rattle.mupdate_codec.specs.declared.limits.TheConstants.{STRING_LIMIT}
 use Rattle.mupdate_codec.specs.Answers.{IsBegun}
-use Rattle.mupdate_codec.specs.Arguments.{exact, a_mailbox, maybe_string, line}
-use Rattle.mupdate_codec.specs.Commands.{command_line, command_word, verb_form, verb_of, verbs, arguments, arguments_text, IsCommandLine}
-use Rattle.mupdate_codec.specs.Strings.{header, name, location, string, string_form, name_form, location_form}
-use Rattle.mupdate_codec.specs.Tags.{tags, command_tag}
+use Rattle.mupdate_codec.specs.Arguments.{exact, a_mailbox, maybe_string, ended_line}
+use Rattle.mupdate_codec.specs.Commands.{command_line, command_word, command_verb_form, command_verb, command_verbs, command_arguments, command_arguments_text, IsCommandLine}
+use Rattle.mupdate_codec.specs.Strings.{header, name, location, mupdate_string, string_form, name_form, location_form}
+use Rattle.mupdate_codec.specs.Tags.{mupdate_tags, command_tag}
 use Rattle.mupdate_codec.specs.Waits.{goes_on, nowhere, before_any, head}
 use Rattle.mupdate_codec.proofs.CutLaw.{goes_from}
 use Rattle.mupdate_codec.proofs.LinesLaw.{is_space, lawful_tags, apart_tags}
-use Rattle.mupdate_codec.proofs.StringSteps.{all_any}
+use Rattle.text_parts.proofs.AnyLaw.{all_any}
 use Rattle.mupdate_codec.proofs.StringsLaw.{good_name, good_location, good_header}
 
 spell_and : {A B : Type 0} (p : Form A) (q : Form B) (s t : List ℕ) (a : A) (b : B) → p.part.lang s a → q.part.lang t b → (p and q).part.lang (s ++ t) (a, b)
@@ -34,31 +34,31 @@ spell_and p q s t a b l m = spell_then p.part (λ a. map (λ b. (a, b)) q.part) 
 
 spell_spaced : {A B : Type 0} (p : Form A) (q : Form B) (s t : List ℕ) (a : A) (b : B) → p.part.lang s a → q.part.lang t b
     → (p spaced q).part.lang (s ++ 32 ∷ t) (a, b)
-spell_spaced p q s t a b l m = spell_and p (behind 32 q) s (32 ∷ t) a b l (spell_byte 32 q.part t b m)
+spell_spaced p q s t a b l m = spell_and p (preceded 32 q) s (32 ∷ t) a b l (spell_byte 32 q.part t b m)
 
 spell_followed : {A : Type 0} (p : Form A) (c : ℕ) (s : List ℕ) (a : A) → p.part.lang s a → (followed p c).part.lang (s ++ c ∷ []) a
 spell_followed p c s a l = spell_then p.part (λ a. map (λ _. a) (byte c)) s (c ∷ []) a a l (spell_map (λ _. a) (byte c) (c ∷ []) c (spell_one c))
 
-spell_line : {A : Type 0} (p : Form A) (s : List ℕ) (a : A) → p.part.lang s a → (line p).part.lang ((s ++ 13 ∷ []) ++ 10 ∷ []) a
+spell_line : {A : Type 0} (p : Form A) (s : List ℕ) (a : A) → p.part.lang s a → (ended_line p).part.lang ((s ++ 13 ∷ []) ++ 10 ∷ []) a
 spell_line p s a l = spell_followed (followed p 13) 10 (s ++ 13 ∷ []) a (spell_followed p 13 s a l)
 
 -- a string as a literal
-spell_any : (front text : List ℕ) (n : ℕ) → (header 0 STRING_LIMIT).lang front n → length text ≡ n → string.lang (front ++ text) text
-unfolding string
+spell_any : (front text : List ℕ) (n : ℕ) → (header 0 STRING_LIMIT).lang front n → length text ≡ n → mupdate_string.lang (front ++ text) text
+unfolding mupdate_string
 spell_any front text n l e =
     inr (spell_then (header 0 STRING_LIMIT) (λ n. exactly any n) front text n text l
     (subst (λ m. (exactly any m).lang text text) e (spell_exactly any text (all_any text))))
 
 -- the whole line of a command
 module _ (tag_front verb_front rest : List ℕ) (v : Verb) (it : MCommand) where
-  spell_command : tags.whole tag_front ≡ true → verb_form.part.lang verb_front v → (arguments exact v).part.lang rest it
+  spell_command : mupdate_tags.whole tag_front ≡ true → command_verb_form.part.lang verb_front v → (command_arguments exact v).part.lang rest it
       → IsCommandLine (tag_front ++ 32 ∷ (((verb_front ++ rest) ++ 13 ∷ []) ++ 10 ∷ [])) (Text tag_front, it)
   unfolding command_line
   spell_command t w a =
-      let all : Form MCommand = dispatch verb_form verb_of (arguments exact) in
-      spell_spaced command_tag (line all) tag_front (((verb_front ++ rest) ++ 13 ∷ []) ++ 10 ∷ []) (Text tag_front) it
-      (spell_map Text (word tags) tag_front tag_front (refl, t))
-      (spell_line all (verb_front ++ rest) it (spell_then verb_form.part (λ k. (arguments exact k).part) verb_front rest v it w a))
+      let all : Form MCommand = dispatch command_verb_form command_verb (command_arguments exact) in
+      spell_spaced command_tag (ended_line all) tag_front (((verb_front ++ rest) ++ 13 ∷ []) ++ 10 ∷ []) (Text tag_front) it
+      (spell_map Text (word mupdate_tags) tag_front tag_front (refl, t))
+      (spell_line all (verb_front ++ rest) it (spell_then command_verb_form.part (λ k. (command_arguments exact k).part) verb_front rest v it w a))
 
 -- what is read of the front
 
@@ -112,10 +112,10 @@ sound_verb v =
 sound_head : Sound head
 unfolding head command_word behind_verb
 sound_head =
-    sound_then (word tags) (λ _. byte 32 then λ _. verb_form.part then behind_verb) (sound_good (word tags) (good_word tags lawful_tags is_space apart_tags))
-    (λ _. sound_then (byte 32) (λ _. verb_form.part then behind_verb) (sound_byte 32)
-    (λ _. sound_then verb_form.part behind_verb
-    (sound_good verb_form.part ((law_table verb.Update verbs command_word refl refl (32 ∷ 13 ∷ []) refl refl).good ℕ)) sound_verb))
+    sound_then (word mupdate_tags) (λ _. byte 32 then λ _. command_verb_form.part then behind_verb) (sound_good (word mupdate_tags) (good_word mupdate_tags lawful_tags is_space apart_tags))
+    (λ _. sound_then (byte 32) (λ _. command_verb_form.part then behind_verb) (sound_byte 32)
+    (λ _. sound_then command_verb_form.part behind_verb
+    (sound_good command_verb_form.part ((law_table verb.Update command_verbs command_word refl refl (32 ∷ 13 ∷ []) refl refl).good ℕ)) sound_verb))
 
 byte_text : (c : ℕ) (s : List ℕ) (v : ℕ) → (byte c).lang s v → s ≡ c ∷ []
 byte_text c s v l = l.0 ∙ ap (λ d. d ∷ []) (eqb-true v c l.1)
@@ -128,14 +128,14 @@ record Front (bytes : List ℕ) (n : ℕ) : Type 0 where
   size : List ℕ
   command : Verb
   parts : bytes ≡ tag ++ 32 ∷ (verb_text ++ (before ++ 32 ∷ size))
-  tagged : tags.whole tag ≡ true
-  named : verb_form.part.lang verb_text command
-  arguments_are : (text : List ℕ) → length text ≡ n → (it : MCommand) × (arguments exact command).part.lang (before ++ 32 ∷ (size ++ text)) it
+  tagged : mupdate_tags.whole tag ≡ true
+  named : command_verb_form.part.lang verb_text command
+  arguments_are : (text : List ℕ) → length text ≡ n → (it : MCommand) × (command_arguments exact command).part.lang (before ++ 32 ∷ (size ++ text)) it
 
 module _ (size : List ℕ) (n : ℕ) (sized : (header 0 STRING_LIMIT).lang size n) where
   with_before : (v : Verb) (before : List ℕ) (zero_is : ℕ) → (before_any v).lang before zero_is → (text : List ℕ) → length text ≡ n
-      → (it : MCommand) × (arguments exact v).part.lang (before ++ 32 ∷ (size ++ text)) it
-  unfolding before_any arguments
+      → (it : MCommand) × (command_arguments exact v).part.lang (before ++ 32 ∷ (size ++ text)) it
+  unfolding before_any command_arguments
   with_before verb.Activate before o j text e =
       let w = j.goes_on in
       let y = w.goes_on in
@@ -149,7 +149,7 @@ module _ (size : List ℕ) (n : ℕ) (sized : (header 0 STRING_LIMIT).lang size 
       let all : before ++ 32 ∷ rest ≡ 32 ∷ (w.front ++ 32 ∷ behind_name) =
       ap (λ s. s ++ 32 ∷ rest) first ∙ ap (λ s. 32 ∷ s) (append_assoc w.front (32 ∷ z.front) (32 ∷ rest)) in (
         command.Activate w.between z.between text,
-        subst (λ s. (arguments exact verb.Activate).part.lang s (command.Activate w.between z.between text)) (sym all)
+        subst (λ s. (command_arguments exact verb.Activate).part.lang s (command.Activate w.between z.between text)) (sym all)
             (spell_map (λ x. command.Activate x.0 x.1.0 x.1.1) (a_mailbox exact).part (32 ∷ (w.front ++ 32 ∷ behind_name)) (w.between, (z.between, text))
             (spell_byte 32 (name_form spaced (location_form spaced string_form)).part (w.front ++ 32 ∷ behind_name) (w.between, (z.between, text))
             (spell_spaced name_form (location_form spaced string_form) w.front behind_name w.between (z.between, text) w.begins
@@ -158,9 +158,9 @@ module _ (size : List ℕ) (n : ℕ) (sized : (header 0 STRING_LIMIT).lang size 
   with_before verb.List before o l text e =
       let all : before ++ 32 ∷ (size ++ text) ≡ 32 ∷ (size ++ text) = ap (λ s. s ++ 32 ∷ (size ++ text)) l.0 in (
         command.List (Some text),
-        subst (λ s. (arguments exact verb.List).part.lang s (command.List (Some text))) (sym all)
+        subst (λ s. (command_arguments exact verb.List).part.lang s (command.List (Some text))) (sym all)
             (spell_map command.List maybe_string.part (32 ∷ (size ++ text)) (Some text)
-            (inl (spell_byte 32 (map Some string) (size ++ text) (Some text) (spell_map Some string (size ++ text) text (spell_any size text n sized e))))),
+            (inl (spell_byte 32 (map Some mupdate_string) (size ++ text) (Some text) (spell_map Some mupdate_string (size ++ text) text (spell_any size text n sized e))))),
       )
   with_before verb.Deactivate before o l text e = absurd l
   with_before verb.Delete before o l text e = absurd l
@@ -189,7 +189,7 @@ front_of bytes n e =
           ∙ ap (λ t. j.front ++ t) (k.parts ∙ ap (λ t. t ++ k.back) (byte_text 32 k.front k.between k.begins)
           ∙ ap (λ t. 32 ∷ t) (m.parts ∙ ap (λ t. m.front ++ t) (q.parts ∙ ap (λ t. q.front ++ t) (r.parts ∙ ap (λ t. t ++ r.back)
           (byte_text 32 r.front r.between r.begins)))));
-      tagged = ap tags.whole j.begins.0 ∙ j.begins.1;
+      tagged = ap mupdate_tags.whole j.begins.0 ∙ j.begins.1;
       named = m.begins;
       arguments_are = with_before r.back n r.goes_on m.between q.front q.between q.begins;
     }

@@ -1,13 +1,6 @@
-pub mod NameSteps
 pub mod SizeSteps
 pub mod StringSteps
 pub mod SizesLaw
-pub mod LevelLaw
-pub mod EmptyLevels
-pub mod Utf8Law
-pub mod NameLaw
-pub mod NameSound
-pub mod NameComplete
 pub mod StringsLaw
 pub mod StringsPrinted
 pub mod LinesLaw
@@ -20,5 +13,4 @@ pub mod AsksLaw
 pub mod CutLaw
 pub mod HeadLaw
 pub mod CutSteps
-pub mod PlaceLaw
 pub mod FaultSteps

@@ -1,4 +1,4 @@
--- Numbers and runs between two bounds are lawful words.
+-- Numbers between two bounds are lawful words.
 use Rattle.std.proofs.Common.{◌≡◌, ℕ, zero, suc, ◌+◌, ◌-◌, ◌*◌, ◌<◌, ◌≤◌, List, [], ◌∷◌, ◌++◌, length, Bool, true, false, ◌&&◌, nat_le, nat_lt, ◌==◌, nat_eq}
 use Rattle.std.proofs.Common.{refl, sym, ap, ◌∙◌, subst, append-nil, append_assoc, le_trans, arith, leb-true, le-leb, length-append}
 use Rattle.std.proofs.lemmas.Bool.Decides.{nat_tests}
@@ -13,7 +13,7 @@ use Rattle.grammar.proofs.NumberLaw.{digits_behind-append, digits_behind-grows, 
 use Rattle.grammar.proofs.RunLaw.{all_front, all_push, some_push}
 use Rattle.grammar.proofs.SequenceLaw.{good_map}
 use Rattle.grammar.proofs.WordLaw.{good_word}
-use Rattle.mupdate_codec.specs.Sizes.{sizes, size, run_within}
+use Rattle.mupdate_codec.specs.Sizes.{sizes, size}
 
 digit_is : (d : ℕ) → d < 10 → is_digit (48 + d) ≡ true
 unfolding is_digit
@@ -66,33 +66,3 @@ module _ (least most : ℕ) where
   -- no digit stands behind
   pub apart_sizes : (after : ℕ → Bool) → ((c : ℕ) → after c ≡ true → is_digit c ≡ false) → Apart (sizes least most) after
   apart_sizes after other s h c k = and_false _ _ (all_push is_digit s c (and_left _ _ (and_left _ _ h)) ∙ other c k)
-
-module _ (least most : ℕ) (test : ℕ → Bool) where
-  within_front : (s t : List ℕ) → (run_within least most test).begins (s ++ t) ≡ true → (run_within least most test).begins s ≡ true
-  within_front s t h =
-      let short = leb-true _ _ (and_right (list_all test (s ++ t)) _ h) in
-      and_both _ _ (all_front test s t (and_left _ _ h)) (le-leb _ _ (omega (arith, length-append s t)))
-
-  module _ (example : ℕ) (passes : test example ≡ true) where
-    filled : (k : ℕ) (s : List ℕ) → (run_within least most test).begins s ≡ true → least ≤ length s + k → length s + k ≤ most
-        → (t : List ℕ) × (run_within least most test).whole (s ++ t) ≡ true
-    filled zero s h low high =
-        ([], ap (run_within least most test).whole (append-nil s) ∙ and_both _ _ h (le-leb _ _ (omega arith)))
-    filled (suc k) s h low high =
-        let longer : length (s ++ example ∷ []) ≡ length s + 1 = length-append s (example ∷ []) in
-        let on = filled k (s ++ example ∷ [])
-        (and_both _ _ (all_push test s example (and_left _ _ h) ∙ passes) (le-leb _ _ (omega (arith, longer)))) (omega (arith, longer)) (omega (arith, longer)) in
-        (example ∷ on.0, ap (run_within least most test).whole (sym (append_assoc s (example ∷ []) on.0)) ∙ on.1)
-
-    pub lawful_within : least ≤ most → Lawful (run_within least most test)
-    lawful_within room = record {
-      empty_begins = and_both true _ refl (le-leb 0 most (omega arith));
-      front = within_front;
-      whole = λ s h. and_left _ _ h;
-      goes_on = λ s h.
-          let short : length s ≤ most = leb-true _ _ (and_right (list_all test s) _ h) in
-          filled (least - length s) s h (omega arith) (omega arith);
-    }
-
-  pub apart_within : (after : ℕ → Bool) → ((c : ℕ) → after c ≡ true → test c ≡ false) → Apart (run_within least most test) after
-  apart_within after other s h c k = and_false _ _ (all_push test s c (and_left _ _ (and_left _ _ h)) ∙ other c k)

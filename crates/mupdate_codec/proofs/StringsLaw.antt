@@ -17,14 +17,15 @@ use Rattle.grammar.proofs.RepetitionLaw.{good_exactly, good_turns, begins_any}
 use Rattle.grammar.proofs.StartLaw.{starts_then, starts_exactly, starts_byte, starts_choose, starts_weaker, begins_from, without_from}
 use Rattle.grammar.proofs.ToolLaws.{good_byte, good_behind, good_optional, begins_optional, begins_then}
 use Rattle.mupdate_codec.specs.declared.limits.TheConstants.{STRING_LIMIT, NAME_BYTES, LOCATION_LEAST, LOCATION_MOST}
-use Rattle.mupdate_codec.specs.Characters.{is_plain, is_special, is_no_quote}
-use Rattle.mupdate_codec.specs.Sizes.{sizes, size, clamped}
-use Rattle.mupdate_codec.specs.Names.{names_from, start_of, quoted_names, names_of}
-use Rattle.mupdate_codec.specs.Strings.{quoted_char, in_quotes, quoted, header, literal, either_form, string, name, located, short_names, quoted_location}
-use Rattle.mupdate_codec.specs.Strings.{servers_of, location_of, location}
-use Rattle.mupdate_codec.proofs.LevelLaw.{fits_start, lawful_names, apart_sized, apart_quote}
-use Rattle.mupdate_codec.proofs.SizesLaw.{lawful_sizes, apart_sizes, lawful_within, apart_within}
-use Rattle.mupdate_codec.proofs.StringSteps.{plain_no_quote, plain_no_backslash}
+use Rattle.grammar.specs.Quoted.{is_quoted_plain, is_quoted_special, is_no_quote}
+use Rattle.mupdate_codec.specs.Sizes.{sizes, size}
+use Rattle.mupdate_codec.specs.Strings.{mupdate_quoted_char, in_quotes, mupdate_quoted, header, mupdate_literal, either_form, mupdate_string, name, quoted_location, location}
+use Rattle.text_parts.specs.Locations.{located, short_names, location_of, clamped}
+use Rattle.text_parts.specs.Names.{names_from, start_of, quoted_names, names_of_size}
+use Rattle.text_parts.proofs.LevelLaw.{fits_start, lawful_names, apart_sized, apart_quote}
+use Rattle.text_parts.proofs.LocationsLaw.{is_bang, no_bang, starts_bang, good_location_of}
+use Rattle.mupdate_codec.proofs.SizesLaw.{lawful_sizes, apart_sizes}
+use Rattle.grammar.proofs.QuotedRuns.{plain_no_quote, plain_no_backslash}
 
 -- a quote
 abbrev pub is_quote : ℕ → Bool
@@ -43,36 +44,36 @@ module _ {A : Type 0} where
 -- the characters of a string in quotes
 
 abbrev escaped : List ℕ → Part (List ℕ)
-escaped so_far = byte 92 then λ _. map (λ char. so_far ++ char) (exactly is_special 1)
+escaped so_far = byte 92 then λ _. map (λ char. so_far ++ char) (exactly is_quoted_special 1)
 
 abbrev plain : List ℕ → Part (List ℕ)
-plain so_far = map (λ char. so_far ++ char) (exactly is_plain 1)
+plain so_far = map (λ char. so_far ++ char) (exactly is_quoted_plain 1)
 
 starts_escaped : (so_far : List ℕ) → StartsWith (λ c. c == 92) (escaped so_far)
-starts_escaped so_far = starts_then (byte 92) (λ _. map (λ char. so_far ++ char) (exactly is_special 1)) (starts_byte 92)
+starts_escaped so_far = starts_then (byte 92) (λ _. map (λ char. so_far ++ char) (exactly is_quoted_special 1)) (starts_byte 92)
 
-starts_plain : (so_far : List ℕ) → StartsWith is_plain (plain so_far)
-starts_plain so_far = starts_then (exactly is_plain 1) (λ char. give (so_far ++ char)) (starts_exactly is_plain 0)
+starts_plain : (so_far : List ℕ) → StartsWith is_quoted_plain (plain so_far)
+starts_plain so_far = starts_then (exactly is_quoted_plain 1) (λ char. give (so_far ++ char)) (starts_exactly is_quoted_plain 0)
 
-starts_quoted_char : (so_far : List ℕ) → StartsWith is_no_quote (quoted_char so_far)
-unfolding quoted_char
+starts_quoted_char : (so_far : List ℕ) → StartsWith is_no_quote (mupdate_quoted_char so_far)
+unfolding mupdate_quoted_char
 starts_quoted_char so_far =
     starts_choose (λ c. c == 92) (escaped so_far) (plain so_far)
     (starts_weaker (escaped so_far) (λ c h. ap (λ d. not (d == 34)) (eqb-true c 92 h)) (starts_escaped so_far))
     (starts_weaker (plain so_far) plain_no_quote (starts_plain so_far))
 
-good_quoted_char : {V : Type 0} (after : ℕ → Bool) (so_far : List ℕ) → Good V after (quoted_char so_far)
-unfolding quoted_char is_special is_plain
+good_quoted_char : {V : Type 0} (after : ℕ → Bool) (so_far : List ℕ) → Good V after (mupdate_quoted_char so_far)
+unfolding mupdate_quoted_char is_quoted_special is_quoted_plain
 good_quoted_char after so_far =
     good_choose (λ c. c == 92) (escaped so_far) (plain so_far)
-    (good_behind 92 (map (λ char. so_far ++ char) (exactly is_special 1))
-    (good_map (λ char. so_far ++ char) (exactly is_special 1) (good_exactly is_special after 34 refl 1)))
-    (good_map (λ char. so_far ++ char) (exactly is_plain 1) (good_exactly is_plain after 97 refl 1)) (starts_escaped so_far)
+    (good_behind 92 (map (λ char. so_far ++ char) (exactly is_quoted_special 1))
+    (good_map (λ char. so_far ++ char) (exactly is_quoted_special 1) (good_exactly is_quoted_special after 34 refl 1)))
+    (good_map (λ char. so_far ++ char) (exactly is_quoted_plain 1) (good_exactly is_quoted_plain after 97 refl 1)) (starts_escaped so_far)
     (without_from (λ c. c == 92) after (plain so_far) (λ c h. not_true (c == 92) (plain_no_backslash c h)) (starts_plain so_far))
 
-good_chars : {V : Type 0} (most : ℕ) → Good V is_quote (turns is_no_quote quoted_char most [])
+good_chars : {V : Type 0} (most : ℕ) → Good V is_quote (turns is_no_quote mupdate_quoted_char most [])
 good_chars most =
-    good_turns is_no_quote is_quote any quoted_char (good_quoted_char any) starts_quoted_char (λ c h. ap not h) (λ _ _. refl) (λ _ _. refl) most []
+    good_turns is_no_quote is_quote any mupdate_quoted_char (good_quoted_char any) starts_quoted_char (λ c h. ap not h) (λ _ _. refl) (λ _ _. refl) most []
 
 -- the header of a literal
 
@@ -124,29 +125,22 @@ module _ {A : Type 0} (p : Part A) (least most : ℕ) (f : ℕ → Part A) where
       (without_from is_quote after (header least most then f) (λ c h. ap (λ d. d == 34) (eqb-true c 123 h)) starts_literal)
 
 module _ {V : Type 0} (after : ℕ → Bool) where
-  pub good_string : Good V after string
-  unfolding string
+  pub good_string : Good V after mupdate_string
+  unfolding mupdate_string
   good_string =
-      good_either (turns is_no_quote quoted_char STRING_LIMIT []) 0 STRING_LIMIT (λ n. exactly any n) after (omega arith) (omega arith) (good_chars STRING_LIMIT)
+      good_either (turns is_no_quote mupdate_quoted_char STRING_LIMIT []) 0 STRING_LIMIT (λ n. exactly any n) after (omega arith) (omega arith) (good_chars STRING_LIMIT)
       (λ n. good_exactly any after 97 refl n)
 
   pub good_name : Good V after name
   unfolding name
   good_name =
-      good_either (word quoted_names) 1 NAME_BYTES (λ n. word (names_of n)) after (omega arith) (omega arith)
+      good_either (word quoted_names) 1 NAME_BYTES (λ n. word (names_of_size n)) after (omega arith) (omega arith)
       (good_word quoted_names (lawful_names false (start_of false NAME_BYTES) (fits_start false NAME_BYTES (omega arith)) (λ _. refl)) is_quote
       (apart_quote (start_of false NAME_BYTES) (fits_start false NAME_BYTES (omega arith)) refl))
-      (λ n. good_word (names_of n) (lawful_names true (start_of true (max 1 n)) (fits_start true (max 1 n) (omega arith)) (λ h. cc)) after
+      (λ n. good_word (names_of_size n) (lawful_names true (start_of true (max 1 n)) (fits_start true (max 1 n) (omega arith)) (λ h. cc)) after
       (apart_sized (start_of true (max 1 n)) after))
 
 -- locations
-
-abbrev is_bang : ℕ → Bool
-is_bang c = c == 33
-
-no_bang : (c : ℕ) → is_bang c ≡ true → is_short_name_byte c ≡ false
-unfolding is_short_name_byte
-no_bang c h = ap is_short_name_byte (eqb-true c 33 h)
 
 short_quote : (c : ℕ) → is_quote c ≡ true → is_short_name_byte c ≡ false
 unfolding is_short_name_byte
@@ -158,26 +152,7 @@ good_short after ends =
     good_word short_names (lawful_run_upto is_short_name_byte SHORT_NAME_LIMIT 97 refl (omega arith)) after
     (apart_run_upto is_short_name_byte SHORT_NAME_LIMIT after ends)
 
-starts_bang : {A : Type 0} (p : Part A) → StartsWith is_bang (byte 33 then λ _. p)
-starts_bang p = starts_then (byte 33) (λ _. p) (starts_byte 33)
-
-good_servers : {V : Type 0} (n : ℕ) → 3 ≤ n → n ≤ 129 → Good V is_bang (word (servers_of n))
-unfolding is_short_name_byte
-good_servers n least most =
-    let low : ℕ = max 1 (n - 1 - SHORT_NAME_LIMIT) in
-    let high : ℕ = min SHORT_NAME_LIMIT (n - 2) in
-    good_word (servers_of n) (lawful_within low high is_short_name_byte 97 refl (omega arith)) is_bang (apart_within low high is_short_name_byte is_bang no_bang)
-
 module _ {V : Type 0} (after : ℕ → Bool) where
-  good_location_of : (n : ℕ) → 3 ≤ n → n ≤ 129 → Good V after (location_of n)
-  unfolding is_short_name_byte
-  good_location_of n least most =
-      let rest : List ℕ → Part Location = λ server. byte 33 then λ _. map (located server) (exactly is_short_name_byte (n - 1 - length server)) in
-      good_then (word (servers_of n)) rest (good_servers n least most)
-      (λ server. good_behind 33 (map (located server) (exactly is_short_name_byte (n - 1 - length server)))
-      (good_map (located server) (exactly is_short_name_byte (n - 1 - length server)) (good_exactly is_short_name_byte after 97 refl (n - 1 - length server))))
-      (λ server. begins_from after (rest server) (starts_bang (map (located server) (exactly is_short_name_byte (n - 1 - length server)))))
-
   pub good_location : Good V after location
   unfolding location
   good_location =
@@ -186,4 +161,4 @@ module _ {V : Type 0} (after : ℕ → Bool) where
       (good_then (word short_names) rest (good_short is_bang no_bang)
       (λ server. good_behind 33 (map (located server) (word short_names)) (good_map (located server) (word short_names) (good_short is_quote short_quote)))
       (λ server. begins_from is_quote (rest server) (starts_bang (map (located server) (word short_names)))))
-      (λ n. good_location_of (clamped LOCATION_LEAST LOCATION_MOST n) (omega arith) (omega arith))
+      (λ n. good_location_of after (clamped LOCATION_LEAST LOCATION_MOST n) (omega arith) (omega arith))

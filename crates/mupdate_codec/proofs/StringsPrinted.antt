@@ -1,6 +1,7 @@
 -- A printed string, name or location is a spelling of it.
-use Rattle.std.proofs.Common.{◌≡◌, ℕ, zero, suc, ◌+◌, ◌-◌, ◌*◌, ◌<◌, ◌≤◌, List, [], ◌∷◌, ◌++◌, length, Bool, true, false, ◌&&◌, cond, inl, inr, nat_le, None, refl, sym, ap, ◌∙◌, subst}
+use Rattle.std.proofs.Common.{◌≡◌, ℕ, zero, suc, ◌+◌, ◌-◌, ◌*◌, ◌<◌, ◌≤◌, List, [], ◌∷◌, ◌++◌, length, Bool, true, false, ◌&&◌, cond, inl, inr, nat_le, nat_lt, None, refl, sym, ap, ◌∙◌, subst}
 use Rattle.std.proofs.Common.{append-nil, append_assoc, length-append, arith, leb-true, le-leb, max, min, ⊎_elim}
+use Rattle.std.proofs.lemmas.Bool.Decides.{nat_tests}
 use Rattle.std.specs.List.{list_all}
 use Rattle.mur_base.specs.Number.{is_digit}
 use Rattle.mur_base.specs.Names.{is_short_name_byte, mail_name_fault}
@@ -18,14 +19,17 @@ use Rattle.grammar.proofs.NumeralLaw.{decimal_writes}
 use Rattle.grammar.proofs.RepetitionLaw.{begins_any}
 use Rattle.grammar.proofs.Spelling.{spell_then, spell_map, spell_byte, spell_one, spell_exactly}
 use Rattle.mupdate_codec.specs.declared.limits.TheConstants.{STRING_LIMIT, NAME_BYTES, LOCATION_LEAST, LOCATION_MOST}
-use Rattle.mupdate_codec.specs.Characters.{is_plain, is_no_quote}
-use Rattle.mupdate_codec.specs.Sizes.{sizes, size, clamped}
-use Rattle.mupdate_codec.specs.Names.{quoted_names, names_of}
-use Rattle.mupdate_codec.specs.Strings.{quoted_char, in_quotes, quoted, header, literal, string, name, located, short_names, quoted_location, servers_of}
-use Rattle.mupdate_codec.specs.Strings.{location_of, location, is_quotable, quoted_text, literal_text, string_text, location_text, string_form, name_form, location_form}
-use Rattle.mupdate_codec.proofs.NameComplete.{name_is_quoted, name_is_sized, some as name_is_some}
-use Rattle.mupdate_codec.proofs.NameSound.{quoted_is_name, sized_is_name}
-use Rattle.mupdate_codec.proofs.StringSteps.{all_any, plain_no_quote}
+use Rattle.grammar.specs.Quoted.{is_quoted_plain, is_no_quote, literal_text}
+use Rattle.text_parts.specs.Locations.{located, short_names, servers_of, location_of, location_text, clamped}
+use Rattle.text_parts.specs.Names.{quoted_names, names_of_size}
+use Rattle.mupdate_codec.specs.Sizes.{sizes, size}
+use Rattle.mupdate_codec.specs.Strings.{mupdate_quoted_char, in_quotes, mupdate_quoted, header, mupdate_literal, mupdate_string, name, quoted_location}
+use Rattle.mupdate_codec.specs.Strings.{location, is_plain_quotable, plain_quoted_text, string_text, string_form, name_form, location_form}
+use Rattle.text_parts.proofs.LocationsLaw.{IsPlace, exactly_length, only_located}
+use Rattle.text_parts.proofs.NameComplete.{name_is_quoted, name_is_sized, some as name_is_some}
+use Rattle.text_parts.proofs.NameSound.{quoted_is_name, sized_is_name}
+use Rattle.grammar.proofs.QuotedRuns.{plain_no_quote}
+use Rattle.text_parts.proofs.AnyLaw.{all_any}
 use Rattle.mupdate_codec.proofs.StringsLaw.{good_string, good_name, good_location}
 
 -- quotes
@@ -86,13 +90,13 @@ spell_literal least most f text v low high l =
 
 -- strings
 
-spell_char : (so_far : List ℕ) (c : ℕ) → is_plain c ≡ true → (quoted_char so_far).lang (c ∷ []) (so_far ++ c ∷ [])
-unfolding quoted_char
+spell_char : (so_far : List ℕ) (c : ℕ) → is_quoted_plain c ≡ true → (mupdate_quoted_char so_far).lang (c ∷ []) (so_far ++ c ∷ [])
+unfolding mupdate_quoted_char
 spell_char so_far c h =
-    inr (spell_map (λ char. so_far ++ char) (exactly is_plain 1) (c ∷ []) (c ∷ []) (spell_exactly is_plain (c ∷ []) (and_both _ _ h refl)))
+    inr (spell_map (λ char. so_far ++ char) (exactly is_quoted_plain 1) (c ∷ []) (c ∷ []) (spell_exactly is_quoted_plain (c ∷ []) (and_both _ _ h refl)))
 
-spell_chars : (n : ℕ) (text so_far : List ℕ) → length text ≤ n → list_all is_plain text ≡ true
-    → (turns is_no_quote quoted_char n so_far).lang text (so_far ++ text)
+spell_chars : (n : ℕ) (text so_far : List ℕ) → length text ≤ n → list_all is_quoted_plain text ≡ true
+    → (turns is_no_quote mupdate_quoted_char n so_far).lang text (so_far ++ text)
 unfolding turns
 spell_chars zero [] so_far room h = (refl, append-nil so_far)
 spell_chars (suc n) [] so_far room h = inr (refl, append-nil so_far)
@@ -104,28 +108,19 @@ spell_chars (suc n) (c ∷ text) so_far room h =
       between = so_far ++ c ∷ [];
       parts = refl;
       begins = spell_char so_far c (and_left _ _ h);
-      goes_on = subst (λ last. (turns is_no_quote quoted_char n (so_far ++ c ∷ [])).lang text last) (append_assoc so_far (c ∷ []) text)
+      goes_on = subst (λ last. (turns is_no_quote mupdate_quoted_char n (so_far ++ c ∷ [])).lang text last) (append_assoc so_far (c ∷ []) text)
           (spell_chars n text (so_far ++ c ∷ []) (omega arith) (and_right _ _ h));
     })
 
-exactly_length : (test : ℕ → Bool) (n : ℕ) (s v : List ℕ) → (exactly test n).lang s v → (length v ≡ n) × (list_all test v ≡ true)
-unfolding exactly
-exactly_length test zero s v l = (ap length l.1, ap (list_all test) l.1)
-exactly_length test (suc n) s v j =
-    let k = j.goes_on in
-    let on = exactly_length test n k.front k.between k.begins in
-    let same : v ≡ j.between ∷ k.between = k.goes_on.1 in
-    (ap length same ∙ ap suc on.0, ap (list_all test) same ∙ and_both _ _ j.begins.1 on.1)
-
-char_length : (so_far s v : List ℕ) → (quoted_char so_far).lang s v → length v ≡ length so_far + 1
-unfolding quoted_char
+char_length : (so_far s v : List ℕ) → (mupdate_quoted_char so_far).lang s v → length v ≡ length so_far + 1
+unfolding mupdate_quoted_char
 char_length so_far s v (inl j) =
     let k = j.goes_on in
     omega (arith, ap length k.goes_on.1, length-append so_far k.between, (exactly_length _ 1 k.front k.between k.begins).0)
 char_length so_far s v (inr k) =
     omega (arith, ap length k.goes_on.1, length-append so_far k.between, (exactly_length _ 1 k.front k.between k.begins).0)
 
-chars_length : (n : ℕ) (so_far s v : List ℕ) → (turns is_no_quote quoted_char n so_far).lang s v → length v ≤ length so_far + n
+chars_length : (n : ℕ) (so_far s v : List ℕ) → (turns is_no_quote mupdate_quoted_char n so_far).lang s v → length v ≤ length so_far + n
 unfolding turns
 chars_length zero so_far s v l = omega (arith, ap length l.1)
 chars_length (suc n) so_far s v (inl j) =
@@ -133,22 +128,22 @@ chars_length (suc n) so_far s v (inl j) =
 chars_length (suc n) so_far s v (inr l) = omega (arith, ap length l.1)
 
 -- a string is within the limit
-pub string_length : (bytes v : List ℕ) → string.lang bytes v → length v ≤ 65536
-unfolding string
+pub string_length : (bytes v : List ℕ) → mupdate_string.lang bytes v → length v ≤ 65536
+unfolding mupdate_string
 string_length bytes v (inl l) =
-    let s = in_quotes_value (turns is_no_quote quoted_char STRING_LIMIT []) bytes v l in
+    let s = in_quotes_value (turns is_no_quote mupdate_quoted_char STRING_LIMIT []) bytes v l in
     omega (arith, chars_length STRING_LIMIT [] s.0 v s.1)
 string_length bytes v (inr j) =
     let n = header_bounds 0 STRING_LIMIT j.front j.between j.begins in
     omega (arith, n.1, (exactly_length any j.between j.back v j.goes_on).0)
 
-pub spell_string : (v : List ℕ) → length v ≤ 65536 → string.lang (string_text v) v
-unfolding string string_text is_quotable
-spell_string v room = by_form (is_quotable v) refl
+pub spell_string : (v : List ℕ) → length v ≤ 65536 → mupdate_string.lang (string_text v) v
+unfolding mupdate_string string_text is_plain_quotable
+spell_string v room = by_form (is_plain_quotable v) refl
   where
-    by_form : (quotable : Bool) → is_quotable v ≡ quotable → string.lang (cond quotable (quoted_text v) (literal_text v)) v
+    by_form : (quotable : Bool) → is_plain_quotable v ≡ quotable → mupdate_string.lang (cond quotable (plain_quoted_text v) (literal_text v)) v
     by_form true q =
-        inl (spell_quotes (turns is_no_quote quoted_char STRING_LIMIT []) v v (spell_chars STRING_LIMIT v [] room (and_right (nat_le (length v) 1024) _ q)))
+        inl (spell_quotes (turns is_no_quote mupdate_quoted_char STRING_LIMIT []) v v (spell_chars STRING_LIMIT v [] room (and_right (nat_le (length v) 1024) _ q)))
     by_form false q =
         inr (spell_literal 0 STRING_LIMIT (λ n. exactly any n) v v (omega arith) room (spell_exactly any v (all_any v)))
 
@@ -160,24 +155,25 @@ only_name bytes v (inl l) = let s = in_quotes_value (word quoted_names) bytes v 
 only_name bytes v (inr j) =
     sized_is_name j.between v (header_bounds 1 NAME_BYTES j.front j.between j.begins).1 j.goes_on.1
 
+-- a byte that stands in quotes for itself has 7 bits
+below : (b : ℕ) → is_quoted_plain b ≡ true → nat_lt b 128 ≡ true
+unfolding is_quoted_plain
+below b h = grind (arith, nat_tests)
+
+plain_below : (s : List ℕ) → list_all is_quoted_plain s ≡ true → list_all (λ b. nat_lt b 128) s ≡ true
+plain_below [] h = refl
+plain_below (b ∷ s) h = and_both _ _ (below b (and_left _ _ h)) (plain_below s (and_right (is_quoted_plain b) _ h))
+
 pub spell_name : (v : List ℕ) → mail_name_fault v ≡ None → name.lang (string_text v) v
-unfolding name string_text is_quotable
-spell_name v n = by_form (is_quotable v) refl
+unfolding name string_text is_plain_quotable
+spell_name v n = by_form (is_plain_quotable v) refl
   where
-    by_form : (quotable : Bool) → is_quotable v ≡ quotable → name.lang (cond quotable (quoted_text v) (literal_text v)) v
-    by_form true q = inl (spell_quotes (word quoted_names) v v (refl, name_is_quoted v n (and_right (nat_le (length v) 1024) _ q)))
+    by_form : (quotable : Bool) → is_plain_quotable v ≡ quotable → name.lang (cond quotable (plain_quoted_text v) (literal_text v)) v
+    by_form true q = inl (spell_quotes (word quoted_names) v v (refl, name_is_quoted v n (plain_below v (and_right (nat_le (length v) 1024) _ q))))
     by_form false q =
-        inr (spell_literal 1 NAME_BYTES (λ n. word (names_of n)) v v (name_is_some v n) (name_fits v n) (refl, name_is_sized v n))
+        inr (spell_literal 1 NAME_BYTES (λ n. word (names_of_size n)) v v (name_is_some v n) (name_fits v n) (refl, name_is_sized v n))
 
 -- locations
-
-pub record IsPlace (it : Location) : Type 0 where
-  pub server : short_names.whole it.server ≡ true
-  pub partition : short_names.whole it.partition ≡ true
-
-short_whole : (s : List ℕ) → list_all is_short_name_byte s ≡ true → 0 < length s → length s ≤ 64 → short_names.whole s ≡ true
-short_whole [] h some room = absurd (omega arith)
-short_whole (c ∷ s) h some room = and_both _ _ (and_both _ _ h (le-leb _ _ room)) refl
 
 pub only_location : (bytes : List ℕ) (it : Location) → location.lang bytes it → IsPlace it
 unfolding location
@@ -192,19 +188,9 @@ only_location bytes it (inr j) =
     let n : ℕ = clamped LOCATION_LEAST LOCATION_MOST j.between in
     let least : 3 ≤ n = omega arith in
     let most : n ≤ 129 = omega arith in
-    let k = j.goes_on in
-    let l = k.goes_on.goes_on in
-    let whole = k.begins.1 in
-    let server_most : length k.between ≤ min SHORT_NAME_LIMIT (n - 2) = leb-true _ _ (and_right (list_all is_short_name_byte k.between) _ (and_left _ _ whole)) in
-    let server_least : max 1 (n - 1 - SHORT_NAME_LIMIT) ≤ length k.between =
-    leb-true _ _ (and_right (list_all is_short_name_byte k.between && nat_le (length k.between) (min SHORT_NAME_LIMIT (n - 2))) _ whole) in
-    let partition = exactly_length is_short_name_byte (n - 1 - length k.between) l.front l.between l.begins in
-    subst IsPlace (sym l.goes_on.1) (record {
-      server = short_whole k.between (and_left _ _ (and_left _ _ whole)) (omega arith) (omega arith);
-      partition = short_whole l.between partition.1 (omega (arith, partition.0)) (omega (arith, partition.0));
-    })
+    only_located n least most j.back it j.goes_on
 
-pub spell_location : (it : Location) → IsPlace it → location.lang (quoted_text (location_text it)) it
+pub spell_location : (it : Location) → IsPlace it → location.lang (plain_quoted_text (location_text it)) it
 unfolding location
 spell_location it p =
     let rest : List ℕ → Part Location = λ server. byte 33 then λ _. map (located server) (word short_names) in
@@ -216,7 +202,7 @@ spell_location it p =
 -- the laws of the arguments
 
 pub law_string : Law any any string_form
-law_string = record { good = λ V. good_string any; begins = begins_any any string; prints = λ bytes v l. spell_string v (string_length bytes v l) }
+law_string = record { good = λ V. good_string any; begins = begins_any any mupdate_string; prints = λ bytes v l. spell_string v (string_length bytes v l) }
 
 pub law_name : Law any any name_form
 law_name = record { good = λ V. good_name any; begins = begins_any any name; prints = λ bytes v l. spell_name v (only_name bytes v l) }

@@ -10,8 +10,8 @@ use Rattle.mupdate_codec.specs.Arguments.{exact}
 use Rattle.mupdate_codec.specs.Commands as of_commands
 use Rattle.mupdate_codec.specs.Responses as of_responses
 
-pub command_text : (v : Verb) (it : MCommand) → (of_commands.arguments exact v).text it ≡ of_commands.arguments_text it
-unfolding Rattle.mupdate_codec.specs.Commands.arguments
+pub command_text : (v : Verb) (it : MCommand) → (of_commands.command_arguments exact v).text it ≡ of_commands.command_arguments_text it
+unfolding Rattle.mupdate_codec.specs.Commands.command_arguments
 command_text verb.Activate it = refl
 command_text verb.Deactivate it = refl
 command_text verb.Delete it = refl
@@ -22,8 +22,8 @@ command_text verb.Noop it = refl
 command_text verb.Reserve it = refl
 command_text verb.Update it = refl
 
-pub response_text : (k : Kind) (it : MResponse) → (of_responses.arguments exact k).text it ≡ of_responses.arguments_text it
-unfolding Rattle.mupdate_codec.specs.Responses.arguments
+pub response_text : (k : Kind) (it : MResponse) → (of_responses.response_arguments exact k).text it ≡ of_responses.response_arguments_text it
+unfolding Rattle.mupdate_codec.specs.Responses.response_arguments
 response_text kind.Bad it = refl
 response_text kind.Delete it = refl
 response_text kind.Mailbox it = refl

@@ -4,7 +4,7 @@ use Rattle.std.proofs.Common.{length-append, arith, le_refl, le_trans}
 use Rattle.std.proofs.lemmas.Bool.Decides.{nat_tests}
 use Rattle.grammar.specs.Part.{Part, ◌>>=◌, ◌then◌, give, map, byte, choose, starts}
 use Rattle.grammar.specs.Exact.{Good, any, at_end}
-use Rattle.grammar.specs.Forms.{Form, Law, behind, constant, dispatch, followed, made, maybe, nothing, ◌and◌, ◌spaced◌}
+use Rattle.grammar.specs.Forms.{Form, Law, preceded, constant, dispatch, followed, made, maybe, nothing, ◌and◌, ◌spaced◌}
 use Rattle.grammar.proofs.Reading.{viable, ok_parts}
 use Rattle.grammar.proofs.SequenceLaw.{viable_end, follows_end}
 use Rattle.grammar.proofs.FormLaw.{law_behind, law_spaced}
@@ -12,14 +12,14 @@ use Rattle.mupdate_codec.specs.declared.word.Verb.{Verb}
 use Rattle.mupdate_codec.specs.declared.word.Verb.TheVariants as verb
 use Rattle.mupdate_codec.specs.declared.word.Kind.{Kind}
 use Rattle.mupdate_codec.specs.declared.word.Kind.TheVariants as kind
-use Rattle.mupdate_codec.specs.Arguments.{exact, a_string, maybe_string, a_name, a_place, a_mailbox, line}
+use Rattle.mupdate_codec.specs.Arguments.{exact, a_string, maybe_string, a_name, a_place, a_mailbox, ended_line}
 use Rattle.mupdate_codec.specs.Commands as of_commands
-use Rattle.mupdate_codec.specs.Commands.{command_line, command_word, verb_form, verbs}
+use Rattle.mupdate_codec.specs.Commands.{command_line, command_word, command_verb_form, command_verbs}
 use Rattle.mupdate_codec.specs.Responses as of_responses
 use Rattle.mupdate_codec.specs.Responses.{response_line, response_word, kind_form, kinds}
-use Rattle.mupdate_codec.specs.Strings.{string, string_form, name_form, location_form}
+use Rattle.mupdate_codec.specs.Strings.{mupdate_string, string_form, name_form, location_form}
 use Rattle.mupdate_codec.specs.Tags.{command_tag, response_tag}
-use Rattle.mupdate_codec.specs.Told.{loose_left, told_left, placed_by, placed, told}
+use Rattle.mupdate_codec.specs.Told.{loose_left, told_left, placed_by, placed_part, told_texts}
 use Rattle.grammar.proofs.NamesLaw.{law_table}
 use Rattle.grammar.proofs.ToolLaws.{good_byte}
 use Rattle.mupdate_codec.proofs.LinesLaw.{ends_word, ends_line, law_a_string, law_maybe_string, law_command_tag, law_response_tag}
@@ -97,13 +97,6 @@ leaves_byte c = leaves (byte c) (good_byte any c)
 pub told_behind : {A : Type 0} (c : ℕ) (p t : Part A) → Told p t → Told (byte c then λ _. p) (byte c then λ _. t)
 told_behind c p t s = told_then (byte c) (byte c) (λ _. p) (λ _. t) (told_same (byte c) (leaves_byte c)) (leaves_byte c) (λ _. s)
 
-told_choose : {A : Type 0} (test : ℕ → Bool) (p t q u : Part A) → Told p t → Told q u → Told (choose test p q) (choose test t u)
-told_choose test p t q u s r = record { same = λ bytes. by_test bytes (starts test bytes) }
-  where
-    by_test : (bytes : List ℕ) (b : Bool) → Tells (cond b (p.at bytes) (q.at bytes)) (cond b (t.at bytes) (u.at bytes)) (length bytes)
-    by_test bytes true = s.same bytes
-    by_test bytes false = r.same bytes
-
 pub leaves_then : {A B : Type 0} (p : Part A) (f : A → Part B) → Leaves p → ((a : A) → Leaves (f a)) → Leaves (p then f)
 leaves_then {A} {B} p f l m = record {
   rest = λ bytes b rest e. by_rest bytes b rest (p.at bytes) refl e;
@@ -123,8 +116,8 @@ leaves_then {A} {B} p f l m = record {
 pub told_spaced : {A B : Type 0} (p t : Form A) (q u : Form B) → Told p.part t.part → Leaves p.part → Told q.part u.part → Leaves q.part
     → Told (p spaced q).part (t spaced u).part
 told_spaced p t q u s l r m =
-    told_then p.part t.part (λ a. map (λ b. (a, b)) (behind 32 q).part) (λ a. map (λ b. (a, b)) (behind 32 u).part) s l
-    (λ a. told_map (λ b. (a, b)) (behind 32 q).part (behind 32 u).part (told_behind 32 q.part u.part r)
+    told_then p.part t.part (λ a. map (λ b. (a, b)) (preceded 32 q).part) (λ a. map (λ b. (a, b)) (preceded 32 u).part) s l
+    (λ a. told_map (λ b. (a, b)) (preceded 32 q).part (preceded 32 u).part (told_behind 32 q.part u.part r)
     (leaves_then (byte 32) (λ _. q.part) (leaves_byte 32) (λ _. m)))
 
 -- names and locations
@@ -148,14 +141,14 @@ module _ {A : Type 0} (f : Form A) (l : Leaves f.part) where
       by_end true e = (grind (arith, nat_tests), omega arith, λ h. refl)
       by_end false e = let both = by_loose loose in (both.0, both.1, λ h. absurd (grind (arith, nat_tests)))
 
-  told_placed : Told f.part (placed f.part)
+  told_placed : Told f.part (placed_part f.part)
   told_placed = record { same = λ bytes. by_read bytes (f.part.at bytes) refl }
     where
-      by_read : (bytes : List ℕ) (r : Result (A × List ℕ) ℕ) → f.part.at bytes ≡ r → Tells r (placed_by bytes (string.at bytes) r) (length bytes)
+      by_read : (bytes : List ℕ) (r : Result (A × List ℕ) ℕ) → f.part.at bytes ≡ r → Tells r (placed_by bytes (mupdate_string.at bytes) r) (length bytes)
       by_read bytes (Ok x) e = refl
       by_read bytes (Err left) e =
-          let p = placed_left bytes left (l.stop bytes left e) (string.at bytes) in
-          record { stop = told_left left bytes (string.at bytes); is = refl; least = p.0; most = p.1; at_end = p.2 }
+          let p = placed_left bytes left (l.stop bytes left e) (mupdate_string.at bytes) in
+          record { stop = told_left left bytes (mupdate_string.at bytes); is = refl; least = p.0; most = p.1; at_end = p.2 }
 
 leaves_name : Leaves name_form.part
 leaves_name = law_leaves name_form law_name
@@ -166,31 +159,31 @@ leaves_location = law_leaves location_form law_location
 leaves_string : Leaves string_form.part
 leaves_string = law_leaves string_form law_string
 
-told_name : Told exact.names.part told.names.part
+told_name : Told exact.names.part told_texts.names.part
 told_name = told_placed name_form leaves_name
 
-told_location : Told exact.locations.part told.locations.part
+told_location : Told exact.locations.part told_texts.locations.part
 told_location = told_placed location_form leaves_location
 
-pub told_a_name : Told (a_name exact).part (a_name told).part
-told_a_name = told_behind 32 exact.names.part told.names.part told_name
+pub told_a_name : Told (a_name exact).part (a_name told_texts).part
+told_a_name = told_behind 32 exact.names.part told_texts.names.part told_name
 
-pub told_a_place : Told (a_place exact).part (a_place told).part
+pub told_a_place : Told (a_place exact).part (a_place told_texts).part
 told_a_place =
-    told_behind 32 (exact.names spaced exact.locations).part (told.names spaced told.locations).part
-    (told_spaced exact.names told.names exact.locations told.locations told_name leaves_name told_location leaves_location)
+    told_behind 32 (exact.names spaced exact.locations).part (told_texts.names spaced told_texts.locations).part
+    (told_spaced exact.names told_texts.names exact.locations told_texts.locations told_name leaves_name told_location leaves_location)
 
 pub leaves_spaced : {A B : Type 0} (p : Form A) (q : Form B) → Leaves p.part → Leaves q.part → Leaves (p spaced q).part
 leaves_spaced p q l m =
-    leaves_then p.part (λ a. map (λ b. (a, b)) (behind 32 q).part) l
-    (λ a. leaves_then (behind 32 q).part (λ b. give (a, b)) (leaves_then (byte 32) (λ _. q.part) (leaves_byte 32) (λ _. m)) (λ b. leaves_give (a, b)))
+    leaves_then p.part (λ a. map (λ b. (a, b)) (preceded 32 q).part) l
+    (λ a. leaves_then (preceded 32 q).part (λ b. give (a, b)) (leaves_then (byte 32) (λ _. q.part) (leaves_byte 32) (λ _. m)) (λ b. leaves_give (a, b)))
   where
     leaves_give : {C : Type 0} (c : C) → Leaves (give c)
     leaves_give c = record { rest = λ bytes d rest e. let same : bytes ≡ rest = (ok_parts e).1 in omega (arith, ap length same); stop = λ bytes left e. cc }
 
-pub told_a_mailbox : Told (a_mailbox exact).part (a_mailbox told).part
+pub told_a_mailbox : Told (a_mailbox exact).part (a_mailbox told_texts).part
 told_a_mailbox =
-    told_behind 32 (exact.names spaced (exact.locations spaced string_form)).part (told.names spaced (told.locations spaced string_form)).part
-    (told_spaced exact.names told.names (exact.locations spaced string_form) (told.locations spaced string_form) told_name leaves_name
-    (told_spaced exact.locations told.locations string_form string_form told_location leaves_location (told_same string_form.part leaves_string) leaves_string)
+    told_behind 32 (exact.names spaced (exact.locations spaced string_form)).part (told_texts.names spaced (told_texts.locations spaced string_form)).part
+    (told_spaced exact.names told_texts.names (exact.locations spaced string_form) (told_texts.locations spaced string_form) told_name leaves_name
+    (told_spaced exact.locations told_texts.locations string_form string_form told_location leaves_location (told_same string_form.part leaves_string) leaves_string)
     (leaves_spaced exact.locations string_form leaves_location leaves_string))

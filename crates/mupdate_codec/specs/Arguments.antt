@@ -2,7 +2,7 @@
 use Rattle.std.specs.Prelude.{ℕ, List, Option}
 use Rattle.mur_base.specs.Ascii.{space, cr, lf}
 use Rattle.mur_base.specs.declared.home.Location.{Location}
-use Rattle.grammar.specs.Forms.{Form, behind, followed, maybe, ◌spaced◌}
+use Rattle.grammar.specs.Forms.{Form, preceded, followed, maybe, ◌spaced◌}
 use Rattle.mupdate_codec.specs.Strings.{string_form, name_form, location_form}
 
 -- how names and locations are read
@@ -16,7 +16,7 @@ exact = record { names = name_form; locations = location_form }
 
 -- SP string
 abbrev pub a_string : Form (List ℕ)
-a_string = behind space string_form
+a_string = preceded space string_form
 
 -- [SP string]
 abbrev pub maybe_string : Form (Option (List ℕ))
@@ -24,16 +24,16 @@ maybe_string = maybe space string_form
 
 -- SP name
 abbrev pub a_name : Texts → Form (List ℕ)
-a_name by = behind space by.names
+a_name by = preceded space by.names
 
 -- SP name SP location
 abbrev pub a_place : Texts → Form (List ℕ × Location)
-a_place by = behind space (by.names spaced by.locations)
+a_place by = preceded space (by.names spaced by.locations)
 
 -- SP name SP location SP string
 abbrev pub a_mailbox : Texts → Form (List ℕ × (Location × List ℕ))
-a_mailbox by = behind space (by.names spaced (by.locations spaced string_form))
+a_mailbox by = preceded space (by.names spaced (by.locations spaced string_form))
 
 -- a form and CRLF
-abbrev pub line : {A : Type 0} → Form A → Form A
-line p = followed (followed p cr) lf
+abbrev pub ended_line : {A : Type 0} → Form A → Form A
+ended_line p = followed (followed p cr) lf

@@ -28,6 +28,6 @@ ask_in None = None
 ask_in (Some parts) = ask_by (number_of parts.0) (number_of parts.1)
 
 -- the client's command that a tag tells
-unfoldable pub ask_of : Tag → Option AskId
-ask_of Star = None
-ask_of (Text text) = ask_in (split_dash [] text)
+unfoldable pub ask_id_of : Tag → Option AskId
+ask_id_of Star = None
+ask_id_of (Text text) = ask_in (split_dash [] text)

@@ -1,6 +1,5 @@
 pub mod Characters
 pub mod Sizes
-pub mod Names
 pub mod Strings
 pub mod Tags
 pub mod Arguments

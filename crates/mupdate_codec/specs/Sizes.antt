@@ -1,5 +1,5 @@
--- Numbers and runs of bytes between two bounds (RFC 5234, 3.6).
-use Rattle.std.specs.Prelude.{ℕ, Bool, ◌&&◌, nat_le, length, max, min}
+-- Numbers between two bounds.
+use Rattle.std.specs.Prelude.{ℕ, ◌&&◌, nat_le}
 use Rattle.std.specs.List.{list_all}
 use Rattle.mur_base.specs.Number.{is_digit}
 use Rattle.grammar.specs.Part.{Part, map}
@@ -17,14 +17,3 @@ sizes least most = record {
 -- such a number
 abbrev pub size : ℕ → ℕ → Part ℕ
 size least most = map value_of (word (sizes least most))
-
--- from `least` to `most` bytes that pass the test (least*most X)
-abbrev pub run_within : ℕ → ℕ → (ℕ → Bool) → Words
-run_within least most test = record {
-  begins = λ s. list_all test s && nat_le (length s) most;
-  whole = λ s. (list_all test s && nat_le (length s) most) && nat_le least (length s);
-}
-
--- the nearest number between two bounds
-abbrev pub clamped : ℕ → ℕ → ℕ → ℕ
-clamped low high n = max low (min high n)

@@ -4,7 +4,7 @@ use Rattle.std.specs.Prelude.{◌≡◌, ℕ, ◌-◌, ◌≤◌, nat_lt, nat_eq
 use Rattle.grammar.specs.Part.{Part}
 use Rattle.grammar.specs.Forms.{Form}
 use Rattle.mupdate_codec.specs.Arguments.{Texts, exact}
-use Rattle.mupdate_codec.specs.Strings.{string}
+use Rattle.mupdate_codec.specs.Strings.{mupdate_string}
 
 -- how many bytes are left at the place that is told, where a string of any text is read so
 abbrev pub loose_left : {A : Type 0} → ℕ → List ℕ → Result (A × List ℕ) ℕ → ℕ
@@ -20,17 +20,17 @@ placed_by bytes loose (Ok x) = Ok x
 placed_by bytes loose (Err left) = Err (told_left left bytes loose)
 
 -- an argument whose stop is told so
-abbrev pub placed : {A : Type 0} → Part A → Part A
-placed p = record { lang = p.lang; at = λ bytes. placed_by bytes (string.at bytes) (p.at bytes) }
+abbrev pub placed_part : {A : Type 0} → Part A → Part A
+placed_part p = record { lang = p.lang; at = λ bytes. placed_by bytes (mupdate_string.at bytes) (p.at bytes) }
 
 -- names and locations with the places that are told of them
-abbrev pub told : Texts
-told = record {
-  names = record { part = placed exact.names.part; text = exact.names.text };
-  locations = record { part = placed exact.locations.part; text = exact.locations.text };
+abbrev pub told_texts : Texts
+told_texts = record {
+  names = record { part = placed_part exact.names.part; text = exact.names.text };
+  locations = record { part = placed_part exact.locations.part; text = exact.locations.text };
 }
 
 -- this is the place that is told of these bytes
 pub record IsTold {A : Type 0} (line : Texts → Form A) (bytes : List ℕ) (at : ℕ) : Type 0 where
   pub within : at ≤ length bytes
-  pub left : (line told).part.at bytes ≡ Err (length bytes - at)
+  pub left : (line told_texts).part.at bytes ≡ Err (length bytes - at)

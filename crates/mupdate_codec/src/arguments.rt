@@ -2,7 +2,7 @@
 ghost use Rattle.std.specs.Prelude.{◌≡◌, ◌++◌, OnOk};
 ghost use Rattle.grammar.specs.Gives.{Gives};
 ghost use Rattle.mupdate_codec.specs.Arguments.{exact, a_string, maybe_string, a_name, a_place, a_mailbox};
-ghost use Rattle.mupdate_codec.specs.Told.{told};
+ghost use Rattle.mupdate_codec.specs.Told.{told_texts};
 
 use crate::location::{location_of, put_location};
 use crate::name::name_of;
@@ -33,7 +33,7 @@ pub fn maybe_string_of(alloc: Global, bytes: &[u8]) -> Result<(Option<Bytes>, &[
 
 /// Reads a name.
 pub fn a_name_of(alloc: Global, bytes: &[u8]) -> Result<(MailName, &[u8]), ReadError>
-    ensures { Gives (λ x. (x.0, x.1.now)) result ((a_name told).part.at bytes.now) }
+    ensures { Gives (λ x. (x.0, x.1.now)) result ((a_name told_texts).part.at bytes.now) }
 {
     let rest = byte_of(b' ', bytes)?;
     name_of(alloc, rest)
@@ -41,7 +41,7 @@ pub fn a_name_of(alloc: Global, bytes: &[u8]) -> Result<(MailName, &[u8]), ReadE
 
 /// Reads a name and a location.
 pub fn a_place_of(alloc: Global, bytes: &[u8]) -> Result<((MailName, Location), &[u8]), ReadError>
-    ensures { Gives (λ x. (x.0, x.1.now)) result ((a_place told).part.at bytes.now) }
+    ensures { Gives (λ x. (x.0, x.1.now)) result ((a_place told_texts).part.at bytes.now) }
 {
     let rest = byte_of(b' ', bytes)?;
     let (name, rest) = name_of(alloc, rest)?;
@@ -55,7 +55,7 @@ pub fn a_mailbox_of(
     alloc: Global,
     bytes: &[u8],
 ) -> Result<((MailName, (Location, Bytes)), &[u8]), ReadError>
-    ensures { Gives (λ x. (x.0, x.1.now)) result ((a_mailbox told).part.at bytes.now) }
+    ensures { Gives (λ x. (x.0, x.1.now)) result ((a_mailbox told_texts).part.at bytes.now) }
 {
     let rest = byte_of(b' ', bytes)?;
     let (name, rest) = name_of(alloc, rest)?;

@@ -1,7 +1,7 @@
 // The tags between the nodes of a cluster.
 ghost use Rattle.std.specs.Prelude.{◌≡◌, ◌<◌, ◌^◌, [], IfOk, Some, codes, None};
 ghost use Rattle.mur_base.specs.declared.point.AskId.{AskId};
-ghost use Rattle.mupdate_codec.specs.Asks.{tag_of, split_dash, ask_in, ask_of};
+ghost use Rattle.mupdate_codec.specs.Asks.{tag_of, split_dash, ask_in, ask_id_of};
 
 use crate::tag::Tag;
 use grammar::put_decimal;
@@ -58,9 +58,9 @@ fn ask_in_text(text: &[u8]) -> Option<AskId>
 }
 
 /// The command of a client that a tag tells.
-#[tactic(auto, unfolding(crate::specs::Asks::ask_of))]
+#[tactic(auto, unfolding(crate::specs::Asks::ask_id_of))]
 pub fn ask_of(tag: &Tag) -> Option<AskId>
-    ensures { result ≡ ask_of tag.now }
+    ensures { result ≡ ask_id_of tag.now }
 {
     match tag {
         Tag::Star => None,
@@ -70,10 +70,10 @@ pub fn ask_of(tag: &Tag) -> Option<AskId>
 
 /// A client's command is told by its own tag, and by none of the others.
 pub fn a_tag_tells_its_ask()
-    ensures ask { (ask : AskId) → ask.conn < 2 ^ 64 → ask.command < 2 ^ 64 → ask_of (tag_of ask) ≡ Some ask }
-    ensures update { ask_of (Tag.Text (codes "u")) ≡ None }
-    ensures resync { ask_of (Tag.Text (codes "l")) ≡ None }
-    ensures unasked { ask_of (Tag.Text (codes "r0")) ≡ None }
-    ensures back { ask_of (Tag.Text (codes "r1")) ≡ None }
-    ensures find { ask_of (Tag.Text (codes "r2")) ≡ None }
+    ensures ask { (ask : AskId) → ask.conn < 2 ^ 64 → ask.command < 2 ^ 64 → ask_id_of (tag_of ask) ≡ Some ask }
+    ensures update { ask_id_of (Tag.Text (codes "u")) ≡ None }
+    ensures resync { ask_id_of (Tag.Text (codes "l")) ≡ None }
+    ensures unasked { ask_id_of (Tag.Text (codes "r0")) ≡ None }
+    ensures back { ask_id_of (Tag.Text (codes "r1")) ≡ None }
+    ensures find { ask_id_of (Tag.Text (codes "r2")) ≡ None }
 {}

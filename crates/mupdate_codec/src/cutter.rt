@@ -5,17 +5,17 @@ ghost use Rattle.grammar.specs.Gives.{Finds};
 ghost use Rattle.mupdate_codec.specs.Answers.{IsBegun};
 ghost use Rattle.mupdate_codec.specs.Commands.{IsCommandLine};
 ghost use Rattle.mupdate_codec.specs.Cut.{IsUncut, EndsLine, IsCut, Feeds};
-ghost use Rattle.mupdate_codec.specs.Waits.{goes_on, Holds, Ended, TakesSome, before_any, head};
+ghost use Rattle.mupdate_codec.specs.Waits.{goes_on, HasBegunLine, Ended, TakesSome, before_any, head};
 
 use crate::fault::LineFault;
-use crate::limits::{STRING_LIMIT, TAG_MOST};
+use crate::limits::STRING_LIMIT;
 use crate::location::location_texts;
 use crate::name::name_text;
 use crate::reader::read_command;
 use crate::strings::header_of;
-use crate::tag::TagByte;
+use crate::tag::tag_word_of;
 use crate::word::{VERBS, Verb};
-use grammar::{RunUpTo, Stop, byte_of, table_of, word_of};
+use grammar::{Stop, byte_of, table_of};
 use memchr::memchr;
 use mur_base::{Bytes, Items, Memory};
 use std::alloc::Global;
@@ -45,13 +45,7 @@ fn before_any(verb: Verb, bytes: &[u8]) -> Result<&[u8], Stop>
 fn head_of(bytes: &[u8]) -> Result<(usize, &[u8]), Stop>
     ensures { Finds (λ x. (x.0, x.1.now)) result (head.at bytes.now) }
 {
-    let (_, rest) = word_of(
-        &RunUpTo {
-            of: TagByte,
-            most: TAG_MOST,
-        },
-        bytes,
-    )?;
+    let (_, rest) = tag_word_of(bytes)?;
     let rest = byte_of(b' ', rest)?;
     let (verb, rest) = table_of(Verb::Update, &VERBS, rest)?;
     let rest = before_any(verb, rest)?;
@@ -114,9 +108,9 @@ impl Begun {
     /// Takes bytes of a literal, all at once.
     fn take_literal(&mut self, piece: &[u8]) -> Result<usize, Memory>
         requires some { 0 < self.old.literal_left }
-        requires holds { Holds self.old.bytes self.old.literal_left }
+        requires holds { HasBegunLine self.old.bytes self.old.literal_left }
         ensures takes { IfOk result (λ taken. TakesSome self.old.bytes piece.now None taken self.new.bytes) }
-        ensures holds { OnOk result (Holds self.new.bytes self.new.literal_left) }
+        ensures holds { OnOk result (HasBegunLine self.new.bytes self.new.literal_left) }
         ensures some { IfOk result (λ taken. 0 < length piece.now → 0 < taken) }
     {
         let taken = self.literal_left.min(piece.len());
@@ -130,7 +124,7 @@ impl Begun {
         requires ended { Ended self.old.bytes }
         ensures line { IfOk result (λ line. IfSome line (λ line. (line ≡ self.old.bytes) × EndsLine line × (self.new.bytes ≡ []))) }
         ensures none { IfOk result (λ line. line ≡ None → self.new.bytes ≡ self.old.bytes) }
-        ensures holds { OnOk result (Holds self.new.bytes self.new.literal_left) }
+        ensures holds { OnOk result (HasBegunLine self.new.bytes self.new.literal_left) }
     {
         let left = left_behind(self.alloc, self.bytes.as_slice())?;
         if let Some(left) = left {
@@ -145,9 +139,9 @@ impl Begun {
     /// Takes bytes up to the next LF, and gives the line that ends there, if one does.
     fn take_text(&mut self, piece: &[u8]) -> Result<(Option<Bytes>, usize), Memory>
         requires none { self.old.literal_left ≡ 0 }
-        requires holds { Holds self.old.bytes self.old.literal_left }
+        requires holds { HasBegunLine self.old.bytes self.old.literal_left }
         ensures takes { IfOk result (λ r. TakesSome self.old.bytes piece.now r.0 r.1 self.new.bytes) }
-        ensures holds { OnOk result (Holds self.new.bytes self.new.literal_left) }
+        ensures holds { OnOk result (HasBegunLine self.new.bytes self.new.literal_left) }
         ensures some { IfOk result (λ r. 0 < length piece.now → 0 < r.1) }
     {
         match memchr(b'\n', piece) {
@@ -165,9 +159,9 @@ impl Begun {
 
     /// Takes one byte of the piece or more, and none behind the end of the next line.
     fn take_some(&mut self, piece: &[u8]) -> Result<(Option<Bytes>, usize), Memory>
-        requires holds { Holds self.old.bytes self.old.literal_left }
+        requires holds { HasBegunLine self.old.bytes self.old.literal_left }
         ensures takes { IfOk result (λ r. TakesSome self.old.bytes piece.now r.0 r.1 self.new.bytes) }
-        ensures holds { OnOk result (Holds self.new.bytes self.new.literal_left) }
+        ensures holds { OnOk result (HasBegunLine self.new.bytes self.new.literal_left) }
         ensures some { IfOk result (λ r. 0 < length piece.now → 0 < r.1) }
     {
         if self.literal_left > 0 {
@@ -178,10 +172,10 @@ impl Begun {
 
     /// Takes bytes of the piece up to the end of the next line, or all where none ends in it.
     fn take(&mut self, piece: &[u8]) -> Result<(Option<Bytes>, usize), Memory>
-        requires holds { Holds self.old.bytes self.old.literal_left }
+        requires holds { HasBegunLine self.old.bytes self.old.literal_left }
         ensures takes { IfOk result (λ r. TakesSome self.old.bytes piece.now r.0 r.1 self.new.bytes) }
         ensures whole { IfOk result (λ r. r.0 ≡ None → r.1 ≡ length piece.now) }
-        ensures holds { OnOk result (Holds self.new.bytes self.new.literal_left) }
+        ensures holds { OnOk result (HasBegunLine self.new.bytes self.new.literal_left) }
         ensures some { IfOk result (λ r. 0 < length piece.now → 0 < r.1) }
     {
         let mut taken = 0;
@@ -210,13 +204,13 @@ pub struct Cutter {
 
 impl Model for Cutter {
     ghost use Rattle.std.specs.Prelude.{◌≡◌, ℕ, List, Option, None, Some, false, if◌then◌else◌};
-    ghost use Rattle.mupdate_codec.specs.Waits.{Holds};
+    ghost use Rattle.mupdate_codec.specs.Waits.{HasBegunLine};
 
     ghost Value = { Option (List ℕ) };
 
     ghost view = { λ cutter. if cutter.is_spent then None else Some cutter.begun.bytes };
 
-    ghost invariant = { λ cutter. cutter.is_spent ≡ false → Holds cutter.begun.bytes cutter.begun.literal_left };
+    ghost invariant = { λ cutter. cutter.is_spent ≡ false → HasBegunLine cutter.begun.bytes cutter.begun.literal_left };
 }
 
 impl Cutter {

@@ -28,7 +28,6 @@ mod laws;
 mod limits;
 mod location;
 mod name;
-mod names;
 mod place;
 mod printer;
 mod reader;

@@ -1,62 +1,20 @@
 // Locations as arguments: `server!partition`.
 ghost use Rattle.std.specs.Prelude.{◌≡◌, ◌++◌, None, IfOk, OnOk};
-ghost use Rattle.mur_base.specs.Names.{short_name_fault, is_short_name_byte};
+ghost use Rattle.mur_base.specs.Names.{short_name_fault};
 ghost use Rattle.grammar.specs.Part.{◌then◌};
 ghost use Rattle.grammar.specs.Gives.{Finds, Gives};
-ghost use Rattle.mupdate_codec.specs.Sizes.{run_within, clamped};
-ghost use Rattle.mupdate_codec.specs.Strings.{located, quoted_location, header, location_of, location, location_form};
-ghost use Rattle.mupdate_codec.specs.Told.{told};
+ghost use Rattle.text_parts.specs.Locations.{located, location_of, clamped};
+ghost use Rattle.mupdate_codec.specs.Strings.{quoted_location, header, location, location_form};
+ghost use Rattle.mupdate_codec.specs.Told.{told_texts};
 
 use crate::limits::{LOCATION_LEAST, LOCATION_MOST};
 use crate::place::told_stop;
 use crate::strings::header_of;
-use grammar::{Class, Kind, Only, ReadError, RunUpTo, Stop, begins, byte_of, exactly_of, word_of};
+use grammar::{Only, ReadError, RunUpTo, Stop, begins, byte_of, word_of};
 use mur_base::limits::SHORT_NAME_LIMIT;
-use mur_base::{Bytes, Location, Memory, NodeName, node_name};
+use mur_base::{Bytes, Location, Memory};
 use std::alloc::Global;
-
-/// A byte of a server's or a partition's name.
-#[derive(Clone, Copy)]
-struct ShortByte;
-
-impl Class for ShortByte {
-    ghost test = { λ _. is_short_name_byte };
-
-    #[tactic(auto, unfolding(mur_base::specs::Names::is_short_name_byte))]
-    fn holds(&self, byte: u8) -> bool {
-        byte.is_ascii_alphanumeric() || matches!(byte, b'-' | b'_')
-    }
-}
-
-/// From `least` to `most` bytes of a server's name.
-#[derive(Clone, Copy)]
-struct Servers {
-    least: usize,
-    most: usize,
-}
-
-impl Kind for Servers {
-    ghost words = { λ kind. run_within kind.least kind.most is_short_name_byte };
-
-    fn goes_on(&self, front: &[u8], byte: u8) -> bool {
-        ShortByte.holds(byte) && front.len() < self.most
-    }
-
-    fn is_whole(&self, text: &[u8]) -> bool {
-        self.least <= text.len()
-    }
-
-    ghost use Rattle.std.proofs.Common.{rules};
-
-    ghost empty_begins = { λ kind. Prim.search rules };
-}
-
-/// The texts of a location.
-#[derive(Clone, Copy)]
-pub struct Texts<'a> {
-    pub server: &'a [u8],
-    pub partition: &'a [u8],
-}
+use text_parts::{ShortByte, Texts, made_location, texts_of};
 
 /// Reads a location in quotes.
 fn quoted_texts(bytes: &[u8]) -> Result<(Texts<'_>, &[u8]), Stop>
@@ -72,25 +30,6 @@ fn quoted_texts(bytes: &[u8]) -> Result<(Texts<'_>, &[u8]), Stop>
     let rest = byte_of(b'!', rest)?;
     let (partition, rest) = word_of(&names, rest)?;
     let rest = byte_of(b'"', rest)?;
-    Ok((Texts { server, partition }, rest))
-}
-
-/// Reads a location of so many bytes.
-fn texts_of(size: usize, bytes: &[u8]) -> Result<(Texts<'_>, &[u8]), Stop>
-    ensures reads { Finds (λ x. (located x.0.server.now x.0.partition.now, x.1.now)) result ((location_of size).at bytes.now) }
-    ensures named { IfOk result (λ x. short_name_fault x.0.server.now ≡ None) }
-{
-    let servers = Servers {
-        least: size
-            .saturating_sub(1)
-            .saturating_sub(SHORT_NAME_LIMIT)
-            .max(1),
-        most: size.saturating_sub(2).min(SHORT_NAME_LIMIT),
-    };
-    let (server, rest) = word_of(&servers, bytes)?;
-    let rest = byte_of(b'!', rest)?;
-    let left = size.saturating_sub(1).saturating_sub(server.len());
-    let (partition, rest) = exactly_of(&ShortByte, left, rest)?;
     Ok((Texts { server, partition }, rest))
 }
 
@@ -117,30 +56,9 @@ pub fn location_texts(bytes: &[u8]) -> Result<(Texts<'_>, &[u8]), Stop>
     }
 }
 
-/// The name of a server that a text is.
-fn made_server(alloc: Global, text: &[u8]) -> Result<NodeName, Memory>
-    requires { short_name_fault text.now ≡ None }
-    ensures { IfOk result (λ name. name ≡ text.now) }
-{
-    match node_name(alloc, text) {
-        Ok(name) => Ok(name),
-        Err(_) => Err(Memory),
-    }
-}
-
-fn made_location(alloc: Global, server: &[u8], partition: &[u8]) -> Result<Location, Memory>
-    requires { short_name_fault server.now ≡ None }
-    ensures { IfOk result (λ it. it ≡ located server.now partition.now) }
-{
-    Ok(Location {
-        server: made_server(alloc, server)?,
-        partition: Bytes::from_slice(alloc, partition)?,
-    })
-}
-
 /// Reads a location. A stop is at its beginning, where a string of any text would go on further.
 pub fn location_of(alloc: Global, bytes: &[u8]) -> Result<(Location, &[u8]), ReadError>
-    ensures { Gives (λ x. (x.0, x.1.now)) result (told.locations.part.at bytes.now) }
+    ensures { Gives (λ x. (x.0, x.1.now)) result (told_texts.locations.part.at bytes.now) }
 {
     match location_texts(bytes) {
         Ok((texts, rest)) => Ok((made_location(alloc, texts.server, texts.partition)?, rest)),

@@ -4,17 +4,17 @@ ghost use Rattle.mur_base.specs.Names.{mail_name_fault};
 ghost use Rattle.grammar.specs.Part.{◌then◌};
 ghost use Rattle.grammar.specs.Words.{word};
 ghost use Rattle.grammar.specs.Gives.{Finds, Gives};
-ghost use Rattle.mupdate_codec.specs.Names.{quoted_names, names_of};
+ghost use Rattle.text_parts.specs.Names.{quoted_names, names_of_size};
 ghost use Rattle.mupdate_codec.specs.Strings.{in_quotes, header, name};
-ghost use Rattle.mupdate_codec.specs.Told.{told};
+ghost use Rattle.mupdate_codec.specs.Told.{told_texts};
 
 use crate::limits::NAME_BYTES;
-use crate::names::NamesFrom;
 use crate::place::told_stop;
 use crate::strings::header_of;
 use grammar::{Only, ReadError, Stop, begins, byte_of, word_of};
-use mur_base::{MailName, Memory, mail_name};
+use mur_base::MailName;
 use std::alloc::Global;
+use text_parts::{NamesFrom, made_name};
 
 /// Reads a name in quotes.
 fn quoted_name(bytes: &[u8]) -> Result<(&[u8], &[u8]), Stop>
@@ -29,7 +29,7 @@ fn quoted_name(bytes: &[u8]) -> Result<(&[u8], &[u8]), Stop>
 
 /// Reads a name as a literal.
 fn sized_name(bytes: &[u8]) -> Result<(&[u8], &[u8]), Stop>
-    ensures reads { Finds (λ x. (x.0.now, x.1.now)) result ((header 1 NAME_BYTES then λ n. word (names_of n)).at bytes.now) }
+    ensures reads { Finds (λ x. (x.0.now, x.1.now)) result ((header 1 NAME_BYTES then λ n. word (names_of_size n)).at bytes.now) }
     ensures named { IfOk result (λ x. mail_name_fault x.0.now ≡ None) }
 {
     let (size, rest) = header_of(1, NAME_BYTES, bytes)?;
@@ -50,20 +50,9 @@ pub fn name_text(bytes: &[u8]) -> Result<(&[u8], &[u8]), Stop>
     }
 }
 
-/// The name that a text is.
-fn made_name(alloc: Global, text: &[u8]) -> Result<MailName, Memory>
-    requires { mail_name_fault text.now ≡ None }
-    ensures { IfOk result (λ name. name ≡ text.now) }
-{
-    match mail_name(alloc, text) {
-        Ok(name) => Ok(name),
-        Err(_) => Err(Memory),
-    }
-}
-
 /// Reads a name. A stop is at its beginning, where a string of any text would go on further.
 pub fn name_of(alloc: Global, bytes: &[u8]) -> Result<(MailName, &[u8]), ReadError>
-    ensures { Gives (λ x. (x.0, x.1.now)) result (told.names.part.at bytes.now) }
+    ensures { Gives (λ x. (x.0, x.1.now)) result (told_texts.names.part.at bytes.now) }
 {
     match name_text(bytes) {
         Ok((text, rest)) => Ok((made_name(alloc, text)?, rest)),

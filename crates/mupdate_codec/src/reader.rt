@@ -5,15 +5,14 @@ ghost use Rattle.mupdate_codec.specs.Answers.{IsBegun, BeginsNone};
 ghost use Rattle.mupdate_codec.specs.Commands.{command_line, IsCommandLine};
 ghost use Rattle.mupdate_codec.specs.Responses.{response_line, IsResponseLine};
 ghost use Rattle.mupdate_codec.specs.Tags.{command_tag, response_tag};
-ghost use Rattle.mupdate_codec.specs.Told.{told, IsTold};
+ghost use Rattle.mupdate_codec.specs.Told.{told_texts, IsTold};
 
 use crate::command::{MCommand, MResponse};
 use crate::commands::{command_arguments, response_arguments};
 use crate::fault::LineFault;
-use crate::limits::TAG_MOST;
-use crate::tag::{Tag, TagByte};
+use crate::tag::{Tag, tag_word_of};
 use crate::word::{KINDS, Kind, VERBS, Verb};
-use grammar::{Only, ReadError, RunUpTo, Stop, begins, byte_of, table_of, word_of};
+use grammar::{Only, ReadError, Stop, begins, byte_of, table_of};
 use mur_base::Bytes;
 use std::alloc::Global;
 
@@ -21,13 +20,7 @@ use std::alloc::Global;
 fn command_tag_of(alloc: Global, bytes: &[u8]) -> Result<(Tag, &[u8]), ReadError>
     ensures { Gives (λ x. (x.0, x.1.now)) result (command_tag.part.at bytes.now) }
 {
-    let (text, rest) = word_of(
-        &RunUpTo {
-            of: TagByte,
-            most: TAG_MOST,
-        },
-        bytes,
-    )?;
+    let (text, rest) = tag_word_of(bytes)?;
     Ok((Tag::Text(Bytes::from_slice(alloc, text)?), rest))
 }
 
@@ -46,7 +39,7 @@ fn response_tag_of(alloc: Global, bytes: &[u8]) -> Result<(Tag, &[u8]), ReadErro
 /// Reads a command under its tag.
 #[tactic(auto, unfolding(crate::specs::Commands::command_line))]
 fn tagged_command(alloc: Global, bytes: &[u8]) -> Result<((Tag, MCommand), &[u8]), ReadError>
-    ensures { Gives (λ x. (x.0, x.1.now)) result ((command_line told).part.at bytes.now) }
+    ensures { Gives (λ x. (x.0, x.1.now)) result ((command_line told_texts).part.at bytes.now) }
 {
     let (tag, rest) = command_tag_of(alloc, bytes)?;
     let rest = byte_of(b' ', rest)?;
@@ -60,7 +53,7 @@ fn tagged_command(alloc: Global, bytes: &[u8]) -> Result<((Tag, MCommand), &[u8]
 /// Reads a response under its tag.
 #[tactic(auto, unfolding(crate::specs::Responses::response_line))]
 fn tagged_response(alloc: Global, bytes: &[u8]) -> Result<((Tag, MResponse), &[u8]), ReadError>
-    ensures { Gives (λ x. (x.0, x.1.now)) result ((response_line told).part.at bytes.now) }
+    ensures { Gives (λ x. (x.0, x.1.now)) result ((response_line told_texts).part.at bytes.now) }
 {
     let (tag, rest) = response_tag_of(alloc, bytes)?;
     let rest = byte_of(b' ', rest)?;

@@ -3,62 +3,21 @@ ghost use Rattle.std.specs.Prelude.{◌≡◌, ◌≤◌, [], ◌++◌, OnOk, If
 ghost use Rattle.std.specs.List.{list_all};
 ghost use Rattle.grammar.specs.Part.{starts, turns};
 ghost use Rattle.grammar.specs.Gives.{Finds, Gives};
-ghost use Rattle.mupdate_codec.specs.Characters.{is_plain, is_special, is_no_quote};
+ghost use Rattle.grammar.specs.Quoted.{is_quoted_plain, is_no_quote};
 ghost use Rattle.mupdate_codec.specs.Sizes.{size};
-ghost use Rattle.mupdate_codec.specs.Strings.{quoted_char, quoted, header, literal, string, is_quotable, quoted_text, literal_text, string_text};
+ghost use Rattle.mupdate_codec.specs.Strings.{mupdate_quoted_char, mupdate_quoted, header, mupdate_literal, mupdate_string, is_plain_quotable, plain_quoted_text, string_text};
 
 use crate::limits::{QUOTED_MOST, STRING_LIMIT};
 use grammar::{
-    Class, Only, ReadError, Stop, Turn, begins, byte_of, exactly_of, number_of, optional_of,
-    passing_upto, put_decimal,
+    Class, Only, QuotedPlain, ReadError, Stop, Turn, begins, byte_of, escaped_char_of, exactly_of,
+    number_of, optional_of, plain_char_of, plain_run_of, put_literal,
 };
 use mur_base::{Bytes, Memory};
 use std::alloc::Global;
+use text_parts::Any;
 
-/// A character that stands for itself in a quoted string.
-#[derive(Clone, Copy)]
-pub struct Plain;
-
-impl Class for Plain {
-    ghost test = { λ _. is_plain };
-
-    #[tactic(auto, unfolding(crate::specs::Characters::is_plain))]
-    fn holds(&self, byte: u8) -> bool {
-        matches!(byte, 1..=127) && !matches!(byte, b'\r' | b'\n' | b'"' | b'\\')
-    }
-}
-
-/// A character that stands behind a backslash.
-#[derive(Clone, Copy)]
-struct Special;
-
-impl Class for Special {
-    ghost test = { λ _. is_special };
-
-    #[tactic(auto, unfolding(crate::specs::Characters::is_special))]
-    fn holds(&self, byte: u8) -> bool {
-        matches!(byte, b'"' | b'\\')
-    }
-}
-
-/// Any byte.
-#[derive(Clone, Copy)]
-pub struct Any;
-
-impl Class for Any {
-    ghost use Rattle.grammar.specs.Exact.{any};
-
-    ghost test = { λ _. any };
-
-    fn holds(&self, _byte: u8) -> bool {
-        true
-    }
-
-    #[tactic(auto, using(crate::proofs::StringSteps::all_any))]
-    fn passing_len(&self, bytes: &[u8]) -> usize {
-        bytes.len()
-    }
-}
+/// The text after some turns, the bytes behind them, and how many turns they were.
+type TurnsTaken<'a> = Result<(Bytes, &'a [u8], usize), ReadError>;
 
 /// The characters of a quoted string, which are put behind a text.
 #[derive(Clone, Copy)]
@@ -69,43 +28,29 @@ impl Turn for QuotedChars {
 
     ghost starts = { λ _. is_no_quote };
 
-    ghost part = { λ _. quoted_char };
+    ghost part = { λ _. mupdate_quoted_char };
 
     fn starts(&self, byte: u8) -> bool {
         byte != b'"'
     }
 
-    #[tactic(auto, unfolding(crate::specs::Strings::quoted_char))]
-    fn turn<'a>(&self, state: Bytes, bytes: &'a [u8]) -> Result<(Bytes, &'a [u8]), ReadError> {
-        let mut text = state;
+    #[tactic(auto, unfolding(crate::specs::Strings::mupdate_quoted_char))]
+    fn turn<'a>(&self, text: Bytes, bytes: &'a [u8]) -> Result<(Bytes, &'a [u8]), ReadError> {
         if begins(&Only(b'\\'), bytes) {
-            let rest = byte_of(b'\\', bytes)?;
-            let (char, rest) = exactly_of(&Special, 1, rest)?;
-            text.extend_from_slice(char)?;
-            Ok((text, rest))
+            escaped_char_of(text, bytes)
         } else {
-            let (char, rest) = exactly_of(&Plain, 1, bytes)?;
-            text.extend_from_slice(char)?;
-            Ok((text, rest))
+            plain_char_of(text, bytes)
         }
     }
 
     /// A run of characters that stand for themselves is taken at once.
-    fn turns<'a>(
-        &self,
-        most: usize,
-        state: Bytes,
-        bytes: &'a [u8],
-    ) -> Result<(Bytes, &'a [u8], usize), ReadError> {
-        let len = passing_upto(&Plain, most, bytes);
-        if len == 0 {
-            let (text, rest) = self.turn(state, bytes)?;
-            return Ok((text, rest, 1));
+    fn turns<'a>(&self, most: usize, state: Bytes, bytes: &'a [u8]) -> TurnsTaken<'a> {
+        let (text, rest, taken) = plain_run_of(most, state, bytes)?;
+        if taken > 0 {
+            return Ok((text, rest, taken));
         }
-        let mut text = state;
-        let (plain, rest) = bytes.split_at(len);
-        text.extend_from_slice(plain)?;
-        Ok((text, rest, len))
+        let (text, rest) = self.turn(text, rest)?;
+        Ok((text, rest, 1))
     }
 }
 
@@ -121,7 +66,7 @@ fn goes_on(bytes: &[u8]) -> bool
 
 /// Reads at most so many characters of a quoted string, and gives their text.
 fn chars_of(alloc: Global, most: usize, bytes: &[u8]) -> Result<(Bytes, &[u8]), ReadError>
-    ensures { Gives (λ x. (x.0, x.1.now)) result ((turns is_no_quote quoted_char most []).at bytes.now) }
+    ensures { Gives (λ x. (x.0, x.1.now)) result ((turns is_no_quote mupdate_quoted_char most []).at bytes.now) }
 {
     let mut text = Bytes::new(alloc);
     let mut rest = bytes;
@@ -137,7 +82,7 @@ fn chars_of(alloc: Global, most: usize, bytes: &[u8]) -> Result<(Bytes, &[u8]), 
 
 /// Reads a quoted string.
 fn quoted_of(alloc: Global, bytes: &[u8]) -> Result<(Bytes, &[u8]), ReadError>
-    ensures { Gives (λ x. (x.0, x.1.now)) result (quoted.at bytes.now) }
+    ensures { Gives (λ x. (x.0, x.1.now)) result (mupdate_quoted.at bytes.now) }
 {
     let rest = byte_of(b'"', bytes)?;
     let (text, rest) = chars_of(alloc, STRING_LIMIT, rest)?;
@@ -176,7 +121,7 @@ pub fn header_of(least: usize, most: usize, bytes: &[u8]) -> Result<(usize, &[u8
 
 /// Reads a literal of either kind.
 fn literal_of(alloc: Global, bytes: &[u8]) -> Result<(Bytes, &[u8]), ReadError>
-    ensures { Gives (λ x. (x.0, x.1.now)) result (literal.at bytes.now) }
+    ensures { Gives (λ x. (x.0, x.1.now)) result (mupdate_literal.at bytes.now) }
 {
     let (size, rest) = header_of(0, STRING_LIMIT, bytes)?;
     let (octets, rest) = exactly_of(&Any, size, rest)?;
@@ -184,9 +129,9 @@ fn literal_of(alloc: Global, bytes: &[u8]) -> Result<(Bytes, &[u8]), ReadError>
 }
 
 /// Reads a quoted string or a literal.
-#[tactic(auto, unfolding(crate::specs::Strings::string))]
+#[tactic(auto, unfolding(crate::specs::Strings::mupdate_string))]
 pub fn string_of(alloc: Global, bytes: &[u8]) -> Result<(Bytes, &[u8]), ReadError>
-    ensures { Gives (λ x. (x.0, x.1.now)) result (string.at bytes.now) }
+    ensures { Gives (λ x. (x.0, x.1.now)) result (mupdate_string.at bytes.now) }
 {
     if begins(&Only(b'"'), bytes) {
         quoted_of(alloc, bytes)
@@ -196,38 +141,27 @@ pub fn string_of(alloc: Global, bytes: &[u8]) -> Result<(Bytes, &[u8]), ReadErro
 }
 
 /// Whether each byte of a text stands for itself in quotes, and there are few.
-#[tactic(auto, unfolding(crate::specs::Strings::is_quotable))]
+#[tactic(auto, unfolding(crate::specs::Strings::is_plain_quotable))]
 fn is_quotable(text: &[u8]) -> bool
-    ensures { result ≡ is_quotable text.now }
+    ensures { result ≡ is_plain_quotable text.now }
 {
     text.len() <= QUOTED_MOST && are_plain(text)
 }
 
 fn are_plain(text: &[u8]) -> bool
-    ensures { result ≡ list_all is_plain text.now }
+    ensures { result ≡ list_all is_quoted_plain text.now }
 {
-    text.iter().all(|byte| Plain.holds(*byte))
+    text.iter().all(|byte| QuotedPlain.holds(*byte))
 }
 
 /// Prints a text in quotes. Whether its bytes may stand there is for the caller to know.
 #[tactic(auto, using(std::proofs::lemmas::Grind::common_steps))]
 fn put_quoted(text: &[u8], out: &mut Bytes) -> Result<(), Memory>
-    ensures { OnOk result (out.new ≡ out.old ++ quoted_text text.now) }
+    ensures { OnOk result (out.new ≡ out.old ++ plain_quoted_text text.now) }
 {
     out.push(b'"')?;
     out.extend_from_slice(text)?;
     out.push(b'"')
-}
-
-/// Prints a literal that comes unasked.
-#[tactic(auto, using(std::proofs::lemmas::Grind::common_steps), unfolding(crate::specs::Strings::literal_text))]
-fn put_literal(text: &[u8], out: &mut Bytes) -> Result<(), Memory>
-    ensures { OnOk result (out.new ≡ out.old ++ literal_text text.now) }
-{
-    out.push(b'{')?;
-    put_decimal(text.len() as u64, out)?;
-    out.extend_from_slice(b"+}\r\n")?;
-    out.extend_from_slice(text)
 }
 
 /// Prints a text in quotes, where each of its bytes stands there for itself and they are few, else as a literal.

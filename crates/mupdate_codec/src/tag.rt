@@ -1,9 +1,12 @@
 // Tags (RFC 3656, 2).
 ghost use Rattle.std.specs.Prelude.{◌≡◌, ◌++◌, OnOk};
-ghost use Rattle.mupdate_codec.specs.Characters.{is_tag_byte};
-ghost use Rattle.mupdate_codec.specs.Tags.{tag_text};
+ghost use Rattle.grammar.specs.Gives.{Finds};
+ghost use Rattle.grammar.specs.Words.{word};
+ghost use Rattle.mupdate_codec.specs.Characters.{is_mupdate_tag_byte};
+ghost use Rattle.mupdate_codec.specs.Tags.{mupdate_tag_text, mupdate_tags};
 
-use grammar::Class;
+use crate::limits::TAG_MOST;
+use grammar::{Class, RunUpTo, Stop, word_of};
 use mur_base::{Bytes, Memory};
 
 /// What joins a command to its answers.
@@ -20,18 +23,29 @@ pub enum Tag {
 pub struct TagByte;
 
 impl Class for TagByte {
-    ghost test = { λ _. is_tag_byte };
+    ghost test = { λ _. is_mupdate_tag_byte };
 
-    #[tactic(auto, unfolding(crate::specs::Characters::is_tag_byte))]
+    #[tactic(auto, unfolding(crate::specs::Characters::is_mupdate_tag_byte))]
     fn holds(&self, byte: u8) -> bool {
         byte.is_ascii_alphanumeric() || byte == b'-'
     }
 }
 
+/// Reads the text of a tag that is not `*`.
+pub fn tag_word_of(bytes: &[u8]) -> Result<(&[u8], &[u8]), Stop>
+    ensures { Finds (λ x. (x.0.now, x.1.now)) result ((word mupdate_tags).at bytes.now) }
+{
+    let tags = RunUpTo {
+        of: TagByte,
+        most: TAG_MOST,
+    };
+    word_of(&tags, bytes)
+}
+
 /// Prints a tag.
-#[tactic(auto, unfolding(crate::specs::Tags::tag_text))]
+#[tactic(auto, unfolding(crate::specs::Tags::mupdate_tag_text))]
 pub fn put_tag(tag: &Tag, out: &mut Bytes) -> Result<(), Memory>
-    ensures { OnOk result (out.new ≡ out.old ++ tag_text tag.now) }
+    ensures { OnOk result (out.new ≡ out.old ++ mupdate_tag_text tag.now) }
 {
     match tag {
         Tag::Star => out.push(b'*'),

@@ -1,7 +1,7 @@
 // The words that lines begin with (RFC 3656, 3 and 4).
 ghost use Rattle.std.specs.Prelude.{◌≡◌};
-ghost use Rattle.mupdate_codec.specs.Commands.{command_word, verb_of as command_verb_of};
-ghost use Rattle.mupdate_codec.specs.Responses.{response_word, verb_of as response_verb_of};
+ghost use Rattle.mupdate_codec.specs.Commands.{command_word, command_verb as command_verb_of};
+ghost use Rattle.mupdate_codec.specs.Responses.{response_word, response_kind as response_verb_of};
 
 use crate::command::{MCommand, MResponse};
 
@@ -54,7 +54,7 @@ pub const KINDS: [(&[u8], Kind); 6] = [
 ];
 
 /// The word that a command begins with.
-#[tactic(auto, unfolding(crate::specs::Commands::printed_as, crate::specs::Commands::command_word))]
+#[tactic(auto, unfolding(crate::specs::Commands::command_printed_as, crate::specs::Commands::command_word))]
 pub fn word_of_command(command: &MCommand) -> &'static [u8]
     ensures { result.now ≡ command_word (command_verb_of command.now) }
 {
@@ -72,7 +72,7 @@ pub fn word_of_command(command: &MCommand) -> &'static [u8]
 }
 
 /// The word that a response begins with.
-#[tactic(auto, unfolding(crate::specs::Responses::printed_as, crate::specs::Responses::response_word))]
+#[tactic(auto, unfolding(crate::specs::Responses::response_printed_as, crate::specs::Responses::response_word))]
 pub fn word_of_response(response: &MResponse) -> &'static [u8]
     ensures { result.now ≡ response_word (response_verb_of response.now) }
 {

@@ -1,5 +1,5 @@
 pub mod DecimalReadBack
-mod EmptyLevels
+pub mod EmptyLevels
 pub mod NamesFit
 mod PatternMarks
 mod ReadDigits

@@ -1,4 +1,5 @@
 pub mod Ascii
+pub mod Counts
 pub mod Inbox
 pub mod Map
 pub mod MapLoan

@@ -7,3 +7,4 @@ mod NamesLaw
 mod ValuesLaw
 mod EachLaw
 mod JsonLaw
+pub mod WordsLaw

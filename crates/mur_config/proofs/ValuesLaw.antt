@@ -8,7 +8,7 @@ use Rattle.mur_base.specs.declared.name.NameFault.{NameFault}
 use Rattle.mur_base.specs.Names.{short_name_fault}
 use Rattle.mur_base.specs.Users.{users_fault, user_names_differ, is_user_named, has_password, is_password}
 use Rattle.mur_base.specs.declared.user.User.{User}
-use Rattle.mur_config.specs.Config.{is_kind, is_draft_of_kind, count_of_drafts, has_draft_counts, has_own_names, port_of, node_at, has_node_names, node_of_kind, node_of, user_at, user_of}
+use Rattle.mur_config.specs.Config.{is_kind, is_draft_of_kind, count_of_drafts, has_draft_counts, has_own_names, port_of, node_at, has_node_names, node_of_kind, node_of_draft, user_at, user_of_draft}
 use Rattle.mur_config.specs.Json.{each_of}
 use Rattle.mur_config.specs.Names.{names_differ}
 use Rattle.mur_config.specs.Nodes.{nodes_fault, node_names_differ, is_node_named, has_node_counts, count_of_kind, is_of_kind, is_node_of_kind, has_partition, fits_kind, AreTakenAsNodes}
@@ -69,8 +69,8 @@ unfolding node_of_kind
 kind_by draft node (Some kind) is h = named_by draft node kind _ is refl h
 kind_by draft node None is h = cc
 
-from_draft : (draft : NodeDraft) (node : Node) → node_of draft ≡ Some node → FromDraft draft node
-unfolding node_of
+from_draft : (draft : NodeDraft) (node : Node) → node_of_draft draft ≡ Some node → FromDraft draft node
+unfolding node_of_draft
 from_draft draft node h = kind_by draft node _ refl h
 
 -- the nodes have their drafts' names and kinds, and a backend has a partition
@@ -86,13 +86,13 @@ unfolding count_of_kind count_of_drafts is_node_of_kind is_draft_of_kind is_kind
 counted kind draft node drafts nodes is rest true t = rw (is, t) (ap suc rest)
 counted kind draft node drafts nodes is rest false t = rw (is, t) rest
 
-from_drafts : (drafts : List NodeDraft) (nodes : List Node) → each_of node_of drafts ≡ Some nodes → FromDrafts drafts nodes
+from_drafts : (drafts : List NodeDraft) (nodes : List Node) → each_of node_of_draft drafts ≡ Some nodes → FromDrafts drafts nodes
 unfolding each_of count_of_kind count_of_drafts
 from_drafts [] nodes h =
     let same : [] ≡ nodes = taken _ _ h in
     subst (λ (nodes : List Node). FromDrafts [] nodes) same (record { names = refl; counts = λ kind. refl; partitions = refl })
 from_drafts (draft ∷ drafts) nodes h =
-    let each = each-cons node_of draft drafts nodes h in
+    let each = each-cons node_of_draft draft drafts nodes h in
     let first = from_draft draft each.one each.first in
     let rest = from_drafts drafts each.others each.rest in
     subst (λ (nodes : List Node). FromDrafts (draft ∷ drafts) nodes) each.whole (record {
@@ -145,7 +145,7 @@ nodes_decide draft nodes shared of_nodes =
     rw same shared
 
 -- drafts that break no rule make nodes that break none
-pub nodes_keep : (draft : Draft) (nodes : List Node) → each_of node_of draft.nodes ≡ Some nodes → has_own_names draft ≡ true
+pub nodes_keep : (draft : Draft) (nodes : List Node) → each_of node_of_draft draft.nodes ≡ Some nodes → has_own_names draft ≡ true
     → has_draft_counts draft.nodes ≡ true → nodes_fault nodes ≡ None
 unfolding has_own_names nodes_fault
 nodes_keep draft nodes made own counts =
@@ -172,21 +172,21 @@ user_by draft user true good h =
     })
 user_by draft user false good h = cc
 
-of_draft : (draft : UserDraft) (user : User) → user_of draft ≡ Some user → OfDraft draft user
-unfolding user_of
+of_draft : (draft : UserDraft) (user : User) → user_of_draft draft ≡ Some user → OfDraft draft user
+unfolding user_of_draft
 of_draft draft user h = user_by draft user _ refl h
 
 record OfDrafts (drafts : List UserDraft) (users : List User) : Type 0 where
   pub names : map (λ (user : User). user.name) users ≡ map (λ (draft : UserDraft). draft.name) drafts
   pub passwords : list_all has_password users ≡ true
 
-of_drafts : (drafts : List UserDraft) (users : List User) → each_of user_of drafts ≡ Some users → OfDrafts drafts users
+of_drafts : (drafts : List UserDraft) (users : List User) → each_of user_of_draft drafts ≡ Some users → OfDrafts drafts users
 unfolding each_of
 of_drafts [] users h =
     let same : [] ≡ users = taken _ _ h in
     subst (λ (users : List User). OfDrafts [] users) same (record { names = refl; passwords = refl })
 of_drafts (draft ∷ drafts) users h =
-    let each = each-cons user_of draft drafts users h in
+    let each = each-cons user_of_draft draft drafts users h in
     let first = of_draft draft each.one each.first in
     let rest = of_drafts drafts each.others each.rest in
     subst (λ (users : List User). OfDrafts (draft ∷ drafts) users) each.whole (record {
@@ -205,7 +205,7 @@ user_names_are [] = refl
 user_names_are (user ∷ users) = rw (among_users user.name users, user_names_are users) refl
 
 -- drafts that break no rule make users that break none
-pub users_keep : (draft : Draft) (users : List User) → each_of user_of draft.users ≡ Some users → has_own_names draft ≡ true → users_fault users ≡ None
+pub users_keep : (draft : Draft) (users : List User) → each_of user_of_draft draft.users ≡ Some users → has_own_names draft ≡ true → users_fault users ≡ None
 unfolding has_own_names users_fault
 users_keep draft users made own =
     let from = of_drafts draft.users users made in

@@ -73,15 +73,15 @@ node_of_kind draft None = None
 node_of_kind draft (Some kind) = if has_node_names draft kind then option_map (node_at draft kind) (port_of kind draft.port) else None
 
 -- the node that a draft makes, if its name and its partition are names and its port is one
-unfoldable pub node_of : NodeDraft → Option Node
-node_of draft = node_of_kind draft draft.kind
+unfoldable pub node_of_draft : NodeDraft → Option Node
+node_of_draft draft = node_of_kind draft draft.kind
 
 abbrev pub user_at : UserDraft → User
 user_at draft = record { name = draft.name; password = draft.password; admin = draft.admin }
 
 -- the user that a draft makes, if its name is one and its password has 1 to 255 bytes without NUL
-unfoldable pub user_of : UserDraft → Option User
-user_of draft =
+unfoldable pub user_of_draft : UserDraft → Option User
+user_of_draft draft =
     if is_none (short_name_fault draft.name) && is_password draft.password then Some (record { name = draft.name; password = draft.password; admin = draft.admin }) else None
 
 abbrev pub config_at : List Node → List User → List ℕ → Config
@@ -90,8 +90,8 @@ config_at nodes users date = record { nodes = nodes; users = users; date = date 
 -- the configuration that a draft makes, if each of its values has its form
 unfoldable pub values_of : Draft → Option Config
 values_of draft =
-    option_and_then (λ nodes. option_and_then (λ users. option_map (config_at nodes users) (date_of draft.date)) (each_of user_of draft.users))
-    (each_of node_of draft.nodes)
+    option_and_then (λ nodes. option_and_then (λ users. option_map (config_at nodes users) (date_of draft.date)) (each_of user_of_draft draft.users))
+    (each_of node_of_draft draft.nodes)
 
 unfoldable pub if_values : Option Config → Result Config ConfigFault
 if_values None = Err BadValue

@@ -4,3 +4,5 @@ pub mod Json
 pub mod Names
 pub mod Nodes
 pub mod Rules
+pub mod Words
+pub mod WordsCommand

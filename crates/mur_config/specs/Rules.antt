@@ -3,10 +3,10 @@ use Rattle.std.specs.Prelude.{ℕ}
 use Rattle.mur_config.specs.declared.fault.ConfigFault.{ConfigFault}
 use Rattle.mur_config.specs.declared.fault.ConfigFault.TheVariants.{NotJson, WrongField, UnknownKind, NameTwice, NodeCount, BadValue}
 
-unfoldable pub rule_number : ConfigFault → ℕ
-rule_number NotJson = 1
-rule_number WrongField = 2
-rule_number UnknownKind = 3
-rule_number NameTwice = 4
-rule_number NodeCount = 5
-rule_number BadValue = 6
+unfoldable pub config_rule_number : ConfigFault → ℕ
+config_rule_number NotJson = 1
+config_rule_number WrongField = 2
+config_rule_number UnknownKind = 3
+config_rule_number NameTwice = 4
+config_rule_number NodeCount = 5
+config_rule_number BadValue = 6

@@ -1,6 +1,6 @@
 // Why a configuration is refused.
 ghost use Rattle.std.specs.Prelude.{◌≡◌};
-ghost use Rattle.mur_config.specs.Rules.{rule_number};
+ghost use Rattle.mur_config.specs.Rules.{config_rule_number};
 
 use mur_base::Memory;
 use thiserror::Error;
@@ -24,9 +24,9 @@ pub enum ConfigFault {
 
 impl ConfigFault {
     /// The rule's number, from 1, as the error line prints it.
-    #[tactic(auto, unfolding(crate::specs::Rules::rule_number))]
+    #[tactic(auto, unfolding(crate::specs::Rules::config_rule_number))]
     pub fn number(self) -> u8
-        ensures { result ≡ rule_number self }
+        ensures { result ≡ config_rule_number self }
     {
         match self {
             ConfigFault::NotJson => 1,

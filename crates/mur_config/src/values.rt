@@ -2,7 +2,7 @@
 ghost use Rattle.std.specs.Prelude.{◌≡◌, true, is_none, None, IfOk};
 ghost use Rattle.mur_base.specs.Names.{short_name_fault};
 ghost use Rattle.mur_config.specs.Json.{each_of};
-ghost use Rattle.mur_config.specs.Config.{values_of, has_own_names, has_draft_counts, port_of, standard_port, node_at, has_node_names, node_of, user_at, user_of};
+ghost use Rattle.mur_config.specs.Config.{values_of, has_own_names, has_draft_counts, port_of, standard_port, node_at, has_node_names, node_of_draft, user_at, user_of_draft};
 
 use crate::config::Config;
 use crate::draft::{Draft, NodeDraft, PortField, UserDraft};
@@ -39,7 +39,7 @@ pub fn values_of(alloc: Global, draft: &Draft) -> Result<Option<Config>, Memory>
 
 #[tactic(auto, unfolding(crate::specs::Json::each_of))]
 fn nodes_of(alloc: Global, drafts: &[NodeDraft]) -> Result<Option<Items<Node>>, Memory>
-    ensures { IfOk result (λ found. found ≡ each_of node_of drafts.now) }
+    ensures { IfOk result (λ found. found ≡ each_of node_of_draft drafts.now) }
 {
     let mut nodes = Items::new(alloc);
     for draft in drafts {
@@ -53,7 +53,7 @@ fn nodes_of(alloc: Global, drafts: &[NodeDraft]) -> Result<Option<Items<Node>>, 
 
 #[tactic(auto, unfolding(crate::specs::Json::each_of))]
 fn users_of(alloc: Global, drafts: &[UserDraft]) -> Result<Option<Items<User>>, Memory>
-    ensures { IfOk result (λ found. found ≡ each_of user_of drafts.now) }
+    ensures { IfOk result (λ found. found ≡ each_of user_of_draft drafts.now) }
 {
     let mut users = Items::new(alloc);
     for draft in drafts {
@@ -65,9 +65,9 @@ fn users_of(alloc: Global, drafts: &[UserDraft]) -> Result<Option<Items<User>>, 
     Ok(Some(users))
 }
 
-#[tactic(auto, unfolding(crate::specs::Config::node_of, crate::specs::Config::node_of_kind))]
+#[tactic(auto, unfolding(crate::specs::Config::node_of_draft, crate::specs::Config::node_of_kind))]
 fn node_of(alloc: Global, draft: &NodeDraft) -> Result<Option<Node>, Memory>
-    ensures { IfOk result (λ found. found ≡ node_of draft.now) }
+    ensures { IfOk result (λ found. found ≡ node_of_draft draft.now) }
 {
     let Some(kind) = draft.kind else {
         return Ok(None);
@@ -110,9 +110,9 @@ fn node_at(alloc: Global, draft: &NodeDraft, kind: Kind, port: u16) -> Result<No
     }
 }
 
-#[tactic(auto, unfolding(crate::specs::Config::user_of))]
+#[tactic(auto, unfolding(crate::specs::Config::user_of_draft))]
 fn user_of(alloc: Global, draft: &UserDraft) -> Result<Option<User>, Memory>
-    ensures { IfOk result (λ found. found ≡ user_of draft.now) }
+    ensures { IfOk result (λ found. found ≡ user_of_draft draft.now) }
 {
     if is_short_name(draft.name.as_slice()) && is_password(draft.password.as_slice()) {
         Ok(Some(user_at(alloc, draft)?))

@@ -1,8 +1,8 @@
 -- Calls that are carried out whole, and one call more.
 use Rattle.std.proofs.Common.{◌≡◌, ℕ, ◌+◌, ◌-◌, ◌≤◌, List, [], ◌∷◌, ◌++◌, length, take, drop, replicate, map, refl, sym, ◌∙◌, ap, subst, append_assoc}
 use Rattle.std.proofs.lemmas.List.{take-append-le}
-use Rattle.mur_disk.specs.Calls.{Call, Wrote, CutTo, Holds, written_over, done_call, done}
-use Rattle.mur_disk.specs.Crash.{Torn, CutShort, IsTornBy, IsImage, Follows, Only}
+use Rattle.mur_disk.specs.Calls.{Call, Wrote, CutTo, Holds, written_over, done_call, after_calls}
+use Rattle.mur_disk.specs.Crash.{Torn, CutShort, IsTornBy, IsImage, CrashesFollow, Only}
 use Rattle.mur_disk.specs.Undo.{call_of, undone}
 use Rattle.mur_disk.specs.Memory.{synced_of, calls_of, ReadsDone, DidCall, IsStill, MayLeave}
 use Rattle.mur_disk.specs.declared.held.Held.{Held}
@@ -14,11 +14,11 @@ done_torn (Wrote at bytes) old = call_torn 1 (Wrote at bytes) old
 done_torn (CutTo len) old = call_torn 1 (CutTo len) old
 
 -- the bytes that the calls make are one of their images
-done_is_image : (calls : List Call) (synced : List ℕ) → IsImage synced calls (done calls synced)
+done_is_image : (calls : List Call) (synced : List ℕ) → IsImage synced calls (after_calls calls synced)
 done_is_image [] synced = refl
 done_is_image (call ∷ calls) synced = (done_call call synced, done_torn call synced, done_is_image calls (done_call call synced))
 
-done_more : (calls : List Call) (call : Call) (synced : List ℕ) → done (calls ++ call ∷ []) synced ≡ done_call call (done calls synced)
+done_more : (calls : List Call) (call : Call) (synced : List ℕ) → after_calls (calls ++ call ∷ []) synced ≡ done_call call (after_calls calls synced)
 done_more [] call synced = refl
 done_more (first ∷ calls) call synced = done_more calls call (done_call first synced)
 
@@ -28,15 +28,9 @@ pub image_more : (synced : List ℕ) (calls : List Call) (call : Call) (image : 
 image_more synced [] call image (next, torn, is) = (synced, refl, subst (IsTornBy call synced) (sym is) torn)
 image_more synced (first ∷ calls) call image (next, torn, rest) = let found = image_more next calls call image rest in (found.0, (next, torn, found.1), found.2)
 
--- a write within the length holds what it wrote
-pub written_holds : (at : ℕ) (bytes old : List ℕ) → at ≤ length old → Holds old at bytes (written_over at bytes old)
-written_holds at bytes old within =
-    ap (λ (l : List ℕ). l ++ (bytes ++ drop (at + length bytes) old)) (take-append-le at old (replicate (at - length old) 0) within)
-    ∙ sym (append_assoc (take at old) bytes (drop (at + length bytes) old))
-
 -- what is so of a disk in memory that carried out a call
 module _ (call : Call) (old new : Held) (did : DidCall call old new) where
-  pub tears_more : Follows (IsTornBy call) (MayLeave old) (MayLeave new)
+  pub tears_more : CrashesFollow (IsTornBy call) (MayLeave old) (MayLeave new)
   tears_more image left =
       image_more (synced_of old) (calls_of old) call image
       (subst (λ (calls : List Call). IsImage (synced_of old) calls image) did.pending (subst (λ (l : List ℕ). IsImage l (calls_of new) image) did.synced left))
@@ -46,13 +40,13 @@ module _ (call : Call) (old new : Held) (did : DidCall call old new) where
       did.bytes
       ∙ ap (done_call call) reads
       ∙ sym (done_more (calls_of old) call (synced_of old))
-      ∙ ap (λ (calls : List Call). done calls (synced_of old)) (sym did.pending)
-      ∙ ap (done (calls_of new)) (sym did.synced)
+      ∙ ap (λ (calls : List Call). after_calls calls (synced_of old)) (sym did.pending)
+      ∙ ap (after_calls (calls_of new)) (sym did.synced)
 
 -- what is so of one without a pending call
 module _ (bytes : List ℕ) (held : Held) (still : IsStill bytes held) where
   pub reads_still : ReadsDone held
-  reads_still = subst (λ (calls : List Pending). held.bytes ≡ done (map call_of calls) (undone calls held.bytes)) (sym still.none) refl
+  reads_still = subst (λ (calls : List Pending). held.bytes ≡ after_calls (map call_of calls) (undone calls held.bytes)) (sym still.none) refl
 
   pub leaves_still : Only bytes (MayLeave held)
   leaves_still image left =

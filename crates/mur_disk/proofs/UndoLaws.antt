@@ -1,6 +1,7 @@
 -- A call that is undone leaves what was there before it.
 use Rattle.std.proofs.Common.{◌≡◌, ◌⊎◌, inl, inr, ℕ, zero, suc, ◌+◌, ◌-◌, ◌≤◌, ◌<◌, min, List, [], ◌∷◌, ◌++◌, length, take, drop, replicate, map, refl, sym}
 use Rattle.std.proofs.Common.{◌∙◌, ap, arith, length-drop, length-take, take-append-drop}
+use Rattle.std.proofs.lemmas.Bool.{cases_lt}
 use Rattle.std.proofs.lemmas.List.{take-append-le, take-take, take_all, take_min, drop_all, drop_at, drop-drop, append-nil, length-take-le, map-append}
 use Rattle.mur_disk.specs.Calls.{Wrote, CutTo, written_over, done_call}
 use Rattle.mur_disk.specs.Undo.{call_of, undone_call, undone}
@@ -14,14 +15,6 @@ use Rattle.mur_disk.specs.declared.held.Pending.TheVariants.{Write, Cut}
 pub over_within : (at : ℕ) (bytes old : List ℕ) → at ≤ length old → written_over at bytes old ≡ take at old ++ (bytes ++ drop (at + length bytes) old)
 over_within at bytes old within = ap (λ (l : List ℕ). l ++ (bytes ++ drop (at + length bytes) old))
     (take-append-le at old (replicate (at - length old) 0) within)
-
-le_or_lt : (m n : ℕ) → (m ≤ n) ⊎ (n < m)
-le_or_lt zero n = inl (omega arith)
-le_or_lt (suc m) zero = inr (omega arith)
-le_or_lt (suc m) (suc n) = elim (le_or_lt m n) [
-  | inl le ↦ inl (omega (arith, le))
-  | inr lt ↦ inr (omega (arith, lt))
-]
 
 module _ (at : ℕ) (piece old : List ℕ) (within : at ≤ length old) where
   abbrev new : List ℕ
@@ -47,12 +40,12 @@ module _ (at : ℕ) (piece old : List ℕ) (within : at ≤ length old) where
       ∙ take-take at at old (omega arith)
 
   rest_kept : drop (at + length replaced) kept ≡ drop (at + length piece) old
-  rest_kept = elim (le_or_lt (at + length piece) (length old)) [
-    | inl inside ↦
+  rest_kept = elim (cases_lt (length old) (at + length piece)) [
+    | inr inside ↦
         let same : at + length replaced ≡ at + length piece = omega (arith, long_replaced, inside) in
         let whole : kept ≡ new = take_all (length old) new (omega (arith, long_written at old piece, inside)) in
         ap (λ (n : ℕ). drop n kept) same ∙ ap (drop (at + length piece)) whole ∙ after_written at old piece (length piece) (omega arith)
-    | inr past ↦
+    | inl past ↦
         drop_all (at + length replaced) kept (omega (arith, long_replaced, long_kept, past, within))
         ∙ sym (drop_all (at + length piece) old (omega (arith, past)))
   ]
@@ -123,15 +116,15 @@ grown_over at over piece old within is =
     long = length-take-le over piece (omega (arith, is))
 
     rest : take over piece ++ drop (at + length (take over piece)) (old ++ drop over piece) ≡ piece ++ drop (at + length piece) old
-    rest = elim (le_or_lt (at + length piece) (length old)) [
-      | inl inside ↦
+    rest = elim (cases_lt (length old) (at + length piece)) [
+      | inr inside ↦
           let all : over ≡ length piece = omega (arith, is, inside) in
           ap (λ (n : ℕ). take over piece ++ drop (at + n) (old ++ drop over piece)) (long ∙ all)
           ∙ ap (λ (n : ℕ). take n piece ++ drop (at + length piece) (old ++ drop n piece)) all
           ∙ ap (λ (l : List ℕ). l ++ drop (at + length piece) (old ++ drop (length piece) piece)) (take_all (length piece) piece (omega arith))
           ∙ ap (λ (l : List ℕ). piece ++ drop (at + length piece) (old ++ l)) (drop_all (length piece) piece (omega arith))
           ∙ ap (λ (l : List ℕ). piece ++ drop (at + length piece) l) (append-nil old)
-      | inr past ↦
+      | inl past ↦
           let to_end : at + length (take over piece) ≡ length old = omega (arith, long, is, past, within) in
           ap (λ (n : ℕ). take over piece ++ drop n (old ++ drop over piece)) to_end
           ∙ ap (λ (l : List ℕ). take over piece ++ l) (drop_at old (drop over piece) (length old) refl)

@@ -23,6 +23,6 @@ abbrev pub done_call : Call → List ℕ → List ℕ
 done_call (Wrote at bytes) old = written_over at bytes old
 done_call (CutTo len) old = take len old
 
-abbrev pub done : List Call → List ℕ → List ℕ
-done [] bytes = bytes
-done (call ∷ calls) bytes = done calls (done_call call bytes)
+abbrev pub after_calls : List Call → List ℕ → List ℕ
+after_calls [] bytes = bytes
+after_calls (call ∷ calls) bytes = after_calls calls (done_call call bytes)

@@ -25,8 +25,8 @@ IsImage synced [] image = image ≡ synced
 IsImage synced (call ∷ calls) image = (next : List ℕ) × IsTornBy call synced next × IsImage next calls image
 
 -- each outcome of a crash now is an outcome from before, and then this step
-abbrev pub Follows : (List ℕ → List ℕ → Type 0) → (List ℕ → Type 0) → (List ℕ → Type 0) → Type 0
-Follows step old new = (image : List ℕ) → new image → (before : List ℕ) × old before × step before image
+abbrev pub CrashesFollow : (List ℕ → List ℕ → Type 0) → (List ℕ → Type 0) → (List ℕ → Type 0) → Type 0
+CrashesFollow step old new = (image : List ℕ) → new image → (before : List ℕ) × old before × step before image
 
 -- each outcome of a crash now was one before
 abbrev pub NoMore : (List ℕ → Type 0) → (List ℕ → Type 0) → Type 0

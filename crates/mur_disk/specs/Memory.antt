@@ -1,7 +1,7 @@
 -- A disk in memory: the bytes of its last sync, the calls since, and what it was at each earlier moment.
 use Rattle.std.specs.Prelude.{◌≡◌, ◌⊎◌, ℕ, List, [], ◌∷◌, ◌++◌, length, drop, map}
 use mathlib.Core.Logic.{inl, inr}
-use Rattle.mur_disk.specs.Calls.{Call, done_call, done}
+use Rattle.mur_disk.specs.Calls.{Call, done_call, after_calls}
 use Rattle.mur_disk.specs.Crash.{IsImage}
 use Rattle.mur_disk.specs.Moments.{Elapses}
 use Rattle.mur_disk.specs.Undo.{call_of, undone}
@@ -16,7 +16,7 @@ calls_of held = map call_of held.pending
 
 -- the bytes are what the calls made of those of the last sync
 abbrev pub ReadsDone : Held → Type 0
-ReadsDone held = held.bytes ≡ done (calls_of held) (synced_of held)
+ReadsDone held = held.bytes ≡ after_calls (calls_of held) (synced_of held)
 
 -- what a call does: it is carried out, and pending from now on
 pub record DidCall (call : Call) (old new : Held) : Type 0 where
@@ -52,5 +52,5 @@ only_now past held image (inl then) = absurd (none_left past image then)
 only_now past held image (inr now) = now
 
 -- a disk with these earlier moments has gone on to those, as the clock of a disk does
-abbrev pub GoesOn : (past : List Held) (old : Held) (moments : List Held) (new : Held) → Type 0
-GoesOn past old moments new = Elapses (length past) (length moments) (LeftSince past old) (LeftSince moments new) (MayLeave new)
+abbrev pub DiskGoesOn : (past : List Held) (old : Held) (moments : List Held) (new : Held) → Type 0
+DiskGoesOn past old moments new = Elapses (length past) (length moments) (LeftSince past old) (LeftSince moments new) (MayLeave new)

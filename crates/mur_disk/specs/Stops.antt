@@ -13,9 +13,6 @@ use Rattle.mur_disk.specs.declared.stop.StopDisk.{StopDisk}
 abbrev pub inner_of : StopDisk → MemDisk
 inner_of disk = disk.inner
 
-abbrev pub left_of : StopDisk → ℕ
-left_of disk = disk.countdown.left
-
 abbrev pub has_stopped : StopDisk → Bool
 has_stopped disk = disk.countdown.stopped
 

@@ -1,6 +1,6 @@
 // The device calls until a disk stops.
 ghost use Rattle.std.specs.Prelude.{◌≡◌, IsFalse, MatchResult};
-ghost use Rattle.mur_disk.specs.Counts.{Rose};
+ghost use Rattle.mur_base.specs.Counts.{Rose};
 ghost use Rattle.mur_disk.specs.Countdowns.{Passes, StopsInside};
 ghost use Rattle.mur_disk.specs.declared.fault.DiskFault.TheVariants.{Failed};
 

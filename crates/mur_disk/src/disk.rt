@@ -2,7 +2,7 @@
 ghost use Rattle.std.specs.Prelude.{◌≡◌, ◌≤◌, ◌<◌, ◌+◌, ◌^◌, List, ℕ, Bool, IsTrue, length, take, drop, max, IfOk, OnOk};
 ghost use Rattle.mur_disk.specs.Calls.{Call, Wrote, CutTo, Holds};
 ghost use Rattle.mur_disk.specs.Counts.{HasDiskCause};
-ghost use Rattle.mur_disk.specs.Crash.{IsTornBy, Follows, NoMore, Only};
+ghost use Rattle.mur_disk.specs.Crash.{IsTornBy, CrashesFollow, NoMore, Only};
 ghost use Rattle.mur_disk.specs.Moments.{Elapses, LeavesOnly};
 
 use crate::fault::DiskFault;
@@ -63,7 +63,7 @@ pub trait Disk {
         ensures written { IsTrue (tells self.old) → OnOk result (Holds (seen self.old) at piece.now (seen self.new)) }
         ensures size { OnOk result (size self.new ≡ max (size self.old) (at + length piece.now)) }
         ensures told { tells self.new ≡ tells self.old }
-        ensures crash { IsTrue (tells self.old) → Follows (IsTornBy (Wrote at piece.now)) (may_leave self.old) (may_leave self.new) }
+        ensures crash { IsTrue (tells self.old) → CrashesFollow (IsTornBy (Wrote at piece.now)) (may_leave self.old) (may_leave self.new) }
         ensures time { IsTrue (tells self.old) → Elapses (moment self.old) (moment self.new) (left_since self.old) (left_since self.new) (may_leave self.new) }
         ensures cause { HasDiskCause (faults self.old) (faults self.new) result };
 
@@ -73,7 +73,7 @@ pub trait Disk {
         ensures cut { IsTrue (tells self.old) → OnOk result (seen self.new ≡ take len (seen self.old)) }
         ensures size { OnOk result (size self.new ≡ len) }
         ensures told { tells self.new ≡ tells self.old }
-        ensures crash { IsTrue (tells self.old) → Follows (IsTornBy (CutTo len)) (may_leave self.old) (may_leave self.new) }
+        ensures crash { IsTrue (tells self.old) → CrashesFollow (IsTornBy (CutTo len)) (may_leave self.old) (may_leave self.new) }
         ensures time { IsTrue (tells self.old) → Elapses (moment self.old) (moment self.new) (left_since self.old) (left_since self.new) (may_leave self.new) }
         ensures cause { HasDiskCause (faults self.old) (faults self.new) result };
 

@@ -1,7 +1,7 @@
 // A disk in memory.
 ghost use Rattle.std.specs.Prelude.{◌≡◌, ◌<◌, ◌^◌, length, true};
 ghost use Rattle.std.proofs.Common.{refl, inr};
-ghost use Rattle.mur_disk.specs.Memory.{synced_of, calls_of, ReadsDone, MayLeave, LeftSince, GoesOn, only_now};
+ghost use Rattle.mur_disk.specs.Memory.{synced_of, calls_of, ReadsDone, MayLeave, LeftSince, DiskGoesOn, only_now};
 
 use crate::disk::Disk;
 use crate::fault::DiskFault;
@@ -66,7 +66,7 @@ impl MemDisk {
         ensures seen { self.new.held.bytes ≡ self.old.held.bytes }
         ensures durable { Only self.old.held.bytes (MayLeave self.new.held) }
         ensures crash { NoMore (MayLeave self.old.held) (MayLeave self.new.held) }
-        ensures time { GoesOn self.old.past.moments self.old.held self.new.past.moments self.new.held }
+        ensures time { DiskGoesOn self.old.past.moments self.old.held self.new.past.moments self.new.held }
     {
         let past = self.past.then(&self.held);
         self.held.settle(self.alloc);
@@ -77,7 +77,7 @@ impl MemDisk {
 impl Disk for MemDisk {
     ghost use Rattle.std.specs.Prelude.{◌+◌, ◌≤◌, max, take, drop, IfOk, OnOk, OnErr, IsOk};
     ghost use Rattle.mur_disk.specs.Calls.{Wrote, CutTo, Holds};
-    ghost use Rattle.mur_disk.specs.Crash.{IsTornBy, Follows, NoMore, Only};
+    ghost use Rattle.mur_disk.specs.Crash.{IsTornBy, CrashesFollow, NoMore, Only};
     ghost use Rattle.mur_disk.specs.Counts.{HasDiskCause};
     ghost use Rattle.mur_disk.specs.Memory.{DidCall, IsStill};
 
@@ -110,7 +110,7 @@ impl Disk for MemDisk {
         ensures size { length self.new.held.bytes ≡ length self.old.held.bytes }
         ensures seen { self.new.held.bytes ≡ self.old.held.bytes }
         ensures crash { NoMore (MayLeave self.old.held) (MayLeave self.new.held) }
-        ensures time { GoesOn self.old.past.moments self.old.held self.new.past.moments self.new.held }
+        ensures time { DiskGoesOn self.old.past.moments self.old.held self.new.past.moments self.new.held }
         ensures ok { IsOk result }
         ensures same { self.new ≡ self.old }
     {
@@ -123,7 +123,7 @@ impl Disk for MemDisk {
         ensures size { length self.new.held.bytes ≡ length self.old.held.bytes }
         ensures seen { self.new.held.bytes ≡ self.old.held.bytes }
         ensures crash { NoMore (MayLeave self.old.held) (MayLeave self.new.held) }
-        ensures time { GoesOn self.old.past.moments self.old.held self.new.past.moments self.new.held }
+        ensures time { DiskGoesOn self.old.past.moments self.old.held self.new.past.moments self.new.held }
         ensures ok { IsOk result }
         ensures same { self.new ≡ self.old }
     {
@@ -137,8 +137,8 @@ impl Disk for MemDisk {
         requires { at ≤ length self.old.held.bytes }
         ensures written { OnOk result (Holds self.old.held.bytes at piece.now self.new.held.bytes) }
         ensures size { OnOk result (length self.new.held.bytes ≡ max (length self.old.held.bytes) (at + length piece.now)) }
-        ensures crash { Follows (IsTornBy (Wrote at piece.now)) (MayLeave self.old.held) (MayLeave self.new.held) }
-        ensures time { GoesOn self.old.past.moments self.old.held self.new.past.moments self.new.held }
+        ensures crash { CrashesFollow (IsTornBy (Wrote at piece.now)) (MayLeave self.old.held) (MayLeave self.new.held) }
+        ensures time { DiskGoesOn self.old.past.moments self.old.held self.new.past.moments self.new.held }
         ensures cause { HasDiskCause 0 0 result }
 
         // Exactly this call is pending from now on; for want of memory nothing changes.
@@ -155,8 +155,8 @@ impl Disk for MemDisk {
         requires { len ≤ length self.old.held.bytes }
         ensures cut { OnOk result (self.new.held.bytes ≡ take len self.old.held.bytes) }
         ensures size { OnOk result (length self.new.held.bytes ≡ len) }
-        ensures crash { Follows (IsTornBy (CutTo len)) (MayLeave self.old.held) (MayLeave self.new.held) }
-        ensures time { GoesOn self.old.past.moments self.old.held self.new.past.moments self.new.held }
+        ensures crash { CrashesFollow (IsTornBy (CutTo len)) (MayLeave self.old.held) (MayLeave self.new.held) }
+        ensures time { DiskGoesOn self.old.past.moments self.old.held self.new.past.moments self.new.held }
         ensures cause { HasDiskCause 0 0 result }
 
         // Exactly this call is pending from now on; for want of memory nothing changes.

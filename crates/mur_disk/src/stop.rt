@@ -4,8 +4,8 @@ ghost use Rattle.std.proofs.Common.{refl, inr};
 ghost use Rattle.mur_disk.specs.Calls.{Wrote, CutTo, Holds};
 ghost use Rattle.mur_disk.specs.Countdowns.{DidCount};
 ghost use Rattle.mur_disk.specs.Counts.{HasDiskCause};
-ghost use Rattle.mur_disk.specs.Crash.{IsTornBy, Follows, NoMore, Only};
-ghost use Rattle.mur_disk.specs.Memory.{DidCall, MayLeave, LeftSince, GoesOn, only_now};
+ghost use Rattle.mur_disk.specs.Crash.{IsTornBy, CrashesFollow, NoMore, Only};
+ghost use Rattle.mur_disk.specs.Memory.{DidCall, MayLeave, LeftSince, DiskGoesOn, only_now};
 ghost use Rattle.mur_disk.specs.Stops.{inner_of, has_stopped, IsArmed, DidDevice, Unchanged, WasSynced};
 
 use crate::countdown::Countdown;
@@ -82,7 +82,7 @@ impl Disk for StopDisk {
         ensures size { length self.new.inner.held.bytes ≡ length self.old.inner.held.bytes }
         ensures seen { self.new.inner.held.bytes ≡ self.old.inner.held.bytes }
         ensures crash { NoMore (MayLeave self.old.inner.held) (MayLeave self.new.inner.held) }
-        ensures time { GoesOn self.old.inner.past.moments self.old.inner.held self.new.inner.past.moments self.new.inner.held }
+        ensures time { DiskGoesOn self.old.inner.past.moments self.old.inner.held self.new.inner.past.moments self.new.inner.held }
         ensures cause { HasDiskCause self.old.countdown.faults self.new.countdown.faults result }
         ensures stopped { IsErr result ↔ IsTrue self.old.countdown.stopped }
         ensures inner { self.new.inner ≡ self.old.inner }
@@ -102,7 +102,7 @@ impl Disk for StopDisk {
         ensures size { length self.new.inner.held.bytes ≡ length self.old.inner.held.bytes }
         ensures seen { self.new.inner.held.bytes ≡ self.old.inner.held.bytes }
         ensures crash { NoMore (MayLeave self.old.inner.held) (MayLeave self.new.inner.held) }
-        ensures time { GoesOn self.old.inner.past.moments self.old.inner.held self.new.inner.past.moments self.new.inner.held }
+        ensures time { DiskGoesOn self.old.inner.past.moments self.old.inner.held self.new.inner.past.moments self.new.inner.held }
         ensures cause { HasDiskCause self.old.countdown.faults self.new.countdown.faults result }
         ensures stopped { IsErr result ↔ IsTrue self.old.countdown.stopped }
         ensures inner { self.new.inner ≡ self.old.inner }
@@ -121,8 +121,8 @@ impl Disk for StopDisk {
         requires { at ≤ length self.old.inner.held.bytes }
         ensures written { OnOk result (Holds self.old.inner.held.bytes at piece.now self.new.inner.held.bytes) }
         ensures size { OnOk result (length self.new.inner.held.bytes ≡ max (length self.old.inner.held.bytes) (at + length piece.now)) }
-        ensures crash { Follows (IsTornBy (Wrote at piece.now)) (MayLeave self.old.inner.held) (MayLeave self.new.inner.held) }
-        ensures time { GoesOn self.old.inner.past.moments self.old.inner.held self.new.inner.past.moments self.new.inner.held }
+        ensures crash { CrashesFollow (IsTornBy (Wrote at piece.now)) (MayLeave self.old.inner.held) (MayLeave self.new.inner.held) }
+        ensures time { DiskGoesOn self.old.inner.past.moments self.old.inner.held self.new.inner.past.moments self.new.inner.held }
         ensures cause { HasDiskCause self.old.countdown.faults self.new.countdown.faults result }
 
         ensures counts { DidCount self.old.countdown self.new.countdown result }
@@ -146,8 +146,8 @@ impl Disk for StopDisk {
         requires { len ≤ length self.old.inner.held.bytes }
         ensures cut { OnOk result (self.new.inner.held.bytes ≡ take len self.old.inner.held.bytes) }
         ensures size { OnOk result (length self.new.inner.held.bytes ≡ len) }
-        ensures crash { Follows (IsTornBy (CutTo len)) (MayLeave self.old.inner.held) (MayLeave self.new.inner.held) }
-        ensures time { GoesOn self.old.inner.past.moments self.old.inner.held self.new.inner.past.moments self.new.inner.held }
+        ensures crash { CrashesFollow (IsTornBy (CutTo len)) (MayLeave self.old.inner.held) (MayLeave self.new.inner.held) }
+        ensures time { DiskGoesOn self.old.inner.past.moments self.old.inner.held self.new.inner.past.moments self.new.inner.held }
         ensures cause { HasDiskCause self.old.countdown.faults self.new.countdown.faults result }
 
         ensures counts { DidCount self.old.countdown self.new.countdown result }
@@ -171,7 +171,7 @@ impl Disk for StopDisk {
         ensures size { length self.new.inner.held.bytes ≡ length self.old.inner.held.bytes }
         ensures seen { self.new.inner.held.bytes ≡ self.old.inner.held.bytes }
         ensures crash { NoMore (MayLeave self.old.inner.held) (MayLeave self.new.inner.held) }
-        ensures time { GoesOn self.old.inner.past.moments self.old.inner.held self.new.inner.past.moments self.new.inner.held }
+        ensures time { DiskGoesOn self.old.inner.past.moments self.old.inner.held self.new.inner.past.moments self.new.inner.held }
         ensures cause { HasDiskCause self.old.countdown.faults self.new.countdown.faults result }
 
         ensures counts { DidCount self.old.countdown self.new.countdown result }

@@ -1,21 +1,13 @@
 -- Counts of faults, which never fall, and what ties them to an answer.
-use Rattle.std.specs.Prelude.{◌≡◌, ℕ, ◌+◌, ◌-◌, ◌^◌, ◌≤◌, min, Result, Ok, Err, MatchResult}
+use Rattle.std.specs.Prelude.{◌≡◌, ℕ, Result, Ok, Err, MatchResult}
+use Rattle.mur_base.specs.Counts.{Rose}
 use Rattle.mur_edge.specs.declared.fault.Faults.{Faults}
 use Rattle.mur_edge.specs.declared.fault.HostFault.{HostFault}
 use Rattle.mur_edge.specs.declared.fault.HostFault.TheVariants.{Failed, Memory}
 
--- a count that rises stands still at the greatest number of 64 bits
-abbrev pub one_more : ℕ → ℕ
-one_more count = min (count + 1) (2 ^ 64 - 1)
-
--- the count has risen, or stands at the end of its type
-pub record Rose (before now : ℕ) : Type 0 where
-  pub later : before ≤ now
-  pub risen : one_more before ≤ now
-
 -- what an object's count does in a call of it: a failure is counted, and nothing else is
-abbrev pub HasCause : {T E : Type 0} → ℕ → ℕ → Result T E → Type 0
-HasCause before now answer = MatchResult answer (λ _. now ≡ before) (λ _. Rose before now)
+abbrev pub CountsFailures : {T E : Type 0} → ℕ → ℕ → Result T E → Type 0
+CountsFailures before now answer = MatchResult answer (λ _. now ≡ before) (λ _. Rose before now)
 
 -- the same where want of memory is an answer too, which isn't counted
 abbrev pub HasHostCause : {T : Type 0} → ℕ → ℕ → Result T HostFault → Type 0

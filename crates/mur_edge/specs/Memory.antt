@@ -29,13 +29,13 @@ abbrev pub place_named : List (List ℕ × MemSource) → List ℕ → Option �
 place_named sources name = position (λ entry. pointwise nat_eq entry.0 name) sources
 
 -- the bytes of the source at a place
-abbrev pub bytes_at : List (List ℕ × MemSource) → Option ℕ → Option (List ℕ)
-bytes_at sources None = None
-bytes_at sources (Some place) = option_map (λ entry. (entry.1).state.whole) (slice_get sources place)
+abbrev pub source_bytes_at : List (List ℕ × MemSource) → Option ℕ → Option (List ℕ)
+source_bytes_at sources None = None
+source_bytes_at sources (Some place) = option_map (λ entry. (entry.1).state.whole) (slice_get sources place)
 
 -- the bytes of the first source of a name
 abbrev pub content_named : List (List ℕ × MemSource) → List ℕ → Option (List ℕ)
-content_named sources name = bytes_at sources (place_named sources name)
+content_named sources name = source_bytes_at sources (place_named sources name)
 
 -- where the call doesn't fail, the place of the first object of the name, unless that is out
 abbrev pub free_place : Bool → List Bool → Option ℕ → Option ℕ

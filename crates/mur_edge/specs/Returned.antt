@@ -4,6 +4,6 @@ use Rattle.mur_edge.specs.declared.returned.Chain.{Chain}
 use Rattle.mur_edge.specs.declared.returned.Chain.TheVariants.{End, More'}
 
 -- the entries of a chain, the oldest first
-abbrev pub entries_of : {T : Type 0} → Chain T → List T
-entries_of End = []
-entries_of (More' entry _ older) = entries_of older ++ entry ∷ []
+abbrev pub chain_entries : {T : Type 0} → Chain T → List T
+chain_entries End = []
+chain_entries (More' entry _ older) = chain_entries older ++ entry ∷ []

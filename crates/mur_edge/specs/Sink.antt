@@ -1,7 +1,7 @@
 -- What a sink tells, and what a write does to it.
 use Rattle.std.specs.Prelude.{◌≡◌, ℕ, List, [], Option, Result, MatchResult, MatchOption, ⊤, take}
 use Rattle.std.specs.Io.KnownBytes.{append_known}
-use Rattle.mur_edge.specs.Counts.{HasCause}
+use Rattle.mur_edge.specs.Counts.{CountsFailures}
 
 -- the bytes taken since it was handed out, where it tells them; how many writes failed
 pub record SinkFacts : Type 0 where
@@ -16,7 +16,7 @@ WriteTakes before now answer piece =
 -- what a write does to all that a sink tells
 pub record DidWrite {E : Type 0} (before now : SinkFacts) (answer : Result ℕ E) (piece : List ℕ) : Type 0 where
   pub bytes : WriteTakes before.taken now.taken answer piece
-  pub cause : HasCause before.faults now.faults answer
+  pub cause : CountsFailures before.faults now.faults answer
 
 -- all these bytes were taken
 abbrev pub Took : Option (List ℕ) → Option (List ℕ) → List ℕ → Type 0

@@ -2,7 +2,8 @@
 use Rattle.std.specs.Prelude.{◌≡◌, ℕ, ◌≤◌, ◌<◌, List, Option, None, Some, Result, Ok, Err, MatchResult, ⊤, length, take, nat_lt, ◌&&◌}
 use Rattle.std.specs.Prelude.{if◌then◌else◌}
 use Rattle.std.specs.Io.KnownBytes.{prepend_known, IsAtEnd}
-use Rattle.mur_edge.specs.Counts.{one_more, HasCause}
+use Rattle.mur_base.specs.Counts.{one_more}
+use Rattle.mur_edge.specs.Counts.{CountsFailures}
 
 -- all the bytes that it had when it was handed out and those that are left, where it tells them; how many reads failed; how many
 -- gave something, and less than the buffer holds
@@ -29,7 +30,7 @@ pub record DidRead {E : Type 0} (before now : SourceFacts) (answer : Result ℕ 
   pub bytes : ReadGives before.left now.left answer buffer
   pub same : now.whole ≡ before.whole
   pub short : now.shorts ≡ after_read before.shorts answer (length buffer)
-  pub cause : HasCause before.faults now.faults answer
+  pub cause : CountsFailures before.faults now.faults answer
 
 -- a source as it is handed out: nothing is read and nothing is counted
 pub record IsFreshSource (source : SourceFacts) : Type 0 where

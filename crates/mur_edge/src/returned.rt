@@ -37,13 +37,13 @@ impl<T> Model for Returned<T> {
 
     ghost Value = { List T };
 
-    ghost use Rattle.mur_edge.specs.Returned.{entries_of};
+    ghost use Rattle.mur_edge.specs.Returned.{chain_entries};
 
-    ghost view = { λ list. entries_of list.newest };
+    ghost view = { λ list. chain_entries list.newest };
 }
 
 impl<T> Returned<T> {
-    ghost use Rattle.mur_edge.specs.Returned.{entries_of};
+    ghost use Rattle.mur_edge.specs.Returned.{chain_entries};
 
     pub fn new() -> Returned<T>
         ensures { result ≡ [] }
@@ -53,7 +53,7 @@ impl<T> Returned<T> {
 
     // The entries, the newest first.
     pub(crate) fn chain(&self) -> &Chain<T>
-        ensures { entries_of result.now ≡ self.now }
+        ensures { chain_entries result.now ≡ self.now }
     {
         &self.newest
     }

@@ -1,7 +1,7 @@
 // What is written: the trait, and the loop that writes a whole slice.
 ghost use Rattle.std.specs.Prelude.{◌<◌, length, IfOk, OnOk};
 ghost use Rattle.std.specs.Io.{WritesAtMost};
-ghost use Rattle.mur_edge.specs.Counts.{HasCause};
+ghost use Rattle.mur_edge.specs.Counts.{CountsFailures};
 ghost use Rattle.mur_edge.specs.Sink.{SinkFacts, DidWrite, Took, TookFront};
 
 use crate::fault::Failed;
@@ -26,7 +26,7 @@ pub trait Sink {
 pub fn write_all<S: Sink>(sink: &mut S, bytes: &[u8]) -> Result<(), Failed>
     ensures all { OnOk result (Took (S.facts sink.old).taken (S.facts sink.new).taken bytes.now) }
     ensures front { TookFront (S.facts sink.old).taken (S.facts sink.new).taken bytes.now }
-    ensures cause { HasCause (S.facts sink.old).faults (S.facts sink.new).faults result }
+    ensures cause { CountsFailures (S.facts sink.old).faults (S.facts sink.new).faults result }
 {
     let mut at = 0;
     while at < bytes.len() {

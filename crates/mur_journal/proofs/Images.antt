@@ -3,9 +3,9 @@ use Rattle.std.proofs.Common.{◌≡◌, ◌≢◌, ◌⊎◌, inl, inr, ℕ, ze
 use Rattle.std.proofs.Common.{append_assoc, length-append, length-drop, take-append-drop}
 use Rattle.std.specs.Int.{w32, from_be_bytes}
 use Rattle.std.proofs.lemmas.List.{length-take-le, take_at, drop_at, drop-drop, append-nil}
-use Rattle.std.proofs.lemmas.Bool.{cases_eq}
+use Rattle.std.proofs.lemmas.Bool.{cases_eq, cases_lt}
 use Rattle.std.proofs.lemmas.Bool.Decides.{nat_tests}
-use Rattle.mur_journal.specs.Image.{magic, Form, Good, Bad, size_of, with_entry, blocks_from, headed, parsed, IsFront, IsBlock}
+use Rattle.mur_journal.specs.Image.{magic, ImageForm, Good, Bad, entry_size, with_first_entry, blocks_from, headed, parsed, IsFront, IsBlock}
 
 -- open blocks, a closed gate and whatever follows
 pub record AtRest (image : List ℕ) (entries : List (List ℕ)) (place : ℕ) : Type 0 where
@@ -17,28 +17,20 @@ pub record AtRest (image : List ℕ) (entries : List (List ℕ)) (place : ℕ) :
   pub whole : image ≡ (magic ++ front) ++ gate ∷ tail
   pub at : place ≡ 8 + length front
 
-le_or_lt : (m n : ℕ) → (m ≤ n) ⊎ (n < m)
-le_or_lt zero n = inl (omega arith)
-le_or_lt (suc m) zero = inr (omega arith)
-le_or_lt (suc m) (suc n) = elim (le_or_lt m n) [
-  | inl le ↦ inl (omega (arith, le))
-  | inr lt ↦ inr (omega (arith, lt))
-]
-
 pub step_closed : (fuel at gate : ℕ) (rest : List ℕ) → gate ≢ 1 → blocks_from (suc fuel) at (gate ∷ rest) ≡ Good [] at
 step_closed fuel at gate rest shut = grind (arith, nat_tests)
 
-pub step_open : (fuel at gate : ℕ) (rest : List ℕ) → gate ≡ 1 → 4 + size_of rest < length rest
-    → blocks_from (suc fuel) at (gate ∷ rest) ≡ with_entry (take (size_of rest) (drop 4 rest))
-    (blocks_from fuel (at + (5 + size_of rest)) (drop (4 + size_of rest) rest))
+pub step_open : (fuel at gate : ℕ) (rest : List ℕ) → gate ≡ 1 → 4 + entry_size rest < length rest
+    → blocks_from (suc fuel) at (gate ∷ rest) ≡ with_first_entry (take (entry_size rest) (drop 4 rest))
+    (blocks_from fuel (at + (5 + entry_size rest)) (drop (4 + entry_size rest) rest))
 step_open fuel at gate rest is_open fits = grind (arith, nat_tests)
 
-pub step_short : (fuel at gate : ℕ) (rest : List ℕ) → gate ≡ 1 → length rest ≤ 4 + size_of rest → blocks_from (suc fuel) at (gate ∷ rest) ≡ Bad at
+pub step_short : (fuel at gate : ℕ) (rest : List ℕ) → gate ≡ 1 → length rest ≤ 4 + entry_size rest → blocks_from (suc fuel) at (gate ∷ rest) ≡ Bad at
 step_short fuel at gate rest is_open short = grind (arith, nat_tests)
 
 -- a block's length, and where it ends
 module _ (head entry rest : List ℕ) (four : length head ≡ 4) (says : from_be_bytes w32 head ≡ length entry) where
-  size_at : size_of (head ++ (entry ++ rest)) ≡ length entry
+  size_at : entry_size (head ++ (entry ++ rest)) ≡ length entry
   size_at = ap (from_be_bytes w32) (take_at head (entry ++ rest) 4 four) ∙ says
 
   entry_at : take (length entry) (drop 4 (head ++ (entry ++ rest))) ≡ entry
@@ -52,13 +44,13 @@ module _ (head entry rest : List ℕ) (four : length head ≡ 4) (says : from_be
   length_block = omega (arith, four, length-append head (entry ++ rest), length-append entry rest)
 
   pub step_block : (fuel at : ℕ) → 0 < length rest
-      → blocks_from (suc fuel) at (1 ∷ (head ++ (entry ++ rest))) ≡ with_entry entry (blocks_from fuel (at + (5 + length entry)) rest)
+      → blocks_from (suc fuel) at (1 ∷ (head ++ (entry ++ rest))) ≡ with_first_entry entry (blocks_from fuel (at + (5 + length entry)) rest)
   step_block fuel at more =
       step_open fuel at 1 (head ++ (entry ++ rest)) refl (omega (arith, more, size_at, length_block))
-      ∙ ap (λ (n : ℕ). with_entry (take n (drop 4 (head ++ (entry ++ rest))))
+      ∙ ap (λ (n : ℕ). with_first_entry (take n (drop 4 (head ++ (entry ++ rest))))
       (blocks_from fuel (at + (5 + n)) (drop (4 + n) (head ++ (entry ++ rest))))) size_at
-      ∙ ap (λ (l : List ℕ). with_entry l (blocks_from fuel (at + (5 + length entry)) (drop (4 + length entry) (head ++ (entry ++ rest))))) entry_at
-      ∙ ap (λ (l : List ℕ). with_entry entry (blocks_from fuel (at + (5 + length entry)) l)) rest_at
+      ∙ ap (λ (l : List ℕ). with_first_entry l (blocks_from fuel (at + (5 + length entry)) (drop (4 + length entry) (head ++ (entry ++ rest))))) entry_at
+      ∙ ap (λ (l : List ℕ). with_first_entry entry (blocks_from fuel (at + (5 + length entry)) l)) rest_at
 
 -- open blocks and a closed gate are read as they are, whatever follows
 pub read_front : (entries : List (List ℕ)) (front : List ℕ) (gate : ℕ) (tail : List ℕ) (fuel at : ℕ) → IsFront entries front → gate ≢ 1 → length front < fuel
@@ -75,7 +67,7 @@ read_front (entry ∷ entries) front gate tail (suc fuel) at (head, rest, four, 
     ∙ ap (λ (l : List ℕ). head ++ l) (append_assoc entry rest (gate ∷ tail))) in
     ap (blocks_from (suc fuel) at) split
     ∙ step_block head entry (rest ++ gate ∷ tail) four says fuel at (omega (arith, length-append rest (gate ∷ tail)))
-    ∙ ap (with_entry entry) (read_front entries rest gate tail fuel (at + (5 + length entry)) opened shut (omega (arith, long, enough)))
+    ∙ ap (with_first_entry entry) (read_front entries rest gate tail fuel (at + (5 + length entry)) opened shut (omega (arith, long, enough)))
     ∙ ap (Good (entry ∷ entries)) (omega (arith, long))
 
 pub is_parsed : (image : List ℕ) (entries : List (List ℕ)) (place : ℕ) → AtRest image entries place → parsed image ≡ Good entries place
@@ -108,7 +100,7 @@ pub record Split (bytes : List ℕ) (entries : List (List ℕ)) (place at : ℕ)
   pub whole : bytes ≡ front ++ gate ∷ tail
   pub place_is : place ≡ at + length front
 
-good_entries : (f : Form) (entry : List ℕ) (entries : List (List ℕ)) (place : ℕ) → with_entry entry f ≡ Good entries place
+good_entries : (f : ImageForm) (entry : List ℕ) (entries : List (List ℕ)) (place : ℕ) → with_first_entry entry f ≡ Good entries place
     → (more : List (List ℕ)) × (f ≡ Good more place) × (entries ≡ entry ∷ more)
 good_entries (Good more gate) entry entries place same = (more, ap (Good more) (cc same), sym (cc same))
 good_entries (Bad offset) entry entries place same = absurd (cc same)
@@ -124,10 +116,10 @@ pub split_front : (fuel at : ℕ) (bytes : List ℕ) (entries : List (List ℕ))
 split_front zero at bytes entries place good = absurd (cc good)
 split_front (suc fuel) at [] entries place good = absurd (cc good)
 split_front (suc fuel) at (gate ∷ rest) entries place good = elim (cases_eq gate 1) [
-  | inl is_open ↦ elim (le_or_lt (length rest) (4 + size_of rest)) [
-    | inl short ↦ absurd (cc (good, step_short fuel at gate rest is_open short))
-    | inr fits ↦
-        let n = size_of rest in
+  | inl is_open ↦ elim (cases_lt (4 + entry_size rest) (length rest)) [
+    | inr short ↦ absurd (cc (good, step_short fuel at gate rest is_open short))
+    | inl fits ↦
+        let n = entry_size rest in
         let entry = take n (drop 4 rest) in
         let found = good_entries (blocks_from fuel (at + (5 + n)) (drop (4 + n) rest)) entry entries place (sym (step_open fuel at gate rest is_open fits)
         ∙ good) in

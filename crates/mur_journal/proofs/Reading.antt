@@ -3,11 +3,11 @@ use Rattle.std.proofs.Common.{◌≡◌, ◌≢◌, ℕ, zero, suc, ◌+◌, ◌
 use Rattle.std.proofs.Common.{append_assoc, length-drop}
 use Rattle.std.proofs.lemmas.List.{append-nil, drop_more, drop_all, length-take-le}
 use Rattle.std.proofs.lemmas.Bool.Decides.{nat_tests}
-use Rattle.mur_journal.specs.Image.{magic, Form, Good, Bad, size_of, with_entry, blocks_from, headed, parsed}
+use Rattle.mur_journal.specs.Image.{magic, ImageForm, Good, Bad, entry_size, with_first_entry, blocks_from, headed, parsed}
 use Rattle.mur_journal.proofs.Images.{step_closed, step_open, step_short}
 
 -- a form after these entries
-abbrev pub prefixed : List (List ℕ) → Form → Form
+abbrev pub prefixed : List (List ℕ) → ImageForm → ImageForm
 prefixed entries (Good more gate) = Good (entries ++ more) gate
 prefixed entries (Bad offset) = Bad offset
 
@@ -27,31 +27,31 @@ begun image rest same long = record {
   long = long;
 }
   where
-    as_it_is : (f : Form) → f ≡ prefixed [] f
+    as_it_is : (f : ImageForm) → f ≡ prefixed [] f
     as_it_is (Good entries gate) = refl
     as_it_is (Bad offset) = refl
 
-pushed : (entries : List (List ℕ)) (entry : List ℕ) (f : Form) → prefixed entries (with_entry entry f) ≡ prefixed (entries ++ entry ∷ []) f
+pushed : (entries : List (List ℕ)) (entry : List ℕ) (f : ImageForm) → prefixed entries (with_first_entry entry f) ≡ prefixed (entries ++ entry ∷ []) f
 pushed entries entry (Good more gate) = ap (λ (es : List (List ℕ)). Good es gate) (sym (append_assoc entries (entry ∷ []) more))
 pushed entries entry (Bad offset) = refl
 
 module _ (image : List ℕ) (entries : List (List ℕ)) (at : ℕ) where
-  pub goes_on : (rest : List ℕ) → Reading image entries at (1 ∷ rest) → 4 + size_of rest < length rest
-      → Reading image (entries ++ take (size_of rest) (drop 4 rest) ∷ []) (at + (5 + size_of rest)) (drop (4 + size_of rest) rest)
+  pub goes_on : (rest : List ℕ) → Reading image entries at (1 ∷ rest) → 4 + entry_size rest < length rest
+      → Reading image (entries ++ take (entry_size rest) (drop 4 rest) ∷ []) (at + (5 + entry_size rest)) (drop (4 + entry_size rest) rest)
   goes_on rest reading fits = with_fuel reading.fuel reading.enough reading.same
     where
       n : ℕ
-      n = size_of rest
+      n = entry_size rest
 
       with_fuel : (fuel : ℕ) → length (1 ∷ rest) < fuel → parsed image ≡ prefixed entries (blocks_from fuel at (1 ∷ rest))
-          → Reading image (entries ++ take (size_of rest) (drop 4 rest) ∷ []) (at + (5 + size_of rest)) (drop (4 + size_of rest) rest)
+          → Reading image (entries ++ take (entry_size rest) (drop 4 rest) ∷ []) (at + (5 + entry_size rest)) (drop (4 + entry_size rest) rest)
       with_fuel zero enough same = absurd (omega (arith, enough))
       with_fuel (suc fuel) enough same = record {
         fuel = fuel;
-        enough = omega (arith, enough, length-drop (4 + size_of rest) rest);
+        enough = omega (arith, enough, length-drop (4 + entry_size rest) rest);
         same = same ∙ ap (prefixed entries) (step_open fuel at 1 rest refl fits)
-            ∙ pushed entries (take (size_of rest) (drop 4 rest)) (blocks_from fuel (at + (5 + size_of rest)) (drop (4 + size_of rest) rest));
-        long = omega (arith, reading.long, fits, length-drop (4 + size_of rest) rest);
+            ∙ pushed entries (take (entry_size rest) (drop 4 rest)) (blocks_from fuel (at + (5 + entry_size rest)) (drop (4 + entry_size rest) rest));
+        long = omega (arith, reading.long, fits, length-drop (4 + entry_size rest) rest);
       }
 
   -- a gate that isn't open ends them
@@ -64,7 +64,7 @@ module _ (image : List ℕ) (entries : List (List ℕ)) (at : ℕ) where
       with_fuel (suc fuel) enough same = same ∙ ap (prefixed entries) (step_closed fuel at gate rest shut)
           ∙ ap (λ (es : List (List ℕ)). Good es at) (append-nil entries)
 
-  pub is_short : (rest : List ℕ) → Reading image entries at (1 ∷ rest) → length rest ≤ 4 + size_of rest → parsed image ≡ Bad at
+  pub is_short : (rest : List ℕ) → Reading image entries at (1 ∷ rest) → length rest ≤ 4 + entry_size rest → parsed image ≡ Bad at
   is_short rest reading short = with_fuel reading.fuel reading.enough reading.same
     where
       with_fuel : (fuel : ℕ) → length (1 ∷ rest) < fuel → parsed image ≡ prefixed entries (blocks_from fuel at (1 ∷ rest)) → parsed image ≡ Bad at
@@ -116,18 +116,15 @@ module _ (image : List ℕ) (at : ℕ) (headed_so : IsHeaded image at) (more : a
       ∙ ap (λ (l : List ℕ). headed l at (drop at image)) magic_at
       ∙ ap (headed (get_or magic at 0 ∷ drop (at + 1) magic) at) (drop_all at image ended)
 
-pub all_there : (image : List ℕ) → IsHeaded image 8 → parsed image ≡ blocks_from (suc (length (drop 8 image))) 8 (drop 8 image)
-all_there image so = so.2
-
 -- one block further, as the code has it
 pub to_next : (image : List ℕ) (entries : List (List ℕ)) (at : ℕ) (rest bytes entry after : List ℕ) (next : List (List ℕ)) → Reading image entries at rest
     → rest ≡ 1 ∷ bytes
-    → 4 + size_of bytes < length bytes → entry ≡ take (size_of bytes) (drop 4 bytes) → after ≡ drop (4 + size_of bytes) bytes → next ≡ entries ++ entry ∷ []
+    → 4 + entry_size bytes < length bytes → entry ≡ take (entry_size bytes) (drop 4 bytes) → after ≡ drop (4 + entry_size bytes) bytes → next ≡ entries ++ entry ∷ []
     → Reading image next (at + (5 + length entry)) after
 to_next image entries at rest bytes entry after next reading is fits entry_is after_is next_is =
     let on = goes_on image entries at bytes (subst (Reading image entries at) is reading) fits in
-    let wide : length entry ≡ size_of bytes = ap length entry_is ∙ length-take-le (size_of bytes) (drop 4 bytes) (omega (arith, fits, length-drop 4 bytes)) in
+    let wide : length entry ≡ entry_size bytes = ap length entry_is ∙ length-take-le (entry_size bytes) (drop 4 bytes) (omega (arith, fits, length-drop 4 bytes)) in
     subst (λ (es : List (List ℕ)). Reading image es (at + (5 + length entry)) after) (sym next_is)
     (subst (λ (e : List ℕ). Reading image (entries ++ e ∷ []) (at + (5 + length entry)) after) (sym entry_is)
-    (subst (λ (l : List ℕ). Reading image (entries ++ take (size_of bytes) (drop 4 bytes) ∷ []) (at + (5 + length entry)) l) (sym after_is)
-    (subst (λ (n : ℕ). Reading image (entries ++ take (size_of bytes) (drop 4 bytes) ∷ []) (at + (5 + n)) (drop (4 + size_of bytes) bytes)) (sym wide) on)))
+    (subst (λ (l : List ℕ). Reading image (entries ++ take (entry_size bytes) (drop 4 bytes) ∷ []) (at + (5 + length entry)) l) (sym after_is)
+    (subst (λ (n : ℕ). Reading image (entries ++ take (entry_size bytes) (drop 4 bytes) ∷ []) (at + (5 + n)) (drop (4 + entry_size bytes) bytes)) (sym wide) on)))

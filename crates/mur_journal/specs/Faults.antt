@@ -1,6 +1,6 @@
 -- When a journal's calls are refused.
 use Rattle.std.specs.Prelude.{◌≡◌, ℕ, Result, Ok, Err}
-use Rattle.mur_disk.specs.Counts.{Rose}
+use Rattle.mur_base.specs.Counts.{Rose}
 use Rattle.mur_disk.specs.declared.fault.DiskFault.{DiskFault}
 use Rattle.mur_disk.specs.declared.fault.DiskFault.TheVariants.{Failed, Memory as no_room}
 use Rattle.mur_journal.specs.declared.fault.AppendFault.{AppendFault}
@@ -8,9 +8,9 @@ use Rattle.mur_journal.specs.declared.fault.AppendFault.TheVariants.{Disk, Spent
 use Rattle.mur_journal.specs.declared.fault.OpenFault.{OpenFault}
 use Rattle.mur_journal.specs.declared.fault.OpenFault.TheVariants.{NotAJournal, Disk as disk_failed, Memory as no_memory}
 
-abbrev pub append_fault : DiskFault → AppendFault
-append_fault Failed = Disk
-append_fault no_room = Memory
+abbrev pub append_fault_of : DiskFault → AppendFault
+append_fault_of Failed = Disk
+append_fault_of no_room = Memory
 
 abbrev pub open_fault : DiskFault → OpenFault
 open_fault Failed = disk_failed

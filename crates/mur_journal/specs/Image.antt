@@ -7,40 +7,40 @@ abbrev pub magic : List ℕ
 magic = 77 ∷ 85 ∷ 82 ∷ 68 ∷ 69 ∷ 82 ∷ 74 ∷ 49 ∷ []
 
 -- an image is a journal, with these entries and its closed gate at this place; or it is none, which shows at this offset
-pub data Form : Type 0 where
-  Good : (entries : List (List ℕ)) (gate : ℕ) → Form
-  Bad : (offset : ℕ) → Form
+pub data ImageForm : Type 0 where
+  Good : (entries : List (List ℕ)) (gate : ℕ) → ImageForm
+  Bad : (offset : ℕ) → ImageForm
 
 -- the length of an entry: the first four bytes as a number, the highest byte first
-abbrev pub size_of : List ℕ → ℕ
-size_of bytes = from_be_bytes w32 (take 4 bytes)
+abbrev pub entry_size : List ℕ → ℕ
+entry_size bytes = from_be_bytes w32 (take 4 bytes)
 
-abbrev pub with_entry : List ℕ → Form → Form
-with_entry entry (Good entries gate) = Good (entry ∷ entries) gate
-with_entry entry (Bad offset) = Bad offset
+abbrev pub with_first_entry : List ℕ → ImageForm → ImageForm
+with_first_entry entry (Good entries gate) = Good (entry ∷ entries) gate
+with_first_entry entry (Bad offset) = Bad offset
 
 -- The blocks from a gate at this place on. A gate is open if it is 1, and then a length, as many bytes and the next gate must
 -- follow; any other gate is closed and ends them. Each block takes one from the fuel, and is longer than that.
-abbrev pub blocks_from : ℕ → ℕ → List ℕ → Form
+abbrev pub blocks_from : ℕ → ℕ → List ℕ → ImageForm
 blocks_from zero at bytes = Bad at
 blocks_from (suc fuel) at [] = Bad at
 blocks_from (suc fuel) at (gate ∷ rest) =
     if gate == 1 then
-    (if nat_lt (4 + size_of rest) (length rest) then
-    with_entry (take (size_of rest) (drop 4 rest)) (blocks_from fuel (at + (5 + size_of rest)) (drop (4 + size_of rest) rest)) else Bad at)
+    (if nat_lt (4 + entry_size rest) (length rest) then
+    with_first_entry (take (entry_size rest) (drop 4 rest)) (blocks_from fuel (at + (5 + entry_size rest)) (drop (4 + entry_size rest) rest)) else Bad at)
     else Good [] at
 
 -- the rest of the magic, and then the blocks
-abbrev pub headed : List ℕ → ℕ → List ℕ → Form
+abbrev pub headed : List ℕ → ℕ → List ℕ → ImageForm
 headed [] at bytes = blocks_from (suc (length bytes)) at bytes
 headed (m ∷ ms) at [] = Bad at
 headed (m ∷ ms) at (b ∷ bytes) = if b == m then headed ms (at + 1) bytes else Bad at
 
 -- what an image is, from its first byte on
-abbrev pub parsed : List ℕ → Form
+abbrev pub parsed : List ℕ → ImageForm
 parsed image = headed magic 0 image
 
-abbrev pub entries_in : Form → List (List ℕ)
+abbrev pub entries_in : ImageForm → List (List ℕ)
 entries_in (Good entries gate) = entries
 entries_in (Bad offset) = []
 

@@ -6,5 +6,5 @@ use Rattle.mur_journal.specs.declared.journal.Journal.{Journal}
 abbrev pub disk_of : {D : Type 0} {ghosts : Ghosts D} → Journal D ghosts → D
 disk_of journal = journal.disk
 
-abbrev pub is_spent : {D : Type 0} {ghosts : Ghosts D} → Journal D ghosts → Bool
-is_spent journal = journal.spent
+abbrev pub journal_is_spent : {D : Type 0} {ghosts : Ghosts D} → Journal D ghosts → Bool
+journal_is_spent journal = journal.spent

@@ -4,7 +4,7 @@ ghost use Rattle.mur_disk.specs.Crash.{Only};
 ghost use Rattle.mur_disk.specs.Moments.{LeavesOnly};
 ghost use Rattle.mur_journal.specs.Faults.{HasAppendCause};
 ghost use Rattle.mur_journal.specs.Image.{entries_of, HasEntries};
-ghost use Rattle.mur_journal.specs.Parts.{disk_of, is_spent};
+ghost use Rattle.mur_journal.specs.Parts.{disk_of, journal_is_spent};
 ghost use Rattle.mur_journal.specs.Settled.{HasBeforeOrAfter};
 ghost use Rattle.mur_journal.specs.declared.fault.AppendFault.TheVariants.{Spent};
 
@@ -30,14 +30,14 @@ impl<D: Disk> Journal<D> {
             → HasEntries image (entries_of (D.seen (disk_of self.old)) ++ entry.now ∷ [])) }
 
         // A crash at any moment of the call, and after any answer, leaves the entries from before it, with this one or without.
-        ensures any_moment { IsFalse (is_spent self.old) → IsTrue (D.tells (disk_of self.old))
+        ensures any_moment { IsFalse (journal_is_spent self.old) → IsTrue (D.tells (disk_of self.old))
             → LeavesOnly D.moment D.left_since (disk_of self.old) (disk_of self.new)
             (HasBeforeOrAfter (entries_of (D.seen (disk_of self.old))) (entry.now ∷ [])) }
 
-        ensures spent { IsErrOf result Spent ↔ IsTrue (is_spent self.old) }
+        ensures spent { IsErrOf result Spent ↔ IsTrue (journal_is_spent self.old) }
         ensures untouched { IsErrOf result Spent → disk_of self.new ≡ disk_of self.old }
-        ensures ok { OnOk result (IsFalse (is_spent self.new)) }
-        ensures err { OnErr result (IsTrue (is_spent self.new)) }
+        ensures ok { OnOk result (IsFalse (journal_is_spent self.new)) }
+        ensures err { OnErr result (IsTrue (journal_is_spent self.new)) }
         ensures told { D.tells (disk_of self.new) ≡ D.tells (disk_of self.old) }
         ensures cause { HasAppendCause (D.faults (disk_of self.old)) (D.faults (disk_of self.new)) result }
     {
@@ -65,14 +65,14 @@ impl<D: Disk> Journal<D> {
             → HasEntries image (entries_of (D.seen (disk_of self.old)) ++ entries.now)) }
 
         // A crash at any moment of the call, and after any answer, leaves the entries from before it, with all of these or with none.
-        ensures any_moment { IsFalse (is_spent self.old) → IsTrue (D.tells (disk_of self.old))
+        ensures any_moment { IsFalse (journal_is_spent self.old) → IsTrue (D.tells (disk_of self.old))
             → LeavesOnly D.moment D.left_since (disk_of self.old) (disk_of self.new)
             (HasBeforeOrAfter (entries_of (D.seen (disk_of self.old))) entries.now) }
 
-        ensures spent { IsErrOf result Spent ↔ IsTrue (is_spent self.old) }
+        ensures spent { IsErrOf result Spent ↔ IsTrue (journal_is_spent self.old) }
         ensures untouched { IsErrOf result Spent → disk_of self.new ≡ disk_of self.old }
-        ensures ok { OnOk result (IsFalse (is_spent self.new)) }
-        ensures err { OnErr result (IsTrue (is_spent self.new)) }
+        ensures ok { OnOk result (IsFalse (journal_is_spent self.new)) }
+        ensures err { OnErr result (IsTrue (journal_is_spent self.new)) }
         ensures told { D.tells (disk_of self.new) ≡ D.tells (disk_of self.old) }
         ensures cause { HasAppendCause (D.faults (disk_of self.old)) (D.faults (disk_of self.new)) result }
     {
@@ -91,7 +91,7 @@ impl<D: Disk> Journal<D> {
     /// The disk, on which nothing is pending unless the journal is spent. It takes no memory.
     pub fn into_disk(self) -> D
         ensures disk { result ≡ disk_of self }
-        ensures still { IsFalse (is_spent self) → IsTrue (D.tells (disk_of self)) → Only (D.seen (disk_of self)) (D.may_leave (disk_of self)) }
+        ensures still { IsFalse (journal_is_spent self) → IsTrue (D.tells (disk_of self)) → Only (D.seen (disk_of self)) (D.may_leave (disk_of self)) }
     {
         let Journal { disk, .. } = self;
         disk

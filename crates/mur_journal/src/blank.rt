@@ -5,7 +5,7 @@ ghost use Rattle.mur_disk.specs.Counts.{HasDiskCause};
 ghost use Rattle.mur_disk.specs.Crash.{Only};
 ghost use Rattle.mur_journal.specs.Faults.{HasFormatCause};
 ghost use Rattle.mur_journal.specs.Image.{magic, entries_of};
-ghost use Rattle.mur_journal.specs.Parts.{disk_of, is_spent};
+ghost use Rattle.mur_journal.specs.Parts.{disk_of, journal_is_spent};
 
 use crate::fault::AppendFault;
 use crate::journal::Journal;
@@ -36,7 +36,7 @@ pub fn format<D: Disk>(disk: D) -> Result<Journal<D>, (D, AppendFault)>
     ensures header { IsTrue (D.tells disk) → IfOk result (λ journal. D.seen (disk_of journal) ≡ magic ++ 0 ∷ []) }
     ensures none { IsTrue (D.tells disk) → IfOk result (λ journal. entries_of (D.seen (disk_of journal)) ≡ []) }
     ensures durable { IsTrue (D.tells disk) → IfOk result (λ journal. Only (magic ++ 0 ∷ []) (D.may_leave (disk_of journal))) }
-    ensures whole { IfOk result (λ journal. IsFalse (is_spent journal)) }
+    ensures whole { IfOk result (λ journal. IsFalse (journal_is_spent journal)) }
     ensures told { IfOk result (λ journal. D.tells (disk_of journal) ≡ D.tells disk) }
     ensures counted { IfOk result (λ journal. D.faults (disk_of journal) ≡ D.faults disk) }
     ensures cause { IfErr result (λ refused. HasFormatCause (D.faults disk) (D.faults refused.0) refused.1) }

@@ -1,6 +1,6 @@
 // Why a call of a journal was refused.
 ghost use Rattle.std.specs.Prelude.{◌≡◌};
-ghost use Rattle.mur_journal.specs.Faults.{append_fault, open_fault};
+ghost use Rattle.mur_journal.specs.Faults.{append_fault_of, open_fault};
 ghost use Rattle.mur_journal.specs.declared.fault.AppendFault.TheVariants.{Memory};
 ghost use Rattle.mur_journal.specs.declared.fault.OpenFault.TheVariants.{Memory as no_room_to_open};
 
@@ -32,7 +32,7 @@ impl From<Memory> for AppendFault {
 }
 
 impl From<DiskFault> for AppendFault {
-    ghost from_gives = { λ fault given. given ≡ append_fault fault };
+    ghost from_gives = { λ fault given. given ≡ append_fault_of fault };
 
     fn from(fault: DiskFault) -> AppendFault {
         match fault {

@@ -3,7 +3,7 @@ ghost use Rattle.std.specs.Prelude.{◌≡◌, ◌<◌, ℕ, IsTrue, IsFalse, If
 ghost use Rattle.mur_disk.specs.Crash.{Only, NoMore};
 ghost use Rattle.mur_journal.specs.Faults.{HasOpenCause, HasOpenFault};
 ghost use Rattle.mur_journal.specs.Image.{Good, Bad, parsed, HasEntries};
-ghost use Rattle.mur_journal.specs.Parts.{disk_of, is_spent};
+ghost use Rattle.mur_journal.specs.Parts.{disk_of, journal_is_spent};
 ghost use Rattle.mur_journal.specs.declared.fault.OpenFault.TheVariants.{NotAJournal};
 
 use crate::fault::OpenFault;
@@ -39,7 +39,7 @@ impl<D: Disk> Journal<D> {
         requires still { IsTrue (D.tells disk) → Only (D.seen disk) (D.may_leave disk) }
         ensures entries { IsTrue (D.tells disk) → IfOk result (λ opened. HasEntries (D.seen disk) opened.1) }
         ensures seen { IsTrue (D.tells disk) → IfOk result (λ opened. D.seen (disk_of opened.0) ≡ D.seen disk) }
-        ensures whole { IfOk result (λ opened. IsFalse (is_spent opened.0)) }
+        ensures whole { IfOk result (λ opened. IsFalse (journal_is_spent opened.0)) }
         ensures told { IfOk result (λ opened. D.tells (disk_of opened.0) ≡ D.tells disk) }
         ensures counted { IfOk result (λ opened. D.faults (disk_of opened.0) ≡ D.faults disk) }
 

@@ -1,6 +1,6 @@
 // The bytes of an image are read once, from the magic on, block by block.
 ghost use Rattle.std.specs.Prelude.{◌≡◌, ◌<◌, ◌≤◌, ◌+◌, ℕ, suc, length, take, drop, IfOk, IfErr, IfSome, IfNone, IsErrOf};
-ghost use Rattle.mur_journal.specs.Image.{Good, Bad, parsed, blocks_from, size_of};
+ghost use Rattle.mur_journal.specs.Image.{Good, Bad, parsed, blocks_from, entry_size};
 ghost use Rattle.mur_journal.specs.declared.fault.OpenFault.TheVariants.{NotAJournal, Disk as disk_failed};
 
 use crate::fault::OpenFault;
@@ -29,9 +29,9 @@ fn after_magic(image: &[u8]) -> Result<&[u8], usize>
 
 // The entry after an open gate and what follows it, if the entry is whole and a gate follows.
 fn next_block(bytes: &[u8]) -> Option<(&[u8], &[u8])>
-    ensures whole { IfSome result (λ parts. (4 + size_of bytes.now < length bytes.now)
-        × (parts.0.now ≡ take (size_of bytes.now) (drop 4 bytes.now)) × (parts.1.now ≡ drop (4 + size_of bytes.now) bytes.now)) }
-    ensures short { IfNone result (length bytes.now ≤ 4 + size_of bytes.now) }
+    ensures whole { IfSome result (λ parts. (4 + entry_size bytes.now < length bytes.now)
+        × (parts.0.now ≡ take (entry_size bytes.now) (drop 4 bytes.now)) × (parts.1.now ≡ drop (4 + entry_size bytes.now) bytes.now)) }
+    ensures short { IfNone result (length bytes.now ≤ 4 + entry_size bytes.now) }
 {
     if bytes.len() < 4 {
         return None;

@@ -8,7 +8,7 @@ use Rattle.std.proofs.lemmas.Map.Steps.{set_value_same}
 use Rattle.mail_message.specs.Boxes.{Content}
 use Rattle.mail_message.specs.declared.message.Message.{Message}
 use Rattle.mail_store.specs.Append.{appended, append_fault}
-use Rattle.mail_store.specs.Faults.{IsAnswered}
+use Rattle.mail_store.specs.Faults.{IsValueUnless}
 use Rattle.mail_store.specs.declared.fault.StoreFault.{StoreFault}
 use Rattle.mail_store.specs.declared.fault.StoreFault.TheVariants.{Memory}
 use Rattle.imap_types.specs.declared.reply.NoText.TheVariants.{Limit}
@@ -24,13 +24,13 @@ abbrev pub IsReplied : Content → Worked → Content → Reply → Type 0
 IsReplied box worked left reply = (left ≡ box_after box worked.left) × (replied reply ≡ worked.turn)
 
 pub refused_left : (message : Message) (box left : Content) (fault : Option StoreFault) (uids : List ℕ) (why : StoreFault) (reply : Reply)
-    → IsAnswered fault uids (Err why) → left ≡ box → (why ≢ Memory) × (reply ≡ refused Limit) → IsReplied box (append_to message box fault) left reply
+    → IsValueUnless fault uids (Err why) → left ≡ box → (why ≢ Memory) × (reply ≡ refused Limit) → IsReplied box (append_to message box fault) left reply
 unfolding append_to box_after
 refused_left message box left (Some fault) uids why reply answered same told = (same, ap replied told.1)
 refused_left message box left None uids why reply answered same told = absurd (told.0 answered)
 
 pub appended_left : (message : Message) (box left : Content) (fault : Option StoreFault) (uids given : List ℕ) (reply : Reply)
-    → IsAnswered fault uids (Ok given) → left ≡ appended box (message ∷ []) → reply ≡ append_reply box.serial box.next
+    → IsValueUnless fault uids (Ok given) → left ≡ appended box (message ∷ []) → reply ≡ append_reply box.serial box.next
     → IsReplied box (append_to message box fault) left reply
 unfolding append_to box_after
 appended_left message box left (Some fault) uids given reply answered is told = cc

@@ -1,11 +1,30 @@
--- Whether a session begins with what a command needs, from whether it does where that was made.
-use Rattle.std.proofs.Common.{◌≡◌, ◌∙◌, ap, Bool, Result, Ok, Err, IfOk, IsOkAnd}
+-- Whether a session begins with a command, from whether it does with what comes of it.
+use Rattle.std.proofs.Common.{◌≡◌, ◌∙◌, ap, Bool, Option, None, Some, Result, Ok, Err, IfOk, IsOkAnd, refl}
 use Rattle.mur_base.specs.declared.memory.Memory.{Memory}
-use Rattle.mur_model.specs.declared.need.Need.{Need}
-use Rattle.mur_model.specs.Waits.{begins_by}
+use Rattle.imap_types.specs.declared.reply.Reply.{Reply}
+use Rattle.mur_model.specs.declared.need.Begun.{Begun}
+use Rattle.mur_model.specs.declared.session.Sess.{Sess}
+use Rattle.mur_model.specs.declared.session.Sess.TheVariants.{Off, In, Selected, Ended}
+use Rattle.mur_model.specs.Need.{begun_of, told_with}
+use Rattle.mur_model.specs.Needed.{Needed, Refusal, Turned, Mailbox}
+use Rattle.mur_model.specs.Waits.{begins_by, begins_session}
 
-pub begins_as : (need : Result Need Memory) (result : Result Bool Memory) (is : Need) → IfOk need (λ made. made ≡ is)
-    → IfOk result (λ begun. IsOkAnd need (λ made. begun ≡ begins_by made)) → IfOk result (λ begun. begun ≡ begins_by is)
-begins_as (Ok made) (Ok begun) is same tells = tells ∙ ap begins_by same
-begins_as (Err fault) (Ok begun) is same tells = absurd tells
-begins_as need (Err fault) is same tells = tt
+told_begins : (reply : Reply) (later : Option Sess) → begins_session (told_with reply later).session ≡ begins_session later
+unfolding told_with
+told_begins reply None = refl
+told_begins reply (Some Off) = refl
+told_begins reply (Some (In user)) = refl
+told_begins reply (Some (Selected view)) = refl
+told_begins reply (Some Ended) = refl
+
+begins_so : (needed : Needed) → begins_session (begun_of needed).session ≡ begins_by needed
+unfolding begun_of begins_by begins_session
+begins_so (Refusal verdict) = refl
+begins_so (Turned turn) = told_begins turn.reply turn.session
+begins_so (Mailbox name work) = refl
+
+pub begins_as : (made : Result Begun Memory) (result : Result Bool Memory) (needed : Needed) → IfOk made (λ begun. begun ≡ begun_of needed)
+    → IfOk result (λ begins. IsOkAnd made (λ begun. begins ≡ begins_session begun.session)) → IfOk result (λ begins. begins ≡ begins_by needed)
+begins_as (Ok begun) (Ok begins) needed same tells = tells ∙ ap (λ (b : Begun). begins_session b.session) same ∙ begins_so needed
+begins_as (Err fault) (Ok begins) needed same tells = absurd tells
+begins_as made (Err fault) needed same tells = tt

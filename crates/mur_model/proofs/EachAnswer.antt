@@ -10,13 +10,13 @@ use Rattle.mur_base.specs.declared.point.What.TheVariants.{Reply as replied, Los
 use Rattle.imap_types.specs.declared.request.Answer.{Answer}
 use Rattle.imap_types.specs.declared.request.Request.{Request}
 use Rattle.mur_model.specs.declared.setting.Setting.{Setting}
-use Rattle.mur_model.specs.History.{Course, Talk, after, numbered, point_of, carried_out, Follows, answers, is_about, IsLegal}
+use Rattle.mur_model.specs.History.{Course, Talk, course_after, numbered, point_of, carried_out, Follows, answers_its_command, is_about, IsLegal}
 use Rattle.mur_model.specs.History.Follows.{no_points, a_reply, a_loss}
 
 -- each request of a kind keeps an invariant of the store and the sessions, and where that holds its answer has a property
 pub record Keeps (setting : Setting) (Q : Request → Type 0) (I : Course → Type 0) (P : Answer → Type 0) : Type 0 where
   pub kept : (course : Course) (conn : ℕ) (request : Request) (serial : ℕ) → I course → Q request
-      → I (after course conn (carried_out setting course conn request serial))
+      → I (course_after course conn (carried_out setting course conn request serial))
   pub told : (course : Course) (conn : ℕ) (request : Request) (serial : ℕ) → I course → Q request
       → P (carried_out setting course conn request serial).answer
 
@@ -40,11 +40,11 @@ module _ (setting : Setting) (talk : Talk) (Q : Request → Type 0) (I : Course 
     so : P answer
 
   answered_at : (first last : Course) (points : List Point) (conn number : ℕ) → Follows setting talk first points last
-      → 0 < count_by (is_about answers conn number) points → I first → IsItsAnswer conn number
-  unfolding answers
+      → 0 < count_by (is_about answers_its_command conn number) points → I first → IsItsAnswer conn number
+  unfolding answers_its_command
   answered_at first last points conn number (no_points course) some holds = absurd (omega (arith, some))
   answered_at first last points conn number (a_loss course end step other n request serial rest takes later) some holds =
-      answered_at _ end rest conn number later (behind_it (is_about answers conn number) (point_of step other n lost) rest refl some)
+      answered_at _ end rest conn number later (behind_it (is_about answers_its_command conn number) (point_of step other n lost) rest refl some)
       (keeps.kept course other request serial holds (asked_so Q (talk.requests other) n request takes.asked (asked other)))
   answered_at first last points conn number (a_reply course end step other n request serial rest takes told later) some holds =
       by (other == conn) (n == number) refl refl (λ more. answered_at _ end rest conn number later more
@@ -54,15 +54,15 @@ module _ (setting : Setting) (talk : Talk) (Q : Request → Type 0) (I : Course 
       is = asked_so Q (talk.requests other) n request takes.asked (asked other)
 
       by : (same here : Bool) → (other == conn) ≡ same → (n == number) ≡ here
-          → (0 < count_by (is_about answers conn number) rest → IsItsAnswer conn number) → IsItsAnswer conn number
+          → (0 < count_by (is_about answers_its_command conn number) rest → IsItsAnswer conn number) → IsItsAnswer conn number
       by true true e f on =
           let conn_is : other ≡ conn = grind (arith, nat_tests, e) in
           let number_is : n ≡ number = grind (arith, nat_tests, f) in
           subst (λ c. IsItsAnswer c number) conn_is
           (subst (λ m. IsItsAnswer other m) number_is
           (record { answer = (carried_out setting course other request serial).answer; told = told; so = keeps.told course other request serial holds is }))
-      by true false e f on = on (behind_it (is_about answers conn number) (point_of step other n replied) rest (rw (e, f) refl) some)
-      by false here e f on = on (behind_it (is_about answers conn number) (point_of step other n replied) rest (rw e refl) some)
+      by true false e f on = on (behind_it (is_about answers_its_command conn number) (point_of step other n replied) rest (rw (e, f) refl) some)
+      by false here e f on = on (behind_it (is_about answers_its_command conn number) (point_of step other n replied) rest (rw e refl) some)
 
   -- what is so of the answer to each request of a kind is so of all answers, where all requests are of that kind
   pub each_answer : (first : Course) (points : List Point) (last : Course) → IsLegal setting first talk points last → I first

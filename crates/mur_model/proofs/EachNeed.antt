@@ -1,5 +1,6 @@
 -- What holds of each need that a command can end in holds of what the command needs.
 use Rattle.std.proofs.Common.{◌≡◌, ℕ, Bool, true, false, if◌then◌else◌, List, length, Option, None, Some, codes, refl}
+use Rattle.std.specs.Prelude.{⊤}
 use Rattle.std.specs.Str.{bytes_eq}
 use Rattle.mail_message.specs.FlagSets.{Flags}
 use Rattle.mail_message.specs.Literals.{IsPlain}
@@ -14,16 +15,15 @@ use Rattle.imap_types.specs.declared.command.Command.{Command}
 use Rattle.imap_types.specs.declared.command.Command.TheVariants as command
 use Rattle.imap_types.specs.declared.command.StatusItem.{StatusItem}
 use Rattle.mur_model.specs.declared.fetch.Fetching.{Fetching}
-use Rattle.mur_model.specs.declared.need.Need.{Need}
-use Rattle.mur_model.specs.declared.need.Need.TheVariants.{Refusal, Turned, Mailbox}
-use Rattle.mur_model.specs.declared.need.NewsFor.{NewsFor}
-use Rattle.mur_model.specs.declared.need.NewsFor.TheVariants as news_for
-use Rattle.mur_model.specs.declared.need.ViewWork.TheVariants as view_work
-use Rattle.mur_model.specs.declared.need.Work.TheVariants.{Make, Append as append_work, Status as status_work, Select as select_work}
+use Rattle.mur_model.specs.Needed.{Needed, Refusal, Turned, Mailbox, Work, Make, Append as append_work, Status as status_work, Select as select_work, at_mailbox, no_such_number, read_only}
+use Rattle.mur_model.specs.declared.work.NewsFor.{NewsFor}
+use Rattle.mur_model.specs.declared.work.NewsFor.TheVariants as news_for
+use Rattle.mur_model.specs.declared.work.ViewWork.TheVariants as view_work
 use Rattle.imap_types.specs.declared.reply.BadText.{BadText}
 use Rattle.imap_types.specs.declared.reply.BadText.TheVariants.{State, Syntax, Message as no_message}
 use Rattle.imap_types.specs.declared.reply.NoText.{NoText}
 use Rattle.imap_types.specs.declared.reply.NoText.TheVariants.{AuthenticationFailed, Cannot, NonExistent, NoPerm, TryCreate}
+use Rattle.imap_types.specs.declared.reply.Verdict.{Verdict}
 use Rattle.imap_types.specs.declared.reply.Verdict.TheVariants.{No as no_reply, Bad as bad_reply}
 use Rattle.mur_model.specs.declared.search.Searching.{Searching}
 use Rattle.mur_model.specs.declared.select.Opening.{Opening}
@@ -42,7 +42,6 @@ use Rattle.mur_model.specs.Keys.{have_all_numbers, keys_at}
 use Rattle.mur_model.specs.Left.{replied}
 use Rattle.mur_model.specs.Login.{begun_by, login, login_as, login_by, login_failed}
 use Rattle.mur_model.specs.NamedRows.{last_uid, named_uids, names_messages}
-use Rattle.mur_model.specs.Need.{at_mailbox, no_such_number, read_only}
 use Rattle.mur_model.specs.Plain.{acts_as, authenticate, authenticate_as, authenticate_by, authenticate_with, cut_at_nul, decoded}
 use Rattle.imap_types.specs.Reply.{completed}
 use Rattle.mur_model.specs.Rights.{has_rights, may_create, user_named}
@@ -51,7 +50,7 @@ use Rattle.mur_model.specs.Status.{status, status_as, status_by}
 use Rattle.mur_model.specs.StoreFlags.{store, store_named}
 
 -- what is answered whatever mailboxes there are, in a session that has begun and in one that has not
-pub record OfAnswers (Of : Need → Type 0) : Type 0 where
+pub record OfAnswers (Of : Needed → Type 0) : Type 0 where
   pub refused : (why : NoText) → Of (Refusal (no_reply why))
   pub bad : (why : BadText) → Of (Refusal (bad_reply why))
   pub completed : (name : List ℕ) → IsPlain name → Of (Turned (replied (completed name)))
@@ -59,49 +58,65 @@ pub record OfAnswers (Of : Need → Type 0) : Type 0 where
   pub capability : Of capability
   pub logout : Of logout
 
--- what commands need, of which this is known
-pub record OfNeeds (setting : Setting) (Asked : Command → Type 0) (Of : Need → Type 0) : Type 0 where
+-- what commands need that a session has whether a mailbox is selected or not, of which this is known
+pub record OfBegun (setting : Setting) (Asked : Command → Type 0) (Of : Needed → Type 0) : Type 0 where
   pub answers : OfAnswers Of
   pub enable : Of enable
   pub unselected : (user : List ℕ) (was_selected : Bool) (why : NoText) → Of (Turned (unselected user was_selected why))
-  pub left : (view : View) (name : List ℕ) → IsPlain name → Of (Turned (left_by view name))
   pub make : (name : List ℕ) → Of (Mailbox name Make)
   pub append : (name text : List ℕ) (flags : Flags) (date : Option (List ℕ)) (body : List ℕ) → Asked (command.Append text flags date body)
       → Of (Mailbox name (append_work (new_message setting flags date body)))
   pub status : (user name : List ℕ) (items : List StatusItem) → mail_name_fault name ≡ None → Of (Mailbox name (status_work (shown_name user name) items))
   pub select : (user name : List ℕ) (is_writable was_selected : Bool) → mail_name_fault name ≡ None
       → Of (Mailbox name (select_work (opening user name is_writable was_selected)))
-  pub news : (view : View) (why : NewsFor) → Of (at_mailbox view (view_work.News why))
-  pub close : (view : View) → Of (at_mailbox view view_work.Close)
-  pub expunge : (view : View) (only : Option (List ℕ)) → Of (at_mailbox view (view_work.Expunge only))
-  pub store : (view : View) (by_uid : Bool) (set : List SetPart) (mode : Mode) (is_silent : Bool) (flags : Flags)
-      → Asked (command.Store by_uid set mode is_silent flags) → Of (store_named view by_uid set mode is_silent flags)
-  pub fetch : (view : View) (it : Fetching) → Of (at_mailbox view (view_work.Fetch it))
-  pub search : (view : View) (it : Searching) → Of (at_mailbox view (view_work.Search it))
 
-either : (Of : Need → Type 0) (test : Bool) (one other : Need) → Of one → Of other → Of (if test then one else other)
+-- what commands of a session that has this view need
+pub record OfViewed (Asked : Command → Type 0) (Of : Needed → Type 0) (view : View) : Type 0 where
+  pub left : (name : List ℕ) → IsPlain name → Of (Turned (left_by view name))
+  pub news : (why : NewsFor) → Of (at_mailbox view (view_work.News why))
+  pub close : Of (at_mailbox view view_work.Close)
+  pub expunge : (only : Option (List ℕ)) → Of (at_mailbox view (view_work.Expunge only))
+  pub store : (by_uid : Bool) (set : List SetPart) (mode : Mode) (is_silent : Bool) (flags : Flags)
+      → Asked (command.Store by_uid set mode is_silent flags) → Of (store_named view by_uid set mode is_silent flags)
+  pub fetch : (it : Fetching) → Of (at_mailbox view (view_work.Fetch it))
+  pub search : (it : Searching) → Of (at_mailbox view (view_work.Search it))
+
+-- where each refusal has the property, these leaves are enough
+pub of_refusals : {Of : Needed → Type 0} → ((verdict : Verdict) → Of (Refusal verdict))
+    → ((name : List ℕ) → IsPlain name → Of (Turned (replied (completed name)))) → ((name user : List ℕ) → IsPlain name → Of (Turned (begun_by name user)))
+    → Of capability → Of logout → OfAnswers Of
+of_refusals refusal completed begun capability logout = record {
+  refused = λ why. refusal (no_reply why);
+  bad = λ why. refusal (bad_reply why);
+  completed = completed;
+  begun = begun;
+  capability = capability;
+  logout = logout;
+}
+
+either : (Of : Needed → Type 0) (test : Bool) (one other : Needed) → Of one → Of other → Of (if test then one else other)
 either Of true one other is is_other = is
 either Of false one other is is_other = is_other
 
 -- ---- LOGIN and AUTHENTICATE
 
-each_login_by : {Of : Need → Type 0} (of : OfAnswers Of) (name user : List ℕ) (same : Bool) → IsPlain name → Of (login_by name user same)
+each_login_by : {Of : Needed → Type 0} (of : OfAnswers Of) (name user : List ℕ) (same : Bool) → IsPlain name → Of (login_by name user same)
 unfolding login_by
 each_login_by of name user true plain = of.begun name user plain
 each_login_by of name user false plain = of.refused AuthenticationFailed
 
-each_login_as : {Of : Need → Type 0} (of : OfAnswers Of) (name : List ℕ) (found : Option User) (password : List ℕ) → IsPlain name
+each_login_as : {Of : Needed → Type 0} (of : OfAnswers Of) (name : List ℕ) (found : Option User) (password : List ℕ) → IsPlain name
     → Of (login_as name found password)
 unfolding login_as
 each_login_as of name None password plain = of.refused AuthenticationFailed
 each_login_as of name (Some user) password plain = each_login_by of name user.name (bytes_eq user.password password) plain
 
-each_login : {Of : Need → Type 0} (of : OfAnswers Of) (users : List User) (name user password : List ℕ) → IsPlain name
+each_login : {Of : Needed → Type 0} (of : OfAnswers Of) (users : List User) (name user password : List ℕ) → IsPlain name
     → Of (login users name user password)
 unfolding login
 each_login of users name user password plain = each_login_as of name (user_named users user) password plain
 
-each_plain_by : {Of : Need → Type 0} (of : OfAnswers Of) (users : List User) (authzid : List ℕ) (rest : Option (List ℕ × List ℕ))
+each_plain_by : {Of : Needed → Type 0} (of : OfAnswers Of) (users : List User) (authzid : List ℕ) (rest : Option (List ℕ × List ℕ))
     → Of (authenticate_by users authzid rest)
 unfolding authenticate_by
 each_plain_by of users authzid None = of.refused AuthenticationFailed
@@ -109,24 +124,24 @@ each_plain_by {Of} of users authzid (Some (user, password)) =
     either Of (acts_as authzid user) (login users (codes "AUTHENTICATE") user password) login_failed
     (each_login of users (codes "AUTHENTICATE") user password refl) (of.refused AuthenticationFailed)
 
-each_plain_as : {Of : Need → Type 0} (of : OfAnswers Of) (users : List User) (parts : Option (List ℕ × List ℕ)) → Of (authenticate_as users parts)
+each_plain_as : {Of : Needed → Type 0} (of : OfAnswers Of) (users : List User) (parts : Option (List ℕ × List ℕ)) → Of (authenticate_as users parts)
 unfolding authenticate_as
 each_plain_as of users None = of.refused AuthenticationFailed
 each_plain_as of users (Some (authzid, rest)) = each_plain_by of users authzid (cut_at_nul rest)
 
-each_plain_with : {Of : Need → Type 0} (of : OfAnswers Of) (users : List User) (message : Option (List ℕ)) → Of (authenticate_with users message)
+each_plain_with : {Of : Needed → Type 0} (of : OfAnswers Of) (users : List User) (message : Option (List ℕ)) → Of (authenticate_with users message)
 unfolding authenticate_with
 each_plain_with of users None = of.refused AuthenticationFailed
 each_plain_with of users (Some message) = each_plain_as of users (cut_at_nul message)
 
-each_plain : {Of : Need → Type 0} (of : OfAnswers Of) (users : List User) (response : List ℕ) → Of (authenticate users response)
+each_plain : {Of : Needed → Type 0} (of : OfAnswers Of) (users : List User) (response : List ℕ) → Of (authenticate users response)
 unfolding authenticate
 each_plain {Of} of users response =
     either Of (bytes_eq response (codes "*")) (Refusal (bad_reply Syntax)) (authenticate_with users (decoded response)) (of.bad Syntax)
     (each_plain_with of users (decoded response))
 
 -- a command of a session that hasn't begun
-pub each_off : {Of : Need → Type 0} (of : OfAnswers Of) (setting : Setting) (it : Command) → Of (need_off setting it)
+pub each_off : {Of : Needed → Type 0} (of : OfAnswers Of) (setting : Setting) (it : Command) → Of (need_off setting it)
 unfolding need_off
 each_off of setting command.Capability = of.capability
 each_off of setting command.Noop = of.completed (codes "NOOP") refl
@@ -142,50 +157,50 @@ each_off of setting it = of.bad State
 
 -- ---- commands of a session that has begun
 
-each_create_by : {setting : Setting} {Asked : Command → Type 0} {Of : Need → Type 0} (of : OfNeeds setting Asked Of) (name : List ℕ) (may : Bool)
+each_create_by : {setting : Setting} {Asked : Command → Type 0} {Of : Needed → Type 0} (of : OfBegun setting Asked Of) (name : List ℕ) (may : Bool)
     → Of (create_by name may)
 unfolding create_by
 each_create_by of name true = of.make name
 each_create_by of name false = of.answers.refused NoPerm
 
-each_create : {setting : Setting} {Asked : Command → Type 0} {Of : Need → Type 0} (of : OfNeeds setting Asked Of) (user name : List ℕ) (inbox : Bool)
+each_create : {setting : Setting} {Asked : Command → Type 0} {Of : Needed → Type 0} (of : OfBegun setting Asked Of) (user name : List ℕ) (inbox : Bool)
     (fault : Option NameFault) → Of (create_as setting user name inbox fault)
 unfolding create_as
 each_create of user name true fault = of.answers.refused Cannot
 each_create of user name false (Some fault) = of.answers.refused NonExistent
 each_create {setting} of user name false None = each_create_by of name (may_create setting.users user name)
 
-each_append_by : {setting : Setting} {Asked : Command → Type 0} {Of : Need → Type 0} (of : OfNeeds setting Asked Of) (name : List ℕ) (message : Message)
+each_append_by : {setting : Setting} {Asked : Command → Type 0} {Of : Needed → Type 0} (of : OfBegun setting Asked Of) (name : List ℕ) (message : Message)
     (may : Bool) → Of (Mailbox name (append_work message)) → Of (append_by name message may)
 unfolding append_by
 each_append_by of name message true is = is
 each_append_by of name message false is = of.answers.refused NoPerm
 
-each_append : {setting : Setting} {Asked : Command → Type 0} {Of : Need → Type 0} (of : OfNeeds setting Asked Of) (user name : List ℕ) (message : Message)
+each_append : {setting : Setting} {Asked : Command → Type 0} {Of : Needed → Type 0} (of : OfBegun setting Asked Of) (user name : List ℕ) (message : Message)
     (fault : Option NameFault) → Of (Mailbox name (append_work message)) → Of (append_as setting user name message fault)
 unfolding append_as
 each_append of user name message (Some fault) is = of.answers.refused TryCreate
 each_append {setting} of user name message None is = each_append_by of name message (has_rights setting.users user name) is
 
-each_status_by : {setting : Setting} {Asked : Command → Type 0} {Of : Need → Type 0} (of : OfNeeds setting Asked Of) (user name : List ℕ)
+each_status_by : {setting : Setting} {Asked : Command → Type 0} {Of : Needed → Type 0} (of : OfBegun setting Asked Of) (user name : List ℕ)
     (items : List StatusItem) (may : Bool) → mail_name_fault name ≡ None → Of (status_by user name items may)
 unfolding status_by
 each_status_by of user name items true named = of.status user name items named
 each_status_by of user name items false named = of.answers.refused NoPerm
 
-each_status : {setting : Setting} {Asked : Command → Type 0} {Of : Need → Type 0} (of : OfNeeds setting Asked Of) (user name : List ℕ)
+each_status : {setting : Setting} {Asked : Command → Type 0} {Of : Needed → Type 0} (of : OfBegun setting Asked Of) (user name : List ℕ)
     (items : List StatusItem) (fault : Option NameFault) → mail_name_fault name ≡ fault → Of (status_as setting user name items fault)
 unfolding status_as
 each_status of user name items (Some fault) named = of.answers.refused NonExistent
 each_status {setting} of user name items None named = each_status_by of user name items (has_rights setting.users user name) named
 
-each_select_by : {setting : Setting} {Asked : Command → Type 0} {Of : Need → Type 0} (of : OfNeeds setting Asked Of) (name : List ℕ) (it : Opening)
+each_select_by : {setting : Setting} {Asked : Command → Type 0} {Of : Needed → Type 0} (of : OfBegun setting Asked Of) (name : List ℕ) (it : Opening)
     (may : Bool) → Of (Mailbox name (select_work it)) → Of (select_by name it may)
 unfolding select_by
 each_select_by of name it true is = is
 each_select_by of name it false is = of.unselected it.user it.was_selected NoPerm
 
-each_select : {setting : Setting} {Asked : Command → Type 0} {Of : Need → Type 0} (of : OfNeeds setting Asked Of) (user name : List ℕ)
+each_select : {setting : Setting} {Asked : Command → Type 0} {Of : Needed → Type 0} (of : OfBegun setting Asked Of) (user name : List ℕ)
     (is_writable was_selected : Bool) (fault : Option NameFault) → mail_name_fault name ≡ fault
     → Of (select_as setting user name is_writable was_selected fault)
 unfolding select_as
@@ -194,7 +209,7 @@ each_select {setting} of user name is_writable was_selected None named =
     let it = opening user name is_writable was_selected in
     each_select_by of name it (has_rights setting.users user name) (of.select user name is_writable was_selected named)
 
-each_begun : {setting : Setting} {Asked : Command → Type 0} {Of : Need → Type 0} (of : OfNeeds setting Asked Of) (user : List ℕ) (is_selected : Bool)
+each_begun : {setting : Setting} {Asked : Command → Type 0} {Of : Needed → Type 0} (of : OfBegun setting Asked Of) (user : List ℕ) (is_selected : Bool)
     (it : Command) → Asked it → Of (need_begun setting user is_selected it)
 unfolding need_begun create create_meant append status select
 each_begun of user is_selected command.Capability asked = of.answers.capability
@@ -221,15 +236,15 @@ each_begun of user is_selected (command.Xfer text server partition) asked = of.a
 each_begun of user is_selected (command.LeftOut line) asked = of.answers.refused Cannot
 each_begun of user is_selected it asked = of.answers.bad Syntax
 
-each_idled : {Of : Need → Type 0} (of : OfAnswers Of) (line : List ℕ) (done : Need) → Of done → Of (idled line done)
+each_idled : {Of : Needed → Type 0} (of : OfAnswers Of) (line : List ℕ) (done : Needed) → Of done → Of (idled line done)
 each_idled {Of} of line done is = either Of (is_done line) done (Refusal (bad_reply Syntax)) is (of.bad Syntax)
 
-each_unselected : {setting : Setting} {Asked : Command → Type 0} {Of : Need → Type 0} (of : OfNeeds setting Asked Of) (user : List ℕ) (it : Command)
+each_unselected : {setting : Setting} {Asked : Command → Type 0} {Of : Needed → Type 0} (of : OfBegun setting Asked Of) (user : List ℕ) (it : Command)
     → Asked it → Of (need_unselected setting user it)
 each_unselected {setting} {Asked} {Of} of user it asked =
     either Of (wants_selected it) (Refusal (bad_reply State)) (need_begun setting user false it) (of.answers.bad State) (each_begun of user false it asked)
 
-each_in : {setting : Setting} {Asked : Command → Type 0} {Of : Need → Type 0} (of : OfNeeds setting Asked Of) (user : List ℕ) (it : Command)
+each_in : {setting : Setting} {Asked : Command → Type 0} {Of : Needed → Type 0} (of : OfBegun setting Asked Of) (user : List ℕ) (it : Command)
     → Asked it → Of (need_in setting user it)
 unfolding need_in
 each_in of user command.Noop asked = of.answers.completed (codes "NOOP") refl
@@ -239,46 +254,84 @@ each_in of user it asked = each_unselected of user it asked
 
 -- ---- commands of a session that has a mailbox selected
 
-each_expunge : {setting : Setting} {Asked : Command → Type 0} {Of : Need → Type 0} (of : OfNeeds setting Asked Of) (view : View)
-    (only : Option (List SetPart)) → Of (expunge view only)
-each_expunge {setting} {Asked} {Of} of view only = either Of view.is_writable (expunge_named view only) read_only (named only) (of.answers.refused Cannot)
+each_expunge : {setting : Setting} {Asked : Command → Type 0} {Of : Needed → Type 0} {view : View} (of : OfBegun setting Asked Of)
+    (viewed : OfViewed Asked Of view) (only : Option (List SetPart)) → Of (expunge view only)
+each_expunge {setting} {Asked} {Of} {view} of viewed only =
+    either Of view.is_writable (expunge_named view only) read_only (named only) (of.answers.refused Cannot)
   where
     named : (it : Option (List SetPart)) → Of (expunge_named view it)
-    named None = of.expunge view None
-    named (Some set) = of.expunge view (Some (named_uids true set view.rows))
+    named None = viewed.expunge None
+    named (Some set) = viewed.expunge (Some (named_uids true set view.rows))
 
-each_store : {setting : Setting} {Asked : Command → Type 0} {Of : Need → Type 0} (of : OfNeeds setting Asked Of) (view : View) (by_uid : Bool)
-    (set : List SetPart) (mode : Mode) (is_silent : Bool) (flags : Flags) → Asked (command.Store by_uid set mode is_silent flags)
-    → Of (store view by_uid set mode is_silent flags)
-each_store {setting} {Asked} {Of} of view by_uid set mode is_silent flags asked =
+each_store : {setting : Setting} {Asked : Command → Type 0} {Of : Needed → Type 0} {view : View} (of : OfBegun setting Asked Of)
+    (viewed : OfViewed Asked Of view) (by_uid : Bool) (set : List SetPart) (mode : Mode) (is_silent : Bool) (flags : Flags)
+    → Asked (command.Store by_uid set mode is_silent flags) → Of (store view by_uid set mode is_silent flags)
+each_store {setting} {Asked} {Of} {view} of viewed by_uid set mode is_silent flags asked =
     let named = store_named view by_uid set mode is_silent flags in
     either Of (names_messages view by_uid set) (if view.is_writable then named else read_only) no_such_number
-    (either Of view.is_writable named read_only (of.store view by_uid set mode is_silent flags asked) (of.answers.refused Cannot)) (of.answers.bad no_message)
+    (either Of view.is_writable named read_only (viewed.store by_uid set mode is_silent flags asked) (of.answers.refused Cannot)) (of.answers.bad no_message)
 
-each_selected : {setting : Setting} {Asked : Command → Type 0} {Of : Need → Type 0} (of : OfNeeds setting Asked Of) (view : View) (it : Command)
-    → Asked it → Of (need_selected setting view it)
+each_selected : {setting : Setting} {Asked : Command → Type 0} {Of : Needed → Type 0} {view : View} (of : OfBegun setting Asked Of)
+    (viewed : OfViewed Asked Of view) (it : Command) → Asked it → Of (need_selected setting view it)
 unfolding need_selected
-each_selected of view command.Noop asked = of.news view news_for.Noop
-each_selected of view (command.Idle (Some line)) asked = each_idled of.answers line _ (of.news view news_for.Idle)
-each_selected of view (command.Idle None) asked = each_begun of view.user true (command.Idle None) asked
-each_selected {setting} {Asked} {Of} of view command.Close asked =
-    either Of view.is_writable (at_mailbox view view_work.Close) (Turned (left_by view (codes "CLOSE"))) (of.close view) (of.left view (codes "CLOSE") refl)
-each_selected of view command.Unselect asked = of.left view (codes "UNSELECT") refl
-each_selected of view (command.Expunge only) asked = each_expunge of view only
-each_selected of view (command.Store by_uid set mode is_silent flags) asked = each_store of view by_uid set mode is_silent flags asked
-each_selected {setting} {Asked} {Of} of view (command.Fetch by_uid set items) asked =
-    either Of (names_messages view by_uid set) (fetch_named view by_uid set items) no_such_number (of.fetch view _) (of.answers.bad no_message)
-each_selected {setting} {Asked} {Of} of view (command.Search by_uid keys) asked =
+each_selected of viewed command.Noop asked = viewed.news news_for.Noop
+each_selected of viewed (command.Idle (Some line)) asked = each_idled of.answers line _ (viewed.news news_for.Idle)
+each_selected {view = view} of viewed (command.Idle None) asked = each_begun of view.user true (command.Idle None) asked
+each_selected {setting} {Asked} {Of} {view} of viewed command.Close asked =
+    either Of view.is_writable (at_mailbox view view_work.Close) (Turned (left_by view (codes "CLOSE"))) viewed.close (viewed.left (codes "CLOSE") refl)
+each_selected of viewed command.Unselect asked = viewed.left (codes "UNSELECT") refl
+each_selected of viewed (command.Expunge only) asked = each_expunge of viewed only
+each_selected of viewed (command.Store by_uid set mode is_silent flags) asked = each_store of viewed by_uid set mode is_silent flags asked
+each_selected {setting} {Asked} {Of} {view} of viewed (command.Fetch by_uid set items) asked =
+    either Of (names_messages view by_uid set) (fetch_named view by_uid set items) no_such_number (viewed.fetch _) (of.answers.bad no_message)
+each_selected {setting} {Asked} {Of} {view} of viewed (command.Search by_uid keys) asked =
     let placed = keys_at (length view.rows) (last_uid view.rows) keys in
     either Of (have_all_numbers (length view.rows) keys) (at_mailbox view (view_work.Search (record { by_uid = by_uid; keys = placed }))) no_such_number
-    (of.search view _) (of.answers.bad no_message)
-each_selected of view it asked = each_begun of view.user true it asked
+    (viewed.search _) (of.answers.bad no_message)
+each_selected {view = view} of viewed it asked = each_begun of view.user true it asked
 
 -- what a command of any session needs
-pub each_need : {setting : Setting} {Asked : Command → Type 0} {Of : Need → Type 0} (of : OfNeeds setting Asked Of) (session : Sess) (it : Command)
-    → Asked it → Of (need_of setting session it)
+pub each_need : {setting : Setting} {Asked : Command → Type 0} {Of : Needed → Type 0} (of : OfBegun setting Asked Of) (session : Sess)
+    → ((view : View) → session ≡ selected view → OfViewed Asked Of view) → (it : Command) → Asked it → Of (need_of setting session it)
 unfolding need_of
-each_need {setting} of Off it asked = each_off of.answers setting it
-each_need of (In user) it asked = each_in of user it asked
-each_need of (selected view) it asked = each_selected of view it asked
-each_need of Ended it asked = of.answers.bad State
+each_need {setting} of Off viewed it asked = each_off of.answers setting it
+each_need of (In user) viewed it asked = each_in of user it asked
+each_need of (selected view) viewed it asked = each_selected of (viewed view refl) it asked
+each_need of Ended viewed it asked = of.answers.bad State
+
+-- where each work has the property, whatever is asked, these leaves are enough
+pub record OfWorks (Of : Needed → Type 0) : Type 0 where
+  pub answers : OfAnswers Of
+  pub enable : Of enable
+  pub unselected : (user : List ℕ) (was_selected : Bool) (why : NoText) → Of (Turned (unselected user was_selected why))
+  pub left : (view : View) (name : List ℕ) → IsPlain name → Of (Turned (left_by view name))
+  pub work : (name : List ℕ) (it : Work) → Of (Mailbox name it)
+
+-- any command
+abbrev pub AnyCommand : Command → Type 0
+AnyCommand it = ⊤
+
+begun_by_works : {Of : Needed → Type 0} (setting : Setting) → OfWorks Of → OfBegun setting AnyCommand Of
+begun_by_works setting of = record {
+  answers = of.answers;
+  enable = of.enable;
+  unselected = of.unselected;
+  make = λ name. of.work name _;
+  append = λ name text flags date body asked. of.work name _;
+  status = λ user name items named. of.work name _;
+  select = λ user name is_writable was_selected named. of.work name _;
+}
+
+viewed_by_works : {Of : Needed → Type 0} → OfWorks Of → (view : View) → OfViewed AnyCommand Of view
+viewed_by_works of view = record {
+  left = of.left view;
+  news = λ why. of.work view.name _;
+  close = of.work view.name _;
+  expunge = λ only. of.work view.name _;
+  store = λ by_uid set mode is_silent flags asked. of.work view.name _;
+  fetch = λ it. of.work view.name _;
+  search = λ it. of.work view.name _;
+}
+
+pub each_by_works : {Of : Needed → Type 0} (setting : Setting) → OfWorks Of → (session : Sess) (it : Command) → Of (need_of setting session it)
+each_by_works setting of session it = each_need (begun_by_works setting of) session (λ view is. viewed_by_works of view) it tt

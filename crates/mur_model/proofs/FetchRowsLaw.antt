@@ -17,13 +17,13 @@ use Rattle.imap_types.specs.declared.reply.ReplyLine.{ReplyLine}
 use Rattle.imap_types.specs.declared.reply.ReplyLine.TheVariants.{Fetch}
 use Rattle.imap_types.specs.declared.reply.Verdict.TheVariants.{Ok as ok_reply}
 use Rattle.mur_model.specs.declared.view.View.{View}
-use Rattle.mur_model.specs.Fetch.{fetch_line, fetch_lines, fetch_name, fetch_told, flag_uids, is_body, is_flags, is_uid, items_told, number_in, tells_flags}
+use Rattle.mur_model.specs.Fetch.{fetch_reply_line, fetch_lines, fetch_name, fetch_told, flag_uids, is_body, is_flags, is_uid_item, items_told, number_in, tells_flags}
 use Rattle.mur_model.specs.FetchRows.{asks_rows, is_in_row, row_line, row_lines, row_part, rows_told}
 use Rattle.mur_model.specs.News.{has_row, news}
 use Rattle.mur_model.specs.Selected.{rows_of, with_news}
 use Rattle.mur_model.specs.StoreFlags.{code_for}
 use Rattle.mur_model.proofs.FlagLaw.{flags_self}
-use Rattle.mail_store.proofs.FoundUids.{IsOf, found_is}
+use Rattle.mail_message.proofs.FoundUids.{IsOf, found_is}
 
 -- ---- the items
 
@@ -52,7 +52,7 @@ parts_same (asked ∷ items) message are =
     rw (one, others) refl
 
 told_in_row : (it : Fetching) → asks_rows it ≡ true → list_all is_in_row (items_told it false) ≡ true
-told_in_row it are = by (it.by_uid && not (list_any is_uid it.items))
+told_in_row it are = by (it.by_uid && not (list_any is_uid_item it.items))
   where
     asked : list_all is_in_row (it.items ++ []) ≡ true
     asked = rw (list_all-append is_in_row it.items [], are) refl
@@ -77,7 +77,7 @@ row_found (message ∷ messages) uid =
 -- ---- lines
 
 line_same : (it : Fetching) (message : Message) (number : Option ℕ) → asks_rows it ≡ true
-    → fetch_line it message number (Some (row_of message)) ≡ row_line (items_told it false) number (Some (row_of message))
+    → fetch_reply_line it message number (Some (row_of message)) ≡ row_line (items_told it false) number (Some (row_of message))
 line_same it message None are = refl
 line_same it message (Some number) are =
     rw (flags_self message.flags) (ap (λ parts. Fetch number parts ∷ []) (parts_same (items_told it false) message (told_in_row it are)))

@@ -10,5 +10,7 @@ mod ViewedLaw
 mod KeysLaw
 mod BeginsLaw
 pub mod EachNeed
+pub mod OwnView
+mod ActedLaw
 pub mod FetchRowsLaw
 pub mod SearchRowsLaw

@@ -20,7 +20,7 @@ use Rattle.mur_model.specs.declared.view.View.{View}
 use Rattle.mur_model.specs.ClientView.{uids}
 use Rattle.mur_model.specs.News.{news}
 use Rattle.mur_model.specs.Search.{found_uids, number_at, numbers_told, search_name, search_told}
-use Rattle.mur_model.specs.SearchRows.{are_keys_in_rows, bare, bare_at, in_row_by, is_key_in_row, no_date, rows_searched}
+use Rattle.mur_model.specs.SearchRows.{are_keys_in_rows, bare_message, bare_at, in_row_by, is_key_in_row, no_date, rows_searched}
 use Rattle.mur_model.specs.Selected.{rows_of, with_news}
 use Rattle.mur_model.specs.StoreFlags.{code_for}
 use Rattle.mur_model.proofs.FetchRowsLaw.{and_left, and_right, row_found}
@@ -42,7 +42,7 @@ group_in_rows keys = ap is_key_in_row (sym (rolls-Group keys)) ∙ fold-roll-Key
 
 -- a message without its date and body
 abbrev bared : Message → Message
-bared message = bare (row_of message)
+bared message = bare_message (row_of message)
 
 -- a key that rows tell takes no notice of those
 abbrev IsAlike : Key → Type 0
@@ -107,7 +107,7 @@ keys_alike (key ∷ keys) are message number =
 -- ---- messages
 
 bared_by : (message : Option Message) (row : Option Row) (before : List Message) (bares : List Message) → row ≡ option_map row_of message
-    → bares ≡ map bared before → option_to_list (option_map bare row) ++ bares ≡ map bared (option_to_list message ++ before)
+    → bares ≡ map bared before → option_to_list (option_map bare_message row) ++ bares ≡ map bared (option_to_list message ++ before)
 bared_by None row before bares found same = rw (found, same) refl
 bared_by (Some message) row before bares found same = rw (found, same) refl
 

@@ -5,11 +5,8 @@ use Rattle.std.specs.Prelude.{◌≡◌, ℕ, ⊤, Bool, true, false, if◌then�
 use Rattle.mail_message.specs.Boxes.{Content}
 use Rattle.imap_types.specs.declared.command.Command.{Command}
 use Rattle.imap_types.specs.declared.command.Command.TheVariants as command
-use Rattle.mur_model.specs.declared.need.Need.{Need}
-use Rattle.mur_model.specs.declared.need.Need.TheVariants.{Refusal, Turned, Mailbox}
-use Rattle.mur_model.specs.declared.need.ViewWork.TheVariants as work
-use Rattle.mur_model.specs.declared.need.Work.{Work}
-use Rattle.mur_model.specs.declared.need.Work.TheVariants.{Make, Append as append_work, Status as status_work, Select as select_work, Viewed as viewed_work}
+use Rattle.mur_model.specs.Needed.{Needed, Refusal, Turned, Mailbox, Work, Make, Append as append_work, Status as status_work, Select as select_work, Viewed as viewed_work, at_mailbox}
+use Rattle.mur_model.specs.declared.work.ViewWork.TheVariants as work
 use Rattle.imap_types.specs.declared.reply.BadText.TheVariants.{State, Syntax}
 use Rattle.imap_types.specs.declared.reply.NoText.TheVariants.{Cannot}
 use Rattle.imap_types.specs.declared.reply.Reply.{Reply}
@@ -18,7 +15,7 @@ use Rattle.mur_model.specs.declared.session.Sess.{Sess}
 use Rattle.mur_model.specs.declared.session.Sess.TheVariants.{Off, In, Selected as selected, Ended}
 use Rattle.mur_model.specs.declared.setting.Setting.{Setting}
 use Rattle.mur_model.specs.declared.store.Store.{Store}
-use Rattle.mur_model.specs.declared.need.NewsFor.TheVariants as news_for
+use Rattle.mur_model.specs.declared.work.NewsFor.TheVariants as news_for
 use Rattle.mur_model.specs.declared.view.View.{View}
 use Rattle.mur_model.specs.Append.{new_message, append, append_on}
 use Rattle.mur_model.specs.AtOnce.{capability, enable, is_done, logout}
@@ -28,7 +25,6 @@ use Rattle.mur_model.specs.Expunge.{expunge}
 use Rattle.mur_model.specs.Fetch.{fetch}
 use Rattle.mur_model.specs.Left.{Worked, replied, store_after}
 use Rattle.mur_model.specs.Login.{login}
-use Rattle.mur_model.specs.Need.{at_mailbox}
 use Rattle.mur_model.specs.Plain.{authenticate}
 use Rattle.imap_types.specs.Reply.{reply_of, completed}
 use Rattle.mur_model.specs.Search.{search}
@@ -39,11 +35,11 @@ use Rattle.mur_model.specs.StoreFlags.{store}
 use Rattle.mur_model.specs.Viewing.{viewed_on}
 
 -- the refusal of a command that is read and that no state has, or that lacks the line which it waits for (see Waits)
-abbrev pub not_yet : Need
+abbrev pub not_yet : Needed
 not_yet = Refusal (bad_reply Syntax)
 
 -- the refusal of a command that nothing carries out
-abbrev pub cannot_yet : Need
+abbrev pub cannot_yet : Needed
 cannot_yet = Refusal (no_reply Cannot)
 
 -- a command that wants a mailbox to be selected
@@ -56,11 +52,11 @@ wants_selected (command.Fetch by_uid set items) = true
 wants_selected (command.Search by_uid keys) = true
 wants_selected it = false
 
-abbrev pub nothing_new : Need
+abbrev pub nothing_new : Needed
 nothing_new = Turned (replied (completed (codes "NOOP")))
 
 -- a command of a session that hasn't begun
-unfoldable pub need_off : Setting → Command → Need
+unfoldable pub need_off : Setting → Command → Needed
 need_off setting command.Capability = capability
 need_off setting command.Noop = nothing_new
 need_off setting command.Logout = logout
@@ -74,11 +70,11 @@ need_off setting (command.MyRights text) = not_yet
 need_off setting it = Refusal (bad_reply State)
 
 -- an IDLE ends with DONE, and with no other line (RFC 9051, 6.3.13)
-abbrev pub idled : List ℕ → Need → Need
+abbrev pub idled : List ℕ → Needed → Needed
 idled line done = if is_done line then done else Refusal (bad_reply Syntax)
 
 -- a command of this user that a session has whether a mailbox is selected or not
-unfoldable pub need_begun : Setting → List ℕ → Bool → Command → Need
+unfoldable pub need_begun : Setting → List ℕ → Bool → Command → Needed
 need_begun setting user is_selected command.Capability = capability
 need_begun setting user is_selected command.Logout = logout
 need_begun setting user is_selected (command.Login name password) = Refusal (bad_reply State)
@@ -96,17 +92,17 @@ need_begun setting user is_selected (command.Xfer text server partition) = canno
 need_begun setting user is_selected (command.LeftOut line) = Refusal (no_reply Cannot)
 need_begun setting user is_selected it = not_yet
 
-abbrev pub need_unselected : Setting → List ℕ → Command → Need
+abbrev pub need_unselected : Setting → List ℕ → Command → Needed
 need_unselected setting user it = if wants_selected it then Refusal (bad_reply State) else need_begun setting user false it
 
 -- a command of a session of this user, with no mailbox selected
-unfoldable pub need_in : Setting → List ℕ → Command → Need
+unfoldable pub need_in : Setting → List ℕ → Command → Needed
 need_in setting user command.Noop = nothing_new
 need_in setting user (command.Idle (Some line)) = idled line (Turned (replied (completed (codes "IDLE"))))
 need_in setting user it = need_unselected setting user it
 
 -- a command of a session that has this view
-unfoldable pub need_selected : Setting → View → Command → Need
+unfoldable pub need_selected : Setting → View → Command → Needed
 need_selected setting view command.Noop = at_mailbox view (work.News news_for.Noop)
 need_selected setting view (command.Idle (Some line)) = idled line (at_mailbox view (work.News news_for.Idle))
 need_selected setting view command.Close = close view
@@ -118,7 +114,7 @@ need_selected setting view (command.Search by_uid keys) = search view by_uid key
 need_selected setting view it = need_begun setting view.user true it
 
 -- what a command needs of the store
-unfoldable pub need_of : Setting → Sess → Command → Need
+unfoldable pub need_of : Setting → Sess → Command → Needed
 need_of setting Off it = need_off setting it
 need_of setting (In user) it = need_in setting user it
 need_of setting (selected view) it = need_selected setting view it
@@ -147,7 +143,7 @@ abbrev pub session_after : Sess → Option Sess → Sess
 session_after session None = session
 session_after session (Some later) = later
 
-unfoldable pub act_by : Store → Sess → ℕ → Need → Acted
+unfoldable pub act_by : Store → Sess → ℕ → Needed → Acted
 act_by store session serial (Refusal verdict) = record { store = store; session = session; reply = reply_of verdict }
 act_by store session serial (Turned turn) = record { store = store; session = session_after session turn.session; reply = turn.reply }
 act_by store session serial (Mailbox name work) =
@@ -165,7 +161,7 @@ MayWork store name serial (status_work shown items) = ⊤
 MayWork store name serial (select_work it) = ⊤
 MayWork store name serial (viewed_work view it) = ⊤
 
-unfoldable pub MayAct : Store → ℕ → Need → Type 0
+unfoldable pub MayAct : Store → ℕ → Needed → Type 0
 MayAct store serial (Refusal verdict) = ⊤
 MayAct store serial (Turned turn) = ⊤
 MayAct store serial (Mailbox name work) = MayWork store name serial work

@@ -8,9 +8,7 @@ use Rattle.mail_store.specs.declared.fault.StoreFault.{StoreFault}
 use Rattle.mur_base.specs.Inbox.{taken_name}
 use Rattle.mur_base.specs.Names.{mail_name_fault}
 use Rattle.mur_base.specs.declared.name.NameFault.{NameFault}
-use Rattle.mur_model.specs.declared.need.Need.{Need}
-use Rattle.mur_model.specs.declared.need.Need.TheVariants.{Refusal, Mailbox}
-use Rattle.mur_model.specs.declared.need.Work.TheVariants.{Append as append_work}
+use Rattle.mur_model.specs.Needed.{Needed, Refusal, Mailbox, Append as append_work}
 use Rattle.imap_types.specs.declared.reply.Code.TheVariants.{AppendUid}
 use Rattle.imap_types.specs.declared.reply.NoText.TheVariants.{TryCreate, NoPerm, Limit}
 use Rattle.imap_types.specs.declared.reply.Reply.{Reply}
@@ -24,15 +22,15 @@ use Rattle.mur_model.specs.Rights.{has_rights}
 abbrev pub new_message : Setting → Flags → Option (List ℕ) → List ℕ → Message
 new_message setting flags date body = record { uid = 0; flags = flags; date = unwrap_or date setting.date; body = body }
 
-unfoldable pub append_by : List ℕ → Message → Bool → Need
+unfoldable pub append_by : List ℕ → Message → Bool → Needed
 append_by name message true = Mailbox name (append_work message)
 append_by name message false = Refusal (no_reply NoPerm)
 
-unfoldable pub append_as : Setting → List ℕ → List ℕ → Message → Option NameFault → Need
+unfoldable pub append_as : Setting → List ℕ → List ℕ → Message → Option NameFault → Needed
 append_as setting user name message (Some fault) = Refusal (no_reply TryCreate)
 append_as setting user name message None = append_by name message (has_rights setting.users user name)
 
-unfoldable pub append : Setting → List ℕ → List ℕ → Message → Need
+unfoldable pub append : Setting → List ℕ → List ℕ → Message → Needed
 append setting user text message = append_as setting user (taken_name user text) message (mail_name_fault (taken_name user text))
 
 -- the reply to a message that got this UID of a mailbox with this UIDVALIDITY

@@ -1,8 +1,7 @@
 -- Commands that the server answers at once, whatever mailboxes there are.
 use Rattle.std.specs.Prelude.{ℕ, Bool, List, [], ◌∷◌, Some, codes}
 use Rattle.std.specs.Str.{str_eq_ignore_ascii_case}
-use Rattle.mur_model.specs.declared.need.Need.{Need}
-use Rattle.mur_model.specs.declared.need.Need.TheVariants.{Turned}
+use Rattle.mur_model.specs.Needed.{Needed, Turned}
 use Rattle.imap_types.specs.declared.reply.Bye.TheVariants.{Logout as bye}
 use Rattle.imap_types.specs.declared.reply.Code.TheVariants.{None as no_code}
 use Rattle.imap_types.specs.declared.reply.ReplyLine.{ReplyLine}
@@ -17,15 +16,15 @@ abbrev pub told_at_once : ReplyLine → List ℕ → Turn
 told_at_once line name = replied (record { lines = line ∷ []; verdict = ok_reply no_code name })
 
 -- CAPABILITY (RFC 9051, 6.1.1)
-abbrev pub capability : Need
+abbrev pub capability : Needed
 capability = Turned (told_at_once Capability (codes "CAPABILITY"))
 
 -- LOGOUT (RFC 9051, 6.1.3): a BYE stands before the tagged line, and behind that the session has ended
-abbrev pub logout : Need
+abbrev pub logout : Needed
 logout = Turned (record (told_at_once (Bye bye) (codes "LOGOUT")) { session = Some Ended })
 
 -- ENABLE (RFC 9051, 6.3.1): no capability can be enabled, and names that aren't known are passed over
-abbrev pub enable : Need
+abbrev pub enable : Needed
 enable = Turned (told_at_once Enabled (codes "ENABLE"))
 
 -- the line that ends an IDLE: DONE in any case (RFC 9051, 6.3.13)

@@ -9,9 +9,7 @@ use Rattle.mur_base.specs.Ascii.{dot}
 use Rattle.mur_base.specs.Inbox.{taken_name}
 use Rattle.mur_base.specs.Names.{mail_name_fault}
 use Rattle.mur_base.specs.declared.name.NameFault.{NameFault}
-use Rattle.mur_model.specs.declared.need.Need.{Need}
-use Rattle.mur_model.specs.declared.need.Need.TheVariants.{Refusal, Mailbox}
-use Rattle.mur_model.specs.declared.need.Work.TheVariants.{Make}
+use Rattle.mur_model.specs.Needed.{Needed, Refusal, Mailbox, Make}
 use Rattle.imap_types.specs.declared.reply.NoText.TheVariants.{AlreadyExists, NonExistent, NoPerm, Cannot, Limit}
 use Rattle.imap_types.specs.declared.reply.Verdict.TheVariants.{No as no_reply}
 use Rattle.mur_model.specs.declared.setting.Setting.{Setting}
@@ -27,21 +25,21 @@ unfoldable pub is_inbox : List ℕ → Bool
 is_inbox text = str_eq_ignore_ascii_case text (codes "inbox")
 
 -- by whether the user may make it
-unfoldable pub create_by : List ℕ → Bool → Need
+unfoldable pub create_by : List ℕ → Bool → Needed
 create_by name true = Mailbox name Make
 create_by name false = Refusal (no_reply NoPerm)
 
 -- by whether the text is INBOX, and by the rule of names that the name breaks
-unfoldable pub create_as : Setting → List ℕ → List ℕ → Bool → Option NameFault → Need
+unfoldable pub create_as : Setting → List ℕ → List ℕ → Bool → Option NameFault → Needed
 create_as setting user name true fault = Refusal (no_reply Cannot)
 create_as setting user name false (Some fault) = Refusal (no_reply NonExistent)
 create_as setting user name false None = create_by name (may_create setting.users user name)
 
-unfoldable pub create_meant : Setting → List ℕ → List ℕ → Need
+unfoldable pub create_meant : Setting → List ℕ → List ℕ → Needed
 create_meant setting user text =
     create_as setting user (taken_name user text) (is_inbox text) (mail_name_fault (taken_name user text))
 
-unfoldable pub create : Setting → List ℕ → List ℕ → Need
+unfoldable pub create : Setting → List ℕ → List ℕ → Needed
 create setting user text = create_meant setting user (without_separator text)
 
 -- the mailbox is made, unless no UIDVALIDITY is left

@@ -4,23 +4,22 @@ use Rattle.mail_message.specs.Boxes.{Content}
 use Rattle.mail_message.specs.declared.message.Row.{Row}
 use Rattle.mail_message.specs.declared.set.SetPart.{SetPart}
 use Rattle.mail_store.specs.Expunge.{expunged}
-use Rattle.mur_model.specs.declared.need.Need.{Need}
-use Rattle.mur_model.specs.declared.need.ViewWork.TheVariants as work
+use Rattle.mur_model.specs.Needed.{Needed, at_mailbox, read_only}
+use Rattle.mur_model.specs.declared.work.ViewWork.TheVariants as work
 use Rattle.imap_types.specs.declared.reply.Code.TheVariants.{None as no_code}
 use Rattle.imap_types.specs.declared.reply.Verdict.TheVariants.{Ok as ok_reply}
 use Rattle.mur_model.specs.declared.session.Turn.{Turn}
 use Rattle.mur_model.specs.declared.view.View.{View}
 use Rattle.mur_model.specs.Left.{Worked, changed}
 use Rattle.mur_model.specs.NamedRows.{named_uids}
-use Rattle.mur_model.specs.Need.{at_mailbox, read_only}
 use Rattle.mur_model.specs.News.{news}
 use Rattle.mur_model.specs.Selected.{rows_of, with_news}
 
-abbrev pub expunge_named : View → Option (List SetPart) → Need
+abbrev pub expunge_named : View → Option (List SetPart) → Needed
 expunge_named view None = at_mailbox view (work.Expunge None)
 expunge_named view (Some set) = at_mailbox view (work.Expunge (Some (named_uids true set view.rows)))
 
-abbrev pub expunge : View → Option (List SetPart) → Need
+abbrev pub expunge : View → Option (List SetPart) → Needed
 expunge view only = if view.is_writable then expunge_named view only else read_only
 
 abbrev pub expunge_name : Option (List ℕ) → List ℕ

@@ -18,8 +18,8 @@ use Rattle.mail_message.specs.declared.system_flags.SystemFlag.TheVariants.{Seen
 use Rattle.mail_store.specs.Named.{set_of}
 use Rattle.mail_store.specs.Store.{stored}
 use Rattle.mur_model.specs.declared.fetch.Fetching.{Fetching}
-use Rattle.mur_model.specs.declared.need.Need.{Need}
-use Rattle.mur_model.specs.declared.need.ViewWork.TheVariants as work
+use Rattle.mur_model.specs.Needed.{Needed, at_mailbox, no_such_number}
+use Rattle.mur_model.specs.declared.work.ViewWork.TheVariants as work
 use Rattle.imap_types.specs.declared.reply.ReplyLine.{ReplyLine}
 use Rattle.imap_types.specs.declared.reply.ReplyLine.TheVariants.{Fetch}
 use Rattle.imap_types.specs.declared.reply.Verdict.TheVariants.{Ok as ok_reply}
@@ -27,7 +27,6 @@ use Rattle.mur_model.specs.declared.session.Turn.{Turn}
 use Rattle.mur_model.specs.declared.view.View.{View}
 use Rattle.mur_model.specs.Left.{Worked, kept, changed}
 use Rattle.mur_model.specs.NamedRows.{named_uids, names_messages}
-use Rattle.mur_model.specs.Need.{at_mailbox, no_such_number}
 use Rattle.mur_model.specs.News.{news}
 use Rattle.mur_model.specs.SameFlags.{is_same_flags}
 use Rattle.mur_model.specs.Selected.{rows_of, with_news}
@@ -54,11 +53,11 @@ abbrev pub each_once : List Item → List Item → List Item
 each_once told [] = told
 each_once told (it ∷ items) = each_once (if list_any (same_item it) told then told else told ++ it ∷ []) items
 
-abbrev pub fetch_named : View → Bool → List SetPart → List Item → Need
+abbrev pub fetch_named : View → Bool → List SetPart → List Item → Needed
 fetch_named view by_uid set items =
     at_mailbox view (work.Fetch (record { by_uid = by_uid; uids = named_uids by_uid set view.rows; items = each_once [] items }))
 
-abbrev pub fetch : View → Bool → List SetPart → List Item → Need
+abbrev pub fetch : View → Bool → List SetPart → List Item → Needed
 fetch view by_uid set items = if names_messages view by_uid set then fetch_named view by_uid set items else no_such_number
 
 abbrev pub fetch_name : Bool → List ℕ
@@ -70,9 +69,9 @@ abbrev pub is_body : Item → Bool
 is_body (item.Body partial) = true
 is_body it = false
 
-abbrev pub is_uid : Item → Bool
-is_uid item.Uid = true
-is_uid it = false
+abbrev pub is_uid_item : Item → Bool
+is_uid_item item.Uid = true
+is_uid_item it = false
 
 abbrev pub is_flags : Item → Bool
 is_flags item.Flags = true
@@ -82,7 +81,7 @@ is_flags it = false
 -- for (RFC 9051, 6.4.9 and 7.5.2).
 abbrev pub items_told : Fetching → Bool → List Item
 items_told it changes =
-    (if it.by_uid && not (list_any is_uid it.items) then item.Uid ∷ [] else []) ++ it.items
+    (if it.by_uid && not (list_any is_uid_item it.items) then item.Uid ∷ [] else []) ++ it.items
     ++ (if changes && not (list_any is_flags it.items) then item.Flags ∷ [] else [])
 
 -- the number of a message in a view, whose first has the number 1
@@ -90,16 +89,16 @@ abbrev pub number_in : List Row → ℕ → Option ℕ
 number_in rows uid = option_map (λ place. place + 1) (position_from (is_row_of uid) 0 rows)
 
 -- the line of a message that had these flags before and has others now
-abbrev pub fetch_line : Fetching → Message → Option ℕ → Option Row → List ReplyLine
-fetch_line it message (Some number) (Some row) =
+abbrev pub fetch_reply_line : Fetching → Message → Option ℕ → Option Row → List ReplyLine
+fetch_reply_line it message (Some number) (Some row) =
     Fetch number (map (λ asked. part_text asked (relabelled message row.flags)) (items_told it (not (is_same_flags message.flags row.flags)))) ∷ []
-fetch_line it message number row = []
+fetch_reply_line it message number row = []
 
 -- a line for each message, under its number in the view
 abbrev pub fetch_lines : Fetching → List Row → List Row → List Message → List ReplyLine
 fetch_lines it rows now [] = []
 fetch_lines it rows now (message ∷ before) =
-    fetch_line it message (number_in rows message.uid) (row_at now message.uid) ++ fetch_lines it rows now before
+    fetch_reply_line it message (number_in rows message.uid) (row_at now message.uid) ++ fetch_lines it rows now before
 
 -- the flags of a message are told in its line
 abbrev pub tells_flags : Fetching → Message → Option Row → Bool

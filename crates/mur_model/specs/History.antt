@@ -40,8 +40,8 @@ unfoldable pub with_session : (ℕ → Sess) → ℕ → Sess → ℕ → Sess
 with_session sessions conn session other = if other == conn then session else sessions other
 
 -- what a request of a connection leaves
-abbrev pub after : Course → ℕ → Answered → Course
-after course conn answered = record { store = answered.store; sessions = with_session course.sessions conn answered.session }
+abbrev pub course_after : Course → ℕ → Answered → Course
+course_after course conn answered = record { store = answered.store; sessions = with_session course.sessions conn answered.session }
 
 -- a request of a connection, carried out with this UIDVALIDITY
 abbrev pub carried_out : Setting → Course → ℕ → Request → ℕ → Answered
@@ -68,19 +68,19 @@ pub data Follows (setting : Setting) (talk : Talk) : Course → List Point → C
   a_reply : (course last : Course) (step conn number : ℕ) (request : Request) (serial : ℕ) (points : List Point)
       → Takes setting talk course conn number request serial
       → numbered (talk.answers conn) number ≡ Some (carried_out setting course conn request serial).answer
-      → Follows setting talk (after course conn (carried_out setting course conn request serial)) points last
+      → Follows setting talk (course_after course conn (carried_out setting course conn request serial)) points last
       → Follows setting talk course (point_of step conn number replied ∷ points) last
   a_loss : (course last : Course) (step conn number : ℕ) (request : Request) (serial : ℕ) (points : List Point)
       → Takes setting talk course conn number request serial
-      → Follows setting talk (after course conn (carried_out setting course conn request serial)) points last
+      → Follows setting talk (course_after course conn (carried_out setting course conn request serial)) points last
       → Follows setting talk course (point_of step conn number lost ∷ points) last
 
 -- `reply` and both kinds of `refused` answer their command
-unfoldable pub answers : What → Bool
-answers replied = true
-answers reserved = true
-answers (unreached node) = true
-answers _ = false
+unfoldable pub answers_its_command : What → Bool
+answers_its_command replied = true
+answers_its_command reserved = true
+answers_its_command (unreached node) = true
+answers_its_command _ = false
 
 unfoldable pub loses : What → Bool
 loses lost = true
@@ -95,8 +95,8 @@ abbrev pub is_about : (What → Bool) → ℕ → ℕ → Point → Bool
 is_about kind conn number point = kind point.what && (point.ask.conn == conn) && (point.ask.command == number)
 
 -- two points of one connection stand in the order of their commands
-abbrev pub IsInOrder : Point → Point → Type 0
-IsInOrder earlier later = earlier.ask.conn ≡ later.ask.conn → earlier.ask.command ≤ later.ask.command
+abbrev pub IsInCommandOrder : Point → Point → Type 0
+IsInCommandOrder earlier later = earlier.ask.conn ≡ later.ask.conn → earlier.ask.command ≤ later.ask.command
 
 -- no point of a connection stands behind one of its losses
 abbrev pub EndsAtLoss : Point → Point → Type 0
@@ -111,7 +111,7 @@ pub record IsLegal (setting : Setting) (first : Course) (talk : Talk) (points : 
   -- each answer is that of its point's step, and each new UIDVALIDITY is free
   pub follows : Follows setting talk first points last
   -- an answered command has exactly one point that answers it
-  pub answered_once : (conn number : ℕ) → 0 < number → number ≤ length (talk.answers conn) → count_by (is_about answers conn number) points ≡ 1
+  pub answered_once : (conn number : ℕ) → 0 < number → number ≤ length (talk.answers conn) → count_by (is_about answers_its_command conn number) points ≡ 1
   -- a lost command was never answered, has at most one point, and its connection has none behind it: its session has ended
   pub lost_unanswered : All (IsUnanswered talk) points
   pub lost_once : (conn number : ℕ) → count_by (is_about loses conn number) points ≤ 1
@@ -119,4 +119,4 @@ pub record IsLegal (setting : Setting) (first : Course) (talk : Talk) (points : 
   -- a `read` belongs to a command that appends later what was read, and no command does
   pub never_read : All (λ (point : Point). reads point.what ≡ false) points
   -- the points of one connection stand in the order of its commands
-  pub in_order : AllPairs IsInOrder points
+  pub in_order : AllPairs IsInCommandOrder points

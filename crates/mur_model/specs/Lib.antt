@@ -15,7 +15,7 @@ pub mod SameFlags
 pub mod News
 pub mod ClientView
 pub mod Selected
-pub mod Need
+pub mod Needed
 pub mod NamedRows
 pub mod Noop
 pub mod Close
@@ -28,3 +28,6 @@ pub mod Fetch
 pub mod FetchRows
 pub mod SearchRows
 pub mod Viewing
+pub mod Asking
+pub mod Need
+pub mod Acting

@@ -2,8 +2,7 @@
 use Rattle.std.specs.Prelude.{ℕ, List, Bool, true, false, Option, None, Some}
 use Rattle.std.specs.Str.{bytes_eq}
 use Rattle.mur_base.specs.declared.user.User.{User}
-use Rattle.mur_model.specs.declared.need.Need.{Need}
-use Rattle.mur_model.specs.declared.need.Need.TheVariants.{Refusal, Turned}
+use Rattle.mur_model.specs.Needed.{Needed, Refusal, Turned}
 use Rattle.imap_types.specs.declared.reply.NoText.TheVariants.{AuthenticationFailed}
 use Rattle.imap_types.specs.declared.reply.Verdict.TheVariants.{No as no_reply}
 use Rattle.mur_model.specs.declared.session.Sess.TheVariants.{In}
@@ -15,17 +14,17 @@ use Rattle.mur_model.specs.Rights.{user_named}
 abbrev pub begun_by : List ℕ → List ℕ → Turn
 begun_by command user = record { session = Some (In user); reply = completed command }
 
-abbrev pub login_failed : Need
+abbrev pub login_failed : Needed
 login_failed = Refusal (no_reply AuthenticationFailed)
 
-unfoldable pub login_by : List ℕ → List ℕ → Bool → Need
+unfoldable pub login_by : List ℕ → List ℕ → Bool → Needed
 login_by command user true = Turned (begun_by command user)
 login_by command user false = login_failed
 
-unfoldable pub login_as : List ℕ → Option User → List ℕ → Need
+unfoldable pub login_as : List ℕ → Option User → List ℕ → Needed
 login_as command None password = login_failed
 login_as command (Some user) password = login_by command user.name (bytes_eq user.password password)
 
 -- by the command of this name
-unfoldable pub login : List User → List ℕ → List ℕ → List ℕ → Need
+unfoldable pub login : List User → List ℕ → List ℕ → List ℕ → Needed
 login users command user password = login_as command (user_named users user) password

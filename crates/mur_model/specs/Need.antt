@@ -1,21 +1,22 @@
--- What a command of a selected session needs (RFC 9051, 6.4): work at the mailbox of its view, or it is refused.
+-- What a session needs of its frontend: a reply is given, and with it the session goes on or has ended (RFC 9051, 3.4); or a home is asked.
+use Rattle.std.specs.Prelude.{Option, None, Some}
+use Rattle.imap_types.specs.declared.reply.Reply.{Reply as ReplyOf}
+use Rattle.imap_types.specs.Reply.{reply_of}
+use Rattle.mur_model.specs.declared.need.Begun.{Begun}
 use Rattle.mur_model.specs.declared.need.Need.{Need}
-use Rattle.mur_model.specs.declared.need.Need.TheVariants.{Refusal, Mailbox}
-use Rattle.mur_model.specs.declared.need.ViewWork.{ViewWork}
-use Rattle.mur_model.specs.declared.need.Work.TheVariants.{Viewed}
-use Rattle.imap_types.specs.declared.reply.BadText.TheVariants.{Message}
-use Rattle.imap_types.specs.declared.reply.NoText.TheVariants.{Cannot}
-use Rattle.imap_types.specs.declared.reply.Verdict.TheVariants.{No as no_reply, Bad as bad_reply}
-use Rattle.mur_model.specs.declared.view.View.{View}
+use Rattle.mur_model.specs.declared.need.Need.TheVariants.{Reply, Leave, Home}
+use Rattle.mur_model.specs.declared.session.Sess.{Sess}
+use Rattle.mur_model.specs.declared.session.Sess.TheVariants.{Ended}
+use Rattle.mur_model.specs.Asking.{asked_for}
+use Rattle.mur_model.specs.Needed.{Needed, Refusal, Turned, Mailbox}
 
--- work at the mailbox of a view
-abbrev pub at_mailbox : View → ViewWork → Need
-at_mailbox view it = Mailbox view.name (Viewed view it)
+-- a reply, and the session behind it where that is another
+unfoldable pub told_with : ReplyOf → Option Sess → Begun
+told_with reply (Some Ended) = record { session = Some Ended; need = Leave reply }
+told_with reply later = record { session = later; need = Reply reply }
 
--- the refusal of a number that no message has
-abbrev pub no_such_number : Need
-no_such_number = Refusal (bad_reply Message)
-
--- the refusal of a change where the mailbox was selected to be read
-abbrev pub read_only : Need
-read_only = Refusal (no_reply Cannot)
+-- by what the command needs of the store
+unfoldable pub begun_of : Needed → Begun
+begun_of (Refusal verdict) = record { session = None; need = Reply (reply_of verdict) }
+begun_of (Turned turn) = told_with turn.reply turn.session
+begun_of (Mailbox name work) = record { session = None; need = Home name (asked_for name work) }

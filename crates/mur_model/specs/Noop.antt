@@ -2,8 +2,8 @@
 use Rattle.std.specs.Prelude.{ℕ, true, List, [], codes}
 use Rattle.mail_message.specs.Boxes.{Content}
 use Rattle.mail_message.specs.declared.message.Row.{Row}
-use Rattle.mur_model.specs.declared.need.NewsFor.{NewsFor}
-use Rattle.mur_model.specs.declared.need.NewsFor.TheVariants as news_for
+use Rattle.mur_model.specs.declared.work.NewsFor.{NewsFor}
+use Rattle.mur_model.specs.declared.work.NewsFor.TheVariants as news_for
 use Rattle.imap_types.specs.declared.reply.Code.TheVariants.{None as no_code}
 use Rattle.imap_types.specs.declared.reply.Verdict.TheVariants.{Ok as ok_reply}
 use Rattle.mur_model.specs.declared.session.Turn.{Turn}

@@ -6,8 +6,7 @@ use Rattle.base64.specs.Engines.{standard}
 use Rattle.base64.specs.GeneralPurpose.{decode_of}
 use Rattle.mur_base.specs.Ascii.{nul}
 use Rattle.mur_base.specs.declared.user.User.{User}
-use Rattle.mur_model.specs.declared.need.Need.{Need}
-use Rattle.mur_model.specs.declared.need.Need.TheVariants.{Refusal}
+use Rattle.mur_model.specs.Needed.{Needed, Refusal}
 use Rattle.imap_types.specs.declared.reply.BadText.TheVariants.{Syntax}
 use Rattle.imap_types.specs.declared.reply.Verdict.TheVariants.{Bad as bad_reply}
 use Rattle.mur_model.specs.Login.{login, login_failed}
@@ -31,21 +30,21 @@ cut_at_nul text = cut_at text (position is_nul text)
 abbrev pub acts_as : List ℕ → List ℕ → Bool
 acts_as authzid user = length authzid == 0 || bytes_eq authzid user
 
-unfoldable pub authenticate_by : List User → List ℕ → Option (List ℕ × List ℕ) → Need
+unfoldable pub authenticate_by : List User → List ℕ → Option (List ℕ × List ℕ) → Needed
 authenticate_by users authzid None = login_failed
 authenticate_by users authzid (Some (user, password)) =
     if acts_as authzid user then login users (codes "AUTHENTICATE") user password else login_failed
 
 -- message = [authzid] NUL authcid NUL passwd (RFC 4616, 2)
-unfoldable pub authenticate_as : List User → Option (List ℕ × List ℕ) → Need
+unfoldable pub authenticate_as : List User → Option (List ℕ × List ℕ) → Needed
 authenticate_as users None = login_failed
 authenticate_as users (Some (authzid, rest)) = authenticate_by users authzid (cut_at_nul rest)
 
-unfoldable pub authenticate_with : List User → Option (List ℕ) → Need
+unfoldable pub authenticate_with : List User → Option (List ℕ) → Needed
 authenticate_with users None = login_failed
 authenticate_with users (Some message) = authenticate_as users (cut_at_nul message)
 
 -- a line `*` ends the exchange (RFC 9051, 6.2.2)
-unfoldable pub authenticate : List User → List ℕ → Need
+unfoldable pub authenticate : List User → List ℕ → Needed
 authenticate users response =
     if bytes_eq response (codes "*") then Refusal (bad_reply Syntax) else authenticate_with users (decoded response)

@@ -5,8 +5,8 @@ use Rattle.mail_message.specs.declared.key.Key.{Key}
 use Rattle.mail_message.specs.declared.message.Message.{Message}
 use Rattle.mail_message.specs.declared.message.Row.{Row}
 use Rattle.mail_search.specs.Search.{found}
-use Rattle.mur_model.specs.declared.need.Need.{Need}
-use Rattle.mur_model.specs.declared.need.ViewWork.TheVariants as work
+use Rattle.mur_model.specs.Needed.{Needed, at_mailbox, no_such_number}
+use Rattle.mur_model.specs.declared.work.ViewWork.TheVariants as work
 use Rattle.imap_types.specs.declared.reply.ReplyLine.{ReplyLine}
 use Rattle.imap_types.specs.declared.reply.ReplyLine.TheVariants.{Search}
 use Rattle.imap_types.specs.declared.reply.Verdict.TheVariants.{Ok as ok_reply}
@@ -18,13 +18,12 @@ use Rattle.mur_model.specs.Fetch.{number_in}
 use Rattle.mur_model.specs.Keys.{have_all_numbers, keys_at}
 use Rattle.mur_model.specs.Left.{Worked, kept}
 use Rattle.mur_model.specs.NamedRows.{last_uid}
-use Rattle.mur_model.specs.Need.{at_mailbox, no_such_number}
 use Rattle.mur_model.specs.News.{news}
 use Rattle.mur_model.specs.Selected.{rows_of, with_news}
 use Rattle.mur_model.specs.StoreFlags.{code_for}
 
 -- each sequence number in the keys of a SEARCH is a message's, in a UID SEARCH too; `*` is the last one
-abbrev pub search : View → Bool → List Key → Need
+abbrev pub search : View → Bool → List Key → Needed
 search view by_uid keys =
     if have_all_numbers (length view.rows) keys
     then at_mailbox view (work.Search (record { by_uid = by_uid; keys = keys_at (length view.rows) (last_uid view.rows) keys }))
@@ -52,13 +51,13 @@ numbers_told true rows uids = uids
 numbers_told false rows uids = map (λ uid. number_at rows uid) uids
 
 -- the line of what was found among messages of a view
-abbrev pub search_line : Searching → List Row → List Message → ReplyLine
-search_line it rows messages = Search it.by_uid (numbers_told it.by_uid rows (found_uids it rows messages))
+abbrev pub search_reply_line : Searching → List Row → List Message → ReplyLine
+search_reply_line it rows messages = Search it.by_uid (numbers_told it.by_uid rows (found_uids it rows messages))
 
 -- what is told where these messages of the view are there, and the mailbox has those rows now
 abbrev pub search_told : View → Searching → List Message → List Row → Turn
 search_told view it messages now =
-    with_news view (search_line it view.rows messages ∷ []) (news view.rows now it.by_uid [])
+    with_news view (search_reply_line it view.rows messages ∷ []) (news view.rows now it.by_uid [])
     (ok_reply (code_for it.by_uid now (uids view.rows)) (search_name it.by_uid))
 
 abbrev pub search_at : View → Searching → Content → Worked

@@ -38,13 +38,13 @@ abbrev pub no_date : List ℕ
 no_date = codes " 1-Jan-1970 00:00:00 +0000"
 
 -- a message of which the row alone is known
-abbrev pub bare : Row → Message
-bare row = record { uid = row.uid; flags = row.flags; date = no_date; body = [] }
+abbrev pub bare_message : Row → Message
+bare_message row = record { uid = row.uid; flags = row.flags; date = no_date; body = [] }
 
 -- for each UID in its turn such a message, if its row is there
 abbrev pub bare_at : List Row → List ℕ → List Message
 bare_at rows [] = []
-bare_at rows (uid ∷ uids) = option_to_list (option_map bare (row_at rows uid)) ++ bare_at rows uids
+bare_at rows (uid ∷ uids) = option_to_list (option_map bare_message (row_at rows uid)) ++ bare_at rows uids
 
 -- what is told where a mailbox has these rows now
 abbrev pub rows_searched : View → Searching → List Row → Turn

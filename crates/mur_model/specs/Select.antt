@@ -11,9 +11,7 @@ use Rattle.mail_message.specs.declared.system_flags.SystemFlag.TheVariants.{Answ
 use Rattle.mur_base.specs.Inbox.{taken_name, shown_name}
 use Rattle.mur_base.specs.Names.{mail_name_fault}
 use Rattle.mur_base.specs.declared.name.NameFault.{NameFault}
-use Rattle.mur_model.specs.declared.need.Need.{Need}
-use Rattle.mur_model.specs.declared.need.Need.TheVariants.{Turned, Mailbox}
-use Rattle.mur_model.specs.declared.need.Work.TheVariants.{Select as select_work}
+use Rattle.mur_model.specs.Needed.{Needed, Turned, Mailbox, Select as select_work}
 use Rattle.imap_types.specs.declared.reply.Attribute.TheVariants.{None as no_attribute}
 use Rattle.imap_types.specs.declared.reply.Code.{Code}
 use Rattle.imap_types.specs.declared.reply.Code.TheVariants.{ReadOnly, ReadWrite}
@@ -58,14 +56,14 @@ abbrev pub flags_of : List (List ℕ) → List FlagName
 flags_of keywords = system_flags ++ map Keyword keywords
 
 -- the flags that the client can change for good, and whether it can make keywords (RFC 9051, 7.1: PERMANENTFLAGS)
-abbrev pub permanent_line : Bool → List (List ℕ) → ReplyLine
-permanent_line true keywords = Permanent (flags_of keywords) true
-permanent_line false keywords = Permanent [] false
+abbrev pub permanent_reply_line : Bool → List (List ℕ) → ReplyLine
+permanent_reply_line true keywords = Permanent (flags_of keywords) true
+permanent_reply_line false keywords = Permanent [] false
 
 abbrev pub select_lines : Opening → Snapshot → List ReplyLine
 select_lines it seen =
     closed_lines it.was_selected ++ Flags (flags_of (keywords_in seen.rows)) ∷ Exists (length seen.rows) ∷ Listed no_attribute it.shown
-    ∷ permanent_line it.is_writable (keywords_in seen.rows) ∷ UidNext seen.next ∷ UidValidity seen.serial ∷ []
+    ∷ permanent_reply_line it.is_writable (keywords_in seen.rows) ∷ UidNext seen.next ∷ UidValidity seen.serial ∷ []
 
 abbrev pub access_code : Bool → Code
 access_code true = ReadWrite
@@ -82,20 +80,20 @@ select_told it name seen = record {
   reply = record { lines = select_lines it seen; verdict = ok_reply (access_code it.is_writable) (select_name it.is_writable) };
 }
 
-unfoldable pub select_by : List ℕ → Opening → Bool → Need
+unfoldable pub select_by : List ℕ → Opening → Bool → Needed
 select_by name it true = Mailbox name (select_work it)
 select_by name it false = Turned (unselected it.user it.was_selected NoPerm)
 
 abbrev pub opening : List ℕ → List ℕ → Bool → Bool → Opening
 opening user name is_writable was_selected = record { user = user; shown = shown_name user name; is_writable = is_writable; was_selected = was_selected }
 
-unfoldable pub select_as : Setting → List ℕ → List ℕ → Bool → Bool → Option NameFault → Need
+unfoldable pub select_as : Setting → List ℕ → List ℕ → Bool → Bool → Option NameFault → Needed
 select_as setting user name is_writable was_selected (Some fault) = Turned (unselected user was_selected NonExistent)
 select_as setting user name is_writable was_selected None =
     select_by name (opening user name is_writable was_selected) (has_rights setting.users user name)
 
 -- what a SELECT or an EXAMINE of a text needs
-unfoldable pub select : Setting → List ℕ → List ℕ → Bool → Bool → Need
+unfoldable pub select : Setting → List ℕ → List ℕ → Bool → Bool → Needed
 select setting user text is_writable was_selected =
     select_as setting user (taken_name user text) is_writable was_selected (mail_name_fault (taken_name user text))
 

@@ -8,9 +8,7 @@ use Rattle.mur_base.specs.Names.{mail_name_fault}
 use Rattle.mur_base.specs.declared.name.NameFault.{NameFault}
 use Rattle.imap_types.specs.declared.command.StatusItem.{StatusItem}
 use Rattle.imap_types.specs.declared.command.StatusItem.TheVariants.{Messages, UidNext, UidValidity, Unseen, Deleted, Size}
-use Rattle.mur_model.specs.declared.need.Need.{Need}
-use Rattle.mur_model.specs.declared.need.Need.TheVariants.{Refusal, Mailbox}
-use Rattle.mur_model.specs.declared.need.Work.TheVariants.{Status as status_work}
+use Rattle.mur_model.specs.Needed.{Needed, Refusal, Mailbox, Status as status_work}
 use Rattle.imap_types.specs.declared.reply.Code.TheVariants.{None as no_code}
 use Rattle.imap_types.specs.declared.reply.NoText.TheVariants.{NonExistent, NoPerm}
 use Rattle.imap_types.specs.declared.reply.Reply.{Reply}
@@ -22,15 +20,15 @@ use Rattle.mur_model.specs.Left.{Worked, replied, kept}
 use Rattle.imap_types.specs.Reply.{refused}
 use Rattle.mur_model.specs.Rights.{has_rights}
 
-unfoldable pub status_by : List ℕ → List ℕ → List StatusItem → Bool → Need
+unfoldable pub status_by : List ℕ → List ℕ → List StatusItem → Bool → Needed
 status_by user name items true = Mailbox name (status_work (shown_name user name) items)
 status_by user name items false = Refusal (no_reply NoPerm)
 
-unfoldable pub status_as : Setting → List ℕ → List ℕ → List StatusItem → Option NameFault → Need
+unfoldable pub status_as : Setting → List ℕ → List ℕ → List StatusItem → Option NameFault → Needed
 status_as setting user name items (Some fault) = Refusal (no_reply NonExistent)
 status_as setting user name items None = status_by user name items (has_rights setting.users user name)
 
-unfoldable pub status : Setting → List ℕ → List ℕ → List StatusItem → Need
+unfoldable pub status : Setting → List ℕ → List ℕ → List StatusItem → Needed
 status setting user text items = status_as setting user (taken_name user text) items (mail_name_fault (taken_name user text))
 
 -- how many messages don't have \Seen, and how many have \Deleted

@@ -9,8 +9,8 @@ use Rattle.mail_message.specs.declared.mode.Mode.{Mode}
 use Rattle.mail_message.specs.declared.set.SetPart.{SetPart}
 use Rattle.mail_store.specs.Named.{set_of}
 use Rattle.mail_store.specs.Store.{stored, rows_stored, has_too_many_flags}
-use Rattle.mur_model.specs.declared.need.Need.{Need}
-use Rattle.mur_model.specs.declared.need.ViewWork.TheVariants as work
+use Rattle.mur_model.specs.Needed.{Needed, at_mailbox, no_such_number, read_only}
+use Rattle.mur_model.specs.declared.work.ViewWork.TheVariants as work
 use Rattle.imap_types.specs.declared.reply.Code.{Code}
 use Rattle.imap_types.specs.declared.reply.Code.TheVariants.{None as no_code, ExpungeIssued}
 use Rattle.imap_types.specs.declared.reply.NoText.TheVariants.{Limit}
@@ -23,15 +23,14 @@ use Rattle.mur_model.specs.declared.view.View.{View}
 use Rattle.mur_model.specs.ClientView.{uids}
 use Rattle.mur_model.specs.Left.{Worked, kept, changed}
 use Rattle.mur_model.specs.NamedRows.{named_uids, names_messages}
-use Rattle.mur_model.specs.Need.{at_mailbox, no_such_number, read_only}
 use Rattle.mur_model.specs.News.{news, has_row, flag_parts}
 use Rattle.mur_model.specs.Selected.{rows_of, with_news}
 
-abbrev pub store_named : View → Bool → List SetPart → Mode → Bool → Flags → Need
+abbrev pub store_named : View → Bool → List SetPart → Mode → Bool → Flags → Needed
 store_named view by_uid set mode is_silent flags =
     at_mailbox view (work.Store (record { by_uid = by_uid; uids = named_uids by_uid set view.rows; mode = mode; is_silent = is_silent; flags = flags }))
 
-abbrev pub store : View → Bool → List SetPart → Mode → Bool → Flags → Need
+abbrev pub store : View → Bool → List SetPart → Mode → Bool → Flags → Needed
 store view by_uid set mode is_silent flags =
     if names_messages view by_uid set
     then if view.is_writable then store_named view by_uid set mode is_silent flags else read_only

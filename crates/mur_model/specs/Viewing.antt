@@ -1,8 +1,8 @@
 -- The commands of a selected session (RFC 9051, 6.4) at its mailbox.
 use Rattle.std.specs.Prelude.{◌==◌, if◌then◌else◌, Option, None, Some}
 use Rattle.mail_message.specs.Boxes.{Content}
-use Rattle.mur_model.specs.declared.need.ViewWork.{ViewWork}
-use Rattle.mur_model.specs.declared.need.ViewWork.TheVariants as work
+use Rattle.mur_model.specs.declared.work.ViewWork.{ViewWork}
+use Rattle.mur_model.specs.declared.work.ViewWork.TheVariants as work
 use Rattle.mur_model.specs.declared.view.View.{View}
 use Rattle.mur_model.specs.Close.{close_at}
 use Rattle.mur_model.specs.Expunge.{expunge_at}

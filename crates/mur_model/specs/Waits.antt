@@ -2,8 +2,7 @@
 use Rattle.std.specs.Prelude.{ℕ, Bool, true, false, ◌||◌, List, Option, None, Some, codes}
 use Rattle.imap_types.specs.declared.command.Command.{Command}
 use Rattle.imap_types.specs.declared.command.Command.TheVariants.{Authenticate, Idle, Login}
-use Rattle.mur_model.specs.declared.need.Need.{Need}
-use Rattle.mur_model.specs.declared.need.Need.TheVariants.{Turned}
+use Rattle.mur_model.specs.Needed.{Needed, Turned}
 use Rattle.mur_model.specs.declared.session.Sess.{Sess}
 use Rattle.mur_model.specs.declared.session.Sess.TheVariants.{In}
 use Rattle.mur_model.specs.declared.setting.Setting.{Setting}
@@ -28,12 +27,12 @@ wait_of false (Authenticate None) = Some response
 wait_of true (Idle None) = Some done
 wait_of begun it = None
 
-unfoldable pub begins_with : Option Sess → Bool
-begins_with (Some (In user)) = true
-begins_with session = false
+unfoldable pub begins_session : Option Sess → Bool
+begins_session (Some (In user)) = true
+begins_session session = false
 
-unfoldable pub begins_by : Need → Bool
-begins_by (Turned turn) = begins_with turn.session
+unfoldable pub begins_by : Needed → Bool
+begins_by (Turned turn) = begins_session turn.session
 begins_by need = false
 
 -- whether a session begins with a command, where none had begun (RFC 9051, 3.1)

@@ -1,24 +1,28 @@
 // The store as it can be run: one command at a time, on one store.
-ghost use Rattle.std.specs.Prelude.{◌≡◌, IfOk};
+ghost use Rattle.std.specs.Prelude.{◌≡◌, ℕ, IfOk, IfSome, IsSome};
 ghost use Rattle.mur_model.specs.Act.{worked_at, act_by, act_of, session_after};
-ghost use Rattle.mur_model.specs.Left.{replied, store_after};
+ghost use Rattle.mur_model.specs.Asking.{HasWork, appended_for, viewed_for, work_for};
+ghost use Rattle.mur_model.specs.Acting.{IsActed, IsWorked};
+ghost use Rattle.mur_model.specs.Left.{replied};
+ghost use Rattle.mur_model.specs.Needed.{Mailbox};
 
 use crate::append::append_at;
+use crate::beginning::begin;
 use crate::create::make;
-use crate::need::{Need, Work, begin};
+use crate::need::{Asking, Awaited, Begun, Need};
 use crate::select::select_at;
 use crate::session::{Sess, Turn};
 use crate::setting::Setting;
 use crate::status::status_at;
 use crate::store::Store;
 use crate::viewing::viewed_at;
-use imap_types::{Command, Reply, ReplyLines};
+use crate::work::ViewWork;
+use imap_types::{Command, Op, Reply};
 use mur_base::{MailName, Memory};
 use std::alloc::Global;
 
 /// Carries out one command on the store and gives its reply (RFC 9051, 6). A mailbox that is made gets the serial as
 /// its UIDVALIDITY; a history is legal only where that was free. A message isn't copied. For want of memory nothing is said of store and session.
-#[tactic(auto, unfolding(crate::specs::Act::act_of))]
 pub fn act(
     alloc: Global,
     with: &Setting,
@@ -29,31 +33,44 @@ pub fn act(
 ) -> Result<Reply, Memory>
     ensures { IfOk result (λ reply. record { store = store.new; session = sess.new; reply = reply } ≡ act_of with.now store.old sess.old command serial) }
 {
-    let need = begin(alloc, with, sess, command)?;
-    act_by(alloc, store, sess, need, serial)
+    let begun = begin(alloc, with, sess, command)?;
+    act_by(alloc, store, sess, begun, serial)
 }
 
-#[tactic(auto, unfolding(crate::specs::Act::act_by))]
+#[tactic(auto, unfolding(crate::specs::Acting::IsActed, crate::specs::Asking::HasWork))]
 fn act_by(
     alloc: Global,
     store: &mut Store,
     sess: &mut Sess,
-    need: Need,
+    begun: Begun,
     serial: u32,
 ) -> Result<Reply, Memory>
-    ensures { IfOk result (λ reply. record { store = store.new; session = sess.new; reply = reply } ≡ act_by store.old sess.old serial need) }
+    requires { HasWork sess.old begun.need }
+    ensures { IfOk result (λ reply. IsActed store.old sess.old serial begun.session begun.need (record { store = store.new; session = sess.new; reply = reply })) }
 {
+    let Begun { session, need } = begun;
     match need {
-        Need::Refusal(verdict) => Ok(Reply {
-            lines: ReplyLines::new(alloc),
-            verdict,
-        }),
-        Need::Turned(turn) => Ok(turned(sess, turn)),
-        Need::Mailbox(name, work) => {
-            let turn = work_at(alloc, store, name, work, serial)?;
-            Ok(turned(sess, turn))
-        }
+        Need::Reply(reply) | Need::Leave(reply) => Ok(turned(sess, Turn { session, reply })),
+        Need::Home(name, asking) => act_at(alloc, store, sess, &name, asking, serial),
     }
+}
+
+/// Does at a mailbox what its home would be asked.
+fn act_at(
+    alloc: Global,
+    store: &mut Store,
+    sess: &mut Sess,
+    name: &MailName,
+    asking: Asking,
+    serial: u32,
+) -> Result<Reply, Memory>
+    requires { IsSome (work_for sess.old asking.op asking.awaited) }
+    ensures { IfOk result (λ reply. IfSome (work_for sess.old asking.op asking.awaited)
+        (λ work. record { store = store.new; session = sess.new; reply = reply } ≡ act_by store.old sess.old serial (Mailbox name.now work))) }
+{
+    let Asking { op, awaited, .. } = asking;
+    let turn = work_at(alloc, store, sess, name, op, awaited, serial)?;
+    Ok(turned(sess, turn))
 }
 
 /// Takes what came of a command for its session, and gives the reply.
@@ -78,22 +95,58 @@ fn replied(reply: Reply) -> Turn
     }
 }
 
-#[tactic(auto, unfolding(crate::specs::Act::work_on))]
+/// Does the work for which a session asked so.
+#[tactic(auto, unfolding(crate::specs::Asking::work_for, crate::specs::Act::work_on))]
 fn work_at(
     alloc: Global,
     store: &mut Store,
-    name: MailName,
-    work: Work,
+    sess: &Sess,
+    name: &MailName,
+    op: Op,
+    awaited: Awaited,
     serial: u32,
 ) -> Result<Turn, Memory>
-    ensures { IfOk result (λ turn. let worked = worked_at store.old name work serial in
-        (store.new ≡ store_after store.old name worked.left) × (turn ≡ worked.turn)) }
+    requires { IsSome (work_for sess.now op awaited) }
+    ensures { IfOk result (λ turn. IfSome (work_for sess.now op awaited) (λ work. IsWorked store.old name.now (worked_at store.old name.now work serial) store.new turn)) }
 {
-    match work {
-        Work::Make => Ok(replied(make(alloc, store, name, serial)?)),
-        Work::Append(message) => Ok(replied(append_at(alloc, store, &name, message)?)),
-        Work::Status(shown, items) => Ok(replied(status_at(alloc, store, &name, shown, &items)?)),
-        Work::Select(it) => select_at(alloc, store, &name, &it),
-        Work::Viewed(view, work) => viewed_at(alloc, store, &name, &view, work),
+    match awaited {
+        Awaited::Create => Ok(replied(make(alloc, store, name, serial)?)),
+        Awaited::Append => append_by(alloc, store, name, op),
+        Awaited::Status(shown, items) => {
+            Ok(replied(status_at(alloc, store, name, shown, &items)?))
+        }
+        Awaited::Select(_, it) => select_at(alloc, store, name, &it),
+        Awaited::Viewed(work) => viewed_by(alloc, store, sess, name, work),
     }
+}
+
+#[tactic(auto, unfolding(crate::specs::Asking::appended_for, crate::specs::Act::work_on))]
+fn append_by(alloc: Global, store: &mut Store, name: &MailName, op: Op) -> Result<Turn, Memory>
+    requires { IsSome (appended_for op) }
+    ensures { IfOk result (λ turn. IfSome (appended_for op) (λ work. (serial : ℕ) → IsWorked store.old name.now (worked_at store.old name.now work serial) store.new turn)) }
+{
+    let Op::Append(messages) = op else {
+        unreachable!();
+    };
+    let Some(message) = messages.into_vec().pop() else {
+        unreachable!();
+    };
+    Ok(replied(append_at(alloc, store, name, message)?))
+}
+
+#[tactic(auto, unfolding(crate::specs::Asking::viewed_for, crate::specs::Act::work_on))]
+fn viewed_by(
+    alloc: Global,
+    store: &mut Store,
+    sess: &Sess,
+    name: &MailName,
+    work: ViewWork,
+) -> Result<Turn, Memory>
+    requires { IsSome (viewed_for sess.now work) }
+    ensures { IfOk result (λ turn. IfSome (viewed_for sess.now work) (λ it. (serial : ℕ) → IsWorked store.old name.now (worked_at store.old name.now it serial) store.new turn)) }
+{
+    let Sess::Selected(view) = sess else {
+        unreachable!();
+    };
+    viewed_at(alloc, store, name, view, work)
 }

@@ -6,12 +6,14 @@ ghost use Rattle.mur_model.specs.Rights.{has_rights};
 ghost use Rattle.mur_model.specs.Left.{replied, store_after, box_after};
 ghost use Rattle.imap_types.specs.Reply.{refused};
 ghost use Rattle.mur_model.specs.Store.{box_at};
+ghost use Rattle.mur_model.specs.Need.{begun_of};
+ghost use Rattle.mur_model.specs.Needed.{Mailbox, Append as append_work};
 
-use crate::need::{Need, Work};
+use crate::need::{Awaited, Begun};
 use crate::rights::has_rights;
 use crate::setting::Setting;
 use crate::store::Store;
-use imap_types::{Code, NoText, Reply, ReplyLines, Verdict, refused};
+use imap_types::{Code, NoText, Op, Reply, ReplyLines, Verdict, refused};
 use mail_message::{DateText, FlagSet, MailBox, Message, Messages};
 use mail_store::{StoreFault, append_all};
 use mur_base::{Bytes, MailName, Memory, NameFault, UserName, taken};
@@ -37,24 +39,40 @@ pub fn append(
     user: &UserName,
     text: &[u8],
     message: Message,
-) -> Result<Need, Memory>
-    ensures { IfOk result (λ need. need ≡ append with.now user.now text.now message) }
+) -> Result<Begun, Memory>
+    ensures { IfOk result (λ begun. begun ≡ begun_of (append with.now user.now text.now message)) }
 {
     match taken(alloc, user, text) {
-        Ok(name) => Ok(append_by(with, user, name, message)),
+        Ok(name) => append_by(alloc, with, user, name, message),
         Err(NameFault::Memory) => Err(Memory),
-        Err(_) => Ok(Need::Refusal(Verdict::No(NoText::TryCreate))),
+        Err(_) => Ok(Begun::refused(alloc, Verdict::No(NoText::TryCreate))),
     }
 }
 
 #[tactic(auto, unfolding(crate::specs::Append::append_by))]
-fn append_by(with: &Setting, user: &UserName, name: MailName, message: Message) -> Need
-    ensures { result ≡ append_by name message (has_rights with.now.users user.now name) }
+fn append_by(
+    alloc: Global,
+    with: &Setting,
+    user: &UserName,
+    name: MailName,
+    message: Message,
+) -> Result<Begun, Memory>
+    ensures { IfOk result (λ begun. begun ≡ begun_of (append_by name message (has_rights with.now.users user.now name))) }
 {
     if !has_rights(&with.users, user, &name) {
-        return Need::Refusal(Verdict::No(NoText::NoPerm));
+        return Ok(Begun::refused(alloc, Verdict::No(NoText::NoPerm)));
     }
-    Need::Mailbox(name, Work::Append(message))
+    append_asks(alloc, name, message)
+}
+
+/// The home of the mailbox is asked to put the message into it.
+#[tactic(auto, unfolding(crate::specs::Need::begun_of, crate::specs::Asking::asked_for))]
+fn append_asks(alloc: Global, name: MailName, message: Message) -> Result<Begun, Memory>
+    ensures { IfOk result (λ begun. begun ≡ begun_of (Mailbox name (append_work message))) }
+{
+    let mut messages = Messages::new(alloc);
+    messages.push(message)?;
+    Ok(Begun::asks_any(name, Op::Append(messages), Awaited::Append))
 }
 
 /// The reply to a message that got this UID of a mailbox with this UIDVALIDITY.

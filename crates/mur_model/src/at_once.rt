@@ -1,38 +1,39 @@
 // Commands that the server answers at once, whatever mailboxes there are.
 ghost use Rattle.std.specs.Prelude.{◌≡◌, IfOk};
 ghost use Rattle.mur_model.specs.AtOnce.{capability, enable, is_done, logout, told_at_once};
+ghost use Rattle.mur_model.specs.Need.{begun_of};
 
-use crate::need::Need;
+use crate::need::Begun;
 use crate::session::{Sess, Turn};
 use imap_types::{Bye, Code, Reply, ReplyLine, ReplyLines, Verdict};
 use mur_base::{Bytes, Memory};
 use std::alloc::Global;
 
 /// What CAPABILITY needs (RFC 9051, 6.1.1).
-pub fn capability(alloc: Global) -> Result<Need, Memory>
-    ensures { IfOk result (λ need. need ≡ capability) }
+pub fn capability(alloc: Global) -> Result<Begun, Memory>
+    ensures { IfOk result (λ begun. begun ≡ begun_of capability) }
 {
     let turn = told_at_once(alloc, ReplyLine::Capability, b"CAPABILITY")?;
-    Ok(Need::Turned(turn))
+    Ok(Begun::told(turn))
 }
 
 /// What LOGOUT needs (RFC 9051, 6.1.3).
-pub fn logout(alloc: Global) -> Result<Need, Memory>
-    ensures { IfOk result (λ need. need ≡ logout) }
+pub fn logout(alloc: Global) -> Result<Begun, Memory>
+    ensures { IfOk result (λ begun. begun ≡ begun_of logout) }
 {
     let Turn { reply, .. } = told_at_once(alloc, ReplyLine::Bye(Bye::Logout), b"LOGOUT")?;
-    Ok(Need::Turned(Turn {
+    Ok(Begun::told(Turn {
         session: Some(Sess::Ended),
         reply,
     }))
 }
 
 /// What ENABLE needs (RFC 9051, 6.3.1).
-pub fn enable(alloc: Global) -> Result<Need, Memory>
-    ensures { IfOk result (λ need. need ≡ enable) }
+pub fn enable(alloc: Global) -> Result<Begun, Memory>
+    ensures { IfOk result (λ begun. begun ≡ begun_of enable) }
 {
     let turn = told_at_once(alloc, ReplyLine::Enabled, b"ENABLE")?;
-    Ok(Need::Turned(turn))
+    Ok(Begun::told(turn))
 }
 
 /// Whether a line ends an IDLE (RFC 9051, 6.3.13).

@@ -1,13 +1,15 @@
 // CLOSE and UNSELECT (RFC 9051, 6.4.1 and 6.4.2).
 ghost use Rattle.std.specs.Prelude.{◌≡◌, IfOk, codes};
-ghost use Rattle.mur_model.specs.declared.need.Need.TheVariants.{Turned};
+ghost use Rattle.mur_model.specs.Needed.{Turned};
 ghost use Rattle.mur_model.specs.Close.{close, close_at, left_by};
 ghost use Rattle.mur_model.specs.Left.{IsLeft};
+ghost use Rattle.mur_model.specs.Need.{begun_of};
 
-use crate::need::{Need, ViewWork, work_at_view};
+use crate::need::{Begun, at_view};
 use crate::session::{Sess, Turn};
 use crate::view::View;
-use imap_types::completed;
+use crate::work::ViewWork;
+use imap_types::{Op, completed};
 use mail_message::MailBox;
 use mail_store::expunge;
 use mur_base::{Copied, Memory};
@@ -24,20 +26,22 @@ pub fn left_by(alloc: Global, view: &View, name: &[u8]) -> Result<Turn, Memory>
 }
 
 /// What UNSELECT needs: nothing of the mailbox.
-pub fn unselect(alloc: Global, view: &View) -> Result<Need, Memory>
-    ensures { IfOk result (λ need. need ≡ Turned (left_by view.now (codes "UNSELECT"))) }
+pub fn unselect(alloc: Global, view: &View) -> Result<Begun, Memory>
+    ensures { IfOk result (λ begun. begun ≡ begun_of (Turned (left_by view.now (codes "UNSELECT")))) }
 {
-    Ok(Need::Turned(left_by(alloc, view, b"UNSELECT")?))
+    let turn = left_by(alloc, view, b"UNSELECT")?;
+    Ok(Begun::told(turn))
 }
 
 /// What CLOSE needs: what was selected to be read is left at once.
-pub fn close(alloc: Global, view: &View) -> Result<Need, Memory>
-    ensures { IfOk result (λ need. need ≡ close view.now) }
+#[tactic(auto, unfolding(crate::specs::Asking::view_op))]
+pub fn close(alloc: Global, view: &View) -> Result<Begun, Memory>
+    ensures { IfOk result (λ begun. begun ≡ begun_of (close view.now)) }
 {
     if view.is_writable {
-        work_at_view(alloc, view, ViewWork::Close)
+        at_view(alloc, view, Op::Expunge(None), ViewWork::Close)
     } else {
-        Ok(Need::Turned(left_by(alloc, view, b"CLOSE")?))
+        Ok(Begun::told(left_by(alloc, view, b"CLOSE")?))
     }
 }
 

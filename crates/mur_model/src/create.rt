@@ -6,20 +6,22 @@ ghost use Rattle.mur_model.specs.Create.{without_separator, is_inbox, create, cr
 ghost use Rattle.mur_model.specs.Left.{replied, store_after};
 ghost use Rattle.mur_model.specs.Rights.{may_create};
 ghost use Rattle.mur_model.specs.Store.{box_at, is_spent, with_new_box};
+ghost use Rattle.mur_model.specs.Need.{begun_of};
+ghost use Rattle.mur_model.specs.Needed.{Mailbox, Make};
 
-use crate::need::{Need, Work};
+use crate::need::{Awaited, Begun};
 use crate::rights::may_create;
 use crate::setting::Setting;
 use crate::store::{Pair, Store};
-use imap_types::{NoText, Reply, Verdict, completed, refused};
+use imap_types::{NoText, Op, Reply, Verdict, completed, refused};
 use mail_message::{MailBox, first_acl};
 use mur_base::{Copied, MailName, Memory, NameFault, UserName, taken};
 use std::alloc::Global;
 
 /// What CREATE of a text needs: a mailbox that is made, where the user may make it.
 #[tactic(auto, unfolding(crate::specs::Create::create))]
-pub fn create(alloc: Global, with: &Setting, user: &UserName, text: &[u8]) -> Result<Need, Memory>
-    ensures { IfOk result (λ need. need ≡ create with.now user.now text.now) }
+pub fn create(alloc: Global, with: &Setting, user: &UserName, text: &[u8]) -> Result<Begun, Memory>
+    ensures { IfOk result (λ begun. begun ≡ begun_of (create with.now user.now text.now)) }
 {
     create_meant(alloc, with, user, without_separator(text))
 }
@@ -37,16 +39,21 @@ fn without_separator(text: &[u8]) -> &[u8]
 }
 
 #[tactic(auto, unfolding(crate::specs::Create::create_meant, crate::specs::Create::create_as))]
-fn create_meant(alloc: Global, with: &Setting, user: &UserName, text: &[u8]) -> Result<Need, Memory>
-    ensures { IfOk result (λ need. need ≡ create_meant with.now user.now text.now) }
+fn create_meant(
+    alloc: Global,
+    with: &Setting,
+    user: &UserName,
+    text: &[u8],
+) -> Result<Begun, Memory>
+    ensures { IfOk result (λ begun. begun ≡ begun_of (create_meant with.now user.now text.now)) }
 {
     if is_inbox(text) {
-        return Ok(Need::Refusal(Verdict::No(NoText::Cannot)));
+        return Ok(Begun::refused(alloc, Verdict::No(NoText::Cannot)));
     }
     match taken(alloc, user, text) {
-        Ok(name) => Ok(create_by(with, user, name)),
+        Ok(name) => Ok(create_by(alloc, with, user, name)),
         Err(NameFault::Memory) => Err(Memory),
-        Err(_) => Ok(Need::Refusal(Verdict::No(NoText::NonExistent))),
+        Err(_) => Ok(Begun::refused(alloc, Verdict::No(NoText::NonExistent))),
     }
 }
 
@@ -58,29 +65,29 @@ fn is_inbox(text: &[u8]) -> bool
 }
 
 #[tactic(auto, unfolding(crate::specs::Create::create_by))]
-fn create_by(with: &Setting, user: &UserName, name: MailName) -> Need
-    ensures { result ≡ create_by name (may_create with.now.users user.now name) }
+fn create_by(alloc: Global, with: &Setting, user: &UserName, name: MailName) -> Begun
+    ensures { result ≡ begun_of (create_by name (may_create with.now.users user.now name)) }
 {
     if may_create(&with.users, user, &name) {
-        Need::Mailbox(name, Work::Make)
+        create_asks(name)
     } else {
-        Need::Refusal(Verdict::No(NoText::NoPerm))
+        Begun::refused(alloc, Verdict::No(NoText::NoPerm))
     }
 }
 
 /// Makes a mailbox, unless it is there or no UIDVALIDITY is left.
 #[tactic(auto, unfolding(crate::specs::Create::create_on, crate::specs::Create::make, crate::specs::Left::store_after))]
-pub fn make(alloc: Global, store: &mut Store, name: MailName, serial: u32) -> Result<Reply, Memory>
-    ensures { IfOk result (λ reply. let worked = create_on name serial (is_spent store.old.given) (box_at store.old name) in
-        (store.new ≡ store_after store.old name worked.left) × (replied reply ≡ worked.turn)) }
+pub fn make(alloc: Global, store: &mut Store, name: &MailName, serial: u32) -> Result<Reply, Memory>
+    ensures { IfOk result (λ reply. let worked = create_on name.now serial (is_spent store.old.given) (box_at store.old name.now) in
+        (store.new ≡ store_after store.old name.now worked.left) × (replied reply ≡ worked.turn)) }
 {
-    if store.boxes.contains_key(&name) {
+    if store.boxes.contains_key(name) {
         return Ok(refused(alloc, NoText::AlreadyExists));
     }
     if is_spent(store) {
         return Ok(refused(alloc, NoText::Limit));
     }
-    put_new(alloc, store, name, serial)?;
+    put_new(alloc, store, name.copy(alloc)?, serial)?;
     completed(alloc, b"CREATE")
 }
 
@@ -100,6 +107,14 @@ fn note_given(alloc: Global, store: &mut Store, name: &MailName, serial: u32) ->
 {
     let name = name.copy(alloc)?;
     store.given.push(Pair { name, serial })
+}
+
+/// The home of the mailbox is asked to make it.
+#[tactic(auto, unfolding(crate::specs::Need::begun_of, crate::specs::Asking::asked_for))]
+fn create_asks(name: MailName) -> Begun
+    ensures { result ≡ begun_of (Mailbox name Make) }
+{
+    Begun::asks_any(name, Op::Create, Awaited::Create)
 }
 
 #[tactic(auto, unfolding(crate::specs::Store::is_spent))]

@@ -3,32 +3,36 @@ ghost use Rattle.std.specs.Prelude.{◌≡◌, IfOk};
 ghost use Rattle.std.specs.Option.{option_copied};
 ghost use Rattle.mur_model.specs.Expunge.{expunge, expunge_at, expunge_told, expunge_name};
 ghost use Rattle.mur_model.specs.Left.{IsLeft};
+ghost use Rattle.mur_model.specs.Need.{begun_of};
 
 use crate::named_rows::named_uids;
-use crate::need::{Need, ViewWork, read_only, work_at_view};
+use crate::need::{Begun, at_view, read_only};
 use crate::news::news_of;
 use crate::selected::with_news;
 use crate::session::Turn;
 use crate::view::View;
-use imap_types::{Code, ReplyLines, Verdict};
+use crate::work::ViewWork;
+use imap_types::{Code, Op, ReplyLines, Verdict};
 use mail_message::{MailBox, OrderedRows, SetParts};
 use mail_store::expunge as take_deleted;
-use mur_base::{Bytes, Memory};
+use mur_base::{Bytes, Copied, Memory};
 use std::alloc::Global;
 use std::collections::BTreeSet;
 
 /// What EXPUNGE needs, of all messages or of those of a set of UIDs.
-pub fn expunge(alloc: Global, view: &View, only: &Option<SetParts>) -> Result<Need, Memory>
-    ensures { IfOk result (λ need. need ≡ expunge view.now only.now) }
+#[tactic(auto, unfolding(crate::specs::Asking::view_op))]
+pub fn expunge(alloc: Global, view: &View, only: &Option<SetParts>) -> Result<Begun, Memory>
+    ensures { IfOk result (λ begun. begun ≡ begun_of (expunge view.now only.now)) }
 {
     if !view.is_writable {
-        return Ok(read_only());
+        return Ok(read_only(alloc));
     }
     match only {
-        None => work_at_view(alloc, view, ViewWork::Expunge(None)),
+        None => at_view(alloc, view, Op::Expunge(None), ViewWork::Expunge(None)),
         Some(set) => {
             let uids = named_uids(alloc, true, set, &view.rows)?;
-            work_at_view(alloc, view, ViewWork::Expunge(Some(uids)))
+            let asked = Op::Expunge(Some(uids.copy(alloc)?));
+            at_view(alloc, view, asked, ViewWork::Expunge(Some(uids)))
         }
     }
 }

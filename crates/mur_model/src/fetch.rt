@@ -6,26 +6,33 @@ ghost use Rattle.mail_fetch.specs.Parts.{part_text};
 ghost use Rattle.mail_message.specs.Boxes.{relabelled};
 ghost use Rattle.mail_message.specs.declared.mode.Mode.TheVariants.{Add};
 ghost use Rattle.mail_store.specs.Store.{stored};
-ghost use Rattle.mur_model.specs.Fetch.{fetch, fetch_at, fetch_told, fetch_name, fetch_lines, fetch_line, items_told, is_body, is_uid};
+ghost use Rattle.mur_model.specs.Fetch.{fetch, fetch_at, fetch_told, fetch_name, fetch_lines, fetch_reply_line, items_told, is_body, is_uid_item};
 ghost use Rattle.mur_model.specs.Fetch.{each_once, is_flags, same_item, same_partial, sees, seen_flags};
 ghost use Rattle.mur_model.specs.Fetch.{tells_flags, flag_uids};
 ghost use Rattle.mur_model.specs.Left.{IsLeft};
+ghost use Rattle.mur_model.specs.Need.{begun_of};
+ghost use Rattle.mur_model.specs.Needed.{at_mailbox};
+ghost use Rattle.mur_model.specs.declared.work.ViewWork.TheVariants.{Fetch as fetch_work};
+ghost use Rattle.mur_model.specs.Asking.{fetch_op};
+ghost use Rattle.mur_model.specs.FetchRows.{asks_rows as is_of_rows};
 
+use crate::fetch_rows::asks_rows;
 use crate::named_rows::{named_uids, names_messages};
-use crate::need::{Need, ViewWork, no_such_number, work_at_view};
+use crate::need::{Begun, at_view, no_such_number};
 use crate::news::{is_same_flags, news_of, number_of};
 use crate::selected::with_news;
 use crate::session::Turn;
 use crate::store_flags::code_for;
 use crate::view::View;
-use imap_types::{Parts, ReplyLine, ReplyLines, Verdict};
+use crate::work::ViewWork;
+use imap_types::{Op, Parts, ReplyLine, ReplyLines, Verdict};
 use mail_fetch::{flags_part, part};
 use mail_message::{
     FetchItems, FlagName, FlagSet, Item, MailBox, Message, Messages, Mode, OrderedRows, Partial,
     Row, SetParts, SystemFlag, Uids,
 };
 use mail_store::{set_flags, set_of};
-use mur_base::{Bytes, Memory};
+use mur_base::{Bytes, Copied, Memory};
 use std::alloc::Global;
 
 /// A FETCH whose messages are named by their UIDs, whichever way its client named them, with each item once.
@@ -86,18 +93,37 @@ pub fn fetch(
     by_uid: bool,
     set: &SetParts,
     items: &FetchItems,
-) -> Result<Need, Memory>
-    ensures { IfOk result (λ need. need ≡ fetch view.now by_uid set.now items.now) }
+) -> Result<Begun, Memory>
+    ensures { IfOk result (λ begun. begun ≡ begun_of (fetch view.now by_uid set.now items.now)) }
 {
     if !names_messages(view, by_uid, set) {
-        return Ok(no_such_number());
+        return Ok(no_such_number(alloc));
     }
     let it = Fetching {
         by_uid,
         uids: named_uids(alloc, by_uid, set, &view.rows)?,
         items: each_once(alloc, items)?,
     };
-    work_at_view(alloc, view, ViewWork::Fetch(it))
+    fetch_asks(alloc, view, it)
+}
+
+/// The home of the mailbox is asked for the named messages, or for a look where that tells all.
+#[tactic(auto, unfolding(crate::specs::Asking::view_op))]
+fn fetch_asks(alloc: Global, view: &View, it: Fetching) -> Result<Begun, Memory>
+    ensures { IfOk result (λ begun. begun ≡ begun_of (at_mailbox view.now (fetch_work it))) }
+{
+    let op = fetch_op(alloc, view, &it)?;
+    at_view(alloc, view, op, ViewWork::Fetch(it))
+}
+
+#[tactic(auto, unfolding(crate::specs::Asking::fetch_op))]
+fn fetch_op(alloc: Global, view: &View, it: &Fetching) -> Result<Op, Memory>
+    ensures { IfOk result (λ op. op ≡ fetch_op view.now it.now (is_of_rows it.now)) }
+{
+    if asks_rows(it) {
+        return Ok(Op::Look);
+    }
+    Ok(Op::Read(it.uids.copy(alloc)?, sees(view, it)))
 }
 
 /// Whether the messages get `\Seen`: a body is asked for, in a mailbox that was selected to be changed (RFC 9051, 6.4.5).
@@ -114,7 +140,7 @@ fn asks_body(items: &[Item]) -> bool
 }
 
 fn asks_uid(items: &[Item]) -> bool
-    ensures { result ≡ list_any is_uid items.now }
+    ensures { result ≡ list_any is_uid_item items.now }
 {
     items.iter().any(|item| is_uid(*item))
 }
@@ -132,7 +158,7 @@ fn is_body(item: Item) -> bool
 }
 
 fn is_uid(item: Item) -> bool
-    ensures { result ≡ is_uid item }
+    ensures { result ≡ is_uid_item item }
 {
     matches!(item, Item::Uid)
 }
@@ -234,7 +260,7 @@ fn put_line(
     place: Option<usize>,
     row: Option<&Row>,
 ) -> Result<(), Memory>
-    ensures { OnOk result (lines.new ≡ lines.old ++ fetch_line it.now message.now (option_map (λ p. p + 1) place) (option_copied row.entry)) }
+    ensures { OnOk result (lines.new ≡ lines.old ++ fetch_reply_line it.now message.now (option_map (λ p. p + 1) place) (option_copied row.entry)) }
 {
     match (place, row) {
         (Some(place), Some(row)) => put_some_line(alloc, lines, it, message, place, row),
@@ -250,7 +276,7 @@ fn put_some_line(
     place: usize,
     row: &Row,
 ) -> Result<(), Memory>
-    ensures { OnOk result (lines.new ≡ lines.old ++ fetch_line it.now message.now (Some (place + 1)) (Some row.now)) }
+    ensures { OnOk result (lines.new ≡ lines.old ++ fetch_reply_line it.now message.now (Some (place + 1)) (Some row.now)) }
 {
     let number = number_of(place.checked_add(1).ok_or(Memory)?)?;
     let changes = !is_same_flags(&message.flags, &row.flags);

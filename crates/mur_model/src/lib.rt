@@ -5,6 +5,7 @@
 mod acting;
 mod append;
 mod at_once;
+mod beginning;
 mod close;
 mod create;
 mod expunge;
@@ -30,20 +31,22 @@ mod store_flags;
 mod view;
 mod viewing;
 mod wait;
+mod work;
 
 pub use acting::act;
 pub use append::append_reply;
+pub use beginning::begin;
 pub use close::left_by;
 pub use expunge::expunge_told;
 pub use fetch::{Fetching, fetch_told, sees};
 pub use fetch_rows::{asks_rows, rows_told};
 pub use imap_types::{
-    Answer, Atoms, Attribute, BadText, Bye, Code, Command, FlagNames, NoText, Parts, Reply,
+    Answer, Atoms, Attribute, BadText, Bye, Code, Command, FlagNames, NoText, Op, Parts, Reply,
     ReplyLine, ReplyLines, Request, StatusCount, StatusCounts, StatusItem, StatusItems, Tag,
     Verdict, completed, refused,
 };
 pub use named_rows::uids_of;
-pub use need::{Need, NewsFor, ViewWork, Work, begin};
+pub use need::{Asking, Awaited, Begun, Need};
 pub use news::Told;
 pub use noop::news_told;
 pub use search::{Searching, search_told};
@@ -57,3 +60,4 @@ pub use store::{Pair, Store};
 pub use store_flags::{FlagStore, store_refused, store_told};
 pub use view::View;
 pub use wait::{Wait, begun_behind, wait_of, waits_begun, with_line};
+pub use work::{NewsFor, ViewWork};

@@ -1,8 +1,9 @@
 // A user with their password begins a session (RFC 9051, 6.2.2 and 6.2.3).
 ghost use Rattle.std.specs.Prelude.{◌≡◌, IfOk};
 ghost use Rattle.mur_model.specs.Login.{login, login_failed, begun_by};
+ghost use Rattle.mur_model.specs.Need.{begun_of};
 
-use crate::need::Need;
+use crate::need::Begun;
 use crate::rights::user_named;
 use crate::session::{Sess, Turn};
 use imap_types::{NoText, Verdict, completed};
@@ -18,22 +19,22 @@ pub fn login(
     command: &[u8],
     name: &[u8],
     password: &[u8],
-) -> Result<Need, Memory>
-    ensures { IfOk result (λ need. need ≡ login users.now command.now name.now password.now) }
+) -> Result<Begun, Memory>
+    ensures { IfOk result (λ begun. begun ≡ begun_of (login users.now command.now name.now password.now)) }
 {
     match user_named(users, name) {
         Some(user) if user.password.as_slice() == password => {
-            Ok(Need::Turned(begun_by(alloc, command, &user.name)?))
+            Ok(Begun::told(begun_by(alloc, command, &user.name)?))
         }
-        _ => Ok(login_failed()),
+        _ => Ok(login_failed(alloc)),
     }
 }
 
 /// The refusal of a client that is no user.
-pub fn login_failed() -> Need
-    ensures { result ≡ login_failed }
+pub fn login_failed(alloc: Global) -> Begun
+    ensures { result ≡ begun_of login_failed }
 {
-    Need::Refusal(Verdict::No(NoText::AuthenticationFailed))
+    Begun::refused(alloc, Verdict::No(NoText::AuthenticationFailed))
 }
 
 fn begun_by(alloc: Global, command: &[u8], user: &UserName) -> Result<Turn, Memory>

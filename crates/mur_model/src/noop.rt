@@ -1,14 +1,18 @@
 // NOOP, and IDLE whose line has come, in a session that has a mailbox selected (RFC 9051, 6.1.2 and 6.3.13).
 ghost use Rattle.std.specs.Prelude.{◌≡◌, IfOk};
 ghost use Rattle.mur_model.specs.Left.{IsLeft};
+ghost use Rattle.mur_model.specs.Need.{begun_of};
+ghost use Rattle.mur_model.specs.Needed.{at_mailbox};
+ghost use Rattle.mur_model.specs.declared.work.ViewWork.TheVariants.{News};
 ghost use Rattle.mur_model.specs.Noop.{news_at, news_name, news_told};
 
-use crate::need::NewsFor;
+use crate::need::{Begun, at_view};
 use crate::news::news_of;
 use crate::selected::with_news;
 use crate::session::Turn;
 use crate::view::View;
-use imap_types::{Code, ReplyLines, Verdict};
+use crate::work::{NewsFor, ViewWork};
+use imap_types::{Code, Op, ReplyLines, Verdict};
 use mail_message::{MailBox, OrderedRows};
 use mur_base::{Bytes, Memory};
 use std::alloc::Global;
@@ -23,6 +27,14 @@ fn news_name(why: NewsFor) -> &'static [u8]
         NewsFor::Noop => b"NOOP",
         NewsFor::Idle => b"IDLE",
     }
+}
+
+/// What a command needs that tells the news: a look at the mailbox.
+#[tactic(auto, unfolding(crate::specs::Asking::view_op))]
+pub fn news_asks(alloc: Global, view: &View, why: NewsFor) -> Result<Begun, Memory>
+    ensures { IfOk result (λ begun. begun ≡ begun_of (at_mailbox view.now (News why))) }
+{
+    at_view(alloc, view, Op::Look, ViewWork::News(why))
 }
 
 /// The news that are told of a mailbox that has these rows.

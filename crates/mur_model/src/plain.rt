@@ -2,9 +2,10 @@
 ghost use Rattle.std.specs.Prelude.{◌≡◌, ◌<◌, IfOk, IfSome, length, position};
 ghost use Rattle.std.specs.Option.{option_map};
 ghost use Rattle.mur_model.specs.Plain.{acts_as, authenticate, authenticate_as, cut_at_nul, decoded, is_nul};
+ghost use Rattle.mur_model.specs.Need.{begun_of};
 
 use crate::login::{login, login_failed};
-use crate::need::Need;
+use crate::need::Begun;
 use base64::DecodeAllocError;
 use base64::engine::general_purpose::STANDARD;
 use imap_types::{BadText, Verdict};
@@ -13,15 +14,15 @@ use std::alloc::Global;
 
 /// What AUTHENTICATE PLAIN with this response needs: a session, where it has the password of a user, who acts as themselves.
 #[tactic(auto, unfolding(crate::specs::Plain::authenticate, crate::specs::Plain::authenticate_with))]
-pub fn authenticate(alloc: Global, users: &Users, response: &Bytes) -> Result<Need, Memory>
-    ensures { IfOk result (λ need. need ≡ authenticate users.now response.now) }
+pub fn authenticate(alloc: Global, users: &Users, response: &Bytes) -> Result<Begun, Memory>
+    ensures { IfOk result (λ begun. begun ≡ begun_of (authenticate users.now response.now)) }
 {
     if response.as_slice() == b"*".as_slice() {
-        return Ok(Need::Refusal(Verdict::Bad(BadText::Syntax)));
+        return Ok(Begun::refused(alloc, Verdict::Bad(BadText::Syntax)));
     }
     match decoded(alloc, response.as_slice())? {
         Some(message) => authenticate_as(alloc, users, message.as_slice()),
-        None => Ok(login_failed()),
+        None => Ok(login_failed(alloc)),
     }
 }
 
@@ -41,17 +42,17 @@ fn decoded(alloc: Global, response: &[u8]) -> Result<Option<Bytes>, Memory>
 }
 
 #[tactic(auto, unfolding(crate::specs::Plain::authenticate_as, crate::specs::Plain::authenticate_by))]
-fn authenticate_as(alloc: Global, users: &Users, message: &[u8]) -> Result<Need, Memory>
-    ensures { IfOk result (λ need. need ≡ authenticate_as users.now (cut_at_nul message.now)) }
+fn authenticate_as(alloc: Global, users: &Users, message: &[u8]) -> Result<Begun, Memory>
+    ensures { IfOk result (λ begun. begun ≡ begun_of (authenticate_as users.now (cut_at_nul message.now))) }
 {
     let Some((authzid, rest)) = cut_at_nul(message) else {
-        return Ok(login_failed());
+        return Ok(login_failed(alloc));
     };
     match cut_at_nul(rest) {
         Some((user, password)) if acts_as(authzid, user) => {
             login(alloc, users, b"AUTHENTICATE", user, password)
         }
-        _ => Ok(login_failed()),
+        _ => Ok(login_failed(alloc)),
     }
 }
 

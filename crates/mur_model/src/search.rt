@@ -2,18 +2,25 @@
 ghost use Rattle.std.specs.Prelude.{◌≡◌, length, map, IfOk};
 ghost use Rattle.mur_model.specs.Left.{IsLeft};
 ghost use Rattle.mur_model.specs.ClientView.{uids};
-ghost use Rattle.mur_model.specs.Search.{number_at, numbers_told, search_line, search, search_name, search_told, search_at};
+ghost use Rattle.mur_model.specs.Search.{number_at, numbers_told, search_reply_line, search, search_name, search_told, search_at};
 ghost use Rattle.mur_model.specs.StoreFlags.{code_for};
+ghost use Rattle.mur_model.specs.Need.{begun_of};
+ghost use Rattle.mur_model.specs.Needed.{at_mailbox};
+ghost use Rattle.mur_model.specs.declared.work.ViewWork.TheVariants.{Search as search_work};
+ghost use Rattle.mur_model.specs.Asking.{search_op};
+ghost use Rattle.mur_model.specs.SearchRows.{are_keys_in_rows as are_of_rows};
 
 use crate::keys::{have_all_numbers, keys_at};
 use crate::named_rows::{last_uid, uids_of};
-use crate::need::{Need, ViewWork, no_such_number, work_at_view};
+use crate::need::{Begun, at_view, no_such_number};
 use crate::news::{news_of, number_of};
+use crate::search_rows::are_keys_in_rows;
 use crate::selected::with_news;
 use crate::session::Turn;
 use crate::store_flags::code_for;
 use crate::view::View;
-use imap_types::{Code, ReplyLine, ReplyLines, Verdict};
+use crate::work::ViewWork;
+use imap_types::{Code, Op, ReplyLine, ReplyLines, Verdict};
 use mail_message::{Keys, MailBox, Message, Messages, OrderedRows, Uids};
 use mail_search::search as found;
 use mur_base::{Bytes, Memory};
@@ -28,16 +35,35 @@ pub struct Searching {
 }
 
 /// What SEARCH needs.
-pub fn search(alloc: Global, view: &View, by_uid: bool, keys: &Keys) -> Result<Need, Memory>
-    ensures { IfOk result (λ need. need ≡ search view.now by_uid keys.now) }
+pub fn search(alloc: Global, view: &View, by_uid: bool, keys: &Keys) -> Result<Begun, Memory>
+    ensures { IfOk result (λ begun. begun ≡ begun_of (search view.now by_uid keys.now)) }
 {
     let count = view.rows.len();
     if !have_all_numbers(count, keys.as_slice()) {
-        return Ok(no_such_number());
+        return Ok(no_such_number(alloc));
     }
     let last = last_uid(view.rows.as_slice());
     let keys = keys_at(alloc, number_of(count)?, last, keys.as_slice())?;
-    work_at_view(alloc, view, ViewWork::Search(Searching { by_uid, keys }))
+    search_asks(alloc, view, Searching { by_uid, keys })
+}
+
+/// The home of the mailbox is asked for the messages of the view, or for a look where that tells what is found.
+#[tactic(auto, unfolding(crate::specs::Asking::view_op))]
+fn search_asks(alloc: Global, view: &View, it: Searching) -> Result<Begun, Memory>
+    ensures { IfOk result (λ begun. begun ≡ begun_of (at_mailbox view.now (search_work it))) }
+{
+    let op = search_op(alloc, view, &it)?;
+    at_view(alloc, view, op, ViewWork::Search(it))
+}
+
+#[tactic(auto, unfolding(crate::specs::Asking::search_op))]
+fn search_op(alloc: Global, view: &View, it: &Searching) -> Result<Op, Memory>
+    ensures { IfOk result (λ op. op ≡ search_op view.now (are_of_rows (it.now).keys)) }
+{
+    if are_keys_in_rows(it.keys.as_slice()) {
+        return Ok(Op::Look);
+    }
+    Ok(Op::Read(uids_of(alloc, view.rows.as_slice())?, false))
 }
 
 /// The number of a message in a view that has it; looked for near a place first, as `OrderedRows::place` does.
@@ -91,7 +117,7 @@ fn search_line(
     it: &Searching,
     messages: &Messages,
 ) -> Result<ReplyLine, Memory>
-    ensures { IfOk result (λ line. line ≡ search_line it.now rows.now messages.now) }
+    ensures { IfOk result (λ line. line ≡ search_reply_line it.now rows.now messages.now) }
 {
     let numbers = numbers_of(alloc, rows, messages.as_slice())?;
     let uids = found(alloc, &it.keys, messages, &numbers)?;

@@ -1,7 +1,7 @@
 // SEARCH and UID SEARCH by keys that ask for neither date nor body of a message (RFC 9051, 6.4.4).
 ghost use Rattle.std.specs.Prelude.{◌≡◌, ◌++◌, IfOk, OnOk};
 ghost use Rattle.std.specs.Option.{option_copied, option_map, option_to_list};
-ghost use Rattle.mur_model.specs.SearchRows.{are_keys_in_rows, bare, bare_at, is_key_in_row, no_date, rows_searched};
+ghost use Rattle.mur_model.specs.SearchRows.{are_keys_in_rows, bare_message, bare_at, is_key_in_row, no_date, rows_searched};
 
 use crate::named_rows::uids_of;
 use crate::search::{Searching, search_told};
@@ -48,7 +48,7 @@ fn no_date() -> DateText
 /// A message of which the row alone is known: a copy of its flags.
 fn bare(alloc: Global, row: &Row, date: DateText) -> Result<Message, Memory>
     requires { date ≡ no_date }
-    ensures { IfOk result (λ message. message ≡ bare row.now) }
+    ensures { IfOk result (λ message. message ≡ bare_message row.now) }
 {
     Ok(Message {
         uid: row.uid,
@@ -65,7 +65,7 @@ fn put_bare(
     date: DateText,
 ) -> Result<(), Memory>
     requires { date ≡ no_date }
-    ensures { OnOk result (messages.new ≡ messages.old ++ option_to_list (option_map bare (option_copied row.entry))) }
+    ensures { OnOk result (messages.new ≡ messages.old ++ option_to_list (option_map bare_message (option_copied row.entry))) }
 {
     match row {
         Some(row) => messages.push(bare(alloc, row, date)?),

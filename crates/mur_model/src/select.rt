@@ -1,22 +1,23 @@
 // SELECT and EXAMINE (RFC 9051, 6.3.2 and 6.3.3).
 ghost use Rattle.std.specs.Prelude.{◌≡◌, ◌++◌, map, IfOk, OnOk};
 ghost use Rattle.mail_message.specs.declared.flag_name.FlagName.TheVariants.{Keyword};
-ghost use Rattle.mur_model.specs.declared.need.Need.TheVariants.{Turned};
+ghost use Rattle.mur_model.specs.Needed.{Turned, Mailbox, Select as select_work};
 ghost use Rattle.mail_message.specs.Keywords.{with_keywords};
 ghost use Rattle.mur_model.specs.Rights.{has_rights};
 ghost use Rattle.mur_model.specs.Left.{store_after};
 ghost use Rattle.mur_model.specs.Store.{box_at};
 ghost use Rattle.mur_model.specs.Select.{select, select_by, select_on, opening, select_name, select_lines, select_told, closed_lines, unselected, access_code};
-ghost use Rattle.mur_model.specs.Select.{keywords_in, flags_of, permanent_line, system_flags};
+ghost use Rattle.mur_model.specs.Select.{keywords_in, flags_of, permanent_reply_line, system_flags};
+ghost use Rattle.mur_model.specs.Need.{begun_of};
 
-use crate::need::{Need, Work};
+use crate::need::{Awaited, Begun};
 use crate::news::number_of;
 use crate::rights::has_rights;
 use crate::session::{Sess, Turn};
 use crate::setting::Setting;
 use crate::store::Store;
 use crate::view::View;
-use imap_types::{Attribute, Code, FlagNames, NoText, Reply, ReplyLine, ReplyLines, Verdict};
+use imap_types::{Attribute, Code, FlagNames, NoText, Op, Reply, ReplyLine, ReplyLines, Verdict};
 use mail_message::{FlagName, Keywords, Row, Snapshot, SystemFlag};
 use mur_base::{Bytes, Copied, MailName, Memory, NameFault, UserName, shown, taken};
 use std::alloc::Global;
@@ -42,8 +43,8 @@ pub fn select(
     text: &[u8],
     is_writable: bool,
     was_selected: bool,
-) -> Result<Need, Memory>
-    ensures { IfOk result (λ need. need ≡ select with.now user.now text.now is_writable was_selected) }
+) -> Result<Begun, Memory>
+    ensures { IfOk result (λ begun. begun ≡ begun_of (select with.now user.now text.now is_writable was_selected)) }
 {
     match taken(alloc, user, text) {
         Ok(name) => select_named(alloc, with, user, name, is_writable, was_selected),
@@ -60,8 +61,8 @@ fn select_named(
     name: MailName,
     is_writable: bool,
     was_selected: bool,
-) -> Result<Need, Memory>
-    ensures { IfOk result (λ need. need ≡ select_by name (opening user.now name is_writable was_selected) (has_rights with.now.users user.now name)) }
+) -> Result<Begun, Memory>
+    ensures { IfOk result (λ begun. begun ≡ begun_of (select_by name (opening user.now name is_writable was_selected) (has_rights with.now.users user.now name))) }
 {
     if !has_rights(&with.users, user, &name) {
         return refused(alloc, user, was_selected, NoText::NoPerm);
@@ -72,13 +73,22 @@ fn select_named(
         is_writable,
         was_selected,
     };
-    Ok(Need::Mailbox(name, Work::Select(it)))
+    select_asks(alloc, name, it)
 }
 
-fn refused(alloc: Global, user: &UserName, was_selected: bool, why: NoText) -> Result<Need, Memory>
-    ensures { IfOk result (λ need. need ≡ Turned (unselected user.now was_selected why)) }
+/// The home of the mailbox is asked for a look at it.
+#[tactic(auto, unfolding(crate::specs::Need::begun_of, crate::specs::Asking::asked_for))]
+fn select_asks(alloc: Global, name: MailName, it: Opening) -> Result<Begun, Memory>
+    ensures { IfOk result (λ begun. begun ≡ begun_of (Mailbox name (select_work it))) }
 {
-    Ok(Need::Turned(unselected(alloc, user, was_selected, why)?))
+    let awaited = Awaited::Select(name.copy(alloc)?, it);
+    Ok(Begun::asks_any(name, Op::Look, awaited))
+}
+
+fn refused(alloc: Global, user: &UserName, was_selected: bool, why: NoText) -> Result<Begun, Memory>
+    ensures { IfOk result (λ begun. begun ≡ begun_of (Turned (unselected user.now was_selected why))) }
+{
+    Ok(Begun::told(unselected(alloc, user, was_selected, why)?))
 }
 
 /// A refusal, which leaves no mailbox selected.
@@ -157,7 +167,7 @@ fn permanent_line(
     is_writable: bool,
     keywords: &Keywords,
 ) -> Result<ReplyLine, Memory>
-    ensures { IfOk result (λ line. line ≡ permanent_line is_writable keywords.now) }
+    ensures { IfOk result (λ line. line ≡ permanent_reply_line is_writable keywords.now) }
 {
     if is_writable {
         Ok(ReplyLine::Permanent(flags_of(alloc, keywords)?, true))

@@ -4,14 +4,16 @@ ghost use Rattle.mur_model.specs.Left.{replied, store_after};
 ghost use Rattle.mur_model.specs.Store.{box_at};
 ghost use Rattle.mur_model.specs.Rights.{has_rights};
 ghost use Rattle.mur_model.specs.Status.{status, status_by, unseen as count_unseen, deleted as count_deleted, count_of, status_reply, status_on};
+ghost use Rattle.mur_model.specs.Need.{begun_of};
+ghost use Rattle.mur_model.specs.Needed.{Mailbox, Status as status_work};
 
-use crate::need::{Need, Work};
+use crate::need::{Awaited, Begun};
 use crate::rights::has_rights;
 use crate::setting::Setting;
 use crate::store::Store;
 use imap_types::{
-    Code, NoText, Reply, ReplyLine, ReplyLines, StatusCount, StatusCounts, StatusItem, StatusItems,
-    Verdict, refused,
+    Code, NoText, Op, Reply, ReplyLine, ReplyLines, StatusCount, StatusCounts, StatusItem,
+    StatusItems, Verdict, refused,
 };
 use mail_message::{Row, Snapshot};
 use mur_base::{Bytes, MailName, Memory, NameFault, UserName, shown, taken};
@@ -25,13 +27,13 @@ pub fn status(
     user: &UserName,
     text: &[u8],
     items: StatusItems,
-) -> Result<Need, Memory>
-    ensures { IfOk result (λ need. need ≡ status with.now user.now text.now items) }
+) -> Result<Begun, Memory>
+    ensures { IfOk result (λ begun. begun ≡ begun_of (status with.now user.now text.now items)) }
 {
     match taken(alloc, user, text) {
         Ok(name) => status_by(alloc, with, user, name, items),
         Err(NameFault::Memory) => Err(Memory),
-        Err(_) => Ok(Need::Refusal(Verdict::No(NoText::NonExistent))),
+        Err(_) => Ok(Begun::refused(alloc, Verdict::No(NoText::NonExistent))),
     }
 }
 
@@ -42,14 +44,22 @@ fn status_by(
     user: &UserName,
     name: MailName,
     items: StatusItems,
-) -> Result<Need, Memory>
-    ensures { IfOk result (λ need. need ≡ status_by user.now name items (has_rights with.now.users user.now name)) }
+) -> Result<Begun, Memory>
+    ensures { IfOk result (λ begun. begun ≡ begun_of (status_by user.now name items (has_rights with.now.users user.now name))) }
 {
     if !has_rights(&with.users, user, &name) {
-        return Ok(Need::Refusal(Verdict::No(NoText::NoPerm)));
+        return Ok(Begun::refused(alloc, Verdict::No(NoText::NoPerm)));
     }
     let shown = shown(alloc, user, &name)?;
-    Ok(Need::Mailbox(name, Work::Status(shown, items)))
+    Ok(status_asks(name, shown, items))
+}
+
+/// The home of the mailbox is asked for a look at it.
+#[tactic(auto, unfolding(crate::specs::Need::begun_of, crate::specs::Asking::asked_for))]
+fn status_asks(name: MailName, shown: Bytes, items: StatusItems) -> Begun
+    ensures { result ≡ begun_of (Mailbox name (status_work shown items)) }
+{
+    Begun::asks_any(name, Op::Look, Awaited::Status(shown, items))
 }
 
 /// What is told of a mailbox that looks so, under the name as it is shown. It looks at each row twice.

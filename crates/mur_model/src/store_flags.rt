@@ -5,17 +5,21 @@ ghost use Rattle.mur_model.specs.Left.{IsLeft};
 ghost use Rattle.mur_model.specs.Selected.{rows_of};
 ghost use Rattle.mur_model.specs.StoreFlags.{store, store_at, store_told, store_refused};
 ghost use Rattle.mur_model.specs.StoreFlags.{store_name, stored_line, stored_lines, own_lines, some_gone, code_for};
+ghost use Rattle.mur_model.specs.Need.{begun_of};
+ghost use Rattle.mur_model.specs.Needed.{at_mailbox};
+ghost use Rattle.mur_model.specs.declared.work.ViewWork.TheVariants.{Store as store_work};
 
 use crate::named_rows::{named_uids, names_messages, uids_of};
-use crate::need::{Need, ViewWork, no_such_number, read_only, work_at_view};
+use crate::need::{Begun, at_view, no_such_number, read_only};
 use crate::news::{flag_parts, news_of};
 use crate::selected::with_news;
 use crate::session::Turn;
 use crate::view::View;
-use imap_types::{Code, NoText, ReplyLine, ReplyLines, Verdict};
+use crate::work::ViewWork;
+use imap_types::{Code, NoText, Op, ReplyLine, ReplyLines, Verdict};
 use mail_message::{FlagSet, MailBox, Mode, OrderedRows, Row, SetParts, Uids};
 use mail_store::{StoreFault, set_flags, set_of};
-use mur_base::{Bytes, Memory};
+use mur_base::{Bytes, Copied, Memory};
 use std::alloc::Global;
 use std::collections::BTreeSet;
 
@@ -38,14 +42,14 @@ pub fn store(
     mode: Mode,
     is_silent: bool,
     flags: FlagSet,
-) -> Result<Need, Memory>
-    ensures { IfOk result (λ need. need ≡ store view.now by_uid set.now mode is_silent flags) }
+) -> Result<Begun, Memory>
+    ensures { IfOk result (λ begun. begun ≡ begun_of (store view.now by_uid set.now mode is_silent flags)) }
 {
     if !names_messages(view, by_uid, set) {
-        return Ok(no_such_number());
+        return Ok(no_such_number(alloc));
     }
     if !view.is_writable {
-        return Ok(read_only());
+        return Ok(read_only(alloc));
     }
     let it = FlagStore {
         by_uid,
@@ -54,7 +58,16 @@ pub fn store(
         is_silent,
         flags,
     };
-    work_at_view(alloc, view, ViewWork::Store(it))
+    store_asks(alloc, view, it)
+}
+
+/// The home of the mailbox is asked to change the flags.
+#[tactic(auto, unfolding(crate::specs::Asking::view_op))]
+fn store_asks(alloc: Global, view: &View, it: FlagStore) -> Result<Begun, Memory>
+    ensures { IfOk result (λ begun. begun ≡ begun_of (at_mailbox view.now (store_work it))) }
+{
+    let op = Op::Flags(it.uids.copy(alloc)?, it.mode, it.flags.copy(alloc)?);
+    at_view(alloc, view, op, ViewWork::Store(it))
 }
 
 /// Changes the flags of the named messages in the mailbox of a view; those that aren't there are passed over. For want of memory nothing is

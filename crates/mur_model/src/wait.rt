@@ -1,11 +1,13 @@
 // Commands that wait for one line more of their client (RFC 9051, 6.2.2 and 6.3.13).
-ghost use Rattle.std.specs.Prelude.{◌≡◌, IfOk, IsOkAnd};
-ghost use Rattle.mur_model.specs.Waits.{begins, begins_by, begun_behind, wait_of, waits_begun, with_line};
+ghost use Rattle.std.specs.Prelude.{◌≡◌, IfOk, IsOkAnd, codes};
+ghost use Rattle.mur_model.specs.Login.{login};
+ghost use Rattle.mur_model.specs.Plain.{authenticate};
+ghost use Rattle.mur_model.specs.Waits.{begins, begins_by, begins_session, begun_behind, wait_of, waits_begun, with_line};
 
 use crate::login::login;
-use crate::need::Need;
+use crate::need::Begun;
 use crate::plain::authenticate;
-use crate::session::{Sess, Turn};
+use crate::session::Sess;
 use crate::setting::Setting;
 use imap_types::Command;
 use mur_base::{Bytes, Memory};
@@ -67,44 +69,42 @@ pub fn begun_behind(
     begins(alloc, with, command)
 }
 
-#[tactic(auto, unfolding(crate::specs::Waits::begins), using(crate::proofs::BeginsLaw::begins_as))]
+#[tactic(auto, unfolding(crate::specs::Waits::begins))]
 fn begins(alloc: Global, with: &Setting, command: &Command) -> Result<bool, Memory>
     ensures { IfOk result (λ begun. begun ≡ begins with.now command.now) }
 {
     match command {
         Command::Login(name, password) => {
-            begins_if_made(login(
-                alloc,
-                &with.users,
-                b"LOGIN",
-                name.as_slice(),
-                password.as_slice(),
-            ))
+            login_begins(alloc, with, name.as_slice(), password.as_slice())
         }
-        Command::Authenticate(Some(line)) => {
-            begins_if_made(authenticate(alloc, &with.users, line))
-        }
+        Command::Authenticate(Some(line)) => plain_begins(alloc, with, line),
         _ => Ok(false),
     }
 }
 
-/// Whether a session begins with what a command needs, where that was made.
-fn begins_if_made(need: Result<Need, Memory>) -> Result<bool, Memory>
-    ensures { IfOk result (λ begun. IsOkAnd need (λ made. begun ≡ begins_by made)) }
+fn login_begins(alloc: Global, with: &Setting, name: &[u8], password: &[u8]) -> Result<bool, Memory>
+    ensures { IfOk result (λ begins. begins ≡ begins_by (login with.now.users (codes "LOGIN") name.now password.now)) }
 {
-    let made = need?;
-    Ok(begins_by(&made))
+    begins_if_made(login(alloc, &with.users, b"LOGIN", name, password))
 }
 
-#[tactic(auto, unfolding(crate::specs::Waits::begins_by, crate::specs::Waits::begins_with))]
-fn begins_by(need: &Need) -> bool
-    ensures { result ≡ begins_by need.now }
+fn plain_begins(alloc: Global, with: &Setting, line: &Bytes) -> Result<bool, Memory>
+    ensures { IfOk result (λ begins. begins ≡ begins_by (authenticate with.now.users line.now)) }
 {
-    matches!(
-        need,
-        Need::Turned(Turn {
-            session: Some(Sess::In(_)),
-            ..
-        })
-    )
+    begins_if_made(authenticate(alloc, &with.users, line))
+}
+
+/// Whether a session begins with what comes of a command, where that was made.
+fn begins_if_made(made: Result<Begun, Memory>) -> Result<bool, Memory>
+    ensures { IfOk result (λ begins. IsOkAnd made (λ begun. begins ≡ begins_session begun.session)) }
+{
+    let begun = made?;
+    Ok(begins_with(&begun.session))
+}
+
+#[tactic(auto, unfolding(crate::specs::Waits::begins_session))]
+fn begins_with(session: &Option<Sess>) -> bool
+    ensures { result ≡ begins_session session.now }
+{
+    matches!(session, Some(Sess::In(_)))
 }

@@ -20,5 +20,5 @@ abbrev pub entry_came : Used ReadCounts WriteCounts → Came
 entry_came = came_of read_facts write_facts
 
 -- what an object tells as it comes back
-abbrev pub object_came : {R W : Type 0} → Used (ReadStream R) (WriteStream W) → Came
-object_came = came_of (λ source. read_facts source.counts) (λ sink. write_facts sink.counts)
+abbrev pub stream_came : {R W : Type 0} → Used (ReadStream R) (WriteStream W) → Came
+stream_came = came_of (λ source. read_facts source.counts) (λ sink. write_facts sink.counts)

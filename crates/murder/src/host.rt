@@ -1,7 +1,7 @@
 // The host of a process: its files, its standard output and its standard error.
 ghost use Rattle.std.specs.Prelude.{◌≡◌, ◌+◌, [], IfOk};
 ghost use Rattle.mur_edge.specs.Host.{TakesBack};
-ghost use Rattle.murder.specs.Host.{object_came};
+ghost use Rattle.murder.specs.Host.{stream_came};
 
 use crate::stream::{ReadStream, StreamUsed, WriteStream};
 use either::Either;
@@ -122,7 +122,7 @@ impl<'a, R: Files, O: Print, E: Print> Host for SystemHost<'a, R, O, E> {
     }
 
     fn back(&mut self, used: Used<ReadStream<R::File>, StandardStream<'a, O, E>>)
-        ensures { TakesBack (object_came used.entry) (system_facts self.old) (system_facts self.new) }
+        ensures { TakesBack (stream_came used.entry) (system_facts self.old) (system_facts self.new) }
     {
         self.held = self.held.saturating_sub(1);
         match used {

@@ -8,9 +8,9 @@ use Rattle.record_merge.specs.declared.logged.MergedStep.{MergedStep}
 use Rattle.record_merge.specs.declared.logged.Sent.{Sent}
 use Rattle.record_merge.specs.Rules.{Rules}
 use Rattle.record_merge.specs.Logs.{RisesFrom, AreLogs, log_from, log_at, log_of, IsBefore, IsOrdered, IsMerged}
-use Rattle.record_merge.specs.Run.{Service, acted, without_first, delivered_by, happening_by, happenings_of, run}
-use Rattle.record_merge.specs.Replay.{stamped, taken_from, inputs_of, replayed, outputs_of, sent_to}
-use Rattle.record_merge.specs.RunsAsLogged.{IsBeginning, IsClosed, RunsAsLogged, Holds, MergedRuns}
+use Rattle.record_merge.specs.Run.{Service, acted, without_first_sent, delivered_by, happening_by, happenings_of, run_service}
+use Rattle.record_merge.specs.Replay.{stamped, taken_from, logged_inputs, replayed, outputs_of, sent_to}
+use Rattle.record_merge.specs.RunsAsLogged.{IsBeginning, IsClosed, RunsAsLogged, HasOnItsWay, MergedRuns}
 
 pub same_node : (n : ℕ) → nat_eq n n ≡ true
 same_node n = grind arith
@@ -156,9 +156,9 @@ module _ {S I O M : Type 0} (rules : Rules S I O M) where
   state_by false s entry log = refl
 
   took_by : (same : Bool) (took : List I) (entry : Logged I) (log : List (Logged I))
-      → (took ++ cond same (entry.input ∷ []) []) ++ inputs_of log ≡ took ++ inputs_of (cond same (entry ∷ []) [] ++ log)
+      → (took ++ cond same (entry.input ∷ []) []) ++ logged_inputs log ≡ took ++ logged_inputs (cond same (entry ∷ []) [] ++ log)
   took_by true took entry log = append_assoc took _ _
-  took_by false took entry log = ap (λ (x : List I). x ++ inputs_of log) (append-nil took)
+  took_by false took entry log = ap (λ (x : List I). x ++ logged_inputs log) (append-nil took)
 
   gave_by : (same : Bool) (gave : List O) (s : S) (entry : Logged I) (log : List (Logged I))
       → (gave ++ cond same (rules.outputs s entry.input) []) ++ outputs_of rules (cond same (rules.after s entry.input) s) log
@@ -231,7 +231,7 @@ module _ {S I O M : Type 0} (rules : Rules S I O M) where
   taken_here n f message entry log e = rw (same_node n, e, same_node f) refl
 
   first_message : (w : Service S I O M) (waiting : ℕ → ℕ → List (Sent M)) (step : MergedStep I) (merged : List (MergedStep I)) (f : ℕ) (message : M)
-      → rules.taken step.entry.input ≡ Some (f, message) → Hears step.entry → AreFrom step.entry.stamp merged → Holds rules w waiting
+      → rules.taken step.entry.input ≡ Some (f, message) → Hears step.entry → AreFrom step.entry.stamp merged → HasOnItsWay rules w waiting
       → IsClosed rules waiting w.state (λ k. log_of k (step ∷ merged)) → (more : List M) × (w.link f step.node ≡ message ∷ more)
   first_message w waiting step merged f message takes less later holds c =
       let old = c f step.node in
@@ -242,9 +242,9 @@ module _ {S I O M : Type 0} (rules : Rules S I O M) where
       (found.0, holds f step.node ∙ found.1)
 
   delivered : (w : Service S I O M) (from to : ℕ) (message : M) (input : I) (queue more : List M) → queue ≡ message ∷ more
-      → rules.taken input ≡ Some (from, message) → delivered_by rules w from to queue ≡ acted rules (without_first rules w from to) to input
+      → rules.taken input ≡ Some (from, message) → delivered_by rules w from to queue ≡ acted rules (without_first_sent rules w from to) to input
   delivered w from to message input queue more e takes =
-      rw e (ap (λ (x : I). acted rules (without_first rules w from to) to x) (rules.taking_taken input from message takes))
+      rw e (ap (λ (x : I). acted rules (without_first_sent rules w from to) to x) (rules.taking_taken input from message takes))
 
   -- services that differ in their links alone run as logged alike
   same_begin : (w off : Service S I O M) (step : MergedStep I) (merged : List (MergedStep I)) (end : Service S I O M)
@@ -253,20 +253,20 @@ module _ {S I O M : Type 0} (rules : Rules S I O M) where
   same_begin w off step merged end r = record { state = r.state; took = r.took; gave = r.gave }
 
   abbrev RestRuns : List (MergedStep I) → Type 0
-  RestRuns merged = (w : Service S I O M) (waiting : ℕ → ℕ → List (Sent M)) → Holds rules w waiting
-      → IsClosed rules waiting w.state (λ n. log_of n merged) → RunsAsLogged rules w (λ n. log_of n merged) (run rules w (happenings_of rules merged))
+  RestRuns merged = (w : Service S I O M) (waiting : ℕ → ℕ → List (Sent M)) → HasOnItsWay rules w waiting
+      → IsClosed rules waiting w.state (λ n. log_of n merged) → RunsAsLogged rules w (λ n. log_of n merged) (run_service rules w (happenings_of rules merged))
 
-  holds_after : (w : Service S I O M) (waiting : ℕ → ℕ → List (Sent M)) (step : MergedStep I) → Holds rules w waiting
-      → Holds rules (acted rules w step.node step.entry.input) (sent_by waiting w.state step.node step.entry)
+  holds_after : (w : Service S I O M) (waiting : ℕ → ℕ → List (Sent M)) (step : MergedStep I) → HasOnItsWay rules w waiting
+      → HasOnItsWay rules (acted rules w step.node step.entry.input) (sent_by waiting w.state step.node step.entry)
   holds_after w waiting step holds from to =
       holds_by (nat_eq from step.node) (w.link from to) (rules.messages_for to (rules.outputs (w.state from) step.entry.input))
       (waiting from to) step.entry.stamp (holds from to)
 
   step_runs : (step : MergedStep I) (merged : List (MergedStep I)) (w : Service S I O M) (waiting : ℕ → ℕ → List (Sent M))
-      → Hears step.entry → AreFrom step.entry.stamp merged → RestRuns merged → Holds rules w waiting
+      → Hears step.entry → AreFrom step.entry.stamp merged → RestRuns merged → HasOnItsWay rules w waiting
       → IsClosed rules waiting w.state (λ k. log_of k (step ∷ merged))
       → (found : Option (ℕ × M)) → rules.taken step.entry.input ≡ found
-      → RunsAsLogged rules w (λ k. log_of k (step ∷ merged)) (run rules w (happening_by rules step.node step.entry.input found ∷ happenings_of rules merged))
+      → RunsAsLogged rules w (λ k. log_of k (step ∷ merged)) (run_service rules w (happening_by rules step.node step.entry.input found ∷ happenings_of rules merged))
   step_runs step merged w waiting less later rest holds closed None own =
       after_step w step merged _
       (rest (acted rules w step.node step.entry.input) (sent_by waiting w.state step.node step.entry) (holds_after w waiting step holds)
@@ -274,18 +274,18 @@ module _ {S I O M : Type 0} (rules : Rules S I O M) where
   step_runs step merged w waiting less later rest holds closed (Some (f, message)) takes =
       let n : ℕ = step.node in
       let first = first_message w waiting step merged f message takes less later holds closed in
-      let off : Service S I O M = without_first rules w f n in
+      let off : Service S I O M = without_first_sent rules w f n in
       let waiting_off : ℕ → ℕ → List (Sent M) = λ a b. cond (nat_eq a f && nat_eq b n) (drop 1 (waiting a b)) (waiting a b) in
-      let off_holds : Holds rules off waiting_off = λ a b. drop_map (nat_eq a f && nat_eq b n) (waiting a b) (w.link a b) (holds a b) in
-      subst (λ (x : Service S I O M). RunsAsLogged rules w (λ k. log_of k (step ∷ merged)) (run rules x (happenings_of rules merged)))
+      let off_holds : HasOnItsWay rules off waiting_off = λ a b. drop_map (nat_eq a f && nat_eq b n) (waiting a b) (w.link a b) (holds a b) in
+      subst (λ (x : Service S I O M). RunsAsLogged rules w (λ k. log_of k (step ∷ merged)) (run_service rules x (happenings_of rules merged)))
       (sym (delivered w f n message step.entry.input (w.link f n) first.0 first.1 takes))
       (same_begin w off step merged _
       (after_step off step merged _
       (rest (acted rules off n step.entry.input) (sent_by waiting_off w.state n step.entry) (holds_after off waiting_off step off_holds)
       (closed_after off.state waiting_off step merged (closed_delivery w.state waiting step merged f message takes less later closed)))))
 
-  runs : (merged : List (MergedStep I)) (w : Service S I O M) (waiting : ℕ → ℕ → List (Sent M)) → NeverFalls merged → Holds rules w waiting
-      → IsClosed rules waiting w.state (λ n. log_of n merged) → RunsAsLogged rules w (λ n. log_of n merged) (run rules w (happenings_of rules merged))
+  runs : (merged : List (MergedStep I)) (w : Service S I O M) (waiting : ℕ → ℕ → List (Sent M)) → NeverFalls merged → HasOnItsWay rules w waiting
+      → IsClosed rules waiting w.state (λ n. log_of n merged) → RunsAsLogged rules w (λ n. log_of n merged) (run_service rules w (happenings_of rules merged))
   runs [] w waiting falls holds closed = record {
     state = λ n. refl;
     took = λ n. sym (append-nil (w.took n));
@@ -310,6 +310,6 @@ module _ {S I O M : Type 0} (rules : Rules S I O M) where
       let r = runs merged begun waiting (merged_falls logs merged are is) holds (closed_of waiting begun.state logs merged is closed) in
       record {
         state = λ n. r.state n ∙ ap (replayed rules (begun.state n)) (is.entries n);
-        took = λ n. r.took n ∙ ap (λ (log : List (Logged I)). begun.took n ++ inputs_of log) (is.entries n);
+        took = λ n. r.took n ∙ ap (λ (log : List (Logged I)). begun.took n ++ logged_inputs log) (is.entries n);
         gave = λ n. r.gave n ∙ ap (λ (log : List (Logged I)). begun.gave n ++ outputs_of rules (begun.state n) log) (is.entries n);
       }

@@ -9,8 +9,8 @@ abbrev pub stamped : {M : Type 0} → ℕ → List M → List (Sent M)
 stamped stamp [] = []
 stamped stamp (message ∷ messages) = record { stamp = stamp; message = message } ∷ stamped stamp messages
 
-abbrev pub inputs_of : {I : Type 0} → List (Logged I) → List I
-inputs_of log = map (λ entry. entry.input) log
+abbrev pub logged_inputs : {I : Type 0} → List (Logged I) → List I
+logged_inputs log = map (λ entry. entry.input) log
 
 -- the message of an input, with the stamp that it heard, if the node at a place sent it
 abbrev pub heard_by : {M : Type 0} → ℕ → ℕ → Option (ℕ × M) → List (Sent M)

@@ -28,20 +28,20 @@ module _ {S I O M : Type 0} (rules : Rules S I O M) where
   }
 
   -- the first message of a link is taken off
-  abbrev pub without_first : Service S I O M → ℕ → ℕ → Service S I O M
-  without_first service from to = record service { link = λ a b. if (a == from) && (b == to) then drop 1 (service.link a b) else service.link a b }
+  abbrev pub without_first_sent : Service S I O M → ℕ → ℕ → Service S I O M
+  without_first_sent service from to = record service { link = λ a b. if (a == from) && (b == to) then drop 1 (service.link a b) else service.link a b }
 
   abbrev pub delivered_by : Service S I O M → ℕ → ℕ → List M → Service S I O M
   delivered_by service from to [] = service
-  delivered_by service from to (message ∷ rest) = acted (without_first service from to) to (rules.taking from message)
+  delivered_by service from to (message ∷ rest) = acted (without_first_sent service from to) to (rules.taking from message)
 
   abbrev pub after_happening : Service S I O M → Happening I → Service S I O M
   after_happening service (own node input) = acted service node input
   after_happening service (delivery from to) = delivered_by service from to (service.link from to)
 
-  abbrev pub run : Service S I O M → List (Happening I) → Service S I O M
-  run service [] = service
-  run service (happening ∷ happenings) = run (after_happening service happening) happenings
+  abbrev pub run_service : Service S I O M → List (Happening I) → Service S I O M
+  run_service service [] = service
+  run_service service (happening ∷ happenings) = run_service (after_happening service happening) happenings
 
   -- a step of merged logs as it happens: an input that takes a message is a delivery
   abbrev pub happening_by : ℕ → I → Option (ℕ × M) → Happening I

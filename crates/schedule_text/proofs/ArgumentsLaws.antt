@@ -8,8 +8,8 @@ use Rattle.mur_base.specs.Number.{number_of}
 use Rattle.schedule_text.specs.declared.schedule.fault.Rule.TheVariants.{WrongCount, BadNumber}
 use Rattle.schedule_text.specs.declared.words.Kind.{Kind}
 use Rattle.schedule_text.specs.declared.words.Kind.TheVariants.{Node, Number, Text}
-use Rattle.schedule_text.specs.ScheduleWords.{Words, split_word, word_in, argument_in, first_argument, arguments_in, number_in}
-use Rattle.schedule_text.specs.Spelled.{Lacks, IsWord, Spells, AreArguments}
+use Rattle.schedule_text.specs.ScheduleWords.{WordAndRest, split_word, word_in, argument_in, first_argument, arguments_in, number_of_word}
+use Rattle.schedule_text.specs.Spelled.{Lacks, IsWord, SpellsValue, AreArguments}
 use Rattle.schedule_text.specs.Spelled.AreArguments.{no_more, one_more}
 use Rattle.schedule_text.specs.Words.{Value}
 use Rattle.schedule_text.specs.Words.Value.{a_node, a_number, a_text}
@@ -17,7 +17,7 @@ use Rattle.schedule_text.proofs.HighBytes.{high_word, number_high}
 use Rattle.schedule_text.proofs.Steps.{both, kept_if, kept_true}
 
 -- the parts of a text: a word without a space, and what follows
-pub record IsSplit (text : List ℕ) (words : Words) : Type 0 where
+pub record IsSplit (text : List ℕ) (words : WordAndRest) : Type 0 where
   pub parts : text ≡ words.word ++ words.rest
   pub whole : Lacks 32 words.word
 
@@ -55,32 +55,32 @@ IsOfKind Node argument = IsWord argument
 IsOfKind Number argument = IsWord argument
 IsOfKind Text argument = ⊤
 
-record IsCut (kind : Kind) (text : List ℕ) (words : Words) : Type 0 where
+record IsCut (kind : Kind) (text : List ℕ) (words : WordAndRest) : Type 0 where
   parts : text ≡ words.word ++ words.rest
   fits : IsOfKind kind words.word
 
-word_cut : (text : List ℕ) (words : Words) → word_in text ≡ Ok words → (text ≡ words.word ++ words.rest) × IsWord words.word
+word_cut : (text : List ℕ) (words : WordAndRest) → word_in text ≡ Ok words → (text ≡ words.word ++ words.rest) × IsWord words.word
 unfolding word_in
 word_cut text words h =
     let some = ltb-true 0 (length (split_word text).word) (kept_true (nat_lt 0 (length (split_word text).word)) (split_word text) words WrongCount h) in
     let same = kept_if (nat_lt 0 (length (split_word text).word)) (split_word text) words WrongCount h in
-    subst (λ (w : Words). (text ≡ w.word ++ w.rest) × IsWord w.word) same
+    subst (λ (w : WordAndRest). (text ≡ w.word ++ w.rest) × IsWord w.word) same
     ((is_split text).parts, record { some = some; whole = (is_split text).whole })
 
-argument_cut : (kind : Kind) (text : List ℕ) (words : Words) → argument_in kind text ≡ Ok words → IsCut kind text words
+argument_cut : (kind : Kind) (text : List ℕ) (words : WordAndRest) → argument_in kind text ≡ Ok words → IsCut kind text words
 unfolding argument_in
 argument_cut Node text words h = let cut = word_cut text words h in record { parts = cut.0; fits = cut.1 }
 argument_cut Number text words h = let cut = word_cut text words h in record { parts = cut.0; fits = cut.1 }
 argument_cut Text text words h =
-    let whole : Words = record { word = text; rest = [] } in
+    let whole : WordAndRest = record { word = text; rest = [] } in
     let same : whole ≡ words = cc in
-    subst (λ (w : Words). IsCut Text text w) same (record { parts = sym (append-nil text); fits = tt })
+    subst (λ (w : WordAndRest). IsCut Text text w) same (record { parts = sym (append-nil text); fits = tt })
 
-record IsFirst (kind : Kind) (rest : List ℕ) (words : Words) : Type 0 where
+record IsFirst (kind : Kind) (rest : List ℕ) (words : WordAndRest) : Type 0 where
   parts : rest ≡ 32 ∷ words.word ++ words.rest
   fits : IsOfKind kind words.word
 
-first_by : (kind : Kind) (b : ℕ) (text : List ℕ) (words : Words) (space : Bool) → nat_eq b 32 ≡ space → first_argument kind (b ∷ text) ≡ Ok words
+first_by : (kind : Kind) (b : ℕ) (text : List ℕ) (words : WordAndRest) (space : Bool) → nat_eq b 32 ≡ space → first_argument kind (b ∷ text) ≡ Ok words
     → IsFirst kind (b ∷ text) words
 unfolding first_argument
 first_by kind b text words true e h =
@@ -88,7 +88,7 @@ first_by kind b text words true e h =
     record { parts = ap (λ (c : ℕ). c ∷ text) (eqb-true b 32 e) ∙ ap (λ (t : List ℕ). 32 ∷ t) cut.parts; fits = cut.fits }
 first_by kind b text words false e h = let none : Err WrongCount ≡ Ok words = rw e at h in cc
 
-first_cut : (kind : Kind) (rest : List ℕ) (words : Words) → first_argument kind rest ≡ Ok words → IsFirst kind rest words
+first_cut : (kind : Kind) (rest : List ℕ) (words : WordAndRest) → first_argument kind rest ≡ Ok words → IsFirst kind rest words
 unfolding first_argument
 first_cut kind [] words h = cc
 first_cut kind (b ∷ text) words h = first_by kind b text words _ refl h
@@ -148,10 +148,10 @@ unfoldable pub AllSpell : List (List ℕ) → List Value → Type 0
 AllSpell [] [] = ⊤
 AllSpell [] (value ∷ values) = ⊥
 AllSpell (argument ∷ arguments) [] = ⊥
-AllSpell (argument ∷ arguments) (value ∷ values) = Spells argument value × AllSpell arguments values
+AllSpell (argument ∷ arguments) (value ∷ values) = SpellsValue argument value × AllSpell arguments values
 
 -- one value
-pub one_spells : (value : Value) (P : List (List ℕ) → Type 0) → ((one : List ℕ) → Spells one value → P (one ∷ [])) → (arguments : List (List ℕ))
+pub one_spells : (value : Value) (P : List (List ℕ) → Type 0) → ((one : List ℕ) → SpellsValue one value → P (one ∷ [])) → (arguments : List (List ℕ))
     → AllSpell arguments (value ∷ []) → P arguments
 unfolding AllSpell
 one_spells value P is [] spell = absurd spell
@@ -160,7 +160,7 @@ one_spells value P is (one ∷ more ∷ others) spell = absurd spell.1
 
 -- two values
 pub two_spell : (first second : Value) (P : List (List ℕ) → Type 0)
-    → ((one other : List ℕ) → Spells one first → Spells other second → P (one ∷ other ∷ [])) → (arguments : List (List ℕ))
+    → ((one other : List ℕ) → SpellsValue one first → SpellsValue other second → P (one ∷ other ∷ [])) → (arguments : List (List ℕ))
     → AllSpell arguments (first ∷ second ∷ []) → P arguments
 unfolding AllSpell
 two_spell first second P are [] spell = absurd spell
@@ -200,7 +200,7 @@ word_read : (word rest : List ℕ) → IsWord word → IsBehindWord rest → wor
 unfolding word_in
 word_read word rest is end = rw (split_read word rest is.whole end, lt-ltb 0 (length word) is.some) refl
 
-first_read : (argument rest : List ℕ) (value : Value) (values : List Value) → Spells argument value → EndsWithText (value ∷ values) → AreArguments rest values
+first_read : (argument rest : List ℕ) (value : Value) (values : List Value) → SpellsValue argument value → EndsWithText (value ∷ values) → AreArguments rest values
     → first_argument (kind_of value) (32 ∷ argument ++ rest) ≡ Ok (record { word = argument; rest = rest })
 unfolding first_argument argument_in EndsWithText
 first_read argument rest (a_node name) values is ends are = word_read argument rest is.1 (behind_word rest values are)
@@ -235,10 +235,10 @@ some_number : (found : Option ℕ) (n : ℕ) → ok_or found BadNumber ≡ Ok n 
 some_number None n h = cc
 some_number (Some found) n h = cc
 
-pub number_spelled : (word : List ℕ) (n : ℕ) → number_in word ≡ Ok n → number_of word ≡ Some n
-unfolding number_in
+pub number_spelled : (word : List ℕ) (n : ℕ) → number_of_word word ≡ Ok n → number_of word ≡ Some n
+unfolding number_of_word
 number_spelled word n h = some_number (number_of word) n h
 
-pub number_read : (word : List ℕ) (n : ℕ) → number_of word ≡ Some n → number_in word ≡ Ok n
-unfolding number_in
+pub number_read : (word : List ℕ) (n : ℕ) → number_of word ≡ Some n → number_of_word word ≡ Ok n
+unfolding number_of_word
 number_read word n h = rw h refl

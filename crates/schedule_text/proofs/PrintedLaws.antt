@@ -8,7 +8,7 @@ use Rattle.mur_base.specs.declared.limits.TheConstants.{SHORT_NAME_LIMIT}
 use Rattle.mur_config.specs.declared.config.Config.{Config}
 use Rattle.schedule_text.specs.declared.event.Event.{Event}
 use Rattle.schedule_text.specs.Meaning.{IsSchedule}
-use Rattle.schedule_text.specs.Printed.{value_text, argument_text, arguments_text, line_text, saying_text, event_text, schedule_text}
+use Rattle.schedule_text.specs.Printed.{value_text, argument_text, values_text, saying_line, saying_text, event_text, schedule_text}
 use Rattle.schedule_text.specs.Printed.{AreNamed, CanBeSaid, AllHaveWords, CanBePrinted, AreReadBack, SaysWhatIsReadBack, AllReadBack}
 use Rattle.schedule_text.specs.Spelled.{AreArguments, IsLineOf, IsSpelledAs, AreLinesOf, SpellEvents}
 use Rattle.schedule_text.specs.Spelled.AreArguments.{no_more, one_more}
@@ -53,43 +53,43 @@ name_by name false false true e l f h = record { some = grind (arith, nat_tests)
 name_high : (name : List ℕ) → short_name_fault name ≡ None → IsHigh name
 name_high name h = name_by name _ _ _ refl refl refl h
 
-arguments_from : (values : List Value) → AreReadBack values → AreNamed values → AreFrom 32 (arguments_text values)
-unfolding arguments_text argument_text value_text AreReadBack AreNamed
+arguments_from : (values : List Value) → AreReadBack values → AreNamed values → AreFrom 32 (values_text values)
+unfolding values_text argument_text value_text AreReadBack AreNamed
 arguments_from [] back named = refl
 arguments_from (a_node name ∷ values) back named =
-    from_both 32 name (arguments_text values) (from_lower name (name_high name named.0).from) (arguments_from values back.1 named.1)
+    from_both 32 name (values_text values) (from_lower name (name_high name named.0).from) (arguments_from values back.1 named.1)
 arguments_from (a_number n ∷ values) back named =
-    from_both 32 (value_text (a_number n)) (arguments_text values) (from_lower (value_text (a_number n)) (number_high (value_text (a_number n)) n back.0).from) (arguments_from values back.1 named)
+    from_both 32 (value_text (a_number n)) (values_text values) (from_lower (value_text (a_number n)) (number_high (value_text (a_number n)) n back.0).from) (arguments_from values back.1 named)
 arguments_from (a_text bytes ∷ values) back named =
-    from_both 32 (text_of bytes) (arguments_text values) (text_from bytes) (arguments_from values back.1 named)
+    from_both 32 (text_of bytes) (values_text values) (text_from bytes) (arguments_from values back.1 named)
 
-arguments_spelled : (values : List Value) → AreReadBack values → AreNamed values → AreArguments (arguments_text values) values
-unfolding arguments_text argument_text value_text AreReadBack AreNamed
+arguments_spelled : (values : List Value) → AreReadBack values → AreNamed values → AreArguments (values_text values) values
+unfolding values_text argument_text value_text AreReadBack AreNamed
 arguments_spelled [] back named = no_more
 arguments_spelled (a_node name ∷ values) back named =
-    one_more name (arguments_text values) (a_node name) values (refl, high_word name (name_high name named.0)) (arguments_spelled values back.1 named.1)
+    one_more name (values_text values) (a_node name) values (refl, high_word name (name_high name named.0)) (arguments_spelled values back.1 named.1)
 arguments_spelled (a_number n ∷ values) back named =
-    one_more (value_text (a_number n)) (arguments_text values) (a_number n) values back.0 (arguments_spelled values back.1 named)
+    one_more (value_text (a_number n)) (values_text values) (a_number n) values back.0 (arguments_spelled values back.1 named)
 arguments_spelled (a_text bytes ∷ values) back named =
-    one_more (text_of bytes) (arguments_text values) (a_text bytes) values back.0 (arguments_spelled values back.1 named)
+    one_more (text_of bytes) (values_text values) (a_text bytes) values back.0 (arguments_spelled values back.1 named)
 
 -- a printed line, before the lines of other events
 line_onto : (event : Event) (saying : Option Saying) → said_by event ≡ saying → SaysWhatIsReadBack saying → CanBeSaid saying
     → (text : List ℕ) (events : List Event) → SpellEvents text events → SpellEvents (saying_text saying ++ text) (event ∷ events)
-unfolding saying_text line_text
+unfolding saying_text saying_line
 line_onto event None e back said text events rest = absurd said
 line_onto event (Some saying) e back said text events rest =
-    let from = from_both 32 (word_text saying.word) (arguments_text saying.values) (from_lower (word_text saying.word) (is_row saying.word).from) (arguments_from saying.values back said) in
-    let line : IsLineOf (line_text saying) saying =
-    record { rest = arguments_text saying.values; spelled = refl; arguments = arguments_spelled saying.values back said } in
+    let from = from_both 32 (word_text saying.word) (values_text saying.values) (from_lower (word_text saying.word) (is_row saying.word).from) (arguments_from saying.values back said) in
+    let line : IsLineOf (saying_line saying) saying =
+    record { rest = values_text saying.values; spelled = refl; arguments = arguments_spelled saying.values back said } in
     record {
-      lines = line_text saying ∷ rest.lines;
+      lines = saying_line saying ∷ rest.lines;
       cut =
-          subst (λ (bytes : List ℕ). AreLinesOf bytes (line_text saying ∷ rest.lines)) (sym (append_assoc (line_text saying) (10 ∷ []) text))
-          (with_lf (line_text saying) (line_text saying) text rest.lines (lacks_below 32 10 (omega arith) (line_text saying) from)
-          (inr (refl, no_cr (line_text saying) from)) rest.cut);
+          subst (λ (bytes : List ℕ). AreLinesOf bytes (saying_line saying ∷ rest.lines)) (sym (append_assoc (saying_line saying) (10 ∷ []) text))
+          (with_lf (saying_line saying) (saying_line saying) text rest.lines (lacks_below 32 10 (omega arith) (saying_line saying) from)
+          (inr (refl, no_cr (saying_line saying) from)) rest.cut);
       spelled =
-          spelled (line_text saying) event rest.lines events (subst (λ (s : Option Saying). IsSpelledAs (line_text saying) s) (sym e) line) rest.spelled;
+          spelled (saying_line saying) event rest.lines events (subst (λ (s : Option Saying). IsSpelledAs (saying_line saying) s) (sym e) line) rest.spelled;
     }
 
 events_spelled : (events : List Event) → AllReadBack events → AllHaveWords events → SpellEvents (schedule_text events) events

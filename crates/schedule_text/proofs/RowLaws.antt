@@ -6,7 +6,7 @@ use Rattle.mur_base.specs.Number.{number_of}
 use Rattle.mur_config.specs.Nodes.{are_linked}
 use Rattle.mur_config.specs.declared.config.Config.{Config}
 use Rattle.mur_config.specs.declared.node.Link.{Link}
-use Rattle.schedule_text.specs.Brings.{steps_of, bytes_of as bytes_brought}
+use Rattle.schedule_text.specs.Brings.{steps_of, bytes_brought}
 use Rattle.schedule_text.specs.declared.event.Event.{Event}
 use Rattle.schedule_text.specs.declared.event.Event.TheVariants.{Open, Data, Hang, Deliver, Flow, Cut, Join, Crash, Arm, Start, Heal}
 use Rattle.schedule_text.specs.declared.schedule.fault.Rule.TheVariants.{BadNumber, UnknownNode, Connection}
@@ -18,7 +18,7 @@ use Rattle.schedule_text.specs.Rows.{event_in, flow_count, text_in}
 use Rattle.schedule_text.specs.Schedule.{event_of}
 use Rattle.schedule_text.specs.ScheduleNodes.{node_in, client_node_in, takes_clients, link_in}
 use Rattle.schedule_text.specs.ScheduleOpened.{is_opened, opened_before, unopened}
-use Rattle.schedule_text.specs.ScheduleWords.{split_word, arguments_in, number_in}
+use Rattle.schedule_text.specs.ScheduleWords.{split_word, arguments_in, number_of_word}
 use Rattle.schedule_text.specs.Spelled.{IsWord, AreArguments, IsLineOf, IsSpelledAs, IsSpelledBy}
 use Rattle.schedule_text.specs.Text.{bytes_of}
 use Rattle.schedule_text.specs.Words.{Value, Saying, row, said_by, word_text, kinds_of, word_named}
@@ -47,13 +47,13 @@ link_is config from to link h =
 
 -- a count within the limit
 record IsCount (word : List ℕ) (count : ℕ) : Type 0 where
-  read : number_in word ≡ Ok count
+  read : number_of_word word ≡ Ok count
   within : count ≤ FLOW_LIMIT
 
 count_is : (word : List ℕ) (count : ℕ) → flow_count word ≡ Ok count → IsCount word count
 unfolding flow_count
 count_is word count h =
-    let number = both (number_in word) _ count h in
+    let number = both (number_of_word word) _ count h in
     let low = leb-true number.0 FLOW_LIMIT (kept_true (nat_le number.0 FLOW_LIMIT) number.0 count BadNumber number.2) in
     subst (λ (n : ℕ). IsCount word n) (kept_if (nat_le number.0 FLOW_LIMIT) number.0 count BadNumber number.2)
     (record { read = number.1; within = low })
@@ -87,7 +87,7 @@ open_made : (config : Config) (before : List Event) (node number : List ℕ) (ev
     → event_in config before open_word (node ∷ number ∷ []) ≡ Ok event → IsMade config before open_word (node ∷ number ∷ []) event
 unfolding event_in said_by AllSpell MayFollow steps_of bytes_brought
 open_made config before node number event word h =
-    let conn = both (number_in number) _ event h in
+    let conn = both (number_of_word number) _ event h in
     let name = both (client_node_in config node) _ event conn.2 in
     let new = both (unopened before conn.0) _ event name.2 in
     let same = client_node_is config node name.0 name.1 in
@@ -108,7 +108,7 @@ data_made : (config : Config) (before : List Event) (number text : List ℕ) (ev
     → event_in config before data_word (number ∷ text ∷ []) ≡ Ok event → IsMade config before data_word (number ∷ text ∷ []) event
 unfolding event_in said_by AllSpell spaced MayFollow steps_of bytes_brought
 data_made config before number text event h =
-    let conn = both (number_in number) _ event h in
+    let conn = both (number_of_word number) _ event h in
     let there = both (opened_before before conn.0) _ event conn.2 in
     let bytes = both (text_in text) _ event there.2 in
     let made : Data conn.0 bytes.0 ≡ event = cc in
@@ -125,7 +125,7 @@ hang_made : (config : Config) (before : List Event) (number : List ℕ) (event :
     → event_in config before hang_word (number ∷ []) ≡ Ok event → IsMade config before hang_word (number ∷ []) event
 unfolding event_in said_by AllSpell MayFollow steps_of bytes_brought
 hang_made config before number event h =
-    let conn = both (number_in number) _ event h in
+    let conn = both (number_of_word number) _ event h in
     let there = both (opened_before before conn.0) _ event conn.2 in
     let made : Hang conn.0 ≡ event = cc in
     subst (λ (e : Event). IsMade config before hang_word (number ∷ []) e) made (record {

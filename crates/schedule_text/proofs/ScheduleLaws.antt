@@ -11,7 +11,7 @@ use Rattle.schedule_text.specs.declared.event.Event.{Event}
 use Rattle.schedule_text.specs.declared.schedule.fault.Rule.{Rule}
 use Rattle.schedule_text.specs.declared.schedule.fault.Rule.TheVariants.{TooLong}
 use Rattle.schedule_text.specs.declared.schedule.fault.SchedFault.{SchedFault}
-use Rattle.schedule_text.specs.Brings.{steps_of, steps_of_all, bytes_of, bytes_of_all}
+use Rattle.schedule_text.specs.Brings.{steps_of, steps_of_all, bytes_brought, bytes_of_all}
 use Rattle.schedule_text.specs.Cuts.{cuts_of, line_in}
 use Rattle.schedule_text.specs.Schedule.{event_of, with_event, line_read, events_from, schedule_of, is_passed_over}
 use Rattle.schedule_text.specs.ScheduleFits.{FitSchedule}
@@ -19,7 +19,7 @@ use Rattle.schedule_text.specs.ScheduleFits.{FitSchedule}
 -- an event that a text of this length gives
 record Fits (event : Event) (size : ℕ) : Type 0 where
   steps : steps_of event ≤ size * 2 ^ 32
-  bytes : bytes_of event ≤ size
+  bytes : bytes_brought event ≤ size
 
 is_some_line : (line : List ℕ) → is_passed_over line ≡ false → 0 < length line
 unfolding is_passed_over
@@ -37,7 +37,7 @@ unfolding steps_of_all
 steps-push [] event = omega arith
 steps-push (first ∷ before) event = omega (arith, steps-push before event)
 
-bytes-push : (before : List Event) (event : Event) → bytes_of_all (before ++ event ∷ []) ≡ bytes_of_all before + bytes_of event
+bytes-push : (before : List Event) (event : Event) → bytes_of_all (before ++ event ∷ []) ≡ bytes_of_all before + bytes_brought event
 unfolding bytes_of_all
 bytes-push [] event = omega arith
 bytes-push (first ∷ before) event = omega (arith, bytes-push before event)

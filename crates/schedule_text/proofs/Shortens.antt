@@ -10,7 +10,7 @@ use Rattle.schedule_text.specs.declared.text.Spelling.TheVariants.{Between, Esca
 use Rattle.schedule_text.specs.declared.text.Character.{Character}
 use Rattle.schedule_text.specs.declared.text.Character.TheVariants.{Inside, Ends, Bad}
 use Rattle.schedule_text.specs.declared.schedule.fault.Rule.TheVariants.{BadText}
-use Rattle.schedule_text.specs.Text.{bytes_of, bytes_from, bytes_behind, with_byte, at_end, character_at}
+use Rattle.schedule_text.specs.Text.{bytes_of, bytes_spelled_from, bytes_behind, with_byte, spelling_end, character_at}
 use Rattle.schedule_text.specs.Cuts.{cuts_of, line_in, without_end}
 use Rattle.schedule_text.specs.Rows.{text_in}
 
@@ -21,20 +21,20 @@ onto_byte b size None ih bytes h = cc
 onto_byte b size (Some rest) ih bytes h =
     let same : b ∷ rest ≡ bytes = cc in subst (λ (found : List ℕ). length found ≤ size + 1) same (omega (arith, ih rest refl))
 
-behind_character : (char : Character) (text : List ℕ) → ((place : Spelling) (bytes : List ℕ) → bytes_from text place ≡ Some bytes → length bytes ≤ length text)
-    → (bytes : List ℕ) → bytes_behind char (bytes_from text) ≡ Some bytes → length bytes ≤ length text + 1
+behind_character : (char : Character) (text : List ℕ) → ((place : Spelling) (bytes : List ℕ) → bytes_spelled_from text place ≡ Some bytes → length bytes ≤ length text)
+    → (bytes : List ℕ) → bytes_behind char (bytes_spelled_from text) ≡ Some bytes → length bytes ≤ length text + 1
 behind_character Bad text ih bytes h = cc
 behind_character (Inside place) text ih bytes h = omega (arith, ih place bytes h)
-behind_character (Ends b) text ih bytes h = onto_byte b (length text) (bytes_from text Between) (ih Between) bytes h
+behind_character (Ends b) text ih bytes h = onto_byte b (length text) (bytes_spelled_from text Between) (ih Between) bytes h
 
-ended : (place : Spelling) (bytes : List ℕ) → at_end place ≡ Some bytes → length bytes ≤ 0
+ended : (place : Spelling) (bytes : List ℕ) → spelling_end place ≡ Some bytes → length bytes ≤ 0
 ended Between bytes h = let same : [] ≡ bytes = cc in subst (λ (found : List ℕ). length found ≤ 0) same (omega arith)
 ended Escape bytes h = cc
 ended Hex bytes h = cc
 ended (HexDigit high) bytes h = cc
 
-bytes_shorten : (text : List ℕ) (place : Spelling) (bytes : List ℕ) → bytes_from text place ≡ Some bytes → length bytes ≤ length text
-unfolding bytes_from
+bytes_shorten : (text : List ℕ) (place : Spelling) (bytes : List ℕ) → bytes_spelled_from text place ≡ Some bytes → length bytes ≤ length text
+unfolding bytes_spelled_from
 bytes_shorten [] place bytes h = ended place bytes h
 bytes_shorten (c ∷ text) place bytes h = omega (arith, behind_character (character_at place c) text (bytes_shorten text) bytes h)
 

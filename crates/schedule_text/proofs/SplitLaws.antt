@@ -6,7 +6,7 @@ use Rattle.memchr.specs.Find.{IsFirstByte, is_byte}
 use Rattle.schedule_text.specs.declared.schedule.fault.Rule.{Rule}
 use Rattle.schedule_text.specs.declared.schedule.fault.Rule.TheVariants.{WrongCount}
 use Rattle.schedule_text.specs.ScheduleRules.{◌>>=◌}
-use Rattle.schedule_text.specs.ScheduleWords.{Words, split_word, first_argument, arguments_in, with_arguments}
+use Rattle.schedule_text.specs.ScheduleWords.{WordAndRest, split_word, first_argument, arguments_in, with_arguments}
 use Rattle.schedule_text.specs.declared.words.Kind.{Kind}
 
 pub no_space : (text : List ℕ) → IsFirstByte (is_byte 32) text None → split_word text ≡ record { word = text; rest = [] }
@@ -50,7 +50,7 @@ some_left [] h = absurd (omega arith)
 some_left (b ∷ rest) h = refl
 
 -- one argument more is cut
-pub goes_on : (before : List (List ℕ)) (kinds more : List Kind) (kind : Kind) (left : List ℕ) (words : Words) (all : Result (List (List ℕ)) Rule)
+pub goes_on : (before : List (List ℕ)) (kinds more : List Kind) (kind : Kind) (left : List ℕ) (words : WordAndRest) (all : Result (List (List ℕ)) Rule)
     → kinds ≡ kind ∷ more → first_argument kind left ≡ Ok words → with_arguments before (arguments_in kinds left) ≡ all
     → with_arguments (before ++ words.word ∷ []) (arguments_in more words.rest) ≡ all
 unfolding arguments_in

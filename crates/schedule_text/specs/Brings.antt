@@ -18,10 +18,10 @@ steps_of_all [] = 0
 steps_of_all (event ∷ events) = steps_of event + steps_of_all events
 
 -- the bytes that come from a client
-unfoldable pub bytes_of : Event → ℕ
-bytes_of (Data conn bytes) = length bytes
-bytes_of event = 0
+unfoldable pub bytes_brought : Event → ℕ
+bytes_brought (Data conn bytes) = length bytes
+bytes_brought event = 0
 
 unfoldable pub bytes_of_all : List Event → ℕ
 bytes_of_all [] = 0
-bytes_of_all (event ∷ events) = bytes_of event + bytes_of_all events
+bytes_of_all (event ∷ events) = bytes_brought event + bytes_of_all events

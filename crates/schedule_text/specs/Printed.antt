@@ -22,17 +22,17 @@ value_text (a_text bytes) = text_of bytes
 unfoldable pub argument_text : Value → List ℕ
 argument_text value = space ∷ value_text value
 
-unfoldable pub arguments_text : List Value → List ℕ
-arguments_text values = flat_map argument_text values
+unfoldable pub values_text : List Value → List ℕ
+values_text values = flat_map argument_text values
 
 -- the word, and a space before each argument
-unfoldable pub line_text : Saying → List ℕ
-line_text saying = word_text saying.word ++ arguments_text saying.values
+unfoldable pub saying_line : Saying → List ℕ
+saying_line saying = word_text saying.word ++ values_text saying.values
 
 -- LF ends each line
 unfoldable pub saying_text : Option Saying → List ℕ
 saying_text None = []
-saying_text (Some saying) = line_text saying ++ lf ∷ []
+saying_text (Some saying) = saying_line saying ++ lf ∷ []
 
 unfoldable pub event_text : Event → List ℕ
 event_text event = saying_text (said_by event)
@@ -63,10 +63,10 @@ pub record CanBePrinted (config : Config) (events : List Event) : Type 0 where
   pub short : length (schedule_text events) ≤ 2 ^ 28
 
 -- an argument of the printer, as what it stands for
-abbrev pub value_of : Argument → Value
-value_of (Node name) = a_node name.now
-value_of (Number n) = a_number n
-value_of (Text bytes) = a_text bytes.now
+abbrev pub argument_value : Argument → Value
+argument_value (Node name) = a_node name.now
+argument_value (Number n) = a_number n
+argument_value (Text bytes) = a_text bytes.now
 
 -- what is printed for a value stands for that value
 abbrev pub IsReadBack : Value → Type 0

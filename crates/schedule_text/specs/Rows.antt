@@ -13,7 +13,7 @@ use Rattle.schedule_text.specs.Text.{bytes_of}
 use Rattle.schedule_text.specs.ScheduleNodes.{client_node_in, link_in}
 use Rattle.schedule_text.specs.ScheduleOpened.{opened_before, unopened}
 use Rattle.schedule_text.specs.ScheduleRules.{◌>>=◌}
-use Rattle.schedule_text.specs.ScheduleWords.{number_in}
+use Rattle.schedule_text.specs.ScheduleWords.{number_of_word}
 
 -- the bytes that a text spells
 unfoldable pub text_in : List ℕ → Result (List ℕ) Rule
@@ -22,23 +22,23 @@ text_in text = ok_or (bytes_of text) BadText
 -- the number of deliveries that a word is
 unfoldable pub flow_count : List ℕ → Result ℕ Rule
 flow_count word = do
-  count ← number_in word
+  count ← number_of_word word
   if nat_le count FLOW_LIMIT then Ok count else Err BadNumber
 
 -- `before` are the events of the lines before
 unfoldable pub event_in : Config → List Event → Word → List (List ℕ) → Result Event Rule
 event_in config before open_word (node ∷ number ∷ []) = do
-  conn ← number_in number
+  conn ← number_of_word number
   name ← client_node_in config node
   new ← unopened before conn
   Ok (Open name conn)
 event_in config before data_word (number ∷ text ∷ []) = do
-  conn ← number_in number
+  conn ← number_of_word number
   open_there ← opened_before before conn
   bytes ← text_in text
   Ok (Data conn bytes)
 event_in config before hang_word (number ∷ []) = do
-  conn ← number_in number
+  conn ← number_of_word number
   open_there ← opened_before before conn
   Ok (Hang conn)
 event_in config before deliver_word (from ∷ to ∷ []) = do

@@ -9,14 +9,14 @@ use Rattle.schedule_text.specs.declared.schedule.fault.ScheduleError.TheVariants
 use Rattle.schedule_text.specs.declared.schedule.fault.LineError.{LineError}
 use Rattle.schedule_text.specs.declared.schedule.fault.LineError.TheVariants.{Broken, Memory as no_room}
 
-unfoldable pub rule_number : Rule → ℕ
-rule_number UnknownWord = 1
-rule_number WrongCount = 2
-rule_number BadNumber = 3
-rule_number UnknownNode = 4
-rule_number Connection = 5
-rule_number TooLong = 6
-rule_number BadText = 7
+unfoldable pub schedule_rule_number : Rule → ℕ
+schedule_rule_number UnknownWord = 1
+schedule_rule_number WrongCount = 2
+schedule_rule_number BadNumber = 3
+schedule_rule_number UnknownNode = 4
+schedule_rule_number Connection = 5
+schedule_rule_number TooLong = 6
+schedule_rule_number BadText = 7
 
 -- one step after another, as far as none breaks a rule
 infixl 10 ◌>>=◌
@@ -25,10 +25,10 @@ Ok found >>= next = next found
 Err fault >>= next = Err fault
 
 -- a part of a line is read as what it is, or its rule is named, unless memory is wanting
-abbrev pub IsReadAs : {A : Type 0} → Result A Rule → Result A LineError → Type 0
-IsReadAs read (Ok found) = read ≡ Ok found
-IsReadAs read (Err (Broken rule)) = read ≡ Err rule
-IsReadAs read (Err no_room) = ⊤
+abbrev pub IsReadByRule : {A : Type 0} → Result A Rule → Result A LineError → Type 0
+IsReadByRule read (Ok found) = read ≡ Ok found
+IsReadByRule read (Err (Broken rule)) = read ≡ Err rule
+IsReadByRule read (Err no_room) = ⊤
 
 -- a schedule is read as its events, or its fault is named, unless memory is wanting
 abbrev pub IsReadAsSchedule : Result (List Event) SchedFault → Result (List Event) ScheduleError → Type 0

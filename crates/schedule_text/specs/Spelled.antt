@@ -29,15 +29,15 @@ pub record IsWord (text : List ℕ) : Type 0 where
   pub whole : Lacks space text
 
 -- an argument spells what it stands for: a name by itself, a number in decimal, bytes by a text in any of its forms
-abbrev pub Spells : List ℕ → Value → Type 0
-Spells argument (a_node name) = (argument ≡ name) × IsWord argument
-Spells argument (a_number n) = number_of argument ≡ Some n
-Spells argument (a_text bytes) = bytes_of argument ≡ Some bytes
+abbrev pub SpellsValue : List ℕ → Value → Type 0
+SpellsValue argument (a_node name) = (argument ≡ name) × IsWord argument
+SpellsValue argument (a_number n) = number_of argument ≡ Some n
+SpellsValue argument (a_text bytes) = bytes_of argument ≡ Some bytes
 
 -- one argument after another, a space before each
 pub data AreArguments : List ℕ → List Value → Type 0 where
   no_more : AreArguments [] []
-  one_more : (argument rest : List ℕ) (value : Value) (values : List Value) → Spells argument value → AreArguments rest values
+  one_more : (argument rest : List ℕ) (value : Value) (values : List Value) → SpellsValue argument value → AreArguments rest values
       → AreArguments (space ∷ argument ++ rest) (value ∷ values)
 
 -- a line is a word and its arguments

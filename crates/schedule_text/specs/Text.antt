@@ -111,16 +111,16 @@ bytes_behind (Inside place) rest = rest place
 bytes_behind (Ends b) rest = with_byte b (rest Between)
 
 -- no spelling ends inside
-abbrev pub at_end : Spelling → Option (List ℕ)
-at_end Between = Some []
-at_end Escape = None
-at_end Hex = None
-at_end (HexDigit high) = None
+abbrev pub spelling_end : Spelling → Option (List ℕ)
+spelling_end Between = Some []
+spelling_end Escape = None
+spelling_end Hex = None
+spelling_end (HexDigit high) = None
 
 -- the bytes that a text spells behind a part of a spelling
-unfoldable pub bytes_from : List ℕ → Spelling → Option (List ℕ)
-bytes_from [] place = at_end place
-bytes_from (c ∷ text) place = bytes_behind (character_at place c) (bytes_from text)
+unfoldable pub bytes_spelled_from : List ℕ → Spelling → Option (List ℕ)
+bytes_spelled_from [] place = spelling_end place
+bytes_spelled_from (c ∷ text) place = bytes_behind (character_at place c) (bytes_spelled_from text)
 
 -- bytes behind those that were read
 unfoldable pub bytes_onto : List ℕ → Option (List ℕ) → Option (List ℕ)
@@ -130,12 +130,12 @@ bytes_onto before (Some bytes) = Some (before ++ bytes)
 -- what is spelled behind a text that ended at a place, or that had a bad character
 abbrev pub bytes_past : Option Spelling → List ℕ → Option (List ℕ)
 bytes_past None more = None
-bytes_past (Some place) more = bytes_from more place
+bytes_past (Some place) more = bytes_spelled_from more place
 
 -- from a place on a text was read to the next one, which put its bytes behind those before it
 abbrev pub IsReadOn : List ℕ → Spelling → List ℕ → List ℕ → Option Spelling → Type 0
-IsReadOn text place before now next = (more : List ℕ) → bytes_onto now (bytes_past next more) ≡ bytes_onto before (bytes_from (text ++ more) place)
+IsReadOn text place before now next = (more : List ℕ) → bytes_onto now (bytes_past next more) ≡ bytes_onto before (bytes_spelled_from (text ++ more) place)
 
 -- the bytes that a text spells, in any of the forms
 abbrev pub bytes_of : List ℕ → Option (List ℕ)
-bytes_of text = bytes_from text Between
+bytes_of text = bytes_spelled_from text Between

@@ -12,7 +12,7 @@ mod words;
 pub use cuts::LineCuts;
 pub use event::{Event, Events};
 pub use print::print_schedule;
-pub use schedule::{Rule, SchedFault, ScheduleError, read_schedule};
+pub use schedule::{Cut, Rule, SchedFault, ScheduleError, read_schedule, split_word};
 pub use text::{put_name_text, put_text, read_text};
 
 #[cfg(test)]

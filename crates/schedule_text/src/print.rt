@@ -3,7 +3,7 @@ ghost use Rattle.std.specs.Prelude.{◌≡◌, ◌++◌, ◌∷◌, [], map, IfO
 ghost use Rattle.mur_base.specs.Ascii.{lf};
 ghost use Rattle.schedule_text.specs.Meaning.{IsSchedule};
 ghost use Rattle.schedule_text.specs.Words.{said_by};
-ghost use Rattle.schedule_text.specs.Printed.{value_of, value_text, argument_text, arguments_text, line_text, saying_text, event_text, schedule_text};
+ghost use Rattle.schedule_text.specs.Printed.{argument_value, value_text, argument_text, values_text, saying_line, saying_text, event_text, schedule_text};
 ghost use Rattle.schedule_text.specs.Printed.{CanBePrinted, IsReadBack, AreReadBack, SaysWhatIsReadBack, AllReadBack};
 
 use crate::event::{Event, Events};
@@ -75,20 +75,20 @@ fn put_event(event: &Event, out: &mut Bytes) -> Result<(), Memory>
 }
 
 /// Prints a line of a word and its arguments.
-#[tactic(auto, unfolding(crate::specs::Printed::line_text))]
+#[tactic(auto, unfolding(crate::specs::Printed::saying_line))]
 fn put_line(word: Word, arguments: &[Argument<'_>], out: &mut Bytes) -> Result<(), Memory>
-    ensures written { OnOk result (out.new ≡ out.old ++ line_text (record { word = word; values = map value_of arguments.now }) ++ lf ∷ []) }
-    ensures read_back { OnOk result (AreReadBack (map value_of arguments.now)) }
+    ensures written { OnOk result (out.new ≡ out.old ++ saying_line (record { word = word; values = map argument_value arguments.now }) ++ lf ∷ []) }
+    ensures read_back { OnOk result (AreReadBack (map argument_value arguments.now)) }
 {
     out.extend_from_slice(word.text())?;
     put_arguments(arguments, out)?;
     out.push(b'\n')
 }
 
-#[tactic(auto, unfolding(crate::specs::Printed::arguments_text, crate::specs::Printed::argument_text, crate::specs::Printed::AreReadBack))]
+#[tactic(auto, unfolding(crate::specs::Printed::values_text, crate::specs::Printed::argument_text, crate::specs::Printed::AreReadBack))]
 fn put_arguments(arguments: &[Argument<'_>], out: &mut Bytes) -> Result<(), Memory>
-    ensures written { OnOk result (out.new ≡ out.old ++ arguments_text (map value_of arguments.now)) }
-    ensures read_back { OnOk result (AreReadBack (map value_of arguments.now)) }
+    ensures written { OnOk result (out.new ≡ out.old ++ values_text (map argument_value arguments.now)) }
+    ensures read_back { OnOk result (AreReadBack (map argument_value arguments.now)) }
 {
     for argument in arguments {
         out.push(b' ')?;
@@ -99,8 +99,8 @@ fn put_arguments(arguments: &[Argument<'_>], out: &mut Bytes) -> Result<(), Memo
 
 #[tactic(auto, unfolding(crate::specs::Printed::value_text))]
 fn put_argument(argument: Argument<'_>, out: &mut Bytes) -> Result<(), Memory>
-    ensures written { OnOk result (out.new ≡ out.old ++ value_text (value_of argument.entry)) }
-    ensures read_back { OnOk result (IsReadBack (value_of argument.entry)) }
+    ensures written { OnOk result (out.new ≡ out.old ++ value_text (argument_value argument.entry)) }
+    ensures read_back { OnOk result (IsReadBack (argument_value argument.entry)) }
 {
     match argument {
         Argument::Node(name) => out.extend_from_slice(name),

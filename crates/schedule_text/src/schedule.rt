@@ -1,6 +1,6 @@
 // A schedule, read into its events: a recorded run, one event a line.
 ghost use Rattle.std.specs.Prelude.{◌≡◌, ◌≤◌, List, length, IfErr, IfOk, OnOk};
-ghost use Rattle.schedule_text.specs.ScheduleRules.{IsReadAs, IsReadAsSchedule};
+ghost use Rattle.schedule_text.specs.ScheduleRules.{IsReadByRule, IsReadAsSchedule};
 ghost use Rattle.schedule_text.specs.ScheduleOpened.{KnowsOpened};
 ghost use Rattle.schedule_text.specs.ScheduleFits.{FitSchedule, HasCountRoom};
 ghost use Rattle.schedule_text.specs.Meaning.{HasCause, IsSchedule, IsReadAsEvents};
@@ -22,7 +22,8 @@ use mur_config::Config;
 use read_so_far::ReadSoFar;
 use rows::event_in;
 use std::alloc::Global;
-use words::{arguments_in, split_word};
+use words::arguments_in;
+pub use words::{Cut, split_word};
 
 /// The events of a schedule. The first line that breaks a rule refuses it, by the first rule that it breaks; before
 /// all lines stands that a schedule has at most `SCHEDULE_LIMIT` bytes.
@@ -97,7 +98,7 @@ fn read_event(
     so_far: &ReadSoFar,
 ) -> Result<Event, LineError>
     requires { KnowsOpened so_far.now }
-    ensures { IsReadAs (event_of config.now so_far.now.events line.now) result }
+    ensures { IsReadByRule (event_of config.now so_far.now.events line.now) result }
 {
     let cut = split_word(line);
     let word = word_named(cut.word)?;

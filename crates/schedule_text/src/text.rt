@@ -160,7 +160,7 @@ fn hex_digit(digit: u8) -> u8
 /// backslash that begins none of them.
 ///
 /// A block of characters that all stand for themselves is taken at once.
-#[tactic(auto, unfolding(crate::specs::Text::bytes_from, crate::specs::Text::bytes_onto))]
+#[tactic(auto, unfolding(crate::specs::Text::bytes_spelled_from, crate::specs::Text::bytes_onto))]
 pub fn read_text(alloc: Global, text: &[u8]) -> Result<Option<Bytes>, Memory>
     ensures { IfOk result (λ bytes. bytes ≡ bytes_of text.now) }
 {
@@ -195,7 +195,7 @@ fn read_block(block: &[u8], from: Spelling, bytes: &mut Bytes) -> Result<Option<
 }
 
 /// As `read_block`, one character after the other.
-#[tactic(auto, using(crate::proofs::TextLaws::by_reading), unfolding(crate::specs::Text::bytes_from, crate::specs::Text::bytes_onto))]
+#[tactic(auto, using(crate::proofs::TextLaws::by_reading), unfolding(crate::specs::Text::bytes_spelled_from, crate::specs::Text::bytes_onto))]
 fn read_characters(
     text: &[u8],
     from: Spelling,

@@ -2,20 +2,20 @@
 use Rattle.std.proofs.Common.{◌≡◌, ℕ, List, [], ◌∷◌, Option, None, Some, refl, sym, subst}
 use Rattle.backend_core.specs.declared.backend.Backend.{Backend}
 use Rattle.backend_core.specs.declared.held.Held.{Held}
-use Rattle.backend_core.specs.Append.{append_step, append_to}
+use Rattle.backend_core.specs.Append.{append_step, append_within_limits}
 use Rattle.backend_core.specs.Served.{served, served_unless}
 use Rattle.backend_core.specs.HomeStep.{held_at, with_content}
 use Rattle.mail_message.specs.declared.message.Message.{Message}
 use Rattle.mail_store.specs.Append.{appended, append_fault}
 use Rattle.mail_store.specs.declared.fault.StoreFault.{StoreFault}
 use Rattle.mur_base.specs.declared.home.Phase.TheVariants.{Open as open_here}
-use Rattle.mur_model.specs.declared.need.Work.TheVariants.{Append as append_work}
+use Rattle.mur_model.specs.Needed.{Append as append_work}
 use Rattle.mur_model.specs.declared.store.Store.{Store}
 use Rattle.mur_model.specs.Act.{MayWork}
 use Rattle.mur_model.specs.Append.{append_on, append_to as append_to_box}
 use Rattle.mur_model.specs.Left.{store_after}
-use Rattle.session_core.specs.Append.{append_reply, reply_to_done, reply_to_uids}
-use Rattle.session_core.specs.Asking.{asked_for}
+use Rattle.session_core.specs.Append.{reply_to_append, reply_to_appended, reply_to_uids}
+use Rattle.mur_model.specs.Asking.{asked_for}
 use Rattle.session_core.specs.Finish.{turn_of}
 use Rattle.backend_core.specs.OpenBox.{open_content}
 use Rattle.serve_law.proofs.HomeStore.{IsStoreOf, opened, changed_alike, kept_alike}
@@ -29,17 +29,17 @@ fault_by : (store : Store) (home : Backend) (name : List ℕ) (message : Message
     → held.phase ≡ open_here → IsStoreOf store home
     → ServesAlike store home name (append_work message) (append_to_box message held.content fault)
     (record {
-      home = with_content home name held (append_to held.content (message ∷ []) fault).content;
+      home = with_content home name held (append_within_limits held.content (message ∷ []) fault).content;
       body =
-          Some (append_to held.content (message ∷ []) fault).response.body;
-      counts = (append_to held.content (message ∷ []) fault).response.counts;
+          Some (append_within_limits held.content (message ∷ []) fault).response.body;
+      counts = (append_within_limits held.content (message ∷ []) fault).response.counts;
     })
-unfolding append_to append_to_box store_after asked_for turn_of append_reply reply_to_done reply_to_uids MayWork
+unfolding append_within_limits append_to_box store_after asked_for turn_of reply_to_append reply_to_appended reply_to_uids MayWork
 fault_by store home name message held (Some fault) at e same = record {
   free = tt;
   body = _;
   is_body = refl;
-  shown = refl;
+  shown = λ session own. refl;
   still = kept_alike store home name held at same;
   unless = λ _. refl;
 }
@@ -47,7 +47,7 @@ fault_by store home name message held None at e same = record {
   free = tt;
   body = _;
   is_body = refl;
-  shown = refl;
+  shown = λ session own. refl;
   still = changed_alike store home name held (appended held.content (message ∷ [])) at e same;
   unless = λ h. absurd (apart h);
 }
@@ -57,7 +57,7 @@ there_by : (store : Store) (home : Backend) (name : List ℕ) (message : Message
     → AppendsAlike store home name message (Some held)
 unfolding append_step served served_unless append_on
 there_by store home name message held at e same =
-    let step = append_to held.content (message ∷ []) (append_fault held.content (message ∷ [])) in
+    let step = append_within_limits held.content (message ∷ []) (append_fault held.content (message ∷ [])) in
     subst (λ r. ServesAlike store home name (append_work message) (append_on message (open_content (Some held))) (served_unless home name held step r))
     (sym (not_refused held e))
     (subst (λ b. ServesAlike store home name (append_work message) (append_on message b) (served_unless home name held step None))
@@ -67,12 +67,12 @@ there_by store home name message held at e same =
 pub appends_alike : (store : Store) (home : Backend) (name : List ℕ) (message : Message) (found : Option Held) → held_at home name ≡ found
     → IsStoreOf store home
     → AppendsAlike store home name message found
-unfolding append_step served append_on store_after asked_for turn_of append_reply MayWork
+unfolding append_step served append_on store_after asked_for turn_of reply_to_append MayWork
 appends_alike store home name message None at same = record {
   free = tt;
   body = _;
   is_body = refl;
-  shown = refl;
+  shown = λ session own. refl;
   still = same;
   unless = λ _. refl;
 }

@@ -5,7 +5,7 @@ use Rattle.backend_core.specs.declared.held.Held.{Held}
 use Rattle.backend_core.specs.Expunge.{expunge_step, expunge_to}
 use Rattle.backend_core.specs.HomeStep.{held_at}
 use Rattle.mail_store.specs.Expunge.{expunged}
-use Rattle.mur_model.specs.declared.need.ViewWork.TheVariants.{Close}
+use Rattle.mur_model.specs.declared.work.ViewWork.TheVariants.{Close}
 use Rattle.mur_model.specs.declared.store.Store.{Store}
 use Rattle.mur_model.specs.declared.view.View.{View}
 use Rattle.mur_model.specs.Left.{store_after}

@@ -8,7 +8,7 @@ use Rattle.std.proofs.lemmas.List.Elements.{All-push, All-weaker}
 use Rattle.std.proofs.lemmas.List.Folds.{list_any-append}
 use Rattle.backend_core.specs.declared.backend.Backend.{Backend}
 use Rattle.backend_core.specs.declared.held.Held.{Held}
-use Rattle.backend_core.specs.Create.{create_step, make, created_in, with_new, new_held}
+use Rattle.backend_core.specs.Create.{create_step, make_at_home, created_in, with_new, new_held}
 use Rattle.backend_core.specs.HomeStep.{held_at}
 use Rattle.mail_message.specs.Boxes.{Content, empty_box}
 use Rattle.mail_message.specs.FirstAcl.{first_acl}
@@ -16,15 +16,15 @@ use Rattle.mur_base.specs.Map.{value_at, with_entry}
 use Rattle.mur_base.specs.declared.home.Phase.{Phase}
 use Rattle.mur_base.specs.declared.home.Phase.TheVariants.{Open as open_here}
 use Rattle.mur_base.proofs.MapLaws.{names_apart, same_or_other, value_at-with_entry, value_at-with_entry-other}
-use Rattle.mur_model.specs.declared.need.Work.TheVariants.{Make}
+use Rattle.mur_model.specs.Needed.{Make}
 use Rattle.mur_model.specs.declared.store.Pair.{Pair}
 use Rattle.mur_model.specs.declared.store.Store.{Store}
 use Rattle.mur_model.specs.Act.{MayWork}
 use Rattle.mur_model.specs.Create.{create_on, make as make_box}
 use Rattle.mur_model.specs.Left.{store_after}
 use Rattle.mur_model.specs.Store.{with_new_box, is_spent, IsFree}
-use Rattle.session_core.specs.Asking.{asked_for}
-use Rattle.session_core.specs.Create.{create_reply, reply_to_done}
+use Rattle.mur_model.specs.Asking.{asked_for}
+use Rattle.session_core.specs.Create.{reply_to_create, reply_to_created}
 use Rattle.session_core.specs.Finish.{turn_of}
 use Rattle.backend_core.specs.OpenBox.{open_box, open_content}
 use Rattle.serve_law.proofs.HomeStore.{IsStoreOf}
@@ -87,13 +87,13 @@ CreatesAlike store home name found =
     ServesAlike store home name Make (create_on name (home.last_serial + 1) (is_spent store.given) (open_content found)) (create_step home name found)
 
 make_by : (store : Store) (home : Backend) (name : List ℕ) (spent : Bool) → nat_eq home.last_serial (2 ^ 32 - 1) ≡ spent → IsStoreOf store home
-    → ServesAlike store home name Make (make_box name (home.last_serial + 1) spent) (make home name spent)
-unfolding make make_box store_after asked_for turn_of create_reply reply_to_done MayWork
+    → ServesAlike store home name Make (make_box name (home.last_serial + 1) spent) (make_at_home home name spent)
+unfolding make_at_home make_box store_after asked_for turn_of reply_to_create reply_to_created MayWork
 make_by store home name true e same = record {
   free = λ _. λ _. next_is_free store home name same;
   body = _;
   is_body = refl;
-  shown = refl;
+  shown = λ session own. refl;
   still = same;
   unless = λ _. refl;
 }
@@ -101,19 +101,19 @@ make_by store home name false e same = record {
   free = λ _. λ _. next_is_free store home name same;
   body = _;
   is_body = refl;
-  shown = refl;
+  shown = λ session own. refl;
   still = made_alike store home name (same.spent ∙ e) same;
   unless = λ h. absurd (apart h);
 }
 
 there_by : (store : Store) (home : Backend) (name : List ℕ) (held : Held) (phase : Phase) → held.phase ≡ phase → phase ≡ open_here → IsStoreOf store home
     → CreatesAlike store home name (Some held)
-unfolding create_step created_in create_on store_after asked_for turn_of create_reply reply_to_done MayWork open_box
+unfolding create_step created_in create_on store_after asked_for turn_of reply_to_create reply_to_created MayWork open_box
 there_by store home name held open_here e o same = rw e (record {
   free = λ _. λ _. next_is_free store home name same;
   body = _;
   is_body = refl;
-  shown = refl;
+  shown = λ session own. refl;
   still = same;
   unless = λ _. refl;
 })
@@ -123,7 +123,7 @@ pub creates_alike : (store : Store) (home : Backend) (name : List ℕ) (found : 
     → CreatesAlike store home name found
 unfolding create_step create_on
 creates_alike store home name None at same =
-    subst (λ s. ServesAlike store home name Make (make_box name (home.last_serial + 1) s) (make home name (nat_eq home.last_serial (2 ^ 32 - 1))))
+    subst (λ s. ServesAlike store home name Make (make_box name (home.last_serial + 1) s) (make_at_home home name (nat_eq home.last_serial (2 ^ 32 - 1))))
     (sym same.spent)
     (make_by store home name (nat_eq home.last_serial (2 ^ 32 - 1)) refl same)
 creates_alike store home name (Some held) at same = there_by store home name held held.phase refl (same.all_open name held at) same

@@ -8,8 +8,8 @@ use Rattle.backend_core.specs.Look.{look_step}
 use Rattle.backend_core.specs.Read.{read_step, read_to, read_in}
 use Rattle.mur_base.specs.declared.home.Phase.TheVariants.{Open as open_here}
 use Rattle.mur_model.specs.declared.fetch.Fetching.{Fetching}
-use Rattle.mur_model.specs.declared.need.ViewWork.TheVariants.{Fetch}
-use Rattle.mur_model.specs.declared.need.Work.TheVariants.{Viewed as viewed_work}
+use Rattle.mur_model.specs.declared.work.ViewWork.TheVariants.{Fetch}
+use Rattle.mur_model.specs.Needed.{Viewed as viewed_work}
 use Rattle.mur_model.specs.declared.store.Store.{Store}
 use Rattle.mur_model.specs.declared.view.View.{View}
 use Rattle.mur_model.specs.Fetch.{fetch_at, is_body, sees}
@@ -18,13 +18,14 @@ use Rattle.mur_model.specs.Left.{store_after, kept}
 use Rattle.mur_model.specs.Selected.{rows_of}
 use Rattle.mur_model.specs.Viewing.{viewed_on, work_there}
 use Rattle.mur_model.proofs.FetchRowsLaw.{rows_tell, rows_unseen}
-use Rattle.session_core.specs.Viewed.{viewed_done, viewed_told, viewed_turn, fetch_op}
+use Rattle.mur_model.specs.Asking.{fetch_op}
+use Rattle.session_core.specs.Viewed.{viewed_done, viewed_told, viewed_turn}
 use Rattle.backend_core.specs.OpenBox.{open_content}
 use Rattle.serve_law.proofs.HomeStore.{IsStoreOf, changed_alike, kept_alike}
 use Rattle.serve_law.proofs.ServedAlike.{ServesAlike, apart}
 use Rattle.serve_law.proofs.ViewedAlike.{AnswersAlike, operates, LooksAlike, looks_alike, ViewsAlike}
 use Rattle.backend_core.specs.Step.{op_step}
-use Rattle.link_msg.specs.declared.op.Op.{Op}
+use Rattle.imap_types.specs.declared.op.Op.{Op}
 use Rattle.mur_base.specs.declared.point.AskId.{AskId}
 
 reads_by : (store : Store) (home : Backend) (name : List ℕ) (view : View) (it : Fetching) (held : Held) (is : Bool) → sees view it ≡ is

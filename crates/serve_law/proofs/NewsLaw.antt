@@ -4,8 +4,8 @@ use Rattle.backend_core.specs.declared.backend.Backend.{Backend}
 use Rattle.backend_core.specs.declared.held.Held.{Held}
 use Rattle.backend_core.specs.HomeStep.{held_at}
 use Rattle.backend_core.specs.Look.{look_step}
-use Rattle.mur_model.specs.declared.need.NewsFor.{NewsFor}
-use Rattle.mur_model.specs.declared.need.ViewWork.TheVariants.{News}
+use Rattle.mur_model.specs.declared.work.NewsFor.{NewsFor}
+use Rattle.mur_model.specs.declared.work.ViewWork.TheVariants.{News}
 use Rattle.mur_model.specs.declared.store.Store.{Store}
 use Rattle.mur_model.specs.declared.view.View.{View}
 use Rattle.mur_model.specs.Noop.{news_told}

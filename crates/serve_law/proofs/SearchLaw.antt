@@ -5,8 +5,8 @@ use Rattle.backend_core.specs.declared.held.Held.{Held}
 use Rattle.backend_core.specs.HomeStep.{held_at}
 use Rattle.backend_core.specs.Look.{look_step}
 use Rattle.backend_core.specs.Read.{read_step, read_to, read_in}
-use Rattle.mur_model.specs.declared.need.ViewWork.TheVariants.{Search}
-use Rattle.mur_model.specs.declared.need.Work.TheVariants.{Viewed as viewed_work}
+use Rattle.mur_model.specs.declared.work.ViewWork.TheVariants.{Search}
+use Rattle.mur_model.specs.Needed.{Viewed as viewed_work}
 use Rattle.mur_model.specs.declared.search.Searching.{Searching}
 use Rattle.mur_model.specs.declared.store.Store.{Store}
 use Rattle.mur_model.specs.declared.view.View.{View}
@@ -17,13 +17,14 @@ use Rattle.mur_model.specs.SearchRows.{are_keys_in_rows, rows_searched}
 use Rattle.mur_model.specs.Selected.{rows_of}
 use Rattle.mur_model.specs.Viewing.{viewed_on, work_there}
 use Rattle.mur_model.proofs.SearchRowsLaw.{rows_search}
-use Rattle.session_core.specs.Viewed.{viewed_done, viewed_told, viewed_turn, search_op}
+use Rattle.mur_model.specs.Asking.{search_op}
+use Rattle.session_core.specs.Viewed.{viewed_done, viewed_told, viewed_turn}
 use Rattle.backend_core.specs.OpenBox.{open_content}
 use Rattle.serve_law.proofs.HomeStore.{IsStoreOf, kept_alike}
 use Rattle.serve_law.proofs.ServedAlike.{ServesAlike}
 use Rattle.serve_law.proofs.ViewedAlike.{DoesAlike, operates, LooksAlike, looks_alike, ViewsAlike}
 use Rattle.backend_core.specs.Step.{op_step}
-use Rattle.link_msg.specs.declared.op.Op.{Op}
+use Rattle.imap_types.specs.declared.op.Op.{Op}
 use Rattle.mur_base.specs.declared.point.AskId.{AskId}
 
 does_search : (store : Store) (home : Backend) (name : List ℕ) (view : View) (it : Searching) → IsStoreOf store home

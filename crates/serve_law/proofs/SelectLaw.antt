@@ -8,13 +8,13 @@ use Rattle.backend_core.specs.Response.{done}
 use Rattle.link_msg.specs.declared.outcome.Outcome.TheVariants.{None as nothing}
 use Rattle.mail_message.specs.Boxes.{snapshot_of}
 use Rattle.mur_base.specs.declared.home.Phase.TheVariants.{Open as open_here}
-use Rattle.mur_model.specs.declared.need.Work.TheVariants.{Select as select_work}
+use Rattle.mur_model.specs.Needed.{Select as select_work}
 use Rattle.mur_model.specs.declared.select.Opening.{Opening}
 use Rattle.mur_model.specs.declared.store.Store.{Store}
 use Rattle.mur_model.specs.Act.{MayWork}
 use Rattle.mur_model.specs.Left.{store_after}
 use Rattle.mur_model.specs.Select.{select_on}
-use Rattle.session_core.specs.Asking.{asked_for}
+use Rattle.mur_model.specs.Asking.{asked_for}
 use Rattle.session_core.specs.Finish.{turn_of}
 use Rattle.session_core.specs.Select.{select_done, select_turn}
 use Rattle.backend_core.specs.OpenBox.{open_content}
@@ -32,7 +32,7 @@ seen store home name it held same = record {
   free = tt;
   body = _;
   is_body = refl;
-  shown = refl;
+  shown = λ session own. refl;
   still = same;
   unless = λ h. absurd (apart h);
 }
@@ -51,7 +51,7 @@ selects_alike store home name it None at same = record {
   free = tt;
   body = _;
   is_body = refl;
-  shown = refl;
+  shown = λ session own. refl;
   still = same;
   unless = λ h. refl;
 }

@@ -5,18 +5,17 @@ use Rattle.backend_core.specs.HomeStep.{held_at}
 use Rattle.backend_core.specs.Step.{home_step, op_step}
 use Rattle.link_msg.specs.declared.ask.FrontAsk.{FrontAsk}
 use Rattle.mur_base.specs.declared.point.AskId.{AskId}
-use Rattle.mur_model.specs.declared.need.ViewWork.{ViewWork}
-use Rattle.mur_model.specs.declared.need.ViewWork.TheVariants.{News, Close, Expunge, Store as store_work, Fetch, Search}
-use Rattle.mur_model.specs.declared.need.Work.{Work}
-use Rattle.mur_model.specs.declared.need.Work.TheVariants.{Make, Append as append_work, Status as status_work, Select as select_work, Viewed as viewed_work}
+use Rattle.mur_model.specs.declared.work.ViewWork.{ViewWork}
+use Rattle.mur_model.specs.declared.work.ViewWork.TheVariants.{News, Close, Expunge, Store as store_work, Fetch, Search}
+use Rattle.mur_model.specs.Needed.{Work, Make, Append as append_work, Status as status_work, Select as select_work, Viewed as viewed_work}
 use Rattle.mur_model.specs.declared.store.Store.{Store}
 use Rattle.mur_model.specs.declared.view.View.{View}
 use Rattle.mur_model.specs.Act.{worked_at, work_on}
 use Rattle.mur_model.specs.FetchRows.{asks_rows}
 use Rattle.mur_model.specs.SearchRows.{are_keys_in_rows}
 use Rattle.mur_model.specs.Store.{is_spent}
-use Rattle.session_core.specs.Asking.{asked_for}
-use Rattle.session_core.specs.Viewed.{fetch_op, search_op, view_op}
+use Rattle.mur_model.specs.Asking.{asked_for}
+use Rattle.mur_model.specs.Asking.{fetch_op, search_op, view_op}
 use Rattle.backend_core.specs.OpenBox.{open_content}
 use Rattle.serve_law.proofs.HomeStore.{IsStoreOf}
 use Rattle.serve_law.proofs.ServedAlike.{ServesAlike}

@@ -6,11 +6,13 @@ use Rattle.backend_core.specs.HomeStep.{HomeStep, answers}
 use Rattle.link_msg.specs.declared.answer.AnswerBody.{AnswerBody}
 use Rattle.link_msg.specs.declared.counts.Counts.TheVariants.{Always, IfAnswered}
 use Rattle.mur_base.specs.declared.home.Phase.TheVariants.{Open as open_here}
-use Rattle.mur_model.specs.declared.need.Work.{Work}
+use Rattle.mur_model.specs.Needed.{Work}
+use Rattle.mur_model.specs.declared.session.Sess.{Sess}
 use Rattle.mur_model.specs.declared.store.Store.{Store}
 use Rattle.mur_model.specs.Act.{MayWork}
 use Rattle.mur_model.specs.Left.{Worked, store_after, kept}
-use Rattle.session_core.specs.Asking.{asked_for}
+use Rattle.mur_model.specs.Asking.{asked_for}
+use Rattle.mur_model.proofs.OwnView.{IsOfWork}
 use Rattle.session_core.specs.Finish.{turn_of}
 use Rattle.backend_core.specs.Refusal.{refusal, refusal_in, is_other}
 use Rattle.mail_message.specs.Boxes.{snapshot_of}
@@ -27,7 +29,7 @@ pub record ServesAlike (store : Store) (home : Backend) (name : List ℕ) (work 
   pub free : MayWork store name (home.last_serial + 1) work
   pub body : AnswerBody
   pub is_body : step.body ≡ Some body
-  pub shown : turn_of (asked_for name work).awaited body ≡ Some worked.turn
+  pub shown : (session : Sess) → IsOfWork session work → turn_of session (asked_for name work).awaited body ≡ Some worked.turn
   pub still : IsStoreOf (store_after store name worked.left) step.home
   pub unless : step.counts ≡ IfAnswered → worked.left ≡ kept
 

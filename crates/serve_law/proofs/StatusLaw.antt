@@ -9,14 +9,14 @@ use Rattle.link_msg.specs.declared.outcome.Outcome.TheVariants.{None as nothing}
 use Rattle.mail_message.specs.Boxes.{snapshot_of}
 use Rattle.mur_base.specs.declared.home.Phase.TheVariants.{Open as open_here}
 use Rattle.imap_types.specs.declared.command.StatusItem.{StatusItem}
-use Rattle.mur_model.specs.declared.need.Work.TheVariants.{Status as status_work}
+use Rattle.mur_model.specs.Needed.{Status as status_work}
 use Rattle.mur_model.specs.declared.store.Store.{Store}
 use Rattle.mur_model.specs.Act.{MayWork}
 use Rattle.mur_model.specs.Left.{store_after}
 use Rattle.mur_model.specs.Status.{status_on}
-use Rattle.session_core.specs.Asking.{asked_for}
+use Rattle.mur_model.specs.Asking.{asked_for}
 use Rattle.session_core.specs.Finish.{turn_of}
-use Rattle.session_core.specs.Status.{status_reply, reply_to_done}
+use Rattle.session_core.specs.Status.{reply_to_status, reply_to_counted}
 use Rattle.backend_core.specs.OpenBox.{open_content}
 use Rattle.serve_law.proofs.HomeStore.{IsStoreOf, opened}
 use Rattle.serve_law.proofs.ServedAlike.{ServesAlike, apart, looked}
@@ -28,12 +28,12 @@ LooksAlike store home name shown items found =
 seen : (store : Store) (home : Backend) (name shown : List ℕ) (items : List StatusItem) (held : Held) → IsStoreOf store home
     → ServesAlike store home name (status_work shown items) (status_on shown items (Some held.content))
     (answers home (done nothing (snapshot_of held.content)))
-unfolding status_on store_after asked_for turn_of status_reply reply_to_done MayWork
+unfolding status_on store_after asked_for turn_of reply_to_status reply_to_counted MayWork
 seen store home name shown items held same = record {
   free = tt;
   body = _;
   is_body = refl;
-  shown = refl;
+  shown = λ session own. refl;
   still = same;
   unless = λ h. absurd (apart h);
 }
@@ -48,12 +48,12 @@ there_by store home name shown items held e same =
 pub looks_alike : (store : Store) (home : Backend) (name shown : List ℕ) (items : List StatusItem) (found : Option Held) → held_at home name ≡ found
     → IsStoreOf store home
     → LooksAlike store home name shown items found
-unfolding look_step look_at status_on store_after asked_for turn_of status_reply MayWork
+unfolding look_step look_at status_on store_after asked_for turn_of reply_to_status MayWork
 looks_alike store home name shown items None at same = record {
   free = tt;
   body = _;
   is_body = refl;
-  shown = refl;
+  shown = λ session own. refl;
   still = same;
   unless = λ h. refl;
 }

@@ -6,7 +6,7 @@ use Rattle.backend_core.specs.Flags.{flags_step, flags_to, flags_unless}
 use Rattle.backend_core.specs.HomeStep.{held_at, with_content}
 use Rattle.mail_store.specs.Store.{rows_stored, stored, has_too_many_flags}
 use Rattle.mur_base.specs.declared.home.Phase.TheVariants.{Open as open_here}
-use Rattle.mur_model.specs.declared.need.ViewWork.TheVariants.{Store as store_work}
+use Rattle.mur_model.specs.declared.work.ViewWork.TheVariants.{Store as store_work}
 use Rattle.mur_model.specs.declared.store.Store.{Store}
 use Rattle.mur_model.specs.declared.store_flags.FlagStore.{FlagStore}
 use Rattle.mur_model.specs.declared.view.View.{View}

@@ -1,5 +1,5 @@
 -- A command of a selected session at the home of its mailbox is one at the store: the mailbox is gone at both, or both do the same with it.
-use Rattle.std.proofs.Common.{◌≡◌, ℕ, Bool, true, false, not, nat_eq, if◌then◌else◌, List, Option, None, Some, refl, sym, subst, arith}
+use Rattle.std.proofs.Common.{◌≡◌, ℕ, Bool, true, false, not, nat_eq, if◌then◌else◌, List, Option, None, Some, refl, sym, ap, ◌∙◌, subst, arith}
 use Rattle.std.proofs.lemmas.Bool.Decides.{nat_tests}
 use Rattle.backend_core.specs.declared.backend.Backend.{Backend}
 use Rattle.backend_core.specs.declared.held.Held.{Held}
@@ -13,8 +13,8 @@ use Rattle.link_msg.specs.declared.counts.Counts.TheVariants.{IfAnswered}
 use Rattle.link_msg.specs.declared.outcome.Outcome.TheVariants.{None as nothing, Gone as gone_there}
 use Rattle.mail_message.specs.Boxes.{Content, snapshot_of}
 use Rattle.mur_base.specs.declared.home.Phase.TheVariants.{Open as open_here}
-use Rattle.mur_model.specs.declared.need.ViewWork.{ViewWork}
-use Rattle.mur_model.specs.declared.need.Work.TheVariants.{Viewed as viewed_work}
+use Rattle.mur_model.specs.declared.work.ViewWork.{ViewWork}
+use Rattle.mur_model.specs.Needed.{Viewed as viewed_work}
 use Rattle.mur_model.specs.declared.session.Turn.{Turn}
 use Rattle.mur_model.specs.declared.store.Store.{Store}
 use Rattle.mur_model.specs.declared.view.View.{View}
@@ -22,9 +22,10 @@ use Rattle.mur_model.specs.Act.{MayWork}
 use Rattle.mur_model.specs.Left.{Worked, store_after, kept}
 use Rattle.mur_model.specs.Selected.{gone}
 use Rattle.mur_model.specs.Viewing.{found_gone, viewed_on, work_there}
-use Rattle.session_core.specs.Asking.{asked_for}
+use Rattle.mur_model.specs.Asking.{asked_for}
+use Rattle.mur_model.proofs.OwnView.{IsOfWork}
 use Rattle.session_core.specs.Finish.{turn_of}
-use Rattle.session_core.specs.Viewed.{viewed_done, viewed_told, viewed_turn}
+use Rattle.session_core.specs.Viewed.{viewed_done, viewed_in, viewed_told, viewed_turn}
 use Rattle.backend_core.specs.OpenBox.{open_content}
 use Rattle.serve_law.proofs.HomeStore.{IsStoreOf, opened}
 use Rattle.serve_law.proofs.ServedAlike.{ServesAlike}
@@ -41,12 +42,12 @@ pub record AnswersAlike (store : Store) (home : Backend) (name : List ℕ) (view
 serves_as : (store : Store) (home : Backend) (name : List ℕ) (view : View) (it : ViewWork) (worked : Worked) (behind : Backend) (response : Response)
     → AnswersAlike store home name view it worked behind response
     → ServesAlike store home name (viewed_work view it) worked (answers behind response)
-unfolding asked_for turn_of MayWork
+unfolding asked_for turn_of viewed_in IsOfWork MayWork
 serves_as store home name view it worked behind response same = record {
   free = tt;
   body = response.body;
   is_body = refl;
-  shown = same.shown;
+  shown = λ session own. ap (λ s. viewed_in s it response.body) own ∙ same.shown;
   still = same.still;
   unless = same.unless;
 }

@@ -2,8 +2,7 @@
 use Rattle.std.proofs.Common.{◌≡◌, List, Option, None, Some, refl}
 use Rattle.std.specs.Prelude.{⊤}
 use Rattle.imap_types.specs.declared.command.Command.{Command}
-use Rattle.mur_model.specs.declared.need.Need.{Need as Needed}
-use Rattle.mur_model.specs.declared.need.Need.TheVariants.{Refusal, Turned, Mailbox}
+use Rattle.mur_model.specs.Needed.{Needed, Refusal, Turned, Mailbox}
 use Rattle.imap_types.specs.declared.reply.Reply.{Reply}
 use Rattle.imap_types.specs.declared.reply.ReplyLine.{ReplyLine}
 use Rattle.mur_model.specs.declared.session.Sess.{Sess}
@@ -11,7 +10,7 @@ use Rattle.mur_model.specs.declared.session.Sess.TheVariants.{Selected}
 use Rattle.mur_model.specs.declared.setting.Setting.{Setting}
 use Rattle.mur_model.specs.Act.{need_of, need_off}
 use Rattle.mur_model.specs.ClientView.{Known, known_after, known_after_all}
-use Rattle.mur_model.proofs.EachNeed.{OfAnswers, OfNeeds, each_need, each_off}
+use Rattle.mur_model.proofs.EachNeed.{OfAnswers, OfWorks, each_by_works, each_off, of_refusals}
 
 -- lines that change no number
 abbrev pub AreStill : List ReplyLine → Type 0
@@ -35,50 +34,24 @@ IsAtOnce (Mailbox name work) = ⊥
 
 at_once : OfAnswers IsAtOnce
 unfolding IsAtOnce LeavesQuietly known_after
-at_once = record {
-  refused = λ why. tt;
-  bad = λ why. tt;
-  completed = λ name plain known. refl;
-  begun = λ name user plain. tt;
-  capability = λ known. refl;
-  logout = tt;
-}
+at_once = of_refusals (λ verdict. tt) (λ name plain known. refl) (λ name user plain. tt) (λ known. refl) tt
 
 pub off-needs : (setting : Setting) (it : Command) → IsAtOnce (need_off setting it)
 off-needs setting it = each_off at_once setting it
 
 quiet_answers : OfAnswers IsQuiet
 unfolding IsQuiet LeavesQuietly known_after
-quiet_answers = record {
-  refused = λ why. tt;
-  bad = λ why. tt;
-  completed = λ name plain known. refl;
-  begun = λ name user plain. tt;
-  capability = λ known. refl;
-  logout = tt;
-}
+quiet_answers = of_refusals (λ verdict. tt) (λ name plain known. refl) (λ name user plain. tt) (λ known. refl) tt
 
-abbrev IsAny : Command → Type 0
-IsAny it = ⊤
-
-quiet_needs : (setting : Setting) → OfNeeds setting IsAny IsQuiet
+quiet_works : OfWorks IsQuiet
 unfolding IsQuiet LeavesQuietly known_after
-quiet_needs setting = record {
+quiet_works = record {
   answers = quiet_answers;
   enable = λ known. refl;
   unselected = λ user was_selected why. tt;
   left = λ view name plain. tt;
-  make = λ name. tt;
-  append = λ name text flags date body asked. tt;
-  status = λ user name items named. tt;
-  select = λ user name is_writable was_selected named. tt;
-  news = λ view why. tt;
-  close = λ view. tt;
-  expunge = λ view only. tt;
-  store = λ view by_uid set mode is_silent flags asked. tt;
-  fetch = λ view it. tt;
-  search = λ view it. tt;
+  work = λ name it. tt;
 }
 
 pub need_quiet : (setting : Setting) (session : Sess) (it : Command) → IsQuiet (need_of setting session it)
-need_quiet setting session it = each_need (quiet_needs setting) session it tt
+need_quiet setting session it = each_by_works setting quiet_works session it

@@ -3,8 +3,7 @@ use Rattle.std.proofs.Common.{◌≡◌, Option, None, Some, sym, ◌∙◌, ap,
 use Rattle.std.proofs.lemmas.Result.{IfOk-weaker}
 use Rattle.mur_base.specs.declared.memory.Memory.{Memory}
 use Rattle.imap_types.specs.declared.command.Command.{Command}
-use Rattle.mur_model.specs.declared.need.Need.{Need as Needed}
-use Rattle.mur_model.specs.declared.need.Need.TheVariants.{Refusal, Turned, Mailbox}
+use Rattle.mur_model.specs.Needed.{Needed, Refusal, Turned, Mailbox}
 use Rattle.imap_types.specs.declared.reply.BadText.TheVariants.{State}
 use Rattle.imap_types.specs.declared.reply.Verdict.TheVariants.{Bad as bad_reply}
 use Rattle.imap_types.specs.declared.reply.Reply.{Reply}
@@ -13,33 +12,35 @@ use Rattle.mur_model.specs.declared.session.Sess.TheVariants.{Off, In, Selected,
 use Rattle.mur_model.specs.declared.session.Turn.{Turn}
 use Rattle.mur_model.specs.declared.setting.Setting.{Setting}
 use Rattle.mur_model.specs.Act.{need_of, need_off, need_in, need_selected}
-use Rattle.session_core.specs.declared.need.Need.{Need}
+use Rattle.mur_model.specs.declared.need.Need.{Need}
 use Rattle.session_core.specs.Begin.{begin, HasBegun, MayNeed}
 use Rattle.session_core.specs.Finish.{Finished, finished_by}
 use Rattle.session_core.proofs.AtOnceLaw.{IsAtOnce, off-needs}
-use Rattle.session_core.specs.Need.{Behind, begun_by, told}
+use Rattle.mur_model.specs.declared.need.Begun.{Begun}
+use Rattle.mur_model.specs.Need.{begun_of, told_with}
+use Rattle.session_core.specs.Need.{Behind, session_behind, begun_by_need, told_reply}
 use Rattle.std.specs.Option.{IfSome}
 use Rattle.std.specs.Result.{IfOk}
 
 abbrev Fits : Behind → Type 0
-Fits behind = MayNeed behind.session behind.need
+Fits session_behind = MayNeed session_behind.session session_behind.need
 
-told_fits : (session : Sess) (reply : Reply) (later : Option Sess) → Fits (told session reply later)
-unfolding MayNeed told
+told_fits : (session : Sess) (reply : Reply) (later : Option Sess) → Fits (told_reply session reply later)
+unfolding MayNeed told_with
 told_fits session reply None = tt
 told_fits session reply (Some Off) = tt
 told_fits session reply (Some (In user)) = tt
 told_fits session reply (Some (Selected view)) = tt
 told_fits session reply (Some Ended) = tt
 
-begun_fits : (session : Sess) (needed : Needed) → HasBegun session → Fits (begun_by session needed)
-unfolding MayNeed begun_by
+begun_fits : (session : Sess) (needed : Needed) → HasBegun session → Fits (begun_by_need session needed)
+unfolding MayNeed begun_of
 begun_fits session (Refusal verdict) begun = tt
 begun_fits session (Turned turn) begun = told_fits session turn.reply turn.session
 begun_fits session (Mailbox name work) begun = begun
 
-at_once_fits : (session : Sess) (needed : Needed) → IsAtOnce needed → Fits (begun_by session needed)
-unfolding MayNeed begun_by IsAtOnce
+at_once_fits : (session : Sess) (needed : Needed) → IsAtOnce needed → Fits (begun_by_need session needed)
+unfolding MayNeed begun_of IsAtOnce
 at_once_fits session (Refusal verdict) at_once = tt
 at_once_fits session (Turned turn) at_once = told_fits session turn.reply turn.session
 at_once_fits session (Mailbox name work) at_once = absurd at_once
@@ -52,20 +53,19 @@ may_need setting (Selected view) it = begun_fits (Selected view) (need_selected 
 may_need setting Ended it = at_once_fits Ended (Refusal (bad_reply State)) tt
 
 pub may_need_behind : (session : Sess) (turn : Option Turn)
-    → let behind = finished_by session turn in IfSome behind.need (λ it. MayNeed behind.session it)
+    → let session_behind = finished_by session turn in IfSome session_behind.need (λ it. MayNeed session_behind.session it)
 unfolding finished_by
 may_need_behind session None = tt
 may_need_behind session (Some turn) = told_fits session turn.reply turn.session
 
 -- the same of a session and of what it needs apart
-apart_fits : (behind : Behind) (session : Sess) (need : Need) → record { session = session; need = need } ≡ behind → Fits behind → MayNeed session need
-apart_fits behind session need is fits = subst (λ (b : Behind). Fits b) (sym is) fits
+apart_fits : (session_behind : Behind) (session : Sess) (need : Need) → record { session = session; need = need } ≡ session_behind → Fits session_behind → MayNeed session need
+apart_fits session_behind session need is fits = subst (λ (b : Behind). Fits b) (sym is) fits
 
-pub begin_fits : (setting : Setting) (before session : Sess) (it : Command) (needed : Needed) (result : Result Need Memory) → needed ≡ need_of setting before it
-    → IfOk result (λ need. record { session = session; need = need } ≡ begun_by before needed) → IfOk result (λ need. MayNeed session need)
-begin_fits setting before session it needed result same is =
-    IfOk-weaker result (λ need. record { session = session; need = need } ≡ begun_by before needed) (λ need. MayNeed session need)
-    (λ need e. apart_fits (begin setting before it) session need (e ∙ ap (begun_by before) same) (may_need setting before it)) is
+pub begin_fits : (setting : Setting) (before session : Sess) (it : Command) (begun : Begun) (need : Need) → begun ≡ begun_of (need_of setting before it)
+    → record { session = session; need = need } ≡ session_behind before begun → MayNeed session need
+begin_fits setting before session it begun need same is =
+    apart_fits (begin setting before it) session need (is ∙ ap (session_behind before) same) (may_need setting before it)
 
 some_fits : (finished : Finished) (session : Sess) (need : Option Need) → record { session = session; need = need } ≡ finished
     → IfSome finished.need (λ it. MayNeed finished.session it) → IfSome need (λ it. MayNeed session it)

@@ -12,8 +12,8 @@ use Rattle.mail_message.specs.declared.message.Row.{Row}
 use Rattle.mail_message.specs.declared.message.Snapshot.{Snapshot}
 use Rattle.mail_message.specs.RowOrder.{row_at}
 use Rattle.mur_model.specs.declared.fetch.Fetching.{Fetching}
-use Rattle.mur_model.specs.declared.need.ViewWork.{ViewWork}
-use Rattle.mur_model.specs.declared.need.ViewWork.TheVariants.{Store, Fetch, Search}
+use Rattle.mur_model.specs.declared.work.ViewWork.{ViewWork}
+use Rattle.mur_model.specs.declared.work.ViewWork.TheVariants.{Store, Fetch, Search}
 use Rattle.imap_types.specs.declared.reply.Reply.{Reply}
 use Rattle.imap_types.specs.declared.reply.ReplyLine.{ReplyLine}
 use Rattle.imap_types.specs.declared.reply.ReplyLine.TheVariants.{Expunge, Fetch as fetch_told}
@@ -24,20 +24,21 @@ use Rattle.mur_model.specs.declared.session.Turn.{Turn}
 use Rattle.mur_model.specs.declared.store_flags.FlagStore.{FlagStore}
 use Rattle.mur_model.specs.declared.view.View.{View}
 use Rattle.mur_model.specs.ClientView.{uids}
-use Rattle.mur_model.specs.Fetch.{fetch_line, fetch_lines, items_told, number_in}
+use Rattle.mur_model.specs.Fetch.{fetch_reply_line, fetch_lines, items_told, number_in}
 use Rattle.mur_model.specs.FetchRows.{row_line, row_lines}
 use Rattle.mur_model.specs.News.{changed_line, changed_lines, exists_lines, flag_parts, is_among, news, rows_behind}
 use Rattle.mur_model.specs.SameFlags.{is_same_flags}
-use Rattle.mur_model.specs.Search.{search_line}
+use Rattle.mur_model.specs.Search.{search_reply_line}
 use Rattle.mur_model.specs.SearchRows.{bare_at}
 use Rattle.mur_model.specs.StoreFlags.{own_lines, stored_line, stored_lines}
-use Rattle.session_core.specs.declared.asking.Awaited.{Awaited}
-use Rattle.session_core.specs.declared.asking.Awaited.TheVariants.{Viewed}
-use Rattle.session_core.specs.declared.need.Need.{Need}
+use Rattle.mur_model.specs.declared.need.Awaited.{Awaited}
+use Rattle.mur_model.specs.declared.need.Awaited.TheVariants.{Viewed}
+use Rattle.mur_model.specs.declared.need.Need.{Need}
 use Rattle.session_core.specs.Finish.{Finished, finished_by, turn_of}
-use Rattle.session_core.specs.Need.{told}
+use Rattle.mur_model.specs.Need.{told_with}
+use Rattle.session_core.specs.Need.{told_reply}
 use Rattle.session_core.specs.Numbers.{HasNoExpunge, IsByNumbers, TellsNoExpunge}
-use Rattle.session_core.specs.Viewed.{viewed_done, viewed_told, viewed_turn}
+use Rattle.session_core.specs.Viewed.{viewed_done, viewed_in, viewed_told, viewed_turn}
 
 both_none : (lines more : List ReplyLine) → HasNoExpunge lines → HasNoExpunge more → HasNoExpunge (lines ++ more)
 unfolding HasNoExpunge
@@ -83,7 +84,7 @@ behind_none rows now by_uid told_already lines is own =
 
 -- the command's own lines
 
-fetched_none : (it : Fetching) (message : Message) (number : Option ℕ) (row : Option Row) → HasNoExpunge (fetch_line it message number row)
+fetched_none : (it : Fetching) (message : Message) (number : Option ℕ) (row : Option Row) → HasNoExpunge (fetch_reply_line it message number row)
 unfolding HasNoExpunge
 fetched_none it message None row = tt
 fetched_none it message (Some number) None = tt
@@ -93,7 +94,7 @@ fetch_none : (it : Fetching) (rows now : List Row) (before : List Message) → H
 unfolding HasNoExpunge
 fetch_none it rows now [] = tt
 fetch_none it rows now (message ∷ before) =
-    both_none (fetch_line it message (number_in rows message.uid) (row_at now message.uid)) (fetch_lines it rows now before)
+    both_none (fetch_reply_line it message (number_in rows message.uid) (row_at now message.uid)) (fetch_lines it rows now before)
     (fetched_none it message (number_in rows message.uid) (row_at now message.uid)) (fetch_none it rows now before)
 
 row_none : (items : List Item) (number : Option ℕ) (row : Option Row) → HasNoExpunge (row_line items number row)
@@ -129,7 +130,7 @@ unless_none false lines none = none
 own_none : (it : FlagStore) (changes rows : List Row) → HasNoExpunge (own_lines it changes rows)
 own_none it changes rows = unless_none it.is_silent (stored_lines it.by_uid changes 1 rows) (stored_none it.by_uid changes 1 rows)
 
-search_none : (it : Searching) (rows : List Row) (messages : List Message) → HasNoExpunge (search_line it rows messages ∷ [])
+search_none : (it : Searching) (rows : List Row) (messages : List Message) → HasNoExpunge (search_reply_line it rows messages ∷ [])
 unfolding HasNoExpunge
 search_none it rows messages = tt
 
@@ -142,7 +143,7 @@ nothing_none : HasNoExpunge []
 unfolding HasNoExpunge
 nothing_none = tt
 
-done_none : (view : View) (work : ViewWork) (outcome : Outcome) (seen : Snapshot) → IsByNumbers (Viewed view work)
+done_none : (view : View) (work : ViewWork) (outcome : Outcome) (seen : Snapshot) → IsByNumbers (Viewed work)
     → IfSome (viewed_done view work outcome seen) TurnHasNone
 unfolding viewed_done IsByNumbers HasNoExpunge
 done_none view (Store it) (Rows changes) seen by =
@@ -155,33 +156,38 @@ done_none view (Fetch it) (Messages before) seen by =
     behind_none view.rows seen.rows it.by_uid _ (fetch_lines it view.rows seen.rows before) by (fetch_none it view.rows seen.rows before)
 done_none view (Search it) nothing seen by =
     let messages : List Message = bare_at seen.rows (uids view.rows) in
-    behind_none view.rows seen.rows it.by_uid [] (search_line it view.rows messages ∷ []) by (search_none it view.rows messages)
+    behind_none view.rows seen.rows it.by_uid [] (search_reply_line it view.rows messages ∷ []) by (search_none it view.rows messages)
 done_none view (Search it) (Messages found) seen by =
-    behind_none view.rows seen.rows it.by_uid [] (search_line it view.rows found ∷ []) by (search_none it view.rows found)
+    behind_none view.rows seen.rows it.by_uid [] (search_reply_line it view.rows found ∷ []) by (search_none it view.rows found)
 done_none view (Store it) outcome seen by = tt
 done_none view (Fetch it) outcome seen by = tt
 done_none view (Search it) outcome seen by = tt
 done_none view work outcome seen by = absurd by
 
-gone_or_none : (view : View) (work : ViewWork) (outcome : Outcome) (seen : Snapshot) → IsByNumbers (Viewed view work)
+gone_or_none : (view : View) (work : ViewWork) (outcome : Outcome) (seen : Snapshot) → IsByNumbers (Viewed work)
     → IfSome (viewed_told view work outcome seen) TurnHasNone
 unfolding viewed_told HasNoExpunge
 gone_or_none view work Gone seen by = tt
 gone_or_none view work outcome seen by = done_none view work outcome seen by
 
-view_none : (view : View) (work : ViewWork) (body : AnswerBody) → IsByNumbers (Viewed view work) → IfSome (viewed_turn view work body) TurnHasNone
+view_none : (view : View) (work : ViewWork) (body : AnswerBody) → IsByNumbers (Viewed work) → IfSome (viewed_turn view work body) TurnHasNone
 unfolding viewed_turn HasNoExpunge
 view_none view work (Done outcome seen) by = gone_or_none view work outcome seen by
 view_none view work NotNow by = tt
 view_none view work body by = tt
 
-turn_none : (awaited : Awaited) (body : AnswerBody) → IsByNumbers awaited → IfSome (turn_of awaited body) TurnHasNone
-unfolding turn_of IsByNumbers
-turn_none (Viewed view work) body by = view_none view work body by
-turn_none awaited body by = absurd by
+viewed_in_none : (session : Sess) (work : ViewWork) (body : AnswerBody) → IsByNumbers (Viewed work) → IfSome (viewed_in session work body) TurnHasNone
+unfolding viewed_in
+viewed_in_none (Selected view) work body by = view_none view work body by
+viewed_in_none session work body by = tt
 
-told_none : (session : Sess) (reply : Reply) (later : Option Sess) → HasNoExpunge reply.lines → TellsNoExpunge (told session reply later).need
-unfolding told TellsNoExpunge
+turn_none : (session : Sess) (awaited : Awaited) (body : AnswerBody) → IsByNumbers awaited → IfSome (turn_of session awaited body) TurnHasNone
+unfolding turn_of IsByNumbers
+turn_none session (Viewed work) body by = viewed_in_none session work body by
+turn_none session awaited body by = absurd by
+
+told_none : (session : Sess) (reply : Reply) (later : Option Sess) → HasNoExpunge reply.lines → TellsNoExpunge (told_reply session reply later).need
+unfolding told_with TellsNoExpunge
 told_none session reply None none = none
 told_none session reply (Some Off) none = none
 told_none session reply (Some (In user)) none = none
@@ -194,8 +200,8 @@ finished_none session None none = tt
 finished_none session (Some turn) none = told_none session turn.reply turn.session none
 
 pub finish_tells_none : (before session : Sess) (awaited : Awaited) (body : AnswerBody) (turn : Option Turn) (need : Option Need)
-    → turn ≡ turn_of awaited body → record { session = session; need = need } ≡ finished_by before turn → IsByNumbers awaited
+    → turn ≡ turn_of before awaited body → record { session = session; need = need } ≡ finished_by before turn → IsByNumbers awaited
     → IfSome need TellsNoExpunge
 finish_tells_none before session awaited body turn need same is by =
     subst (λ (f : Finished). IfSome f.need TellsNoExpunge) (sym (is ∙ ap (finished_by before) same))
-    (finished_none before (turn_of awaited body) (turn_none awaited body by))
+    (finished_none before (turn_of before awaited body) (turn_none before awaited body by))

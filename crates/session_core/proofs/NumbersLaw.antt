@@ -18,12 +18,11 @@ use Rattle.mail_message.specs.RowOrder.{row_at}
 use Rattle.mur_base.specs.declared.memory.Memory.{Memory}
 use Rattle.imap_types.specs.declared.command.Command.{Command}
 use Rattle.imap_types.specs.declared.command.StatusItem.{StatusItem}
-use Rattle.mur_model.specs.declared.need.Need.{Need as Needed}
-use Rattle.mur_model.specs.declared.need.Need.TheVariants.{Refusal, Turned, Mailbox}
+use Rattle.mur_model.specs.Needed.{Needed, Refusal, Turned, Mailbox}
 use Rattle.mur_model.specs.declared.setting.Setting.{Setting}
 use Rattle.mur_model.specs.declared.fetch.Fetching.{Fetching}
-use Rattle.mur_model.specs.declared.need.ViewWork.{ViewWork}
-use Rattle.mur_model.specs.declared.need.ViewWork.TheVariants.{News, Close, Expunge, Store, Fetch, Search}
+use Rattle.mur_model.specs.declared.work.ViewWork.{ViewWork}
+use Rattle.mur_model.specs.declared.work.ViewWork.TheVariants.{News, Close, Expunge, Store, Fetch, Search}
 use Rattle.imap_types.specs.declared.reply.Reply.{Reply}
 use Rattle.imap_types.specs.declared.reply.ReplyLine.{ReplyLine}
 use Rattle.mur_model.specs.declared.search.Searching.{Searching}
@@ -35,34 +34,36 @@ use Rattle.mur_model.specs.declared.store_flags.FlagStore.{FlagStore}
 use Rattle.mur_model.specs.declared.view.View.{View}
 use Rattle.mur_model.specs.Act.{need_of, session_after}
 use Rattle.mur_model.specs.ClientView.{Agrees, Known, known_after, known_after_all, uids}
-use Rattle.mur_model.specs.Fetch.{fetch_line, fetch_lines, items_told, number_in}
+use Rattle.mur_model.specs.Fetch.{fetch_reply_line, fetch_lines, items_told, number_in}
 use Rattle.mur_model.specs.FetchRows.{row_line, row_lines}
 use Rattle.mur_model.specs.Left.{replied}
 use Rattle.mur_model.specs.News.{news}
-use Rattle.mur_model.specs.Search.{search_line}
+use Rattle.mur_model.specs.Search.{search_reply_line}
 use Rattle.mur_model.specs.SearchRows.{bare_at}
 use Rattle.mur_model.specs.Select.{select_told}
 use Rattle.mur_model.specs.Status.{status_reply as reply_with_counts}
 use Rattle.mur_model.specs.Append.{append_reply as reply_with_uid}
 use Rattle.mur_model.specs.StoreFlags.{own_lines, stored_line, stored_lines}
 use Rattle.mur_model.proofs.ClientLaw.{after_both, news_agree, nothing_known}
-use Rattle.session_core.specs.declared.asking.Awaited.{Awaited}
-use Rattle.session_core.specs.declared.asking.Awaited.TheVariants as awaits
+use Rattle.mur_model.specs.declared.need.Awaited.{Awaited}
+use Rattle.mur_model.specs.declared.need.Awaited.TheVariants as awaits
 use Rattle.session_core.proofs.AtOnceLaw.{AreStill, IsQuiet, LeavesQuietly, need_quiet}
 use Rattle.session_core.specs.Append as append
 use Rattle.session_core.specs.Create as create
 use Rattle.session_core.specs.Finish.{Finished, finished_by, turn_of}
-use Rattle.session_core.specs.declared.need.Need.{Need}
-use Rattle.session_core.specs.Need.{Behind, begun_by, told}
-use Rattle.session_core.specs.Numbers.{Knows, KnowsBehind, IsOf, known_before}
+use Rattle.mur_model.specs.declared.need.Need.{Need}
+use Rattle.mur_model.specs.declared.need.Begun.{Begun}
+use Rattle.mur_model.specs.Need.{begun_of, told_with}
+use Rattle.session_core.specs.Need.{Behind, session_behind, begun_by_need, told_reply}
+use Rattle.session_core.specs.Numbers.{Knows, KnowsBehind, known_before}
 use Rattle.session_core.specs.Select as select
 use Rattle.session_core.specs.Status as status
-use Rattle.session_core.specs.Viewed.{viewed_done, viewed_told, viewed_turn}
+use Rattle.session_core.specs.Viewed.{viewed_done, viewed_in, viewed_told, viewed_turn}
 
 both_still : (lines more : List ReplyLine) → AreStill lines → AreStill more → AreStill (lines ++ more)
 both_still lines more one other known = after_both known lines more ∙ ap (λ k. known_after_all k more) (one known) ∙ other known
 
-fetched_still : (it : Fetching) (message : Message) (number : Option ℕ) (row : Option Row) → AreStill (fetch_line it message number row)
+fetched_still : (it : Fetching) (message : Message) (number : Option ℕ) (row : Option Row) → AreStill (fetch_reply_line it message number row)
 unfolding known_after
 fetched_still it message None row known = refl
 fetched_still it message (Some number) None known = refl
@@ -71,7 +72,7 @@ fetched_still it message (Some number) (Some row) known = refl
 fetch_still : (it : Fetching) (rows now : List Row) (before : List Message) → AreStill (fetch_lines it rows now before)
 fetch_still it rows now [] known = refl
 fetch_still it rows now (message ∷ before) known =
-    both_still (fetch_line it message (number_in rows message.uid) (row_at now message.uid)) (fetch_lines it rows now before)
+    both_still (fetch_reply_line it message (number_in rows message.uid) (row_at now message.uid)) (fetch_lines it rows now before)
     (fetched_still it message (number_in rows message.uid) (row_at now message.uid)) (fetch_still it rows now before) known
 
 line_still : (by_uid : Bool) (number : ℕ) (row : Option Row) → AreStill (stored_line by_uid number row)
@@ -118,18 +119,18 @@ still_leaves known session reply still knows = subst (λ k. Knows k session) (sy
 -- the news tell of what has changed
 news_leave : (known : Known) (view : View) (lines : List ReplyLine) (now : List Row) (expunges : Bool) (told_already : List ℕ)
     → AreStill lines → Agrees known (uids view.rows)
-    → (let behind = news view.rows now expunges told_already in
-    Knows (known_after_all known (lines ++ behind.lines)) (Selected (record view { rows = behind.rows })))
+    → (let session_behind = news view.rows now expunges told_already in
+    Knows (known_after_all known (lines ++ session_behind.lines)) (Selected (record view { rows = session_behind.rows })))
 unfolding Knows
 news_leave known view lines now expunges told_already still agrees =
-    let behind = news view.rows now expunges told_already in
-    subst (λ k. Agrees k (uids behind.rows)) (sym (after_both known lines behind.lines ∙ ap (λ k. known_after_all k behind.lines) (still known)))
+    let session_behind = news view.rows now expunges told_already in
+    subst (λ k. Agrees k (uids session_behind.rows)) (sym (after_both known lines session_behind.lines ∙ ap (λ k. known_after_all k session_behind.lines) (still known)))
     (news_agree view.rows now expunges told_already known agrees)
 
 none_still : AreStill []
 none_still known = refl
 
-search_still : (it : Searching) (rows : List Row) (messages : List Message) → AreStill (search_line it rows messages ∷ [])
+search_still : (it : Searching) (rows : List Row) (messages : List Message) → AreStill (search_reply_line it rows messages ∷ [])
 unfolding known_after
 search_still it rows messages known = refl
 
@@ -150,9 +151,9 @@ viewed_leaves known session view (Fetch it) (Messages before) seen agrees =
     news_leave known view (fetch_lines it view.rows seen.rows before) seen.rows it.by_uid _ (fetch_still it view.rows seen.rows before) agrees
 viewed_leaves known session view (Search it) nothing seen agrees =
     let messages : List Message = bare_at seen.rows (uids view.rows) in
-    news_leave known view (search_line it view.rows messages ∷ []) seen.rows it.by_uid [] (search_still it view.rows messages) agrees
+    news_leave known view (search_reply_line it view.rows messages ∷ []) seen.rows it.by_uid [] (search_still it view.rows messages) agrees
 viewed_leaves known session view (Search it) (Messages found) seen agrees =
-    news_leave known view (search_line it view.rows found ∷ []) seen.rows it.by_uid [] (search_still it view.rows found) agrees
+    news_leave known view (search_reply_line it view.rows found ∷ []) seen.rows it.by_uid [] (search_still it view.rows found) agrees
 viewed_leaves known session view work outcome seen agrees = tt
 
 outcome_leaves : (known : Known) (session : Sess) (view : View) (work : ViewWork) (outcome : Outcome) (seen : Snapshot) → Agrees known (uids view.rows)
@@ -204,19 +205,19 @@ select_leaves session name it body = tt
 abbrev HasStill : Reply → Type 0
 HasStill reply = AreStill reply.lines
 
-created_still : (body : AnswerBody) → IfSome (create.create_reply body) HasStill
-unfolding create.create_reply create.reply_to_done
+created_still : (body : AnswerBody) → IfSome (create.reply_to_create body) HasStill
+unfolding create.reply_to_create create.reply_to_created
 created_still (Done outcome seen) = by outcome
   where
-    by : (outcome : Outcome) → IfSome (create.reply_to_done outcome) HasStill
+    by : (outcome : Outcome) → IfSome (create.reply_to_created outcome) HasStill
     by nothing = none_still
     by Exists = none_still
     by full = none_still
     by outcome = tt
 created_still body = tt
 
-appended_still : (body : AnswerBody) → IfSome (append.append_reply body) HasStill
-unfolding append.append_reply append.reply_to_done append.reply_to_uids reply_with_uid
+appended_still : (body : AnswerBody) → IfSome (append.reply_to_append body) HasStill
+unfolding append.reply_to_append append.reply_to_appended append.reply_to_uids reply_with_uid
 appended_still (Done outcome seen) = by outcome
   where
     uids_still : (serial : ℕ) (uids : List ℕ) → IfSome (append.reply_to_uids serial uids) HasStill
@@ -224,18 +225,18 @@ appended_still (Done outcome seen) = by outcome
     uids_still serial (uid ∷ []) = none_still
     uids_still serial (uid ∷ other ∷ uids) = tt
 
-    by : (outcome : Outcome) → IfSome (append.reply_to_done outcome seen) HasStill
+    by : (outcome : Outcome) → IfSome (append.reply_to_appended outcome seen) HasStill
     by (Uids uids) = uids_still seen.serial uids
     by full = none_still
     by outcome = tt
 appended_still NotNow = none_still
 appended_still body = tt
 
-counted_still : (shown : List ℕ) (items : List StatusItem) (body : AnswerBody) → IfSome (status.status_reply shown items body) HasStill
-unfolding status.status_reply status.reply_to_done reply_with_counts known_after
+counted_still : (shown : List ℕ) (items : List StatusItem) (body : AnswerBody) → IfSome (status.reply_to_status shown items body) HasStill
+unfolding status.reply_to_status status.reply_to_counted reply_with_counts known_after
 counted_still shown items (Done outcome seen) = by outcome
   where
-    by : (outcome : Outcome) → IfSome (status.reply_to_done shown items outcome seen) HasStill
+    by : (outcome : Outcome) → IfSome (status.reply_to_counted shown items outcome seen) HasStill
     by nothing = λ known. refl
     by outcome = tt
 counted_still shown items NotNow = none_still
@@ -246,22 +247,27 @@ replied_leave : (known : Known) (session : Sess) (reply : Option Reply) → IfSo
 replied_leave known session None still knows = tt
 replied_leave known session (Some reply) still knows = still_leaves known session reply still knows
 
-turn_leaves : (known : Known) (session : Sess) (awaited : Awaited) (body : AnswerBody) → IsOf session awaited → Knows known session
-    → IfSome (turn_of awaited body) (TurnLeaves (known_before awaited known) session)
-unfolding turn_of known_before IsOf Knows
-turn_leaves known session awaits.Create body of knows = replied_leave known session (create.create_reply body) (created_still body) knows
-turn_leaves known session awaits.Append body of knows = replied_leave known session (append.append_reply body) (appended_still body) knows
-turn_leaves known session (awaits.Status shown items) body of knows =
-    replied_leave known session (status.status_reply shown items body) (counted_still shown items body) knows
-turn_leaves known session (awaits.Select name it) body of knows = select_leaves session name it body
-turn_leaves known session (awaits.Viewed view work) body of knows =
-    view_leaves known session view work body (subst (λ s. Knows known s) of knows)
+viewed_in_leaves : (known : Known) (session : Sess) (work : ViewWork) (body : AnswerBody) → Knows known session
+    → IfSome (viewed_in session work body) (TurnLeaves known session)
+unfolding viewed_in Knows
+viewed_in_leaves known (Selected view) work body knows = view_leaves known (Selected view) view work body knows
+viewed_in_leaves known session work body knows = tt
+
+turn_leaves : (known : Known) (session : Sess) (awaited : Awaited) (body : AnswerBody) → Knows known session
+    → IfSome (turn_of session awaited body) (TurnLeaves (known_before awaited known) session)
+unfolding turn_of known_before
+turn_leaves known session awaits.Create body knows = replied_leave known session (create.reply_to_create body) (created_still body) knows
+turn_leaves known session awaits.Append body knows = replied_leave known session (append.reply_to_append body) (appended_still body) knows
+turn_leaves known session (awaits.Status shown items) body knows =
+    replied_leave known session (status.reply_to_status shown items body) (counted_still shown items body) knows
+turn_leaves known session (awaits.Select name it) body knows = select_leaves session name it body
+turn_leaves known session (awaits.Viewed work) body knows = viewed_in_leaves known session work body knows
 
 -- the same of what is needed
 
 told_leaves : (known : Known) (session : Sess) (reply : Reply) (later : Option Sess) → Leaves known session reply later
-    → let behind = told session reply later in KnowsBehind known behind.session behind.need
-unfolding told KnowsBehind
+    → let session_behind = told_reply session reply later in KnowsBehind known session_behind.session session_behind.need
+unfolding told_with KnowsBehind
 told_leaves known session reply None leaves = leaves
 told_leaves known session reply (Some Off) leaves = leaves
 told_leaves known session reply (Some (In user)) leaves = leaves
@@ -269,7 +275,7 @@ told_leaves known session reply (Some (Selected view)) leaves = leaves
 told_leaves known session reply (Some Ended) leaves = leaves
 
 finished_leaves : (known : Known) (session : Sess) (turn : Option Turn) → IfSome turn (TurnLeaves known session)
-    → let behind = finished_by session turn in IfSome behind.need (KnowsBehind known behind.session)
+    → let session_behind = finished_by session turn in IfSome session_behind.need (KnowsBehind known session_behind.session)
 unfolding finished_by
 finished_leaves known session None leaves = tt
 finished_leaves known session (Some turn) leaves = told_leaves known session turn.reply turn.session leaves
@@ -286,34 +292,31 @@ quiet_leaves known session reply (Some (Selected view)) quiet knows = absurd qui
 quiet_leaves known session reply (Some Ended) quiet knows = tt
 
 begun_leaves : (known : Known) (session : Sess) (needed : Needed) → IsQuiet needed → Knows known session
-    → let behind = begun_by session needed in KnowsBehind known behind.session behind.need
-unfolding IsQuiet KnowsBehind begun_by
+    → let session_behind = begun_by_need session needed in KnowsBehind known session_behind.session session_behind.need
+unfolding IsQuiet KnowsBehind begun_of
 begun_leaves known session (Refusal verdict) quiet knows = knows
 begun_leaves known session (Turned turn) quiet knows =
     told_leaves known session turn.reply turn.session (quiet_leaves known session turn.reply turn.session quiet knows)
 begun_leaves known session (Mailbox name work) quiet knows = knows
 
-apart_knows : (known : Known) (behind : Behind) (session : Sess) (need : Need) → record { session = session; need = need } ≡ behind
-    → KnowsBehind known behind.session behind.need → KnowsBehind known session need
-apart_knows known behind session need is knows = subst (λ (b : Behind). KnowsBehind known b.session b.need) (sym is) knows
+apart_knows : (known : Known) (session_behind : Behind) (session : Sess) (need : Need) → record { session = session; need = need } ≡ session_behind
+    → KnowsBehind known session_behind.session session_behind.need → KnowsBehind known session need
+apart_knows known session_behind session need is knows = subst (λ (b : Behind). KnowsBehind known b.session b.need) (sym is) knows
 
-pub begin_knows : (setting : Setting) (before session : Sess) (it : Command) (needed : Needed) (result : Result Need Memory)
-    → needed ≡ need_of setting before it
-    → IfOk result (λ need. record { session = session; need = need } ≡ begun_by before needed)
-    → IfOk result (λ need. (known : Known) → Knows known before → KnowsBehind known session need)
-begin_knows setting before session it needed result same is =
-    IfOk-weaker result (λ need. record { session = session; need = need } ≡ begun_by before needed)
-    (λ need. (known : Known) → Knows known before → KnowsBehind known session need)
-    (λ need e known knows. apart_knows known (begun_by before (need_of setting before it)) session need (e ∙ ap (begun_by before) same)
-    (begun_leaves known before (need_of setting before it) (need_quiet setting before it) knows)) is
+pub begin_knows : (setting : Setting) (before session : Sess) (it : Command) (begun : Begun) (need : Need) → begun ≡ begun_of (need_of setting before it)
+    → record { session = session; need = need } ≡ session_behind before begun
+    → (known : Known) → Knows known before → KnowsBehind known session need
+begin_knows setting before session it begun need same is known knows =
+    apart_knows known (begun_by_need before (need_of setting before it)) session need (is ∙ ap (session_behind before) same)
+    (begun_leaves known before (need_of setting before it) (need_quiet setting before it) knows)
 
 some_knows : (known : Known) (finished : Finished) (session : Sess) (need : Option Need) → record { session = session; need = need } ≡ finished
     → IfSome finished.need (KnowsBehind known finished.session) → IfSome need (KnowsBehind known session)
 some_knows known finished session need is knows = subst (λ (f : Finished). IfSome f.need (KnowsBehind known f.session)) (sym is) knows
 
-pub finish_knows : (before session : Sess) (awaited : Awaited) (body : AnswerBody) (turn : Option Turn) (need : Option Need) → turn ≡ turn_of awaited body
-    → record { session = session; need = need } ≡ finished_by before turn
-    → (known : Known) → IsOf before awaited → Knows known before → IfSome need (KnowsBehind (known_before awaited known) session)
-finish_knows before session awaited body turn need same is known of knows =
-    some_knows (known_before awaited known) (finished_by before (turn_of awaited body)) session need (is ∙ ap (finished_by before) same)
-    (finished_leaves (known_before awaited known) before (turn_of awaited body) (turn_leaves known before awaited body of knows))
+pub finish_knows : (before session : Sess) (awaited : Awaited) (body : AnswerBody) (turn : Option Turn) (need : Option Need)
+    → turn ≡ turn_of before awaited body → record { session = session; need = need } ≡ finished_by before turn
+    → (known : Known) → Knows known before → IfSome need (KnowsBehind (known_before awaited known) session)
+finish_knows before session awaited body turn need same is known knows =
+    some_knows (known_before awaited known) (finished_by before (turn_of before awaited body)) session need (is ∙ ap (finished_by before) same)
+    (finished_leaves (known_before awaited known) before (turn_of before awaited body) (turn_leaves known before awaited body knows))

@@ -1,4 +1,4 @@
--- APPEND (RFC 9051, 6.3.12) as a frontend has it: what it asks of the home, and what it replies to the answer.
+-- APPEND (RFC 9051, 6.3.12) as a frontend has it: what it replies to the answer of the home.
 -- A home that hasn't the mailbox makes it a missing one.
 use Rattle.std.specs.Prelude.{ℕ, List, [], ◌∷◌, Option, None, Some}
 use Rattle.link_msg.specs.declared.answer.AnswerBody.{AnswerBody}
@@ -10,14 +10,6 @@ use Rattle.imap_types.specs.declared.reply.NoText.TheVariants.{TryCreate, Limit}
 use Rattle.imap_types.specs.declared.reply.Reply.{Reply}
 use Rattle.mur_model.specs.Append.{append_reply as reply_with_uid}
 use Rattle.imap_types.specs.Reply.{refused}
-use Rattle.link_msg.specs.declared.op.Op.TheVariants.{Append as append_op}
-use Rattle.mail_message.specs.declared.message.Message.{Message}
-use Rattle.session_core.specs.declared.asking.Asking.{Asking}
-use Rattle.session_core.specs.declared.asking.Awaited.TheVariants as awaited
-use Rattle.session_core.specs.Unselected.{unselected}
-
-abbrev pub append_asks : Message → Asking
-append_asks message = unselected (append_op (message ∷ [])) awaited.Append
 
 -- one message got one UID
 unfoldable pub reply_to_uids : ℕ → List ℕ → Option Reply
@@ -25,12 +17,12 @@ reply_to_uids serial [] = None
 reply_to_uids serial (uid ∷ []) = Some (reply_with_uid serial uid)
 reply_to_uids serial (uid ∷ other ∷ uids) = None
 
-unfoldable pub reply_to_done : Outcome → Snapshot → Option Reply
-reply_to_done (Uids uids) seen = reply_to_uids seen.serial uids
-reply_to_done full seen = Some (refused Limit)
-reply_to_done outcome seen = None
+unfoldable pub reply_to_appended : Outcome → Snapshot → Option Reply
+reply_to_appended (Uids uids) seen = reply_to_uids seen.serial uids
+reply_to_appended full seen = Some (refused Limit)
+reply_to_appended outcome seen = None
 
-unfoldable pub append_reply : AnswerBody → Option Reply
-append_reply (Done outcome seen) = reply_to_done outcome seen
-append_reply NotNow = Some (refused TryCreate)
-append_reply body = None
+unfoldable pub reply_to_append : AnswerBody → Option Reply
+reply_to_append (Done outcome seen) = reply_to_appended outcome seen
+reply_to_append NotNow = Some (refused TryCreate)
+reply_to_append body = None

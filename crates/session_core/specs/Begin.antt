@@ -5,12 +5,12 @@ use Rattle.mur_model.specs.declared.session.Sess.{Sess}
 use Rattle.mur_model.specs.declared.session.Sess.TheVariants.{Off, In, Selected, Ended}
 use Rattle.mur_model.specs.declared.setting.Setting.{Setting}
 use Rattle.mur_model.specs.Act.{need_of}
-use Rattle.session_core.specs.declared.need.Need.{Need}
-use Rattle.session_core.specs.declared.need.Need.TheVariants.{Reply, Leave, Home}
-use Rattle.session_core.specs.Need.{Behind, begun_by}
+use Rattle.mur_model.specs.declared.need.Need.{Need}
+use Rattle.mur_model.specs.declared.need.Need.TheVariants.{Reply, Leave, Home}
+use Rattle.session_core.specs.Need.{Behind, begun_by_need}
 
 abbrev pub begin : Setting → Sess → Command → Behind
-begin setting session it = begun_by session (need_of setting session it)
+begin setting session it = begun_by_need session (need_of setting session it)
 
 unfoldable pub HasBegun : Sess → Type 0
 HasBegun Off = ⊥

@@ -1,5 +1,4 @@
 pub mod Append
-pub mod Asking
 pub mod Begin
 pub mod Create
 pub mod Finish
@@ -8,5 +7,4 @@ pub mod Numbers
 pub mod Relocated
 pub mod Select
 pub mod Status
-pub mod Unselected
 pub mod Viewed

@@ -1,28 +1,24 @@
--- What a session needs of its frontend: a reply is given, and with it the session goes on or has ended (RFC 9051, 3.4); or a home is asked.
-use Rattle.std.specs.Prelude.{Option, Some}
-use Rattle.mur_model.specs.declared.need.Need.{Need as Needed}
-use Rattle.mur_model.specs.declared.need.Need.TheVariants.{Refusal, Turned, Mailbox}
+-- A session behind what comes of a command, or of the home's answer to it, and what it needs of its frontend then (RFC 9051, 3.4).
+use Rattle.std.specs.Prelude.{Option}
 use Rattle.imap_types.specs.declared.reply.Reply.{Reply as ReplyOf}
+use Rattle.mur_model.specs.declared.need.Begun.{Begun}
+use Rattle.mur_model.specs.declared.need.Need.{Need}
 use Rattle.mur_model.specs.declared.session.Sess.{Sess}
-use Rattle.mur_model.specs.declared.session.Sess.TheVariants.{Ended}
 use Rattle.mur_model.specs.Act.{session_after}
-use Rattle.imap_types.specs.Reply.{reply_of}
-use Rattle.session_core.specs.declared.need.Need.{Need}
-use Rattle.session_core.specs.declared.need.Need.TheVariants.{Reply, Leave, Home}
-use Rattle.session_core.specs.Asking.{asked_for}
+use Rattle.mur_model.specs.Need.{begun_of, told_with}
+use Rattle.mur_model.specs.Needed.{Needed}
 
--- a session, and what it needs
 pub record Behind : Type 0 where
   pub session : Sess
   pub need : Need
 
+abbrev pub session_behind : Sess → Begun → Behind
+session_behind session begun = record { session = session_after session begun.session; need = begun.need }
+
 -- a reply, and the session behind it
-unfoldable pub told : Sess → ReplyOf → Option Sess → Behind
-told session reply (Some Ended) = record { session = Ended; need = Leave reply }
-told session reply later = record { session = session_after session later; need = Reply reply }
+abbrev pub told_reply : Sess → ReplyOf → Option Sess → Behind
+told_reply session reply later = session_behind session (told_with reply later)
 
 -- by what the command needs of the store
-unfoldable pub begun_by : Sess → Needed → Behind
-begun_by session (Refusal verdict) = record { session = session; need = Reply (reply_of verdict) }
-begun_by session (Turned turn) = told session turn.reply turn.session
-begun_by session (Mailbox name work) = record { session = session; need = Home name (asked_for name work) }
+abbrev pub begun_by_need : Sess → Needed → Behind
+begun_by_need session needed = session_behind session (begun_of needed)

@@ -1,16 +1,16 @@
 -- The numbers that a client can derive from the lines that it is given are those of its session's view, at every moment (RFC 9051, 2.3.1.2 and 7.5.1): so
 -- a message sequence number means the same message at both ends.
 use Rattle.std.specs.Prelude.{◌≡◌, ⊤, false, List, [], ◌∷◌}
-use Rattle.mur_model.specs.declared.need.ViewWork.TheVariants as work
+use Rattle.mur_model.specs.declared.work.ViewWork.TheVariants as work
 use Rattle.imap_types.specs.declared.reply.ReplyLine.{ReplyLine}
 use Rattle.imap_types.specs.declared.reply.ReplyLine.TheVariants.{Expunge}
 use Rattle.mur_model.specs.declared.session.Sess.{Sess}
 use Rattle.mur_model.specs.declared.session.Sess.TheVariants.{Selected}
 use Rattle.mur_model.specs.ClientView.{Agrees, Known, known_after_all, uids}
-use Rattle.session_core.specs.declared.asking.Awaited.{Awaited}
-use Rattle.session_core.specs.declared.asking.Awaited.TheVariants.{Select, Viewed}
-use Rattle.session_core.specs.declared.need.Need.{Need}
-use Rattle.session_core.specs.declared.need.Need.TheVariants.{Reply, Leave, Home}
+use Rattle.mur_model.specs.declared.need.Awaited.{Awaited}
+use Rattle.mur_model.specs.declared.need.Awaited.TheVariants.{Select, Viewed}
+use Rattle.mur_model.specs.declared.need.Need.{Need}
+use Rattle.mur_model.specs.declared.need.Need.TheVariants.{Reply, Leave, Home}
 
 -- where a mailbox is selected, its client knows the numbers of the view
 unfoldable pub Knows : Known → Sess → Type 0
@@ -28,11 +28,6 @@ unfoldable pub known_before : Awaited → Known → Known
 known_before (Select name it) known = []
 known_before awaited known = known
 
--- a command at a mailbox that is selected was begun by the session that has this view of it
-unfoldable pub IsOf : Sess → Awaited → Type 0
-IsOf session (Viewed view work) = session ≡ Selected view
-IsOf session awaited = ⊤
-
 unfoldable pub HasNoExpunge : List ReplyLine → Type 0
 HasNoExpunge [] = ⊤
 HasNoExpunge (Expunge number ∷ lines) = ⊥
@@ -45,7 +40,7 @@ TellsNoExpunge (Home name asking) = ⊤
 
 -- a FETCH, a STORE or a SEARCH by numbers, which may not change while it is answered (RFC 9051, 7.5.1)
 unfoldable pub IsByNumbers : Awaited → Type 0
-IsByNumbers (Viewed view (work.Fetch it)) = it.by_uid ≡ false
-IsByNumbers (Viewed view (work.Store it)) = it.by_uid ≡ false
-IsByNumbers (Viewed view (work.Search it)) = it.by_uid ≡ false
+IsByNumbers (Viewed (work.Fetch it)) = it.by_uid ≡ false
+IsByNumbers (Viewed (work.Store it)) = it.by_uid ≡ false
+IsByNumbers (Viewed (work.Search it)) = it.by_uid ≡ false
 IsByNumbers awaited = ⊥

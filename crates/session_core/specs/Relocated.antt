@@ -10,9 +10,9 @@ use Rattle.mur_model.specs.declared.session.Turn.{Turn}
 use Rattle.mur_model.specs.Left.{replied}
 use Rattle.imap_types.specs.Reply.{refused}
 use Rattle.mur_model.specs.Select.{unselected}
-use Rattle.session_core.specs.declared.asking.Awaited.{Awaited}
-use Rattle.session_core.specs.declared.asking.Awaited.TheVariants.{Select}
-use Rattle.session_core.specs.Need.{Behind, told}
+use Rattle.mur_model.specs.declared.need.Awaited.{Awaited}
+use Rattle.mur_model.specs.declared.need.Awaited.TheVariants.{Select}
+use Rattle.session_core.specs.Need.{Behind, told_reply}
 
 -- why a command is refused so
 unfoldable pub IsRelocation : What → Type 0
@@ -31,4 +31,4 @@ moved_turn awaited why = replied (refused why)
 abbrev pub relocated : Sess → Awaited → What → Behind
 relocated session awaited what =
     let turn = moved_turn awaited (why_moved what) in
-    told session turn.reply turn.session
+    told_reply session turn.reply turn.session

@@ -1,4 +1,4 @@
--- SELECT and EXAMINE (RFC 9051, 6.3.2 and 6.3.3): what is asked of the home, and what is told when it has answered.
+-- SELECT and EXAMINE (RFC 9051, 6.3.2 and 6.3.3): what is told when the home has answered.
 -- A home that hasn't the mailbox makes it a missing one.
 use Rattle.std.specs.Prelude.{ℕ, List, Option, None, Some}
 use Rattle.link_msg.specs.declared.answer.AnswerBody.{AnswerBody}
@@ -10,13 +10,6 @@ use Rattle.imap_types.specs.declared.reply.NoText.TheVariants.{NonExistent}
 use Rattle.mur_model.specs.declared.select.Opening.{Opening}
 use Rattle.mur_model.specs.declared.session.Turn.{Turn}
 use Rattle.mur_model.specs.Select.{select_told, unselected}
-use Rattle.link_msg.specs.declared.op.Op.TheVariants.{Look}
-use Rattle.session_core.specs.declared.asking.Asking.{Asking}
-use Rattle.session_core.specs.declared.asking.Awaited.TheVariants as awaited
-use Rattle.session_core.specs.Unselected.{unselected as unselected_ask}
-
-abbrev pub select_asks : List ℕ → Opening → Asking
-select_asks name it = unselected_ask Look (awaited.Select name it)
 
 unfoldable pub select_done : List ℕ → Opening → Outcome → Snapshot → Option Turn
 select_done name it nothing seen = Some (select_told it name seen)

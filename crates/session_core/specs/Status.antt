@@ -1,4 +1,4 @@
--- STATUS (RFC 9051, 6.3.11) as a frontend has it: what it asks of the home, and what it replies to the answer.
+-- STATUS (RFC 9051, 6.3.11) as a frontend has it: what it replies to the answer of the home.
 -- A home that hasn't the mailbox makes it a missing one.
 use Rattle.std.specs.Prelude.{ℕ, List, Option, None, Some}
 use Rattle.link_msg.specs.declared.answer.AnswerBody.{AnswerBody}
@@ -11,19 +11,12 @@ use Rattle.imap_types.specs.declared.reply.NoText.TheVariants.{NonExistent}
 use Rattle.imap_types.specs.declared.reply.Reply.{Reply}
 use Rattle.imap_types.specs.Reply.{refused}
 use Rattle.mur_model.specs.Status.{status_reply as reply_with_counts}
-use Rattle.link_msg.specs.declared.op.Op.TheVariants.{Look}
-use Rattle.session_core.specs.declared.asking.Asking.{Asking}
-use Rattle.session_core.specs.declared.asking.Awaited.TheVariants as awaited
-use Rattle.session_core.specs.Unselected.{unselected}
 
-abbrev pub status_asks : List ℕ → List StatusItem → Asking
-status_asks shown items = unselected Look (awaited.Status shown items)
+unfoldable pub reply_to_counted : List ℕ → List StatusItem → Outcome → Snapshot → Option Reply
+reply_to_counted shown items nothing seen = Some (reply_with_counts shown items seen)
+reply_to_counted shown items outcome seen = None
 
-unfoldable pub reply_to_done : List ℕ → List StatusItem → Outcome → Snapshot → Option Reply
-reply_to_done shown items nothing seen = Some (reply_with_counts shown items seen)
-reply_to_done shown items outcome seen = None
-
-unfoldable pub status_reply : List ℕ → List StatusItem → AnswerBody → Option Reply
-status_reply shown items (Done outcome seen) = reply_to_done shown items outcome seen
-status_reply shown items NotNow = Some (refused NonExistent)
-status_reply shown items body = None
+unfoldable pub reply_to_status : List ℕ → List StatusItem → AnswerBody → Option Reply
+reply_to_status shown items (Done outcome seen) = reply_to_counted shown items outcome seen
+reply_to_status shown items NotNow = Some (refused NonExistent)
+reply_to_status shown items body = None

@@ -1,27 +1,17 @@
-// APPEND (RFC 9051, 6.3.12): what it asks, and what comes of the answer.
+// APPEND (RFC 9051, 6.3.12): what comes of the answer.
 ghost use Rattle.std.specs.Prelude.{◌≡◌, IfOk};
-ghost use Rattle.session_core.specs.Append.{append_asks, append_reply, reply_to_done, reply_to_uids};
+ghost use Rattle.session_core.specs.Append.{reply_to_append, reply_to_appended, reply_to_uids};
 
-use crate::asking::{Asking, Awaited, unselected};
-use link_msg::{AnswerBody, Op, Outcome};
-use mail_message::{Message, Messages, Snapshot};
+use link_msg::{AnswerBody, Outcome};
+use mail_message::Snapshot;
 use mur_base::Memory;
 use mur_model::{NoText, Reply, append_reply as reply_with_uid, refused};
 use std::alloc::Global;
 
-/// What an APPEND of a message asks.
-pub fn append_asks(alloc: Global, message: Message) -> Result<Asking, Memory>
-    ensures { IfOk result (λ it. it ≡ append_asks message) }
-{
-    let mut messages = Messages::new(alloc);
-    messages.push(message)?;
-    Ok(unselected(Op::Append(messages), Awaited::Append))
-}
-
 /// What is replied to the answer of an APPEND; nothing to one that it can't have.
-#[tactic(auto, unfolding(crate::specs::Append::append_reply))]
+#[tactic(auto, unfolding(crate::specs::Append::reply_to_append))]
 pub fn append_reply(alloc: Global, body: AnswerBody) -> Result<Option<Reply>, Memory>
-    ensures { IfOk result (λ reply. reply ≡ append_reply body) }
+    ensures { IfOk result (λ reply. reply ≡ reply_to_append body) }
 {
     match body {
         AnswerBody::Done(outcome, seen) => reply_to_done(alloc, &outcome, &seen),
@@ -30,9 +20,9 @@ pub fn append_reply(alloc: Global, body: AnswerBody) -> Result<Option<Reply>, Me
     }
 }
 
-#[tactic(auto, unfolding(crate::specs::Append::reply_to_done))]
+#[tactic(auto, unfolding(crate::specs::Append::reply_to_appended))]
 fn reply_to_done(alloc: Global, outcome: &Outcome, seen: &Snapshot) -> Result<Option<Reply>, Memory>
-    ensures { IfOk result (λ reply. reply ≡ reply_to_done outcome.now seen.now) }
+    ensures { IfOk result (λ reply. reply ≡ reply_to_appended outcome.now seen.now) }
 {
     match outcome {
         Outcome::Uids(uids) => reply_to_uids(alloc, seen.serial, uids.as_slice()),

@@ -1,19 +1,13 @@
 // What a session does with a command.
 ghost use Rattle.std.specs.Prelude.{◌≡◌, IfOk};
-ghost use Rattle.session_core.specs.Begin.{begin, MayNeed};
 ghost use Rattle.mur_model.specs.ClientView.{Known};
-ghost use Rattle.session_core.specs.declared.need.Need.TheVariants.{Home};
-ghost use Rattle.session_core.specs.Asking.{asked_for};
-ghost use Rattle.session_core.specs.Need.{begun_by};
+ghost use Rattle.session_core.specs.Begin.{begin, MayNeed};
+ghost use Rattle.session_core.specs.Need.{session_behind};
 ghost use Rattle.session_core.specs.Numbers.{Knows, KnowsBehind};
 
-use crate::asking::asked_for;
-use crate::need::{Need, told};
 use crate::session::Session;
-use mur_base::{MailName, Memory};
-use mur_model::{
-    Command, Need as Needed, Reply, ReplyLines, Sess, Setting, Work, begin as need_of,
-};
+use mur_base::Memory;
+use mur_model::{Begun, Command, Need, Sess, Setting, begin as begin_with};
 use std::alloc::Global;
 
 impl Session {
@@ -24,28 +18,18 @@ impl Session {
         ensures fits { IfOk result (λ need. MayNeed self.new need) }
         ensures numbers { IfOk result (λ need. (known : Known) → Knows known self.old → KnowsBehind known self.new need) }
     {
-        let needed = need_of(alloc, with, &self.state, command)?;
-        begun_by(alloc, &mut self.state, needed)
+        let begun = begin_with(alloc, with, &self.state, command)?;
+        Ok(takes(&mut self.state, begun))
     }
 }
 
-#[tactic(auto, unfolding(crate::specs::Need::begun_by))]
-fn begun_by(alloc: Global, sess: &mut Sess, needed: Needed) -> Result<Need, Memory>
-    ensures { IfOk result (λ need. record { session = sess.new; need = need } ≡ begun_by sess.old needed) }
+/// Takes what comes of a command for its session.
+pub fn takes(sess: &mut Sess, begun: Begun) -> Need
+    ensures { record { session = sess.new; need = result } ≡ session_behind sess.old begun }
 {
-    match needed {
-        Needed::Refusal(verdict) => Ok(Need::Reply(Reply {
-            lines: ReplyLines::new(alloc),
-            verdict,
-        })),
-        Needed::Turned(turn) => Ok(told(sess, turn)),
-        Needed::Mailbox(name, work) => home_asked(alloc, name, work),
+    let Begun { session, need } = begun;
+    if let Some(session) = session {
+        *sess = session;
     }
-}
-
-fn home_asked(alloc: Global, name: MailName, work: Work) -> Result<Need, Memory>
-    ensures { IfOk result (λ need. need ≡ Home name (asked_for name work)) }
-{
-    let asking = asked_for(alloc, &name, work)?;
-    Ok(Need::Home(name, asking))
+    need
 }

@@ -1,21 +1,13 @@
 // CLOSE of a mailbox that was selected to be changed (RFC 9051, 6.4.1).
-ghost use Rattle.std.specs.Prelude.{◌≡◌, IfOk, None};
-ghost use Rattle.link_msg.specs.declared.op.Op.TheVariants.{Expunge};
-ghost use Rattle.mur_model.specs.declared.need.ViewWork.TheVariants.{Close};
+ghost use Rattle.std.specs.Prelude.{◌≡◌, IfOk};
+ghost use Rattle.mur_model.specs.declared.work.ViewWork.TheVariants.{Close};
 ghost use Rattle.mail_message.specs.declared.message.Snapshot.{Snapshot};
 ghost use Rattle.session_core.specs.Viewed.{viewed_done};
 
-use link_msg::{Op, Outcome};
+use link_msg::Outcome;
 use mur_base::Memory;
 use mur_model::{Turn, View, left_by};
 use std::alloc::Global;
-
-/// What is asked: that the messages with `\Deleted` go.
-pub fn close_op() -> Op
-    ensures { result ≡ Expunge None }
-{
-    Op::Expunge(None)
-}
 
 /// What comes of an outcome, which is told nothing of; nothing of one that an expunge can't have.
 #[tactic(auto, unfolding(crate::specs::Viewed::viewed_done))]

@@ -1,24 +1,16 @@
-// CREATE (RFC 9051, 6.3.4): what it asks, and what comes of the answer.
+// CREATE (RFC 9051, 6.3.4): what comes of the answer.
 ghost use Rattle.std.specs.Prelude.{◌≡◌, IfOk};
-ghost use Rattle.session_core.specs.Create.{create_asks, create_reply, reply_to_done};
+ghost use Rattle.session_core.specs.Create.{reply_to_create, reply_to_created};
 
-use crate::asking::{Asking, Awaited, unselected};
-use link_msg::{AnswerBody, Op, Outcome};
+use link_msg::{AnswerBody, Outcome};
 use mur_base::Memory;
 use mur_model::{NoText, Reply, completed, refused};
 use std::alloc::Global;
 
-/// What a CREATE asks.
-pub fn create_asks() -> Asking
-    ensures { result ≡ create_asks }
-{
-    unselected(Op::Create, Awaited::Create)
-}
-
 /// What is replied to the answer of a CREATE; nothing to one that it can't have.
-#[tactic(auto, unfolding(crate::specs::Create::create_reply))]
+#[tactic(auto, unfolding(crate::specs::Create::reply_to_create))]
 pub fn create_reply(alloc: Global, body: AnswerBody) -> Result<Option<Reply>, Memory>
-    ensures { IfOk result (λ reply. reply ≡ create_reply body) }
+    ensures { IfOk result (λ reply. reply ≡ reply_to_create body) }
 {
     match body {
         AnswerBody::Done(outcome, _) => reply_to_done(alloc, &outcome),
@@ -26,9 +18,9 @@ pub fn create_reply(alloc: Global, body: AnswerBody) -> Result<Option<Reply>, Me
     }
 }
 
-#[tactic(auto, unfolding(crate::specs::Create::reply_to_done))]
+#[tactic(auto, unfolding(crate::specs::Create::reply_to_created))]
 fn reply_to_done(alloc: Global, outcome: &Outcome) -> Result<Option<Reply>, Memory>
-    ensures { IfOk result (λ reply. reply ≡ reply_to_done outcome.now) }
+    ensures { IfOk result (λ reply. reply ≡ reply_to_created outcome.now) }
 {
     match outcome {
         Outcome::None => Ok(Some(completed(alloc, b"CREATE")?)),

@@ -4,20 +4,19 @@ ghost use Rattle.std.specs.Option.{option_map, IfSome};
 ghost use Rattle.mur_model.specs.Left.{replied};
 ghost use Rattle.session_core.specs.Begin.{MayNeed};
 ghost use Rattle.mur_model.specs.ClientView.{Known};
-ghost use Rattle.session_core.specs.Numbers.{IsByNumbers, IsOf, Knows, KnowsBehind, TellsNoExpunge, known_before};
+ghost use Rattle.session_core.specs.Numbers.{IsByNumbers, Knows, KnowsBehind, TellsNoExpunge, known_before};
 ghost use Rattle.session_core.specs.Finish.{finish, finished_by, turn_of};
 
 use crate::append::append_reply;
-use crate::asking::Awaited;
+use crate::beginning::takes;
 use crate::create::create_reply;
-use crate::need::{Need, told};
 use crate::select::select_turn;
 use crate::session::Session;
 use crate::status::status_reply;
-use crate::viewed::viewed_turn;
+use crate::viewed::viewed_in;
 use link_msg::AnswerBody;
 use mur_base::Memory;
-use mur_model::{Reply, Sess, Turn};
+use mur_model::{Awaited, Begun, Need, Reply, Sess, Turn};
 use std::alloc::Global;
 
 impl Session {
@@ -30,36 +29,41 @@ impl Session {
         body: AnswerBody,
     ) -> Result<Option<Need>, Memory>
         ensures fits { IfOk result (λ need. IfSome need (λ it. MayNeed self.new it)) }
-        ensures numbers { IfOk result (λ need. (known : Known) → IsOf self.old awaited.now → Knows known self.old
+        ensures numbers { IfOk result (λ need. (known : Known) → Knows known self.old
             → IfSome need (KnowsBehind (known_before awaited.now known) self.new)) }
         ensures expunges { IfOk result (λ need. IsByNumbers awaited.now → IfSome need TellsNoExpunge) }
         ensures behind { IfOk result (λ need. record { session = self.new; need = need } ≡ finish self.old awaited.now body) }
     {
-        let turn = turn_of(alloc, awaited, body)?;
+        let turn = turn_of(alloc, &self.state, awaited, body)?;
         Ok(finished_by(&mut self.state, turn))
     }
 }
 
-#[tactic(auto, unfolding(crate::specs::Finish::finished_by))]
+#[tactic(auto, unfolding(crate::specs::Finish::finished_by, mur_model::specs::Need::begun_of))]
 fn finished_by(sess: &mut Sess, turn: Option<Turn>) -> Option<Need>
     ensures { record { session = sess.new; need = result } ≡ finished_by sess.old turn }
 {
     match turn {
-        Some(turn) => Some(told(sess, turn)),
+        Some(turn) => Some(takes(sess, Begun::told(turn))),
         None => None,
     }
 }
 
 #[tactic(auto, unfolding(crate::specs::Finish::turn_of))]
-fn turn_of(alloc: Global, awaited: &Awaited, body: AnswerBody) -> Result<Option<Turn>, Memory>
-    ensures { IfOk result (λ turn. turn ≡ turn_of awaited.now body) }
+fn turn_of(
+    alloc: Global,
+    sess: &Sess,
+    awaited: &Awaited,
+    body: AnswerBody,
+) -> Result<Option<Turn>, Memory>
+    ensures { IfOk result (λ turn. turn ≡ turn_of sess.now awaited.now body) }
 {
     match awaited {
         Awaited::Create => Ok(replied(create_reply(alloc, body)?)),
         Awaited::Append => Ok(replied(append_reply(alloc, body)?)),
         Awaited::Status(shown, items) => { Ok(replied(status_reply(alloc, shown, items, body)?)) }
         Awaited::Select(name, it) => select_turn(alloc, name, it, body),
-        Awaited::Viewed(view, work) => viewed_turn(alloc, view, work, body),
+        Awaited::Viewed(work) => viewed_in(alloc, sess, work, body),
     }
 }
 

@@ -3,14 +3,12 @@
 #![tactic(auto)]
 
 mod append;
-mod asking;
 mod beginning;
 mod close;
 mod create;
 mod expunge;
 mod fetch;
 mod finishing;
-mod need;
 mod news;
 mod relocation;
 mod search;
@@ -20,6 +18,5 @@ mod status;
 mod store;
 mod viewed;
 
-pub use asking::{Asking, Awaited};
-pub use need::Need;
+pub use mur_model::{Asking, Awaited, Need};
 pub use session::Session;

@@ -1,21 +1,13 @@
 // NOOP and IDLE of a session that has a mailbox selected: the news (RFC 9051, 6.1.2 and 6.3.13).
 ghost use Rattle.std.specs.Prelude.{◌≡◌, IfOk};
-ghost use Rattle.link_msg.specs.declared.op.Op.TheVariants.{Look};
-ghost use Rattle.mur_model.specs.declared.need.ViewWork.TheVariants.{News};
+ghost use Rattle.mur_model.specs.declared.work.ViewWork.TheVariants.{News};
 ghost use Rattle.session_core.specs.Viewed.{viewed_done};
 
-use link_msg::{Op, Outcome};
+use link_msg::Outcome;
 use mail_message::Snapshot;
 use mur_base::Memory;
 use mur_model::{NewsFor, Turn, View, news_told};
 use std::alloc::Global;
-
-/// What is asked: a look.
-pub fn news_op() -> Op
-    ensures { result ≡ Look }
-{
-    Op::Look
-}
 
 /// What comes of an outcome; nothing of one that a look can't have.
 #[tactic(auto, unfolding(crate::specs::Viewed::viewed_done))]

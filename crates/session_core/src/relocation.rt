@@ -2,16 +2,16 @@
 ghost use Rattle.std.specs.Prelude.{◌≡◌, IfOk};
 ghost use Rattle.session_core.specs.Relocated.{moved_turn, relocated, why_moved, IsRelocation};
 
-use crate::asking::Awaited;
-use crate::need::{Need, told};
+use crate::beginning::takes;
 use crate::session::Session;
 use mur_base::{Memory, What};
-use mur_model::{NoText, Turn, refused, unselected};
+use mur_model::{Awaited, Begun, Need, NoText, Turn, refused, unselected};
 use std::alloc::Global;
 
 impl Session {
     /// Refuses the command that waits. The session stays as it was, but that a SELECT or an EXAMINE leaves no mailbox selected (RFC 9051,
     /// 6.3.2). For want of memory the session is spent.
+    #[tactic(auto, unfolding(mur_model::specs::Need::begun_of))]
     pub fn relocated(
         &mut self,
         alloc: Global,
@@ -22,7 +22,7 @@ impl Session {
         ensures { IfOk result (λ need. record { session = self.new; need = need } ≡ relocated self.old awaited.now why.now) }
     {
         let turn = moved_turn(alloc, awaited, why_moved(why))?;
-        Ok(told(&mut self.state, turn))
+        Ok(takes(&mut self.state, Begun::told(turn)))
     }
 }
 

@@ -1,21 +1,12 @@
-// SELECT and EXAMINE (RFC 9051, 6.3.2 and 6.3.3): what they ask, and what comes of the answer.
+// SELECT and EXAMINE (RFC 9051, 6.3.2 and 6.3.3): what comes of the answer.
 ghost use Rattle.std.specs.Prelude.{◌≡◌, IfOk};
-ghost use Rattle.session_core.specs.Select.{select_asks, select_done, select_turn};
+ghost use Rattle.session_core.specs.Select.{select_done, select_turn};
 
-use crate::asking::{Asking, Awaited, unselected};
-use link_msg::{AnswerBody, Op, Outcome};
+use link_msg::{AnswerBody, Outcome};
 use mail_message::Snapshot;
-use mur_base::{Copied, MailName, Memory};
+use mur_base::{MailName, Memory};
 use mur_model::{NoText, Opening, Turn, select_told, unselected as refused_select};
 use std::alloc::Global;
-
-/// What a SELECT or an EXAMINE of the mailbox of this name asks.
-pub fn select_asks(alloc: Global, name: &MailName, it: Opening) -> Result<Asking, Memory>
-    ensures { IfOk result (λ asking. asking ≡ select_asks name.now it) }
-{
-    let name = name.copy(alloc)?;
-    Ok(unselected(Op::Look, Awaited::Select(name, it)))
-}
 
 /// What comes of the answer to a SELECT or an EXAMINE; nothing of one that it can't have.
 #[tactic(auto, unfolding(crate::specs::Select::select_turn))]

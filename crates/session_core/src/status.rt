@@ -1,30 +1,22 @@
-// STATUS (RFC 9051, 6.3.11): what it asks, and what comes of the answer.
+// STATUS (RFC 9051, 6.3.11): what comes of the answer.
 ghost use Rattle.std.specs.Prelude.{◌≡◌, IfOk};
-ghost use Rattle.session_core.specs.Status.{reply_to_done, status_asks, status_reply};
+ghost use Rattle.session_core.specs.Status.{reply_to_counted, reply_to_status};
 
-use crate::asking::{Asking, Awaited, unselected};
-use link_msg::{AnswerBody, Op, Outcome};
+use link_msg::{AnswerBody, Outcome};
 use mail_message::Snapshot;
 use mur_base::{Bytes, Memory};
 use mur_model::{NoText, Reply, StatusItems, refused, status_reply as reply_with_counts};
 use std::alloc::Global;
 
-/// What a STATUS asks, of these items under this name.
-pub fn status_asks(shown: Bytes, items: StatusItems) -> Asking
-    ensures { result ≡ status_asks shown items }
-{
-    unselected(Op::Look, Awaited::Status(shown, items))
-}
-
 /// What is replied to the answer of a STATUS under this name; nothing to one that it can't have.
-#[tactic(auto, unfolding(crate::specs::Status::status_reply))]
+#[tactic(auto, unfolding(crate::specs::Status::reply_to_status))]
 pub fn status_reply(
     alloc: Global,
     shown: &Bytes,
     items: &StatusItems,
     body: AnswerBody,
 ) -> Result<Option<Reply>, Memory>
-    ensures { IfOk result (λ reply. reply ≡ status_reply shown.now items.now body) }
+    ensures { IfOk result (λ reply. reply ≡ reply_to_status shown.now items.now body) }
 {
     match body {
         AnswerBody::Done(outcome, seen) => reply_to_done(alloc, shown, items, &outcome, &seen),
@@ -33,7 +25,7 @@ pub fn status_reply(
     }
 }
 
-#[tactic(auto, unfolding(crate::specs::Status::reply_to_done))]
+#[tactic(auto, unfolding(crate::specs::Status::reply_to_counted))]
 fn reply_to_done(
     alloc: Global,
     shown: &Bytes,
@@ -41,7 +33,7 @@ fn reply_to_done(
     outcome: &Outcome,
     seen: &Snapshot,
 ) -> Result<Option<Reply>, Memory>
-    ensures { IfOk result (λ reply. reply ≡ reply_to_done shown.now items.now outcome.now seen.now) }
+    ensures { IfOk result (λ reply. reply ≡ reply_to_counted shown.now items.now outcome.now seen.now) }
 {
     match outcome {
         Outcome::None => {

@@ -1,22 +1,13 @@
 // STORE and UID STORE (RFC 9051, 6.4.6 and 6.4.9).
 ghost use Rattle.std.specs.Prelude.{◌≡◌, IfOk};
-ghost use Rattle.link_msg.specs.declared.op.Op.TheVariants.{Flags};
-ghost use Rattle.mur_model.specs.declared.need.ViewWork.TheVariants.{Store};
+ghost use Rattle.mur_model.specs.declared.work.ViewWork.TheVariants.{Store};
 ghost use Rattle.session_core.specs.Viewed.{viewed_done};
 
-use link_msg::{Op, Outcome};
+use link_msg::Outcome;
 use mail_message::Snapshot;
-use mur_base::{Copied, Memory};
+use mur_base::Memory;
 use mur_model::{FlagStore, Turn, View, store_refused, store_told};
 use std::alloc::Global;
-
-/// What is asked: other flags of the named messages.
-pub fn store_op(alloc: Global, it: &FlagStore) -> Result<Op, Memory>
-    ensures { IfOk result (λ op. op ≡ Flags it.now.uids it.now.mode it.now.flags) }
-{
-    let uids = it.uids.copy(alloc)?;
-    Ok(Op::Flags(uids, it.mode, it.flags.copy(alloc)?))
-}
 
 /// What comes of an outcome; nothing of one that a change of flags can't have.
 #[tactic(auto, unfolding(crate::specs::Viewed::viewed_done))]

@@ -4,8 +4,7 @@ use Rattle.std.specs.Str.{bytes_eq}
 use Rattle.mur_base.specs.declared.user.User.{User}
 use Rattle.imap_types.specs.declared.command.Command.{Command}
 use Rattle.imap_types.specs.declared.command.Command.TheVariants as command
-use Rattle.mur_model.specs.declared.need.Need.{Need}
-use Rattle.mur_model.specs.declared.need.Need.TheVariants.{Refusal, Turned}
+use Rattle.mur_model.specs.Needed.{Needed, Refusal, Turned}
 use Rattle.imap_types.specs.declared.reply.BadText.TheVariants.{Syntax}
 use Rattle.imap_types.specs.declared.reply.Verdict.{Verdict}
 use Rattle.imap_types.specs.declared.reply.Verdict.TheVariants.{Bad as bad_reply}
@@ -17,12 +16,12 @@ use Rattle.mur_model.specs.Act.{act_by, act_of, need_of, need_off}
 use Rattle.mur_model.specs.Login.{begun_by, login, login_as, login_by, login_failed}
 use Rattle.mur_model.specs.Plain.{acts_as, authenticate, authenticate_as, authenticate_by, authenticate_with, cut_at_nul, decoded}
 use Rattle.mur_model.specs.Rights.{user_named}
-use Rattle.mur_model.specs.Waits.{begins, begins_by, begins_with, begun_behind}
+use Rattle.mur_model.specs.Waits.{begins, begins_by, begins_session, begun_behind}
 use Rattle.store_law.specs.Begun.{has_begun, IsReadSo, BeginsAsRead}
 use Rattle.store_law.proofs.StaysBegun.{stays_begun}
 
 -- a session that hadn't begun has begun behind a need just where the need begins it
-abbrev BeginsBy : Need → Type 0
+abbrev BeginsBy : Needed → Type 0
 BeginsBy need = (store : Store) (serial : ℕ) → has_begun (act_by store Off serial need).session ≡ begins_by need
 
 refused : (verdict : Verdict) → BeginsBy (Refusal verdict)
@@ -30,13 +29,13 @@ unfolding act_by begins_by has_begun
 refused verdict = λ store serial. refl
 
 begun : (name user : List ℕ) → BeginsBy (Turned (begun_by name user))
-unfolding act_by begins_by begins_with has_begun
+unfolding act_by begins_by begins_session has_begun
 begun name user = λ store serial. refl
 
 failed : BeginsBy login_failed
 failed = refused _
 
-either : (test : Bool) (one other : Need) → BeginsBy one → BeginsBy other → BeginsBy (if test then one else other)
+either : (test : Bool) (one other : Needed) → BeginsBy one → BeginsBy other → BeginsBy (if test then one else other)
 either true one other is is_other = is
 either false one other is is_other = is_other
 

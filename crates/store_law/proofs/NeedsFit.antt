@@ -20,13 +20,10 @@ use Rattle.mur_base.specs.declared.user.User.{User}
 use Rattle.imap_types.specs.declared.command.Command.{Command}
 use Rattle.imap_types.specs.declared.command.Command.TheVariants as command
 use Rattle.imap_types.specs.declared.command.StatusItem.{StatusItem}
-use Rattle.mur_model.specs.declared.need.Need.{Need}
-use Rattle.mur_model.specs.declared.need.Need.TheVariants.{Refusal, Turned, Mailbox}
-use Rattle.mur_model.specs.declared.need.NewsFor.TheVariants as news_for
-use Rattle.mur_model.specs.declared.need.ViewWork.{ViewWork}
-use Rattle.mur_model.specs.declared.need.ViewWork.TheVariants as view_work
-use Rattle.mur_model.specs.declared.need.Work.{Work}
-use Rattle.mur_model.specs.declared.need.Work.TheVariants.{Make, Append as append_work, Status as status_work, Select as select_work, Viewed as viewed_work}
+use Rattle.mur_model.specs.Needed.{Needed, Refusal, Turned, Mailbox, Work, Make, Append as append_work, Status as status_work, Select as select_work, Viewed as viewed_work, at_mailbox, no_such_number, read_only}
+use Rattle.mur_model.specs.declared.work.NewsFor.TheVariants as news_for
+use Rattle.mur_model.specs.declared.work.ViewWork.{ViewWork}
+use Rattle.mur_model.specs.declared.work.ViewWork.TheVariants as view_work
 use Rattle.imap_types.specs.declared.reply.BadText.TheVariants.{State, Syntax}
 use Rattle.imap_types.specs.declared.reply.Verdict.TheVariants.{Bad as bad_reply}
 use Rattle.mur_model.specs.declared.select.Opening.{Opening}
@@ -45,7 +42,6 @@ use Rattle.mur_model.specs.Keys.{have_all_numbers, keys_at}
 use Rattle.mur_model.specs.Left.{replied}
 use Rattle.mur_model.specs.Login.{login, login_as, login_by, login_failed}
 use Rattle.mur_model.specs.NamedRows.{last_uid, named_uids, names_messages}
-use Rattle.mur_model.specs.Need.{at_mailbox, no_such_number, read_only}
 use Rattle.mur_model.specs.Plain.{acts_as, authenticate, authenticate_as, authenticate_by, authenticate_with, cut_at_nul, decoded}
 use Rattle.imap_types.specs.Reply.{completed}
 use Rattle.mur_model.specs.Rights.{has_rights, may_create, user_named}
@@ -82,13 +78,13 @@ FitsWork session it name (select_work opened) = ⊤
 FitsWork session it name (viewed_work view work) = FitsView session it name view work
 
 -- the work is such as this command of this session ends in
-abbrev pub Fits : Sess → Command → Need → Type 0
+abbrev pub Fits : Sess → Command → Needed → Type 0
 Fits session it (Refusal verdict) = ⊤
 Fits session it (Turned turn) = ⊤
 Fits session it (Mailbox name work) = FitsWork session it name work
 
 module _ (session : Sess) (it : Command) where
-  either : (test : Bool) (one other : Need) → (test ≡ true → Fits session it one) → Fits session it other → Fits session it (if test then one else other)
+  either : (test : Bool) (one other : Needed) → (test ≡ true → Fits session it one) → Fits session it other → Fits session it (if test then one else other)
   either true one other is is_other = is refl
   either false one other is is_other = is_other
 
@@ -196,7 +192,7 @@ module _ (session : Sess) (it : Command) where
       select_fits setting user (taken_name user text) false is_selected (mail_name_fault (taken_name user text))
   begun_fits setting user is_selected asked = tt
 
-  idled_fits : (line : List ℕ) (done : Need) → Fits session it done → Fits session it (idled line done)
+  idled_fits : (line : List ℕ) (done : Needed) → Fits session it done → Fits session it (idled line done)
   idled_fits line done is = either (is_done line) done (Refusal (bad_reply Syntax)) (λ so. is) tt
 
   unselected_fits : (setting : Setting) (user : List ℕ) (asked : Command) → Fits session it (need_unselected setting user asked)

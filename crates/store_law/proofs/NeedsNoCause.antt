@@ -13,10 +13,9 @@ use Rattle.mur_base.specs.declared.user.User.{User}
 use Rattle.imap_types.specs.declared.command.Command.{Command}
 use Rattle.imap_types.specs.declared.command.Command.TheVariants as command
 use Rattle.imap_types.specs.declared.command.StatusItem.{StatusItem}
-use Rattle.mur_model.specs.declared.need.Need.{Need}
-use Rattle.mur_model.specs.declared.need.Need.TheVariants.{Refusal, Turned, Mailbox}
-use Rattle.mur_model.specs.declared.need.NewsFor.TheVariants as news_for
-use Rattle.mur_model.specs.declared.need.ViewWork.TheVariants as view_work
+use Rattle.mur_model.specs.Needed.{Needed, Refusal, Turned, Mailbox, at_mailbox, no_such_number, read_only}
+use Rattle.mur_model.specs.declared.work.NewsFor.TheVariants as news_for
+use Rattle.mur_model.specs.declared.work.ViewWork.TheVariants as view_work
 use Rattle.imap_types.specs.declared.reply.BadText.TheVariants.{State, Syntax}
 use Rattle.imap_types.specs.declared.reply.Verdict.TheVariants.{Bad as bad_reply}
 use Rattle.mur_model.specs.declared.select.Opening.{Opening}
@@ -36,7 +35,6 @@ use Rattle.mur_model.specs.Keys.{have_all_numbers, keys_at}
 use Rattle.mur_model.specs.Left.{replied}
 use Rattle.mur_model.specs.Login.{login, login_as, login_by, login_failed}
 use Rattle.mur_model.specs.NamedRows.{last_uid, names_messages}
-use Rattle.mur_model.specs.Need.{at_mailbox, no_such_number, read_only}
 use Rattle.mur_model.specs.Plain.{acts_as, authenticate, authenticate_as, authenticate_by, authenticate_with, cut_at_nul, decoded}
 use Rattle.imap_types.specs.Reply.{completed}
 use Rattle.mur_model.specs.Rights.{has_rights, may_create, user_named}
@@ -49,12 +47,12 @@ use Rattle.store_law.specs.Refusals.{wants_cause}
 abbrev pub TurnWantsNone : Turn → Type 0
 TurnWantsNone turn = wants_cause turn.reply.verdict ≡ false
 
-abbrev pub NeedWantsNone : Need → Type 0
+abbrev pub NeedWantsNone : Needed → Type 0
 NeedWantsNone (Refusal verdict) = wants_cause verdict ≡ false
 NeedWantsNone (Turned turn) = TurnWantsNone turn
 NeedWantsNone (Mailbox name work) = ⊤
 
-either : (test : Bool) (one other : Need) → NeedWantsNone one → NeedWantsNone other → NeedWantsNone (if test then one else other)
+either : (test : Bool) (one other : Needed) → NeedWantsNone one → NeedWantsNone other → NeedWantsNone (if test then one else other)
 either true one other is is_other = is
 either false one other is is_other = is_other
 
@@ -161,7 +159,7 @@ begun_is setting user is_selected (command.Examine text) =
     select_is setting user (taken_name user text) false is_selected (mail_name_fault (taken_name user text))
 begun_is setting user is_selected it = refl
 
-idled_is : (line : List ℕ) (done : Need) → NeedWantsNone done → NeedWantsNone (idled line done)
+idled_is : (line : List ℕ) (done : Needed) → NeedWantsNone done → NeedWantsNone (idled line done)
 unfolding wants_cause
 idled_is line done is = either (is_done line) done (Refusal (bad_reply Syntax)) is refl
 

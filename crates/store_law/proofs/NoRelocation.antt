@@ -11,12 +11,9 @@ use Rattle.mail_store.specs.declared.fault.StoreFault.{StoreFault}
 use Rattle.mur_base.specs.declared.point.Point.{Point}
 use Rattle.imap_types.specs.declared.command.StatusItem.{StatusItem}
 use Rattle.mur_model.specs.declared.fetch.Fetching.{Fetching}
-use Rattle.mur_model.specs.declared.need.Need.{Need}
-use Rattle.mur_model.specs.declared.need.Need.TheVariants.{Refusal, Turned, Mailbox}
-use Rattle.mur_model.specs.declared.need.ViewWork.{ViewWork}
-use Rattle.mur_model.specs.declared.need.ViewWork.TheVariants as view_work
-use Rattle.mur_model.specs.declared.need.Work.{Work}
-use Rattle.mur_model.specs.declared.need.Work.TheVariants.{Make, Append as append_work, Status as status_work, Select as select_work, Viewed as viewed_work}
+use Rattle.mur_model.specs.Needed.{Needed, Refusal, Turned, Mailbox, Work, Make, Append as append_work, Status as status_work, Select as select_work, Viewed as viewed_work}
+use Rattle.mur_model.specs.declared.work.ViewWork.{ViewWork}
+use Rattle.mur_model.specs.declared.work.ViewWork.TheVariants as view_work
 use Rattle.imap_types.specs.declared.request.Answer.{Answer}
 use Rattle.imap_types.specs.declared.request.Request.{Request}
 use Rattle.imap_types.specs.declared.request.Request.TheVariants.{Command as a_command, Unknown as unknown, TooBig as too_big}
@@ -117,7 +114,7 @@ work_is name (viewed_work view it) serial spent box = viewed_is view it box
 abbrev AnswerWantsNone : Answer → Type 0
 AnswerWantsNone answer = wants_cause answer.reply.verdict ≡ false
 
-act_is : (store : Store) (session : Sess) (serial : ℕ) (need : Need) → NeedWantsNone need
+act_is : (store : Store) (session : Sess) (serial : ℕ) (need : Needed) → NeedWantsNone need
     → wants_cause (act_by store session serial need).reply.verdict ≡ false
 unfolding act_by
 act_is store session serial (Refusal verdict) is = is

@@ -24,12 +24,9 @@ use Rattle.mail_store.proofs.FollowsLaws.{appended_follows, stored_follows, expu
 use Rattle.mur_base.proofs.MapLaws.{names_apart, same_or_other, value_at-with_value, value_at-with_value-other, value_at-with_entry-other}
 use Rattle.imap_types.specs.declared.command.Command.{Command}
 use Rattle.mur_model.specs.declared.fetch.Fetching.{Fetching}
-use Rattle.mur_model.specs.declared.need.Need.{Need}
-use Rattle.mur_model.specs.declared.need.Need.TheVariants.{Refusal, Turned, Mailbox}
-use Rattle.mur_model.specs.declared.need.ViewWork.{ViewWork}
-use Rattle.mur_model.specs.declared.need.ViewWork.TheVariants as view_work
-use Rattle.mur_model.specs.declared.need.Work.{Work}
-use Rattle.mur_model.specs.declared.need.Work.TheVariants.{Make, Append as append_work, Status as status_work, Select as select_work, Viewed as viewed_work}
+use Rattle.mur_model.specs.Needed.{Needed, Refusal, Turned, Mailbox, Work, Make, Append as append_work, Status as status_work, Select as select_work, Viewed as viewed_work}
+use Rattle.mur_model.specs.declared.work.ViewWork.{ViewWork}
+use Rattle.mur_model.specs.declared.work.ViewWork.TheVariants as view_work
 use Rattle.mur_model.specs.declared.session.Sess.{Sess}
 use Rattle.mur_model.specs.declared.setting.Setting.{Setting}
 use Rattle.mur_model.specs.declared.store.Store.{Store}
@@ -275,7 +272,7 @@ module _ (session : Sess) (it : Command) where
   work_goes_on store name work serial (Some box) numbered at fits =
       left_goes_on store name box _ at (work_leaves session it name work serial (is_spent store.given) box numbered fits)
 
-  act_goes_on : (store : Store) (serial : ℕ) (need : Need) → ((name : List ℕ) → IfSome (box_at store name) IsNumbered) → Fits session it need
+  act_goes_on : (store : Store) (serial : ℕ) (need : Needed) → ((name : List ℕ) → IfSome (box_at store name) IsNumbered) → Fits session it need
       → AllGoOn session it store (act_by store session serial need).store
   unfolding act_by
   act_goes_on store serial (Refusal verdict) numbered fits = still_there store
@@ -291,7 +288,7 @@ others_stay store name kept other ne = refl
 others_stay store name (made content) other ne = value_at-with_entry-other (slice_cmp nat_cmp) names_apart store.boxes name other content ne
 others_stay store name (changed content) other ne = value_at-with_value-other (slice_cmp nat_cmp) names_apart store.boxes name other content ne
 
-act_changes_one : (store : Store) (session : Sess) (serial : ℕ) (need : Need) → ChangesOne store (act_by store session serial need).store
+act_changes_one : (store : Store) (session : Sess) (serial : ℕ) (need : Needed) → ChangesOne store (act_by store session serial need).store
 unfolding act_by
 act_changes_one store session serial (Refusal verdict) = record { at = []; others = λ other ne. refl }
 act_changes_one store session serial (Turned turn) = record { at = []; others = λ other ne. refl }

@@ -26,12 +26,9 @@ use Rattle.mail_store.specs.declared.fault.StoreFault.{StoreFault}
 use Rattle.mail_store.proofs.TouchedLaws.{next-flags, next-gone}
 use Rattle.mur_base.specs.declared.point.Point.{Point}
 use Rattle.mur_model.specs.declared.fetch.Fetching.{Fetching}
-use Rattle.mur_model.specs.declared.need.Need.{Need}
-use Rattle.mur_model.specs.declared.need.Need.TheVariants.{Refusal, Turned, Mailbox}
-use Rattle.mur_model.specs.declared.need.ViewWork.{ViewWork}
-use Rattle.mur_model.specs.declared.need.ViewWork.TheVariants as view_work
-use Rattle.mur_model.specs.declared.need.Work.{Work}
-use Rattle.mur_model.specs.declared.need.Work.TheVariants.{Make, Append as append_work, Status as status_work, Select as select_work, Viewed as viewed_work}
+use Rattle.mur_model.specs.Needed.{Needed, Refusal, Turned, Mailbox, Work, Make, Append as append_work, Status as status_work, Select as select_work, Viewed as viewed_work}
+use Rattle.mur_model.specs.declared.work.ViewWork.{ViewWork}
+use Rattle.mur_model.specs.declared.work.ViewWork.TheVariants as view_work
 use Rattle.imap_types.specs.declared.request.Request.{Request}
 use Rattle.imap_types.specs.declared.request.Request.TheVariants.{Command as a_command, Unknown as unknown, TooBig as too_big}
 use Rattle.mur_model.specs.declared.session.Sess.{Sess}
@@ -211,7 +208,7 @@ left_rises store name kept is all = all
 left_rises store name (made box) is all = All-values-insert_entry (slice_cmp nat_cmp) name box Rises store.boxes all is
 left_rises store name (changed box) is all = All-values-set_value (is_at (slice_cmp nat_cmp name)) Rises store.boxes box all is
 
-act_rises : (store : Store) (session : Sess) (serial : ℕ) (need : Need) → AllRise store → AllRise (act_by store session serial need).store
+act_rises : (store : Store) (session : Sess) (serial : ℕ) (need : Needed) → AllRise store → AllRise (act_by store session serial need).store
 unfolding act_by
 act_rises store session serial (Refusal verdict) all = all
 act_rises store session serial (Turned turn) all = all

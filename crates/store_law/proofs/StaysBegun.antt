@@ -10,12 +10,9 @@ use Rattle.mail_store.specs.declared.fault.StoreFault.{StoreFault}
 use Rattle.imap_types.specs.declared.command.Command.{Command}
 use Rattle.imap_types.specs.declared.command.StatusItem.{StatusItem}
 use Rattle.mur_model.specs.declared.fetch.Fetching.{Fetching}
-use Rattle.mur_model.specs.declared.need.Need.{Need}
-use Rattle.mur_model.specs.declared.need.Need.TheVariants.{Refusal, Turned, Mailbox}
-use Rattle.mur_model.specs.declared.need.ViewWork.{ViewWork}
-use Rattle.mur_model.specs.declared.need.ViewWork.TheVariants as view_work
-use Rattle.mur_model.specs.declared.need.Work.{Work}
-use Rattle.mur_model.specs.declared.need.Work.TheVariants.{Make, Append as append_work, Status as status_work, Select as select_work, Viewed as viewed_work}
+use Rattle.mur_model.specs.Needed.{Needed, Refusal, Turned, Mailbox, Work, Make, Append as append_work, Status as status_work, Select as select_work, Viewed as viewed_work}
+use Rattle.mur_model.specs.declared.work.ViewWork.{ViewWork}
+use Rattle.mur_model.specs.declared.work.ViewWork.TheVariants as view_work
 use Rattle.imap_types.specs.declared.reply.NoText.{NoText}
 use Rattle.imap_types.specs.declared.reply.NoText.TheVariants.{NonExistent}
 use Rattle.mur_model.specs.declared.select.Opening.{Opening}
@@ -37,7 +34,7 @@ use Rattle.mur_model.specs.Status.{status_on}
 use Rattle.mur_model.specs.Store.{box_at, is_spent}
 use Rattle.mur_model.specs.StoreFlags.{stored_at}
 use Rattle.mur_model.specs.Viewing.{found_gone, viewed_on, work_there}
-use Rattle.mur_model.proofs.EachNeed.{OfAnswers, OfNeeds, each_need}
+use Rattle.mur_model.proofs.EachNeed.{OfAnswers, OfWorks, each_by_works, of_refusals}
 use Rattle.store_law.specs.Begun.{has_begun, IsReadSo}
 
 abbrev is_off : Sess → Bool
@@ -127,39 +124,20 @@ work_goes_on name (viewed_work view it) serial spent box = viewed_goes_on view i
 
 -- what a command needs
 
-abbrev NeedGoesOn : Need → Type 0
+abbrev NeedGoesOn : Needed → Type 0
 NeedGoesOn (Turned turn) = GoesOn turn
 NeedGoesOn need = ⊤
 
 answers_go_on : OfAnswers NeedGoesOn
-answers_go_on = record {
-  refused = λ why. tt;
-  bad = λ why. tt;
-  completed = λ name plain. refl;
-  begun = λ name user plain. refl;
-  capability = refl;
-  logout = refl;
-}
+answers_go_on = of_refusals (λ verdict. tt) (λ name plain. refl) (λ name user plain. refl) refl refl
 
-abbrev IsAny : Command → Type 0
-IsAny it = ⊤
-
-needs_go_on : (setting : Setting) → OfNeeds setting IsAny NeedGoesOn
-needs_go_on setting = record {
+works_go_on : OfWorks NeedGoesOn
+works_go_on = record {
   answers = answers_go_on;
   enable = refl;
   unselected = unselected_on;
   left = λ view name plain. refl;
-  make = λ name. tt;
-  append = λ name text flags date body asked. tt;
-  status = λ user name items named. tt;
-  select = λ user name is_writable was_selected named. tt;
-  news = λ view why. tt;
-  close = λ view. tt;
-  expunge = λ view only. tt;
-  store = λ view by_uid set mode is_silent flags asked. tt;
-  fetch = λ view it. tt;
-  search = λ view it. tt;
+  work = λ name it. tt;
 }
 
 -- what comes of it
@@ -175,7 +153,7 @@ after_turn session (Some (In user)) begun on = refl
 after_turn session (Some (selected view)) begun on = refl
 after_turn session (Some Ended) begun on = tt
 
-stays_by : (store : Store) (session : Sess) (serial : ℕ) (need : Need) → has_begun session ≡ true → NeedGoesOn need
+stays_by : (store : Store) (session : Sess) (serial : ℕ) (need : Needed) → has_begun session ≡ true → NeedGoesOn need
     → IsReadSo true (act_by store session serial need).session
 unfolding act_by
 stays_by store session serial (Refusal verdict) begun on = after_turn session None begun refl
@@ -186,4 +164,4 @@ stays_by store session serial (Mailbox name work) begun on =
 pub stays_begun : (setting : Setting) (store : Store) (session : Sess) (it : Command) (serial : ℕ) → has_begun session ≡ true
     → IsReadSo true (act_by store session serial (need_of setting session it)).session
 stays_begun setting store session it serial begun =
-    stays_by store session serial (need_of setting session it) begun (each_need (needs_go_on setting) session it tt)
+    stays_by store session serial (need_of setting session it) begun (each_by_works setting works_go_on session it)

@@ -1,7 +1,7 @@
 -- No command loses a message of the store, or a flag of one, but where that is what the command is for (RFC 9051, 2.3.1.1 and 2.3.2).
 use Rattle.std.specs.Prelude.{◌≡◌, ◌≢◌, ◌⊎◌, ⊤, ℕ, true, List, Option, None, Some, IfSome}
 use Rattle.std.specs.List.{Contains, list_any}
-use Rattle.mail_store.specs.Kept.{Follows}
+use Rattle.mail_store.specs.Kept.{IsLaterContent}
 use Rattle.mail_message.specs.Boxes.{Content, message_at, relabelled}
 use Rattle.mail_message.specs.FlagSets.{Flags, flags_after, with_flag}
 use Rattle.mail_message.specs.declared.flag_name.FlagName.TheVariants.{System}
@@ -59,7 +59,7 @@ MessageGoesOn session it name box message (Some later) =
 
 -- UIDVALIDITY stays, UIDNEXT doesn't fall, and each message goes on at its UID
 pub record BoxGoesOn (session : Sess) (it : Command) (name : List ℕ) (box later : Content) : Type 0 where
-  pub follows : Follows box later
+  pub follows : IsLaterContent box later
   pub messages : (uid : ℕ) (message : Message) → message_at box.messages uid ≡ Some message
       → MessageGoesOn session it name box message (message_at later.messages uid)
 

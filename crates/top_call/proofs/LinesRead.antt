@@ -12,7 +12,7 @@ use Rattle.cluster_core.specs.declared.cluster.HomeRow.{HomeRow}
 use Rattle.cluster_core.specs.declared.world.Client.{Client}
 use Rattle.schedule_text.specs.Cuts.{cuts_of}
 use Rattle.schedule_text.specs.Text.{text_of, name_text_of}
-use Rattle.top_call.specs.Output.{to_line, client_lines, point_line, what_text, unreached_text, counts_text, pointer_text, phase_text, row_text, line_in}
+use Rattle.top_call.specs.Output.{to_line, client_lines, point_line, what_text, unreached_text, row_counts_text, pointer_text, phase_text, row_text, line_by_phase}
 use Rattle.top_call.specs.Output.{box_line, end_line}
 use Rattle.top_call.specs.ReadBack.{TellsEach, no_line, a_line, IsToLine, TellsClient, IsPointLine, SaysWhat, SaysCounts, IsRowLine, IsLineAt, IsBoxLine}
 use Rattle.top_call.specs.ReadBack.{IsEndLine}
@@ -98,12 +98,12 @@ row_read Says row state says = record {
   says = says;
 }
 
-counts_read : (phase : List ℕ) (row : HomeRow) → IsRowLine (SaysCounts phase row) row (row_front row ++ counts_text phase row)
-unfolding counts_state counts_text
+counts_read : (phase : List ℕ) (row : HomeRow) → IsRowLine (SaysCounts phase row) row (row_front row ++ row_counts_text phase row)
+unfolding counts_state row_counts_text
 counts_read phase row = row_read (SaysCounts phase row) row (counts_state phase row) (counts_said phase row)
 
-line_read : (row : HomeRow) (phase : Phase) → row.phase ≡ phase → IsLineAt phase row (line_in row phase)
-unfolding line_in row_text phase_text pointer_text row_front
+line_read : (row : HomeRow) (phase : Phase) → row.phase ≡ phase → IsLineAt phase row (line_by_phase row phase)
+unfolding line_by_phase row_text phase_text pointer_text row_front
 line_read row Receiving is = refl
 line_read row Creating is =
     subst (λ (p : Phase). IsLineAt Creating row (row_front row ++ phase_text row p)) (sym is) (counts_read (codes "creating") row)

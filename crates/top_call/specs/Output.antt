@@ -40,19 +40,19 @@ point_line point =
     ++ what_text point.what ++ codes "\n"
 
 -- the word of a phase, and the UIDVALIDITY, the UIDNEXT and how many messages there are
-unfoldable pub counts_text : List ℕ → HomeRow → List ℕ
-counts_text phase row = phase ++ codes " " ++ decimal row.serial ++ codes " " ++ decimal row.next ++ codes " " ++ decimal row.count ++ codes "\n"
+unfoldable pub row_counts_text : List ℕ → HomeRow → List ℕ
+row_counts_text phase row = phase ++ codes " " ++ decimal row.serial ++ codes " " ++ decimal row.next ++ codes " " ++ decimal row.count ++ codes "\n"
 
 unfoldable pub pointer_text : List ℕ → List ℕ
 pointer_text server = codes "pointer " ++ server ++ codes "\n"
 
 -- how far a node is with a mailbox that it has
 unfoldable pub phase_text : HomeRow → Phase → List ℕ
-phase_text row Creating = counts_text (codes "creating") row
-phase_text row open_here = counts_text (codes "open") row
-phase_text row Closing = counts_text (codes "closing") row
-phase_text row Ready = counts_text (codes "ready") row
-phase_text row Receiving = counts_text (codes "receiving") row
+phase_text row Creating = row_counts_text (codes "creating") row
+phase_text row open_here = row_counts_text (codes "open") row
+phase_text row Closing = row_counts_text (codes "closing") row
+phase_text row Ready = row_counts_text (codes "ready") row
+phase_text row Receiving = row_counts_text (codes "receiving") row
 phase_text row (Pointer server) = pointer_text server
 
 -- `box NAME NODE PHASE UIDVALIDITY UIDNEXT COUNT`, or `box NAME NODE pointer SERVER`: a mailbox at a node that has it
@@ -60,16 +60,16 @@ unfoldable pub row_text : HomeRow → List ℕ
 row_text row = codes "box " ++ name_text_of row.name ++ codes " " ++ row.backend ++ codes " " ++ phase_text row row.phase
 
 -- what is coming in isn't shown
-unfoldable pub line_in : HomeRow → Phase → List ℕ
-line_in row Receiving = []
-line_in row Creating = row_text row
-line_in row open_here = row_text row
-line_in row Closing = row_text row
-line_in row Ready = row_text row
-line_in row (Pointer server) = row_text row
+unfoldable pub line_by_phase : HomeRow → Phase → List ℕ
+line_by_phase row Receiving = []
+line_by_phase row Creating = row_text row
+line_by_phase row open_here = row_text row
+line_by_phase row Closing = row_text row
+line_by_phase row Ready = row_text row
+line_by_phase row (Pointer server) = row_text row
 
 unfoldable pub box_line : HomeRow → List ℕ
-box_line row = line_in row row.phase
+box_line row = line_by_phase row row.phase
 
 -- `end STEPS POINTS`
 unfoldable pub end_line : ℕ → ℕ → List ℕ

@@ -15,12 +15,12 @@ use Rattle.schedule_text.specs.declared.event.Event.{Event}
 use Rattle.cluster_core.specs.Flow.{run}
 use Rattle.cluster_core.specs.World.{start}
 use Rattle.mur_config.specs.Config.{config_of}
-use Rattle.mur_config.specs.Rules.{rule_number as config_rule}
+use Rattle.mur_config.specs.Rules.{config_rule_number as config_rule}
 use Rattle.mur_config.specs.declared.fault.ConfigFault.{ConfigFault}
 use Rattle.cluster_core.specs.Headline.{IsOneServer}
 use Rattle.schedule_text.specs.Meaning.{IsSchedule, IsNoSchedule}
 use Rattle.schedule_text.specs.Schedule.{schedule_of}
-use Rattle.schedule_text.specs.ScheduleRules.{rule_number}
+use Rattle.schedule_text.specs.ScheduleRules.{schedule_rule_number}
 use Rattle.schedule_text.specs.declared.schedule.fault.SchedFault.{SchedFault}
 use Rattle.top_call.specs.Output.{output_of}
 use Rattle.top_call.specs.ReadBack.{TellsRun}
@@ -112,7 +112,7 @@ pub record HasNoEvents (config : Configuration) (name : List ℕ) (line rule : �
   pub wrong : schedule_of config text ≡ Err fault
   pub means : IsNoSchedule config text line
   pub at_line : line ≡ fault.line
-  pub by_rule : rule ≡ rule_number fault.why
+  pub by_rule : rule ≡ schedule_rule_number fault.why
 
 -- how a call ends at the schedule, if it does
 abbrev pub EndsAtSchedule : Configuration → List ℕ → HostFacts → HostFacts → Status → Type 0
@@ -212,7 +212,7 @@ DidTell line before now =
     DidNothing before now ⊎ MatchOption line ⊥ (λ text. IsRefusedErrors before now ⊎ TellsLine text before now)
 
 -- a whole call: what its words say, and then the line of its status
-pub record DidCall (words : List (List ℕ)) (before now : HostFacts) (status : Status) : Type 0 where
+pub record DidTopCall (words : List (List ℕ)) (before now : HostFacts) (status : Status) : Type 0 where
   pub between : HostFacts
   pub did : DidWords (names_in words) before between status
   pub counted : CountsStatus status before.faults between.faults

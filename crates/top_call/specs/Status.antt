@@ -1,7 +1,8 @@
 -- How a call of the program ended: its number, its line on the error output, and the faults that were counted.
 use Rattle.std.specs.Prelude.{◌≡◌, ℕ, List, ◌++◌, Option, None, Some, Result, Ok, Err, codes}
 use Rattle.std.specs.Fmt.{decimal}
-use Rattle.mur_edge.specs.Counts.{Rose, SourceFault, OutputFault}
+use Rattle.mur_base.specs.Counts.{Rose}
+use Rattle.mur_edge.specs.Counts.{SourceFault, OutputFault}
 use Rattle.mur_edge.specs.declared.fault.Faults.{Faults}
 use Rattle.top_call.specs.declared.status.Status.{Status}
 use Rattle.top_call.specs.declared.status.Status.TheVariants.{Done, Words, Config, Schedule, Read, Write, Memory}

@@ -1,6 +1,6 @@
 // The top call.
 ghost use Rattle.std.specs.Prelude.{◌≡◌, Some, map, string_bytes};
-ghost use Rattle.top_call.specs.Replay.{DidWords, DidTell, DidCall};
+ghost use Rattle.top_call.specs.Replay.{DidWords, DidTell, DidTopCall};
 ghost use Rattle.top_call.specs.Status.{line_of, CountsStatus, CountsEnd};
 ghost use Rattle.top_call.specs.Words.{names_in};
 
@@ -15,7 +15,7 @@ use std::alloc::Global;
 ///
 /// The tests come in this order: words, configuration read, configuration, schedule read, schedule, run, write.
 pub fn murder<H: Host>(alloc: Global, host: &mut H, words: &Vec<String>) -> Status
-    ensures did { DidCall (map string_bytes words.now.items) (H.facts host.old) (H.facts host.new) result }
+    ensures did { DidTopCall (map string_bytes words.now.items) (H.facts host.old) (H.facts host.new) result }
     ensures counts { CountsEnd result (H.facts host.old).faults (H.facts host.new).faults }
     ensures held { (H.facts host.new).held ≡ (H.facts host.old).held }
 {

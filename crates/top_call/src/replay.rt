@@ -8,9 +8,9 @@ ghost use Rattle.top_call.specs.Output.{lines_of, output_of};
 ghost use Rattle.top_call.specs.ReadBack.{TellsRun};
 ghost use Rattle.top_call.specs.Replay.{DidReadConfig, DidReadSchedule, EndsWriting, DidReplay, run_text};
 ghost use Rattle.top_call.specs.Status.{CountsStatus, CountsFile};
-ghost use Rattle.mur_config.specs.Rules.{rule_number as config_rule};
+ghost use Rattle.mur_config.specs.Rules.{config_rule_number as config_rule};
 ghost use Rattle.top_call.specs.declared.status.Status.TheVariants.{Schedule};
-ghost use Rattle.schedule_text.specs.ScheduleRules.{rule_number};
+ghost use Rattle.schedule_text.specs.ScheduleRules.{schedule_rule_number};
 
 use crate::file::read_file;
 use crate::output::write_output;
@@ -93,7 +93,7 @@ fn schedule<H: Host>(
 
 // How a call ends whose schedule is refused.
 fn refused(fault: SchedFault) -> Status
-    ensures { result ≡ Schedule fault.line (rule_number fault.why) }
+    ensures { result ≡ Schedule fault.line (schedule_rule_number fault.why) }
 {
     Status::Schedule {
         line: fault.line,

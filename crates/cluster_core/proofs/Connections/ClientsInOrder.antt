@@ -30,7 +30,7 @@ use Rattle.cluster_core.specs.World.{no_world, start, with_node, with_nodes, hom
 use Rattle.cluster_core.specs.World.{given_more, carry, carry_all}
 use Rattle.cluster_core.specs.World.{with_front, with_home, with_client, open_at, opens, bytes_at, bytes_from, hang_at, hangs}
 use Rattle.cluster_core.specs.World.{input_of, home_takes, comes_to_home}
-use Rattle.cluster_core.specs.World.{comes_to, taken, deliver_first, takes, stepped, steps_by}
+use Rattle.cluster_core.specs.World.{comes_to, taken_from_link, deliver_first, takes, stepped, steps_by}
 
 abbrev pub IsOrdered : World → Type 0
 IsOrdered world = IsInOrder nat_cmp world.clients
@@ -115,7 +115,7 @@ comes_to-ordered world from to message None is = comes_to_home-ordered world fro
 deliver_first-ordered : (world : World) (from to : List ℕ) (queue : List LinkMsg) → IsOrdered world → IsOrdered (deliver_first world from to queue)
 unfolding deliver_first
 deliver_first-ordered world from to [] is = is
-deliver_first-ordered world from to (message ∷ rest) is = comes_to-ordered (taken world from to) from to message (front_at world to) is
+deliver_first-ordered world from to (message ∷ rest) is = comes_to-ordered (taken_from_link world from to) from to message (front_at world to) is
 
 takes-ordered : (world : World) (event : Event) → IsOrdered world → IsOrdered (takes world event)
 unfolding takes

@@ -7,7 +7,7 @@ use Rattle.std.proofs.lemmas.List.{append-nil}
 use Rattle.backend_core.specs.declared.backend.Backend.{Backend}
 use Rattle.front_core.specs.declared.connection.Connection.{Connection}
 use Rattle.front_core.specs.declared.connection.Stage.TheVariants.{Reading, Asked, Ended}
-use Rattle.front_core.specs.Taken.{Turned, answers, answers_last, asks, ask_with, input_in, comes_at, input_comes, inputs_come, behind_outs}
+use Rattle.front_core.specs.Taken.{Turned, answers_now, answers_last, asks, ask_with, input_in, comes_at, input_comes, inputs_come, behind_outs}
 use Rattle.imap_reply.specs.ByeLine.{bye_line}
 use Rattle.imap_talk.specs.FaultBye.{bye_of}
 use Rattle.imap_reply.specs.Continuation.{continuation_line}
@@ -34,8 +34,7 @@ use Rattle.mur_base.specs.declared.point.AskId.{AskId}
 use Rattle.mur_base.proofs.MapLaws.{numbers_apart, value_at-with_value, value_at-with_value-other}
 use Rattle.imap_types.specs.declared.command.Command.{Command}
 use Rattle.imap_types.specs.declared.command.Tag.{Tag}
-use Rattle.mur_model.specs.declared.need.Need.TheVariants.{Mailbox}
-use Rattle.mur_model.specs.declared.need.Work.{Work}
+use Rattle.mur_model.specs.Needed.{Mailbox, Work}
 use Rattle.imap_types.specs.declared.reply.Reply.{Reply}
 use Rattle.imap_types.specs.declared.request.Answer.{Answer}
 use Rattle.imap_types.specs.declared.request.Request.{Request}
@@ -48,7 +47,7 @@ use Rattle.mur_model.specs.Act.{need_of}
 use Rattle.mur_model.specs.Answer.{Answered, answer_of, MayTake}
 use Rattle.mur_model.specs.History.{numbered, carried_out}
 use Rattle.mur_model.proofs.HistoryGrows.{same_lists, item_more}
-use Rattle.session_core.specs.Asking.{asked_for}
+use Rattle.mur_model.specs.Asking.{asked_for}
 use Rattle.mur_model.proofs.Numbered.{with_item, with_item-same, with_item-other, length_with_item}
 use Rattle.cluster_core.specs.declared.world.Client.{Client}
 use Rattle.cluster_core.specs.declared.world.World.{World}
@@ -112,7 +111,7 @@ given_keeps world conn client text = record {
   pairs = refl;
   steps = refl;
   clients = λ other ne. value_at-with_value-other nat_cmp numbers_apart world.clients conn other (record client { given = client.given ++ text }) ne;
-  ways = λ other ne front home asks answers way. way;
+  ways = λ other ne front home asked answered way. way;
 }
 
 marked_keeps : (conn : ℕ) (world : World) (ask : AskId) → KeepsOthers conn world (marked_world world ask)
@@ -123,7 +122,7 @@ marked_keeps conn world ask = record {
   pairs = refl;
   steps = refl;
   clients = λ other ne. refl;
-  ways = λ other ne front home asks answers way. way;
+  ways = λ other ne front home asked answered way. way;
 }
 
 abbrev said_story : Setting → Story → ℕ → Request → Answer → Story
@@ -193,9 +192,9 @@ answered_here : (setting : Setting) (front home : List ℕ) (backend : Backend) 
     → ((store : Store) → MayTake setting store (was.story.course.sessions conn) request 0)
     → ends reply ≡ false → has_ended session ≡ false
     → ((answer : Answer) → ends answer.reply ≡ false → Grows inputs next (was.story.told conn) (was.story.told conn ++ answer ∷ []) (answer_text answer))
-    → ReadsOn setting front home backend conn next (answers conn connection session tag reply).connection before told
-    (carry_all front world (answers conn connection session tag reply).outs)
-unfolding answers
+    → ReadsOn setting front home backend conn next (answers_now conn connection session tag reply).connection before told
+    (carry_all front world (answers_now conn connection session tag reply).outs)
+unfolding answers_now
 answered_here setting front home backend conn inputs next connection before told world request tag reply session was number is free stays lasts grows =
     let story = was.story in
     let course = story.course in
@@ -209,7 +208,7 @@ answered_here setting front home backend conn inputs next connection before told
     let after_world = marked_world (given_world world conn client text) (record { conn = conn; command = connection.answered + 1 }) in
     let now : Story = said_story setting story conn request answer in
     let grown = grows answer stays in
-    subst (λ w. ReadsOn setting front home backend conn next (answers conn connection session tag reply).connection before told w) (sym world_is)
+    subst (λ w. ReadsOn setting front home backend conn next (answers_now conn connection session tag reply).connection before told w) (sym world_is)
     (record {
       story = now;
       made = said_made setting front home backend conn inputs connection before told world request tag reply session text was number is free;
@@ -368,7 +367,7 @@ asked_here setting front home backend conn inputs waiting held connection before
           pairs = refl;
           steps = refl;
           clients = λ other ne. refl;
-          ways = λ other ne f h asks answers way. sent_for_another world.links other f h front home (Ask ask) asks answers
+          ways = λ other ne f h asked answered way. sent_for_another world.links other f h front home (Ask ask) asked answered
               (ask_of_another other ask (λ e. ne (sym e))) way;
         });
         goes_on = was.made.goes_on;
@@ -529,7 +528,7 @@ request_kept : (setting : Setting) (front home : List ℕ) (backend : Backend) (
 unfolding input_in requests_in carry_all
 request_kept setting front home backend conn inputs new request held connection before told world was last all follow
     (here tag reply session is free stays lasts form) =
-    read_on setting front home backend conn inputs new (Asks request) held connection before told world (answers conn connection session tag reply)
+    read_on setting front home backend conn inputs new (Asks request) held connection before told world (answers_now conn connection session tag reply)
     (reads_input setting home conn connection (Asks request) was.reading.stage_is ∙ form connection was.reading.session_is) all follow
     (answered_here setting front home backend conn inputs (inputs ++ Asks request ∷ []) connection before told world request tag reply session was
     (next_of setting front home backend conn inputs new (Asks request) connection before told world request was all refl) is free stays lasts

@@ -7,7 +7,7 @@ use Rattle.schedule_text.specs.declared.event.Event.{Event}
 use Rattle.schedule_text.specs.declared.event.Event.TheVariants.{Open, Data, Hang, Deliver, Cut, Join, Crash, Arm, Start, Flow, Heal}
 use Rattle.cluster_core.specs.declared.world.World.{World}
 use Rattle.cluster_core.specs.Flow.{run_steps}
-use Rattle.cluster_core.specs.Heard.{at_first, of_client, hears, heard_from}
+use Rattle.cluster_core.specs.Heard.{heard_first, of_client, hears, heard_from}
 use Rattle.imap_talk.specs.Heard.{Heard, nobody, elsewhere, client}
 use Rattle.cluster_core.specs.World.{client_at, stepped, takes, steps_by}
 use Rattle.cluster_core.proofs.Connections.ConnectionLaw.{told_of}
@@ -19,7 +19,7 @@ use Rattle.cluster_core.proofs.Connections.KeepsReply.{deliver_keeps}
 use Rattle.cluster_core.proofs.Connections.KeepsStill.{still_kept}
 
 -- an event that says nothing of a connection
-hears_nothing : (config : Config) (conn : ℕ) (heard : Heard) (event : Event) → at_first config conn event ≡ nobody
+hears_nothing : (config : Config) (conn : ℕ) (heard : Heard) (event : Event) → heard_first config conn event ≡ nobody
     → ((bytes : List ℕ) → of_client conn bytes event ≡ client bytes false) → hears config conn heard event ≡ heard
 unfolding hears
 hears_nothing config conn nobody event o a = o
@@ -28,7 +28,7 @@ hears_nothing config conn (client bytes true) event o a = refl
 hears_nothing config conn (client bytes false) event o a = a bytes
 
 quiet_event : (config : Config) (heard : ℕ → Heard) (world : World) (event : Event) (law : KeepsLaw config heard world)
-    → ((conn : ℕ) → at_first config conn event ≡ nobody)
+    → ((conn : ℕ) → heard_first config conn event ≡ nobody)
     → ((conn : ℕ) (bytes : List ℕ) → of_client conn bytes event ≡ client bytes false)
     → KeepsOn config (told_of law.story) (λ conn. hears config conn (heard conn) event) world
 quiet_event config heard world event law o a =

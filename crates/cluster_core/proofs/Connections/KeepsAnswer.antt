@@ -25,7 +25,7 @@ use Rattle.link_msg.specs.declared.answer.BackAnswer.{BackAnswer}
 use Rattle.link_msg.specs.declared.out.Out.TheVariants.{Client as to_client}
 use Rattle.mur_base.proofs.MapLaws.{numbers_apart, value_at-with_value}
 use Rattle.imap_types.specs.declared.command.Tag.{Tag}
-use Rattle.mur_model.specs.declared.need.Work.{Work}
+use Rattle.mur_model.specs.Needed.{Work}
 use Rattle.imap_types.specs.declared.reply.Reply.{Reply}
 use Rattle.imap_types.specs.declared.request.Answer.{Answer as AnswerOf}
 use Rattle.mur_model.specs.declared.session.Sess.{Sess}
@@ -35,9 +35,9 @@ use Rattle.mur_model.specs.declared.setting.Setting.{Setting}
 use Rattle.mur_model.specs.Act.{session_after}
 use Rattle.mur_model.proofs.HistoryGrows.{same_lists, item_more}
 use Rattle.mur_model.proofs.Numbered.{with_item, with_item-same, with_item-other, length_with_item}
-use Rattle.session_core.specs.Asking.{asked_for}
+use Rattle.mur_model.specs.Asking.{asked_for}
 use Rattle.session_core.specs.Finish.{finished_by, turn_of}
-use Rattle.session_core.specs.Need.{told}
+use Rattle.mur_model.specs.Need.{told_with}
 use Rattle.cluster_core.specs.declared.world.Client.{Client}
 use Rattle.cluster_core.specs.declared.world.World.{World}
 use Rattle.cluster_core.specs.World.{client_at, carry_all}
@@ -199,12 +199,12 @@ is_end_of (Some session_ended) e = refl
 pub ended_turned : (setting : Setting) (home : List ℕ) (conn : ℕ) (connection : Connection) (tag : Tag) (reply : Reply) (later : Option Sess)
     → ends_session later ≡ true
     → turned_so setting home conn connection tag reply later ≡ ends_with conn (record connection { session = session_ended }) (reply_text tag reply)
-unfolding finished_by told
+unfolding finished_by told_with
 ended_turned setting home conn connection tag reply later e = ap (turned_so setting home conn connection tag reply) (is_end_of later e)
 
 pub read_turned : (setting : Setting) (home : List ℕ) (conn : ℕ) (connection : Connection) (tag : Tag) (reply : Reply) (later : Option Sess)
     → ends_session later ≡ false → turned_so setting home conn connection tag reply later ≡ read_turn setting home conn connection (reply_text tag reply) later
-unfolding finished_by told
+unfolding finished_by told_with
 read_turned setting home conn connection tag reply None e = refl
 read_turned setting home conn connection tag reply (Some Off) e = refl
 read_turned setting home conn connection tag reply (Some (In user)) e = refl
@@ -256,7 +256,7 @@ replied_stands setting front home backend conn all passed held request connectio
 -- the answer that fits is replied to
 pub fits : (setting : Setting) (home : List ℕ) (conn : ℕ) (connection : Connection) (tag : Tag) (name : List ℕ) (work : Work) (body : AnswerBody) (turn : Turn)
     → connection.stage ≡ Asked tag (asked_for name work).awaited
-    → turn_of (asked_for name work).awaited body ≡ Some turn
+    → turn_of connection.session (asked_for name work).awaited body ≡ Some turn
     → answer_comes setting home conn connection
     (record { id = record { conn = conn; command = connection.answered + 1 }; body = body }) ≡ replied_turn setting home conn connection tag turn
 unfolding answer_comes answer_by

@@ -27,24 +27,24 @@ use Rattle.mur_base.specs.declared.point.AskId.{AskId}
 use Rattle.mur_config.specs.declared.config.Config.{Config}
 use Rattle.imap_types.specs.declared.command.Command.{Command}
 use Rattle.imap_types.specs.declared.command.Tag.{Tag}
-use Rattle.mur_model.specs.declared.need.Need.TheVariants.{Mailbox}
-use Rattle.mur_model.specs.declared.need.Work.{Work}
+use Rattle.mur_model.specs.Needed.{Mailbox, Work}
 use Rattle.imap_types.specs.declared.request.Answer.{Answer as AnswerOf}
 use Rattle.imap_types.specs.declared.request.Request.TheVariants.{Command as a_command}
 use Rattle.mur_model.specs.declared.session.Turn.{Turn}
 use Rattle.mur_model.specs.declared.setting.Setting.{Setting}
 use Rattle.mur_model.specs.Act.{need_of, act_by, act_of, session_after, worked_at, MayAct}
 use Rattle.mur_model.specs.Answer.{Answered, answer_of, MayTake}
-use Rattle.mur_model.specs.History.{Course, numbered, carried_out, after}
+use Rattle.mur_model.specs.History.{Course, numbered, carried_out, course_after}
 use Rattle.mur_model.specs.Left.{store_after, kept}
 use Rattle.mur_model.proofs.HistoryGrows.{same_lists, item_more}
 use Rattle.mur_model.proofs.Numbered.{with_item-other}
-use Rattle.session_core.specs.Asking.{asked_for}
+use Rattle.mur_model.specs.Asking.{asked_for}
+use Rattle.mur_model.proofs.OwnView.{IsOfNeeded, work_own}
 use Rattle.session_core.specs.Finish.{turn_of}
 use Rattle.cluster_core.specs.declared.world.World.{World}
 use Rattle.imap_talk.specs.Heard.{Heard, frames_heard}
 use Rattle.link_queue.specs.Links.{on_link, sent, without_first}
-use Rattle.cluster_core.specs.World.{front_at, home_of, setting_of, with_home, taken, carry, carry_all}
+use Rattle.cluster_core.specs.World.{front_at, home_of, setting_of, with_home, taken_from_link, carry, carry_all}
 use Rattle.cluster_core.proofs.Connections.ConnectionLaw.{Story, told_of, session_at, session_of_other}
 use Rattle.cluster_core.proofs.Connections.KeepsLaw.{ConnectionIs, AreNodesOf, KeepsLaw, KeepsOn, connection_stays, same_front}
 use Rattle.imap_talk.proofs.RequestsOf.{requests_of}
@@ -63,11 +63,11 @@ answered_world world front home backend ask body counts = record world {
 }
 
 pub answers_so : (world : World) (front home : List ℕ) (backend : Backend) (ask : FrontAsk) (body : AnswerBody) → (home_step backend ask).body ≡ Some body
-    → with_home (taken world front home) home (plan_of backend (FromFront front ask)) ≡ answered_world world front home (home_step backend ask).home ask body
+    → with_home (taken_from_link world front home) home (plan_of backend (FromFront front ask)) ≡ answered_world world front home (home_step backend ask).home ask body
     (home_step backend ask).counts
 unfolding plan_of answer_outs carry_all carry
 answers_so world front home backend ask body e =
-    ap (λ b. carry_all home (record (taken world front home) { homes = with_value (slice_cmp nat_cmp) world.homes home (home_step backend ask).home })
+    ap (λ b. carry_all home (record (taken_from_link world front home) { homes = with_value (slice_cmp nat_cmp) world.homes home (home_step backend ask).home })
     (answer_outs front ask.id (home_step backend ask).counts b)) e
 
 -- a command that asks for work at a mailbox, as the store carries it out
@@ -108,13 +108,13 @@ pub record IsAnswered (config : Config) (heard : ℕ → Heard) (world : World) 
   pub below_next : HasUidsBelowNext backend
   pub counts : Counts
   pub course : Course
-  pub world_is : with_home (taken world front (home_of config)) (home_of config) (plan_of law.backend (FromFront front ask)) ≡ answered_world world front
+  pub world_is : with_home (taken_from_link world front (home_of config)) (home_of config) (plan_of law.backend (FromFront front ask)) ≡ answered_world world front
       (home_of config) backend ask body counts
   pub is_told : IsTold (setting_of config) world.steps (world.marks ++ (record { step = world.steps; ask = ask.id; counts = counts }) ∷ []) backend
       (having_said law.story.talk conn reply serial) course
   pub others : (other : ℕ) → other ≢ conn → course.sessions other ≡ law.story.course.sessions other
   pub mine : course.sessions conn ≡ session_after (law.story.course.sessions conn) turn.session
-  pub shown : turn_of (asked_for name work).awaited body ≡ Some turn
+  pub shown : turn_of (law.story.course.sessions conn) (asked_for name work).awaited body ≡ Some turn
   pub ends : TurnEnds turn
   pub tagged : reply.tag ≡ tag
   pub replied : reply.reply ≡ turn.reply
@@ -125,7 +125,7 @@ pub answers_ask : (config : Config) (heard : ℕ → Heard) (world : World) (law
     → numbered (law.story.talk.requests conn) (length (law.story.talk.answers conn) + 1) ≡ Some (a_command tag it)
     → need_of (setting_of config) (law.story.course.sessions conn) it ≡ Mailbox name work
     → IsAnswered config heard world law conn front connection tag name work ask
-unfolding MayAct
+unfolding MayAct IsOfNeeded
 answers_ask config heard world law conn front connection tag it name work ask is count asked need =
     let backend = law.backend in
     let course = law.story.course in
@@ -158,7 +158,7 @@ answers_ask config heard world law conn front connection tag it name work ask is
           (subst (λ s. IsStoreOf s (home_step backend ask).home) (sym (ap (λ (a : Answered). a.store) out)) serves.still) law.is_told);
       others = λ other ne. session_of_other course.sessions conn _ other ne;
       mine = session_at course.sessions conn _ ∙ ap (λ (a : Answered). a.session) out;
-      shown = serves.shown;
+      shown = serves.shown (course.sessions conn) (work_own (setting_of config) (course.sessions conn) it (Mailbox name work) need);
       ends = worked_ends course.store name work serial;
       tagged = ap (λ (a : Answered). a.answer.tag) out;
       replied = ap (λ (a : Answered). a.answer.reply) out;
@@ -183,14 +183,14 @@ nodes_with_home config world next backend later fronts homes backends nodes =
     }
 
 -- the home answers the ask of a connection, which is then so
-pub ask_kept : (config : Config) (heard after : ℕ → Heard) (world : World) (law : KeepsLaw config heard world) (conn : ℕ) (front : List ℕ)
+pub ask_kept : (config : Config) (heard later : ℕ → Heard) (world : World) (law : KeepsLaw config heard world) (conn : ℕ) (front : List ℕ)
     (connection : Connection) (tag : Tag) (name : List ℕ) (work : Work) (ask : FrontAsk) (rest : List LinkMsg)
     (answered : IsAnswered config heard world law conn front connection tag name work ask)
-    → (ask.id).conn ≡ conn → on_link world.links front (home_of config) ≡ Ask ask ∷ rest → ((other : ℕ) → after other ≡ heard other)
+    → (ask.id).conn ≡ conn → on_link world.links front (home_of config) ≡ Ask ask ∷ rest → ((other : ℕ) → later other ≡ heard other)
     → ConnectionIs (setting_of config) (home_of config) conn (answered_world world front (home_of config) answered.backend ask answered.body answered.counts)
-    (record { talk = having_said law.story.talk conn answered.reply answered.serial; told = law.story.told; course = answered.course }) (after conn)
-    → KeepsOn config (told_of law.story) after (answered_world world front (home_of config) answered.backend ask answered.body answered.counts)
-ask_kept config heard after world law conn front connection tag name work ask rest answered own first same mine =
+    (record { talk = having_said law.story.talk conn answered.reply answered.serial; told = law.story.told; course = answered.course }) (later conn)
+    → KeepsOn config (told_of law.story) later (answered_world world front (home_of config) answered.backend ask answered.body answered.counts)
+ask_kept config heard later world law conn front connection tag name work ask rest answered own first same mine =
     let story : Story = record { talk = having_said law.story.talk conn answered.reply answered.serial; told = law.story.told; course = answered.course } in
     let next : World = answered_world world front (home_of config) answered.backend ask answered.body answered.counts in
     record {
@@ -202,7 +202,7 @@ ask_kept config heard after world law conn front connection tag name work ask re
         is_told = answered.is_told;
         requests = λ other. law.requests other ∙ ap (λ h. requests_of (setting_of config) (frames_heard h)) (sym (same other));
         connections = λ other. ⊎_elim
-            (λ (e : other ≡ conn). subst (λ c. ConnectionIs (setting_of config) (home_of config) c next story (after c)) (sym e) mine)
+            (λ (e : other ≡ conn). subst (λ c. ConnectionIs (setting_of config) (home_of config) c next story (later c)) (sym e) mine)
             (λ (ne : other ≢ conn). subst (λ h. ConnectionIs (setting_of config) (home_of config) other next story h) (sym (same other))
             (connection_stays (setting_of config) (home_of config) other world next law.story story (heard other)
             (record {

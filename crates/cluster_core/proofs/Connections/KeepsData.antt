@@ -13,7 +13,7 @@ use Rattle.front_core.specs.declared.connection.Connection.{Connection}
 use Rattle.front_core.specs.declared.connection.Stage.TheVariants.{Reading, Asked, Ended}
 use Rattle.front_core.specs.declared.front.Front.{Front}
 use Rattle.front_core.specs.Ended.{released}
-use Rattle.front_core.specs.Front.{connection_at, having_read, bytes_in, bytes_at as front_bytes_at, bytes_by, still, with_turned}
+use Rattle.front_core.specs.Front.{connection_at, having_read, bytes_in, front_bytes_at, bytes_by, still, with_turned}
 use Rattle.front_core.specs.Taken.{Turned, input_comes, inputs_come}
 use Rattle.front_core.proofs.FrameLaws.{reader_kept}
 use Rattle.imap_talk.specs.SessionEnds.{has_ended}
@@ -29,8 +29,7 @@ use Rattle.mur_base.proofs.MapLaws.{names_apart}
 use Rattle.mur_config.specs.declared.config.Config.{Config}
 use Rattle.imap_types.specs.declared.command.Command.{Command}
 use Rattle.imap_types.specs.declared.command.Tag.{Tag}
-use Rattle.mur_model.specs.declared.need.Need.TheVariants.{Mailbox}
-use Rattle.mur_model.specs.declared.need.Work.{Work}
+use Rattle.mur_model.specs.Needed.{Mailbox, Work}
 use Rattle.imap_types.specs.declared.request.Answer.{Answer}
 use Rattle.imap_types.specs.declared.request.Request.TheVariants.{Command as a_command}
 use Rattle.mur_model.specs.Act.{need_of}
@@ -38,8 +37,8 @@ use Rattle.imap_types.specs.declared.request.Request.{Request}
 use Rattle.mur_model.specs.declared.setting.Setting.{Setting}
 use Rattle.mur_model.specs.History.{GoesOn}
 use Rattle.mur_model.proofs.HistoryGrows.{same_lists, talks_follow}
-use Rattle.session_core.specs.Asking.{asked_for}
-use Rattle.session_core.specs.declared.asking.Awaited.{Awaited}
+use Rattle.mur_model.specs.Asking.{asked_for}
+use Rattle.mur_model.specs.declared.need.Awaited.{Awaited}
 use Rattle.schedule_text.specs.declared.event.Event.TheVariants.{Data}
 use Rattle.front_core.specs.Reading.{Reading as Read, inputs_of_more, read_more}
 use Rattle.front_core.proofs.ReadingLaws.{ended_inputs, ended_reader}

@@ -11,7 +11,8 @@ use Rattle.front_core.specs.Answered.{answer_comes}
 use Rattle.front_core.specs.Ended.{released}
 use Rattle.front_core.specs.Front.{connection_at, deliver as take_message, answer_at, with_turned}
 use Rattle.front_core.specs.Taken.{Turned, ask_with}
-use Rattle.session_core.specs.Asking.{asked_for}
+use Rattle.mur_model.specs.Asking.{asked_for}
+use Rattle.session_core.specs.Finish.{turn_of}
 use Rattle.imap_talk.specs.declared.inputs.Input.TheVariants.{Asks}
 use Rattle.imap_wire.specs.Frames.{begun}
 use Rattle.link_msg.specs.declared.answer.AnswerBody.{AnswerBody}
@@ -22,7 +23,7 @@ use Rattle.link_msg.specs.declared.message.LinkMsg.TheVariants.{Up, End, Line, A
 use Rattle.mur_base.proofs.MapLaws.{names_apart}
 use Rattle.mur_config.specs.declared.config.Config.{Config}
 use Rattle.imap_types.specs.declared.command.Tag.{Tag}
-use Rattle.mur_model.specs.declared.need.Work.{Work}
+use Rattle.mur_model.specs.Needed.{Work}
 use Rattle.imap_types.specs.declared.request.Answer.{Answer as AnswerOf}
 use Rattle.imap_types.specs.declared.request.Request.TheVariants.{Command as a_command}
 use Rattle.mur_model.specs.Act.{need_of, session_after}
@@ -34,7 +35,7 @@ use Rattle.front_core.proofs.OneConnection.Readings.{inputs_in, reading_of}
 use Rattle.cluster_core.specs.declared.world.World.{World}
 use Rattle.imap_talk.specs.Heard.{Heard, client, frames_heard}
 use Rattle.link_queue.specs.Links.{Links, on_link, sent, without_first}
-use Rattle.cluster_core.specs.World.{front_at, home_at, home_of, setting_of, with_front, with_home, taken, input_of, home_takes, comes_to_home}
+use Rattle.cluster_core.specs.World.{front_at, home_at, home_of, setting_of, with_front, with_home, taken_from_link, input_of, home_takes, comes_to_home}
 use Rattle.cluster_core.specs.World.{comes_to, carry_all}
 use Rattle.cluster_core.proofs.Connections.ConnectionLaw.{Story, told_of, IsStanding}
 use Rattle.front_core.proofs.OneConnection.Standing.{HasBegunSo, Stands, IsLeft}
@@ -54,7 +55,7 @@ use Rattle.front_core.proofs.OneConnection.Ways.{answer_sent, ask_in, answer_in}
 
 -- a message that is neither an ask nor an answer changes nothing that can be looked up
 alike_taken : (world : World) (from to : List ℕ) (message : LinkMsg) (rest : List LinkMsg) → on_link world.links from to ≡ message ∷ rest
-    → ((conn : ℕ) → IsOfAnother conn message) → LooksAlike world (taken world from to)
+    → ((conn : ℕ) → IsOfAnother conn message) → LooksAlike world (taken_from_link world from to)
 alike_taken world from to message rest first other = record {
   fronts = λ any. refl;
   homes = λ any. refl;
@@ -125,18 +126,18 @@ of_nobody conn message (a_line bytes) = record { no_ask = refl; no_answer = refl
 pub quiet_keeps : (config : Config) (heard after : ℕ → Heard) (world : World) (law : KeepsLaw config heard world) (from to : List ℕ) (message : LinkMsg)
     (rest : List LinkMsg) → on_link world.links from to ≡ message ∷ rest
     → ((conn : ℕ) → after conn ≡ heard conn) → IsQuiet message
-    → KeepsOn config (told_of law.story) after (comes_to (taken world from to) from to message (front_at world to))
+    → KeepsOn config (told_of law.story) after (comes_to (taken_from_link world from to) from to message (front_at world to))
 quiet_keeps config heard after world law from to message rest first same quiet =
-    still_kept config heard after world (comes_to (taken world from to) from to message (front_at world to))
-    (alike_on world (taken world from to) _ (alike_taken world from to message rest first (λ conn. of_nobody conn message quiet))
-    (quiet_by (taken world from to) from to message (front_at world to) refl quiet)) same law
+    still_kept config heard after world (comes_to (taken_from_link world from to) from to message (front_at world to))
+    (alike_on world (taken_from_link world from to) _ (alike_taken world from to message rest first (λ conn. of_nobody conn message quiet))
+    (quiet_by (taken_from_link world from to) from to message (front_at world to) refl quiet)) same law
 
 -- an ask comes to the home
 to_home : (world : World) (from home : List ℕ) (ask : FrontAsk) (backend : Backend) → front_at world home ≡ None → home_at world home ≡ Some backend
-    → comes_to (taken world from home) from home (Ask ask) (front_at world home) ≡ with_home (taken world from home) home (plan_of backend (FromFront from ask))
+    → comes_to (taken_from_link world from home) from home (Ask ask) (front_at world home) ≡ with_home (taken_from_link world from home) home (plan_of backend (FromFront from ask))
 unfolding comes_to comes_to_home home_takes input_of
 to_home world from home ask backend none at =
-    ap (comes_to (taken world from home) from home (Ask ask)) none ∙ ap (comes_to_home (taken world from home) from home (Ask ask)) at
+    ap (comes_to (taken_from_link world from home) from home (Ask ask)) none ∙ ap (comes_to_home (taken_from_link world from home) from home (Ask ask)) at
 
 abbrev story_after : {config : Config} {heard : ℕ → Heard} {world : World} (law : KeepsLaw config heard world)
     (conn : ℕ) {front : List ℕ} {connection : Connection} {tag : Tag} {name : List ℕ} {work : Work} {ask : FrontAsk}
@@ -170,10 +171,10 @@ asked_home : (config : Config) (heard after : ℕ → Heard) (world : World) (la
     → on_link world.links from to ≡ Ask ask ∷ rest → ((c : ℕ) → after c ≡ heard c) → (ask.id).conn ≡ conn
     → ConnectionIs (setting_of config) (home_of config) conn (answered_world world node (home_of config) done.backend ask done.body done.counts)
     (story_after law conn done) (after conn)
-    → KeepsOn config (told_of law.story) after (comes_to (taken world from to) from to (Ask ask) (front_at world to))
+    → KeepsOn config (told_of law.story) after (comes_to (taken_from_link world from to) from to (Ask ask) (front_at world to))
 asked_home config heard after world law from to ask rest conn node connection tag name work done f t first same own mine =
-    subst (λ x. KeepsOn config (told_of law.story) after (comes_to (taken world x to) x to (Ask ask) (front_at world to))) (sym f)
-    (subst (λ x. KeepsOn config (told_of law.story) after (comes_to (taken world node x) node x (Ask ask) (front_at world x))) (sym t)
+    subst (λ x. KeepsOn config (told_of law.story) after (comes_to (taken_from_link world x to) x to (Ask ask) (front_at world to))) (sym f)
+    (subst (λ x. KeepsOn config (told_of law.story) after (comes_to (taken_from_link world node x) node x (Ask ask) (front_at world x))) (sym t)
     (subst (λ w. KeepsOn config (told_of law.story) after w)
     (sym (to_home world node (home_of config) ask law.backend law.nodes.home_no_front law.nodes.home_is ∙ done.world_is))
     (ask_kept config heard after world law conn node connection tag name work ask rest done own
@@ -186,7 +187,7 @@ ask_open : (config : Config) (heard after : ℕ → Heard) (world : World) (law 
     → IsStanding (setting_of config) node (home_of config) conn (inputs_in (setting_of config) bytes) (begun bytes) connection world law.story
     → Stands (setting_of config) node (home_of config) conn (inputs_in (setting_of config) bytes) (begun bytes) connection world.links (law.story.told conn)
     (law.story.talk.answers conn) (law.story.course.sessions conn)
-    → KeepsOn config (told_of law.story) after (comes_to (taken world from to) from to (Ask ask) (front_at world to))
+    → KeepsOn config (told_of law.story) after (comes_to (taken_from_link world from to) from to (Ask ask) (front_at world to))
 unfolding frames_heard requests_in
 ask_open config heard after world law from to ask rest conn bytes node front connection first same own e at reader standing
     (reads stage waiting s lasts answered said way) =
@@ -222,7 +223,7 @@ ask_open config heard after world law from to ask rest conn bytes node front con
       count = standing.count;
       client = standing.client;
       stands = waits passed asking tag it name work stage parts lasts answered is need last
-          (back done.body done.turn (said_after config heard world law conn node connection tag name work ask done (law.story.told conn) said) done.shown
+          (back done.body done.turn (said_after config heard world law conn node connection tag name work ask done (law.story.told conn) said) (ap (λ x. turn_of x (asked_for name work).awaited done.body) s ∙ done.shown)
           (done.mine ∙ ap (λ x. session_after x done.turn.session) (sym s)) done.ends
           (way_after world.links conn node (home_of config) from to ask connection done.body took.0 took.1 (sym (ap (λ (a : FrontAsk). a.id) took.2)) took.3));
     })))
@@ -234,7 +235,7 @@ ask_closed : (config : Config) (heard after : ℕ → Heard) (world : World) (la
     → IsGone (setting_of config) node (home_of config) conn (inputs_in (setting_of config) bytes) connection world law.story
     → IsLeft (setting_of config) node (home_of config) conn (requests_in (inputs_in (setting_of config) bytes)) connection world.links (law.story.told conn)
     (law.story.talk.answers conn) (law.story.course.sessions conn)
-    → KeepsOn config (told_of law.story) after (comes_to (taken world from to) from to (Ask ask) (front_at world to))
+    → KeepsOn config (told_of law.story) after (comes_to (taken_from_link world from to) from to (Ask ask) (front_at world to))
 unfolding frames_heard
 ask_closed config heard after world law from to ask rest conn bytes node front connection first same own e at gone (nothing more said few way) =
     absurd (no_ask_first world.links conn node (home_of config) from to ask rest [] first own way)
@@ -267,7 +268,7 @@ pub ask_by : (config : Config) (heard after : ℕ → Heard) (world : World) (la
     (rest : List LinkMsg) (conn : ℕ)
     → on_link world.links from to ≡ Ask ask ∷ rest → ((c : ℕ) → after c ≡ heard c) → (ask.id).conn ≡ conn → (was : Heard) → heard conn ≡ was
     → ConnectionIs (setting_of config) (home_of config) conn world law.story was
-    → KeepsOn config (told_of law.story) after (comes_to (taken world from to) from to (Ask ask) (front_at world to))
+    → KeepsOn config (told_of law.story) after (comes_to (taken_from_link world from to) from to (Ask ask) (front_at world to))
 ask_by config heard after world law from to ask rest conn first same own was e (is_nobody none fronts untold) =
     absurd (no_ask_first world.links conn [] [] from to ask rest [] first own (untold.way [] []))
 ask_by config heard after world law from to ask rest conn first same own was e (is_elsewhere node at none untold) =
@@ -281,10 +282,10 @@ ask_by config heard after world law from to ask rest conn first same own was e (
 pub to_front : (world : World) (from node : List ℕ) (answer : BackAnswer) (front : Front) (connection : Connection) (turned : Turned)
     → front_at world node ≡ Some front → connection_at front (answer.id).conn ≡ Some connection
     → answer_comes front.setting front.home (answer.id).conn connection answer ≡ turned
-    → comes_to (taken world from node) from node (Answer answer) (front_at world node) ≡ world_after (taken world from node) node front
+    → comes_to (taken_from_link world from node) from node (Answer answer) (front_at world node) ≡ world_after (taken_from_link world from node) node front
     (answer.id).conn (released turned.connection) turned.outs
 unfolding comes_to take_message answer_at
 to_front world from node answer front connection turned at has comes =
-    ap (comes_to (taken world from node) from node (Answer answer)) at
-    ∙ ap (λ f. with_front (taken world from node) node (answer_at front answer f)) has
-    ∙ ap (λ t. with_front (taken world from node) node (with_turned front (answer.id).conn t)) comes
+    ap (comes_to (taken_from_link world from node) from node (Answer answer)) at
+    ∙ ap (λ f. with_front (taken_from_link world from node) node (answer_at front answer f)) has
+    ∙ ap (λ t. with_front (taken_from_link world from node) node (with_turned front (answer.id).conn t)) comes

@@ -20,15 +20,15 @@ use Rattle.mur_model.specs.declared.session.Turn.{Turn}
 use Rattle.mur_model.specs.declared.setting.Setting.{Setting}
 use Rattle.mur_model.specs.Act.{session_after}
 use Rattle.mur_model.proofs.HistoryGrows.{same_talk}
-use Rattle.session_core.specs.Asking.{asked_for}
-use Rattle.session_core.specs.declared.asking.Awaited.{Awaited}
+use Rattle.mur_model.specs.Asking.{asked_for}
+use Rattle.mur_model.specs.declared.need.Awaited.{Awaited}
 use Rattle.imap_talk.specs.Inputs.{requests_in}
 use Rattle.front_core.specs.Reading.{Reading as Read}
 use Rattle.front_core.proofs.OneConnection.Readings.{inputs_in, reading_of}
 use Rattle.cluster_core.specs.declared.world.World.{World}
 use Rattle.imap_talk.specs.Heard.{Heard, client, frames_heard}
 use Rattle.link_queue.specs.Links.{on_link, without_first}
-use Rattle.cluster_core.specs.World.{front_at, home_of, setting_of, taken, comes_to, deliver_first, delivers, carry_all}
+use Rattle.cluster_core.specs.World.{front_at, home_of, setting_of, taken_from_link, comes_to, deliver_first, delivers, carry_all}
 use Rattle.cluster_core.proofs.Connections.ConnectionLaw.{told_of, keeps_all, same_story, IsStanding}
 use Rattle.front_core.proofs.OneConnection.Standing.{HasBegunSo, Stands, IsLeft}
 use Rattle.cluster_core.proofs.Connections.ConnectionLaw.{StandsOn}
@@ -83,31 +83,31 @@ replied_kept : (config : Config) (heard after : ℕ → Heard) (world : World) (
     → answer_comes front.setting front.home (answer.id).conn connection answer ≡ replied_turn (setting_of config) (home_of config) conn connection tag turn
     → StandsOn (setting_of config) node (home_of config) law.backend conn (inputs_in (setting_of config) bytes) (begun bytes)
     (replied_turn (setting_of config) (home_of config) conn connection tag turn).connection
-    (taken world from node) law.story (carry_all node (taken world from node)
+    (taken_from_link world from node) law.story (carry_all node (taken_from_link world from node)
     (replied_turn (setting_of config) (home_of config) conn connection tag turn).outs)
-    → KeepsOn config (told_of law.story) after (comes_to (taken world from node) from node (Answer answer) (front_at world node))
+    → KeepsOn config (told_of law.story) after (comes_to (taken_from_link world from node) from node (Answer answer) (front_at world node))
 replied_kept config heard after world law from answer rest conn bytes node front connection tag awaited turn first same own e at reader stage comes stands =
     let turned : Turned = replied_turn (setting_of config) (home_of config) conn connection tag turn in
     let kept : Connection = released turned.connection in
     subst (λ w. KeepsOn config (told_of law.story) after w)
     (sym (to_front world from node answer front connection turned at.at (ap (connection_at front) own ∙ at.has) comes
-    ∙ ap (λ c. world_after (taken world from node) node front c kept turned.outs) own))
+    ∙ ap (λ c. world_after (taken_from_link world from node) node front c kept turned.outs) own))
     (front_keeps config heard after world law
     (without_first world.links from node) conn node front connection kept turned.outs law.story stands.story
     (others_on world from node answer rest conn first own) at.at at.has (same_talk (told_of law.story)) refl refl refl
     (λ other. law.requests other ∙ ap (λ h. requests_of (setting_of config) (frames_heard h)) (sym (same other))) (λ other ne. same other)
     (λ shut. absurd (is_not_closed (after conn) bytes (same conn ∙ e) shut)) stands.made
     (subst (λ h. ConnectionIs (setting_of config) (home_of config) conn
-    (world_after (taken world from node) node front conn kept turned.outs) stands.story h) (sym (same conn ∙ e))
+    (world_after (taken_from_link world from node) node front conn kept turned.outs) stands.story h) (sym (same conn ∙ e))
     (is_open bytes node (with_connection front conn kept) kept
-    (is_at_after (taken world from node) node front conn connection kept turned.outs at.at at.has)
+    (is_at_after (taken_from_link world from node) node front conn connection kept turned.outs at.at at.has)
     (begun_released turned.connection (reading_of (setting_of config) bytes)
     (replied_reader (setting_of config) (home_of config) conn connection tag awaited turn (reading_of (setting_of config) bytes) stage reader))
-    (standing_after (taken world from node) node front conn kept turned.outs (setting_of config) (home_of config) (inputs_in
+    (standing_after (taken_from_link world from node) node front conn kept turned.outs (setting_of config) (home_of config) (inputs_in
     (setting_of config) bytes)
     (begun bytes) stands.story
     (standing_released (setting_of config) node (home_of config) conn (inputs_in (setting_of config) bytes) (begun bytes) turned.connection
-    (carry_all node (taken world from node) turned.outs) stands.story stands.standing)))))
+    (carry_all node (taken_from_link world from node) turned.outs) stands.story stands.standing)))))
 
 answer_open : (config : Config) (heard after : ℕ → Heard) (world : World) (law : KeepsLaw config heard world) (from to : List ℕ) (answer : BackAnswer)
     (rest : List LinkMsg) (conn : ℕ) (bytes node : List ℕ) (front : Front) (connection : Connection)
@@ -116,7 +116,7 @@ answer_open : (config : Config) (heard after : ℕ → Heard) (world : World) (l
     → IsStanding (setting_of config) node (home_of config) conn (inputs_in (setting_of config) bytes) (begun bytes) connection world law.story
     → Stands (setting_of config) node (home_of config) conn (inputs_in (setting_of config) bytes) (begun bytes) connection world.links (law.story.told conn)
     (law.story.talk.answers conn) (law.story.course.sessions conn)
-    → KeepsOn config (told_of law.story) after (comes_to (taken world from to) from to (Answer answer) (front_at world to))
+    → KeepsOn config (told_of law.story) after (comes_to (taken_from_link world from to) from to (Answer answer) (front_at world to))
 unfolding frames_heard
 answer_open config heard after world law from to answer rest conn bytes node front connection first same own e at reader standing
     (reads stage waiting s lasts answered said way) =
@@ -143,12 +143,12 @@ answer_open config heard after world law from to answer rest conn bytes node fro
     ∙ ap (λ c. answer_comes (setting_of config) (home_of config) c connection answer) own
     ∙ ap (answer_comes (setting_of config) (home_of config) conn connection) (sym took.2)
     ∙ fits (setting_of config) (home_of config) conn connection tag name work body turn stage shown in
-    subst (λ x. KeepsOn config (told_of law.story) after (comes_to (taken world from x) from x (Answer answer) (front_at world x))) (sym took.1)
+    subst (λ x. KeepsOn config (told_of law.story) after (comes_to (taken_from_link world from x) from x (Answer answer) (front_at world x))) (sym took.1)
     (replied_kept config heard after world law from answer rest conn bytes node front connection tag (asked_for name work).awaited turn first_here same own e at
     reader stage comes
     (replied_stands (setting_of config) node (home_of config) law.backend conn (inputs_in (setting_of config) bytes) passed
     (begun bytes) asking connection tag turn
-    (taken world from node) law.story parts standing.count standing.client lasts later both answered said
+    (taken_from_link world from node) law.story parts standing.count standing.client lasts later both answered said
     (subst (λ x. AreOnWay (without_first world.links from x) conn node (home_of config) [] []) took.1 took.3) law.is_told last
     (law.requests conn ∙ ap (λ h. requests_of (setting_of config) (frames_heard h)) e)))
 
@@ -160,23 +160,23 @@ dropped : (config : Config) (heard after : ℕ → Heard) (world : World) (law :
     → IsGone (setting_of config) node (home_of config) conn (inputs_in (setting_of config) bytes) connection world law.story
     → law.story.talk.answers conn ≡ law.story.told conn ++ more → length more ≤ 1
     → AreOnWay (without_first world.links from node) conn node (home_of config) [] []
-    → KeepsOn config (told_of law.story) after (comes_to (taken world from node) from node (Answer answer) (front_at world node))
+    → KeepsOn config (told_of law.story) after (comes_to (taken_from_link world from node) from node (Answer answer) (front_at world node))
 unfolding carry_all
 dropped config heard after world law from to answer rest conn bytes node front connection more first same own e at gone said few way =
     let kept : Connection = released connection in
     subst (λ w. KeepsOn config (told_of law.story) after w)
     (sym (to_front world from node answer front connection (unchanged connection) at.at (ap (connection_at front) own ∙ at.has)
     (ended_drops_answer front.setting front.home (answer.id).conn connection answer gone.stage_is)
-    ∙ ap (λ c. world_after (taken world from node) node front c kept []) own))
+    ∙ ap (λ c. world_after (taken_from_link world from node) node front c kept []) own))
     (front_keeps config heard after world law (without_first world.links from node) conn node front connection kept [] law.story law.story
     (others_on world from node answer rest conn first own) at.at at.has (same_talk (told_of law.story)) refl refl refl
     (λ other. law.requests other ∙ ap (λ h. requests_of (setting_of config) (frames_heard h)) (sym (same other))) (λ other ne. same other) (λ shut. refl)
-    (record { others = keeps_all conn (taken world from node); goes_on = same_story conn law.story; is_told = law.is_told })
-    (subst (λ h. ConnectionIs (setting_of config) (home_of config) conn (world_after (taken world from node) node front conn kept []) law.story h)
+    (record { others = keeps_all conn (taken_from_link world from node); goes_on = same_story conn law.story; is_told = law.is_told })
+    (subst (λ h. ConnectionIs (setting_of config) (home_of config) conn (world_after (taken_from_link world from node) node front conn kept []) law.story h)
     (sym (same conn ∙ e))
     (is_closed bytes node (with_connection front conn kept) kept
-    (is_at_after (taken world from node) node front conn connection kept [] at.at at.has)
-    (gone_after (taken world from node) node front conn kept (setting_of config) (home_of config) (inputs_in (setting_of config) bytes) law.story
+    (is_at_after (taken_from_link world from node) node front conn connection kept [] at.at at.has)
+    (gone_after (taken_from_link world from node) node front conn kept (setting_of config) (home_of config) (inputs_in (setting_of config) bytes) law.story
     (record {
       stage_is = released_ended connection gone.stage_is;
       count = released_count connection ∙ gone.count;
@@ -192,7 +192,7 @@ answer_closed : (config : Config) (heard after : ℕ → Heard) (world : World) 
     → IsGone (setting_of config) node (home_of config) conn (inputs_in (setting_of config) bytes) connection world law.story
     → IsLeft (setting_of config) node (home_of config) conn (requests_in (inputs_in (setting_of config) bytes)) connection world.links (law.story.told conn)
     (law.story.talk.answers conn) (law.story.course.sessions conn)
-    → KeepsOn config (told_of law.story) after (comes_to (taken world from to) from to (Answer answer) (front_at world to))
+    → KeepsOn config (told_of law.story) after (comes_to (taken_from_link world from to) from to (Answer answer) (front_at world to))
 answer_closed config heard after world law from to answer rest conn bytes node front connection first same own e at gone (nothing more said few way) =
     absurd (no_answer_first world.links conn node (home_of config) from to answer rest [] first own way)
 answer_closed config heard after world law from to answer rest conn bytes node front connection first same own e at gone
@@ -200,7 +200,7 @@ answer_closed config heard after world law from to answer rest conn bytes node f
     absurd (no_answer_first world.links conn node (home_of config) from to answer rest _ first own way)
 answer_closed config heard after world law from to answer rest conn bytes node front connection first same own e at gone (its_answer more mine said few way) =
     let took = answer_taken world.links conn node (home_of config) from to answer rest [] mine first own way in
-    subst (λ x. KeepsOn config (told_of law.story) after (comes_to (taken world from x) from x (Answer answer) (front_at world x))) (sym took.1)
+    subst (λ x. KeepsOn config (told_of law.story) after (comes_to (taken_from_link world from x) from x (Answer answer) (front_at world x))) (sym took.1)
     (dropped config heard after world law from to answer rest conn bytes node front connection more
     (ap (on_link world.links from) (sym took.1) ∙ first) same own e at gone said few
     (subst (λ x. AreOnWay (without_first world.links from x) conn node (home_of config) [] []) took.1 took.3))
@@ -209,7 +209,7 @@ answer_by_case : (config : Config) (heard after : ℕ → Heard) (world : World)
     (rest : List LinkMsg) (conn : ℕ)
     → on_link world.links from to ≡ Answer answer ∷ rest → ((c : ℕ) → after c ≡ heard c) → (answer.id).conn ≡ conn → (was : Heard) → heard conn ≡ was
     → ConnectionIs (setting_of config) (home_of config) conn world law.story was
-    → KeepsOn config (told_of law.story) after (comes_to (taken world from to) from to (Answer answer) (front_at world to))
+    → KeepsOn config (told_of law.story) after (comes_to (taken_from_link world from to) from to (Answer answer) (front_at world to))
 answer_by_case config heard after world law from to answer rest conn first same own was e (is_nobody none fronts untold) =
     absurd (no_answer_first world.links conn [] [] from to answer rest [] first own (untold.way [] []))
 answer_by_case config heard after world law from to answer rest conn first same own was e (is_elsewhere node at none untold) =
@@ -221,7 +221,7 @@ answer_by_case config heard after world law from to answer rest conn first same 
 
 message_keeps : (config : Config) (heard after : ℕ → Heard) (world : World) (law : KeepsLaw config heard world) (from to : List ℕ) (message : LinkMsg)
     (rest : List LinkMsg) → on_link world.links from to ≡ message ∷ rest
-    → ((c : ℕ) → after c ≡ heard c) → KeepsOn config (told_of law.story) after (comes_to (taken world from to) from to message (front_at world to))
+    → ((c : ℕ) → after c ≡ heard c) → KeepsOn config (told_of law.story) after (comes_to (taken_from_link world from to) from to message (front_at world to))
 message_keeps config heard after world law from to Up rest first same = quiet_keeps config heard after world law from to Up rest first same an_up
 message_keeps config heard after world law from to End rest first same = quiet_keeps config heard after world law from to End rest first same an_end
 message_keeps config heard after world law from to (Line bytes) rest first same =

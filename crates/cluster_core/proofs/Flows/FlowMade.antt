@@ -10,7 +10,7 @@ use Rattle.schedule_text.specs.declared.event.Event.TheVariants.{Deliver}
 use Rattle.cluster_core.specs.declared.world.World.{World}
 use Rattle.link_queue.specs.Links.{on_link}
 use Rattle.cluster_core.specs.World.{steps_by}
-use Rattle.cluster_core.specs.Flow.{Flowing, turn_by, turn_of, round, rounds, rounds_by}
+use Rattle.cluster_core.specs.Flow.{Flowing, turn_by, turn_of_link, round, rounds, rounds_by}
 
 -- the same world, and as many deliveries that may follow
 pub record AreAlike (one other : Flowing) : Type 0 where
@@ -35,7 +35,7 @@ turn_alike link links world made other left (suc n) (message ∷ queue) ih =
 
 pub round_alike : (links : List Link) (world : World) (made other : List Event) (left : ℕ)
     → AreAlike (round (with_made world made left) links) (round (with_made world other left) links)
-unfolding round turn_of
+unfolding round turn_of_link
 round_alike [] world made other left = record { world = refl; left = refl }
 round_alike (link ∷ links) world made other left =
     turn_alike link links world made other left left (on_link world.links link.from link.to) (λ w m o l. round_alike links w m o l)
@@ -71,14 +71,14 @@ rounds_alike (suc n) links one other alike =
 
 -- behind the turn of the first link
 pub turned : (link : Link) (links : List Link) (world next : World) (left later : ℕ)
-    → (turn_of (begun world left) link).world ≡ next → (turn_of (begun world left) link).left ≡ later
+    → (turn_of_link (begun world left) link).world ≡ next → (turn_of_link (begun world left) link).left ≡ later
     → AreAlike (round (begun world left) (link ∷ links)) (round (begun next later) links)
 unfolding round
-turned link links world next left later w l = round_begun links (turn_of (begun world left) link) next later w l
+turned link links world next left later w l = round_begun links (turn_of_link (begun world left) link) next later w l
 
 -- a link more of a round is over
 pub round_goes_on : (all rest : List Link) (link : Link) (world next : World) (left later : ℕ) (end : Flowing) → all ≡ link ∷ rest
-    → (turn_of (begun world left) link).world ≡ next → (turn_of (begun world left) link).left ≡ later
+    → (turn_of_link (begun world left) link).world ≡ next → (turn_of_link (begun world left) link).left ≡ later
     → AreAlike (round (begun world left) all) end → AreAlike (round (begun next later) rest) end
 round_goes_on all rest link world next left later end e w l alike =
     let t = turned link rest world next left later w l in

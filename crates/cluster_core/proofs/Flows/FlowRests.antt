@@ -14,13 +14,13 @@ use Rattle.mur_config.specs.declared.node.Link.{Link}
 use Rattle.mur_config.specs.Nodes.{AreNodes, links_of}
 use Rattle.schedule_text.specs.declared.event.Event.{Event}
 use Rattle.schedule_text.specs.declared.event.Event.TheVariants.{Deliver, Flow}
-use Rattle.schedule_text.specs.Brings.{bytes_of, bytes_of_all}
+use Rattle.schedule_text.specs.Brings.{bytes_brought, bytes_of_all}
 use Rattle.cluster_core.specs.declared.world.World.{World}
-use Rattle.cluster_core.specs.Flow.{Flowing, delivered, turn_by, turn_of, round, rounds_by, rounds, flow, steps_of_event, happens, unrolled, run_steps}
+use Rattle.cluster_core.specs.Flow.{Flowing, delivered, turn_by, turn_of_link, round, rounds_by, rounds, flow, steps_of_event, happens, unrolled, run_steps}
 use Rattle.cluster_core.specs.Headline.FlowLaw.{DeliversFirst, IsFlow, AreStepsOf, AreStepsOfAll, AreItsSteps}
 use Rattle.cluster_core.specs.Headline.FlowLaw.AreStepsOfAll.{no_event, an_event}
 use Rattle.link_queue.specs.Links.{on_link}
-use Rattle.cluster_core.specs.World.{front_at, home_at, input_of, home_takes, comes_to_home, comes_to, taken, deliver_first, takes, stepped, steps_by, start}
+use Rattle.cluster_core.specs.World.{front_at, home_at, input_of, home_takes, comes_to_home, comes_to, taken_from_link, deliver_first, takes, stepped, steps_by, start}
 use Rattle.cluster_core.proofs.Nodes.LinkedNodes.{AreApart, pairs_apart}
 use Rattle.cluster_core.proofs.Flows.Load.{load}
 use Rattle.cluster_core.proofs.Flows.LoadFalls.{delivery_falls, start_load, step_load, steps_load}
@@ -56,7 +56,7 @@ takes_first : (world : World) (from to : List ℕ) (queue : List LinkMsg) → fr
 unfolding deliver_first
 takes_first world from to [] ne e = e
 takes_first world from to (message ∷ rest) ne e =
-    comes_leaves (taken world from to) from to message (front_at world to) from to ne
+    comes_leaves (taken_from_link world from to) from to message (front_at world to) from to ne
     ∙ on_link-taken world.links from to from to
     ∙ ap (λ same. cond same (drop 1 (on_link world.links from to)) (on_link world.links from to)) (same_itself from to)
     ∙ ap (λ q. drop 1 q) e
@@ -142,11 +142,11 @@ turn_flows links world count flowing link (suc left) (message ∷ queue) among a
 round_flows : (links : List Link) (world : World) (count : ℕ) → All AreApart links → (flowing : Flowing) (some : List Link)
     → ((link : Link) → Contains some link → Contains links link)
     → IsFlowing links world count flowing → IsFlowing links world count (round flowing some)
-unfolding round turn_of
+unfolding round turn_of_link
 round_flows links world count apart flowing [] within is = is
 round_flows links world count apart flowing (link ∷ some) within is =
     let among = within link (0, omega arith, refl) in
-    round_flows links world count apart (turn_of flowing link) some (λ other there. within other (Contains-append_right (link ∷ []) some other there))
+    round_flows links world count apart (turn_of_link flowing link) some (λ other there. within other (Contains-append_right (link ∷ []) some other there))
     (turn_flows links world count flowing link flowing.left (on_link flowing.world.links link.from link.to) among
     (All-contains AreApart links link apart among) refl refl is)
 
@@ -174,10 +174,10 @@ turn_falls flowing link (suc left) [] l = omega arith
 turn_falls flowing link (suc left) (message ∷ queue) l = omega (arith, l)
 
 round_falls : (flowing : Flowing) (links : List Link) → (round flowing links).left ≤ flowing.left
-unfolding round turn_of
+unfolding round turn_of_link
 round_falls flowing [] = omega arith
 round_falls flowing (link ∷ links) =
-    omega (arith, round_falls (turn_of flowing link) links, turn_falls flowing link flowing.left (on_link flowing.world.links link.from link.to) refl)
+    omega (arith, round_falls (turn_of_link flowing link) links, turn_falls flowing link flowing.left (on_link flowing.world.links link.from link.to) refl)
 
 -- a round that might have made a delivery and made none found nothing on its way, and changed nothing
 record IsStill (flowing : Flowing) (links : List Link) : Type 0 where
@@ -196,7 +196,7 @@ still_by flowing link links (suc left) (message ∷ queue) l e some as_before st
     absurd (omega (arith, l, as_before, round_falls (delivered flowing left (Deliver link.from link.to)) links))
 
 still_round : (flowing : Flowing) (links : List Link) → flowing.left ≢ 0 → (round flowing links).left ≡ flowing.left → IsStill flowing links
-unfolding round turn_of
+unfolding round turn_of_link
 still_round flowing [] some as_before = record { same = refl; idle = All-nil (IsIdle flowing.world) }
 still_round flowing (link ∷ links) some as_before =
     let is = still_by flowing link links flowing.left (on_link flowing.world.links link.from link.to) refl refl some as_before
@@ -308,7 +308,7 @@ are_its_steps world event = λ config steps are there.
     are_steps config steps (bytes_of_all steps) world event are there here
 
 happens_load : (config : Config) (steps : List Event) (world : World) (event : Event) → AreNodes config.nodes → world ≡ run_steps (start config) steps
-    → load (links_of config.nodes) (happens world event) ≤ load (links_of config.nodes) world + 2 * bytes_of event
+    → load (links_of config.nodes) (happens world event) ≤ load (links_of config.nodes) world + 2 * bytes_brought event
 unfolding happens
 happens_load config steps world (Flow count) are there = omega (arith, flow_ends config steps count world are there)
 happens_load config steps world event are there = step_load config steps world event are there
@@ -323,11 +323,11 @@ all_from config steps sent world (event ∷ events) are there few =
     let made = event_made world event in
     let later : happens world event ≡ run_steps (start config) (steps ++ its) =
     made ∙ ap (λ w. run_steps w its) there ∙ sym (run_steps-append (start config) steps its) in
-    let next : load (links_of config.nodes) (happens world event) ≤ 2 * (sent + bytes_of event) =
+    let next : load (links_of config.nodes) (happens world event) ≤ 2 * (sent + bytes_brought event) =
     omega (arith, few, happens_load config steps world event are there) in
     an_event sent world event events its (unrolled (happens world event) events) (are_steps config steps sent world event are there few)
-    (subst (λ w. AreStepsOfAll (links_of config.nodes) (sent + bytes_of event) w events (unrolled (happens world event) events)) made
-    (all_from config (steps ++ its) (sent + bytes_of event) (happens world event) events are later next))
+    (subst (λ w. AreStepsOfAll (links_of config.nodes) (sent + bytes_brought event) w events (unrolled (happens world event) events)) made
+    (all_from config (steps ++ its) (sent + bytes_brought event) (happens world event) events are later next))
 
 -- the steps of a run are those of its events
 pub are_steps_of_all : (config : Config) (events : List Event) → AreNodes config.nodes

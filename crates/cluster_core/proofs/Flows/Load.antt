@@ -15,10 +15,10 @@ use Rattle.front_core.specs.declared.connection.Stage.TheVariants.{Reading, Aske
 use Rattle.front_core.specs.declared.front.Front.{Front}
 use Rattle.front_core.specs.Answered.{answer_by, answer_comes, need_behind, finished_in, reading_again}
 use Rattle.front_core.specs.Ended.{released, released_at}
-use Rattle.front_core.specs.Front.{Stepped, connection_at, new_connection, connect_at, connect, having_read, bytes_by, bytes_at, bytes_in, with_turned}
-use Rattle.front_core.specs.Front.{hang_at, hang, hung_up, answer_at, deliver as take_message}
+use Rattle.front_core.specs.Front.{Stepped, connection_at, new_connection, connect_at, connect, having_read, bytes_by, front_bytes_at, bytes_in, with_turned}
+use Rattle.front_core.specs.Front.{front_hang_at, hang, hung_up, answer_at, deliver as take_message}
 use Rattle.front_core.specs.Reading.{inputs_of_more}
-use Rattle.front_core.specs.Taken.{Turned, answers, answers_last, need_in, request_in, input_in, comes_at, input_comes, inputs_come}
+use Rattle.front_core.specs.Taken.{Turned, answers_now, answers_last, turned_by_need, request_in, input_in, comes_at, input_comes, inputs_come}
 use Rattle.front_core.proofs.ReadingLaws.{inputs_of_more-length}
 use Rattle.imap_talk.specs.declared.inputs.Input.{Input}
 use Rattle.imap_talk.specs.declared.inputs.Input.TheVariants.{GoesOn, Asks, Faults}
@@ -42,11 +42,12 @@ use Rattle.mur_model.specs.declared.session.Sess.TheVariants.{Ended as session_e
 use Rattle.mur_model.specs.declared.session.Turn.{Turn}
 use Rattle.mur_model.specs.declared.setting.Setting.{Setting}
 use Rattle.mur_model.specs.Act.{session_after}
-use Rattle.session_core.specs.declared.need.Need.{Need}
-use Rattle.session_core.specs.declared.need.Need.TheVariants as needs
+use Rattle.mur_model.specs.declared.need.Need.{Need}
+use Rattle.mur_model.specs.declared.need.Need.TheVariants as needs
 use Rattle.session_core.specs.Begin.{begin}
 use Rattle.session_core.specs.Finish.{finished_by, turn_of}
-use Rattle.session_core.specs.Need.{told}
+use Rattle.mur_model.specs.Need.{told_with}
+use Rattle.session_core.specs.Need.{told_reply}
 use Rattle.cluster_core.specs.declared.world.World.{World}
 use Rattle.link_queue.specs.Links.{Links, same_link, on_link, sent, without_first}
 use Rattle.mur_config.proofs.OncePairs.{times}
@@ -234,14 +235,14 @@ abbrev turned_load : Turned → ℕ
 turned_load turned = outs_load turned.outs + connection_load turned.connection
 
 module _ (setting : Setting) (home : List ℕ) (conn : ℕ) where
-  need_load : (c : Connection) (tag : Tag) (need : Need) → turned_load (need_in home conn c tag need) ≤ connection_load c + 2
-  unfolding need_in answers answers_last outs_load out_load message_load
+  need_load : (c : Connection) (tag : Tag) (need : Need) → turned_load (turned_by_need home conn c tag need) ≤ connection_load c + 2
+  unfolding turned_by_need answers_now answers_last outs_load out_load message_load
   need_load c tag (needs.Reply reply) = omega arith
   need_load c tag (needs.Leave reply) = omega arith
   need_load c tag (needs.Home name asking) = omega arith
 
   request_load : (c : Connection) (request : Request) → turned_load (request_in setting home conn c request) ≤ connection_load c + 2
-  unfolding request_in answers outs_load out_load
+  unfolding request_in answers_now outs_load out_load
   request_load c (a_command tag it) =
       let behind = begin setting c.session it in need_load (record c { session = behind.session }) tag behind.need
   request_load c (unknown tag) = omega arith
@@ -277,9 +278,9 @@ module _ (setting : Setting) (home : List ℕ) (conn : ℕ) where
 
   -- an answer: the inputs that waited come, and nothing more is asked
   told_load : (c : Connection) (tag : Tag) (reply : Reply) (later : Option Sess)
-      → turned_load (need_behind setting home conn (record c { session = (told c.session reply later).session }) tag (Some (told c.session reply later).need))
+      → turned_load (need_behind setting home conn (record c { session = (told_reply c.session reply later).session }) tag (Some (told_reply c.session reply later).need))
       ≤ connection_load c
-  unfolding told outs_load out_load
+  unfolding told_with outs_load out_load
   told_load c tag reply (Some session_ended) = omega arith
   told_load c tag reply later =
       omega (arith, inputs_load (reading_again (record c { session = session_after c.session later })) c.waiting)
@@ -293,7 +294,7 @@ module _ (setting : Setting) (home : List ℕ) (conn : ℕ) where
   answer_load_by : (c : Connection) (answer : BackAnswer) (fits : Bool) (stage : Stage)
       → turned_load (answer_by setting home conn c answer fits stage) ≤ connection_load c
   unfolding answer_by outs_load
-  answer_load_by c answer true (Asked tag awaited) = finished_load c tag (turn_of awaited answer.body)
+  answer_load_by c answer true (Asked tag awaited) = finished_load c tag (turn_of c.session awaited answer.body)
   answer_load_by c answer true Reading = omega arith
   answer_load_by c answer true Ended = omega arith
   answer_load_by c answer false stage = omega arith
@@ -359,8 +360,8 @@ bytes_by_brings front conn bytes c Reading there = read_brings front conn bytes 
 bytes_by_brings front conn bytes c (Asked tag awaited) there = read_brings front conn bytes c there
 
 bytes_at_brings : (front : Front) (conn : ℕ) (bytes : List ℕ) (found : Option Connection) → connection_at front conn ≡ found
-    → Brings front (bytes_at front conn bytes found) (2 * length bytes)
-unfolding bytes_at outs_load
+    → Brings front (front_bytes_at front conn bytes found) (2 * length bytes)
+unfolding front_bytes_at outs_load
 bytes_at_brings front conn bytes None there = omega arith
 bytes_at_brings front conn bytes (Some c) there = bytes_by_brings front conn bytes c c.stage there
 
@@ -368,8 +369,8 @@ pub bytes_bring : (front : Front) (conn : ℕ) (bytes : List ℕ) → Brings fro
 unfolding bytes_in
 bytes_bring front conn bytes = bytes_at_brings front conn bytes (connection_at front conn) refl
 
-hang_by : (front : Front) (conn : ℕ) (found : Option Connection) → connection_at front conn ≡ found → front_load (hang_at front conn found) ≤ front_load front
-unfolding hang_at
+hang_by : (front : Front) (conn : ℕ) (found : Option Connection) → connection_at front conn ≡ found → front_load (front_hang_at front conn found) ≤ front_load front
+unfolding front_hang_at
 hang_by front conn None there = omega arith
 hang_by front conn (Some c) there = omega (arith, set_load connection_load nat_cmp front.connections conn c (hung_up c) there)
 

@@ -21,13 +21,13 @@ use Rattle.mur_config.specs.Nodes.{AreNodes, links_of}
 use Rattle.mur_model.specs.declared.setting.Setting.{Setting}
 use Rattle.schedule_text.specs.declared.event.Event.{Event}
 use Rattle.schedule_text.specs.declared.event.Event.TheVariants.{Open, Data, Hang, Deliver}
-use Rattle.schedule_text.specs.Brings.{bytes_of, bytes_of_all}
+use Rattle.schedule_text.specs.Brings.{bytes_brought, bytes_of_all}
 use Rattle.cluster_core.specs.declared.world.Client.{Client as ClientOf}
 use Rattle.cluster_core.specs.declared.world.World.{World}
 use Rattle.cluster_core.specs.Flow.{run_steps}
 use Rattle.link_queue.specs.Links.{on_link}
 use Rattle.cluster_core.specs.World.{client_at, front_at, home_at, given_more, carry, carry_all, with_front, with_home, with_client, open_at, opens, bytes_at}
-use Rattle.cluster_core.specs.World.{bytes_from, hang_at, hangs, input_of, home_takes, comes_to_home, comes_to, taken, deliver_first, takes, stepped}
+use Rattle.cluster_core.specs.World.{bytes_from, hang_at, hangs, input_of, home_takes, comes_to_home, comes_to, taken_from_link, deliver_first, takes, stepped}
 use Rattle.cluster_core.specs.World.{steps_by, start, with_node, with_nodes}
 use Rattle.cluster_core.proofs.Flows.Load.{message_load, queue_load, out_load, outs_load, links_load, entries_load, front_load, load, set_load, enter_load}
 use Rattle.cluster_core.proofs.Flows.Load.{send_load, take_load, Brings, connect_brings, bytes_bring, hang_load, message_brings, plan_load}
@@ -152,7 +152,7 @@ module _ (pairs : List Link) (once : (from to : List ℕ) → times from to pair
   deliver_falls world from to message rest among e =
       omega (
         arith,
-        comes_falls (taken world from to) from to message (front_at world to) refl,
+        comes_falls (taken_from_link world from to) from to message (front_at world to) refl,
         take_load world.links from to message rest pairs e among.0 among.1 among.2,
       )
 
@@ -175,7 +175,7 @@ module _ (pairs : List Link) (once : (from to : List ℕ) → times from to pair
   deliver_load world from to (message ∷ rest) e on =
       omega (
         arith,
-        comes_falls (taken world from to) from to message (front_at world to) refl,
+        comes_falls (taken_from_link world from to) from to message (front_at world to) refl,
         take_load world.links from to message rest pairs e (on message rest e).0 (on message rest e).1 (on message rest e).2,
       )
 
@@ -183,8 +183,8 @@ module _ (pairs : List Link) (once : (from to : List ℕ) → times from to pair
   takes_load : (world : World) (event : Event)
       → ((from to : List ℕ) (message : LinkMsg) (rest : List LinkMsg) → on_link world.links from to ≡ message ∷ rest
       → Contains pairs (record { from = from; to = to }))
-      → load pairs (takes world event) ≤ load pairs world + 2 * bytes_of event
-  unfolding takes bytes_of
+      → load pairs (takes world event) ≤ load pairs world + 2 * bytes_brought event
+  unfolding takes bytes_brought
   takes_load world (Open node conn) on = omega (arith, opens_load world node conn (client_at world conn))
   takes_load world (Data conn bytes) on = data_load world conn bytes (client_at world conn)
   takes_load world (Hang conn) on = omega (arith, hangs_load world conn (client_at world conn))
@@ -228,7 +228,7 @@ start_load config pairs = omega (arith, fronts_load config, ap (λ l. links_load
 -- the steps of a run
 
 pub step_load : (config : Config) (steps : List Event) (world : World) (event : Event) → AreNodes config.nodes → world ≡ run_steps (start config) steps
-    → load (links_of config.nodes) (steps_by world event) ≤ load (links_of config.nodes) world + 2 * bytes_of event
+    → load (links_of config.nodes) (steps_by world event) ≤ load (links_of config.nodes) world + 2 * bytes_brought event
 step_load config steps world event are there =
     takes_load (links_of config.nodes) (pairs_once config.nodes are) (stepped world) event
     (λ from to message rest e. on_pairs config steps are from to message rest (ap (λ (w : World). on_link w.links from to) (sym there) ∙ e))
@@ -240,6 +240,6 @@ steps_load config before [] world sent are there h = omega (arith, h)
 steps_load config before (event ∷ steps) world sent are there h =
     let later : steps_by world event ≡ run_steps (start config) (before ++ event ∷ []) =
     ap (λ w. steps_by w event) there ∙ sym (run_steps-append (start config) before (event ∷ [])) in
-    let next : load (links_of config.nodes) (steps_by world event) ≤ 2 * (sent + bytes_of event) =
+    let next : load (links_of config.nodes) (steps_by world event) ≤ 2 * (sent + bytes_brought event) =
     omega (arith, h, step_load config before world event are there) in
-    omega (arith, steps_load config (before ++ event ∷ []) steps (steps_by world event) (sent + bytes_of event) are later next)
+    omega (arith, steps_load config (before ++ event ∷ []) steps (steps_by world event) (sent + bytes_brought event) are later next)

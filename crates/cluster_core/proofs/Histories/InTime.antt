@@ -20,7 +20,7 @@ use Rattle.cluster_core.specs.declared.world.World.{World}
 use Rattle.cluster_core.specs.Flow.{run_steps}
 use Rattle.link_queue.specs.Links.{on_link}
 use Rattle.cluster_core.specs.World.{client_at, front_at, home_at, given_more, carry, carry_all, with_front, with_client, open_at, opens, bytes_at}
-use Rattle.cluster_core.specs.World.{bytes_from, hang_at, hangs, input_of, home_takes, comes_to_home, comes_to, taken, deliver_first, takes, stepped}
+use Rattle.cluster_core.specs.World.{bytes_from, hang_at, hangs, input_of, home_takes, comes_to_home, comes_to, taken_from_link, deliver_first, takes, stepped}
 use Rattle.cluster_core.specs.World.{steps_by}
 
 -- marks of one step, put behind others; the step stays
@@ -126,7 +126,7 @@ deliver_adds : (world : World) (from to : List ℕ) (queue : List LinkMsg) → A
 unfolding deliver_first
 deliver_adds world from to [] = adds_none world world refl refl
 deliver_adds world from to (message ∷ rest) =
-    adds_more world (taken world from to) _ (adds_none world _ refl refl) (comes_adds (taken world from to) from to message (front_at world to))
+    adds_more world (taken_from_link world from to) _ (adds_none world _ refl refl) (comes_adds (taken_from_link world from to) from to message (front_at world to))
 
 pub takes_adds : (world : World) (event : Event) → Adds world (takes world event)
 unfolding takes

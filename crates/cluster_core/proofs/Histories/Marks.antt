@@ -18,7 +18,7 @@ use Rattle.mur_model.specs.declared.session.Sess.{Sess}
 use Rattle.mur_model.specs.declared.setting.Setting.{Setting}
 use Rattle.mur_model.specs.declared.store.Store.{Store}
 use Rattle.mur_model.specs.Answer.{Answered, answer_of, MayTake}
-use Rattle.mur_model.specs.History.{Course, Talk, TalkGoesOn, Takes, numbered, with_session, carried_out, after, Follows, answers, loses, is_about}
+use Rattle.mur_model.specs.History.{Course, Talk, TalkGoesOn, Takes, numbered, with_session, carried_out, course_after, Follows, answers_its_command, loses, is_about}
 use Rattle.mur_model.specs.History.Follows.{no_points, a_reply, a_loss}
 use Rattle.mur_model.proofs.HistoryGrows.{one_up_to, takes_on, numbered_on}
 use Rattle.cluster_core.specs.declared.world.Mark.{Mark}
@@ -39,7 +39,7 @@ pub data Carries (setting : Setting) (talk : Talk) : Course → List Mark → Co
       → Takes setting talk course (conn_of mark) (command_of mark) request serial
       → numbered (talk.answers (conn_of mark)) (command_of mark) ≡ Some (carried_out setting course (conn_of mark) request serial).answer
       → (mark.counts ≡ IfAnswered → (carried_out setting course (conn_of mark) request serial).store ≡ course.store)
-      → Carries setting talk (after course (conn_of mark) (carried_out setting course (conn_of mark) request serial)) marks last
+      → Carries setting talk (course_after course (conn_of mark) (carried_out setting course (conn_of mark) request serial)) marks last
       → Carries setting talk course (mark ∷ marks) last
 
 pub carries_on : (setting : Setting) (talk longer : Talk) → TalkGoesOn talk longer → (first last : Course) (marks : List Mark)
@@ -55,7 +55,7 @@ pub carries_push : (setting : Setting) (talk : Talk) (first last : Course) (mark
     → Carries setting talk first marks last → Takes setting talk last (conn_of mark) (command_of mark) request serial
     → numbered (talk.answers (conn_of mark)) (command_of mark) ≡ Some (carried_out setting last (conn_of mark) request serial).answer
     → (mark.counts ≡ IfAnswered → (carried_out setting last (conn_of mark) request serial).store ≡ last.store)
-    → Carries setting talk first (marks ++ mark ∷ []) (after last (conn_of mark) (carried_out setting last (conn_of mark) request serial))
+    → Carries setting talk first (marks ++ mark ∷ []) (course_after last (conn_of mark) (carried_out setting last (conn_of mark) request serial))
 carries_push setting talk first last marks mark request serial (no_marks course) takes answer unless =
     a_mark course _ mark request serial [] takes answer unless (no_marks _)
 carries_push setting talk first last marks mark request serial (a_mark course end m r s rest its_takes its_answer its_unless later) takes answer unless =
@@ -175,7 +175,7 @@ with_session_elsewhere sessions conn session other ne = let apart : nat_eq other
 
 -- both carried out the same request
 agree_on : (course other : Course) (conn : ℕ) (one two : Answered) (marks : List Mark) → one ≡ two
-    → All (λ (m : Mark). other.sessions (conn_of m) ≡ course.sessions (conn_of m)) marks → Agrees marks (after course conn two) (after other conn one)
+    → All (λ (m : Mark). other.sessions (conn_of m) ≡ course.sessions (conn_of m)) marks → Agrees marks (course_after course conn two) (course_after other conn one)
 agree_on course other conn one two marks e all = record {
   store = ap (λ (a : Answered). a.store) e;
   sessions = λ k d h. same_with other.sessions course.sessions conn one.session two.session _ (ap (λ (a : Answered). a.session) e) (all k d h);
@@ -184,7 +184,7 @@ agree_on course other conn one two marks e all = record {
 -- one carried out a request that left the store as it was, of a connection that is in no later mark
 agree_still : (course other : Course) (conn : ℕ) (done : Answered) (marks : List Mark) → done.store ≡ course.store → other.store ≡ course.store
     → All (λ (m : Mark). other.sessions (conn_of m) ≡ course.sessions (conn_of m)) marks → All (λ (m : Mark). conn ≢ conn_of m) marks
-    → Agrees marks (after course conn done) other
+    → Agrees marks (course_after course conn done) other
 agree_still course other conn done marks still same all apart = record {
   store = same ∙ sym still;
   sessions = λ k d h. all k d h ∙ sym (with_session_elsewhere course.sessions conn done.session _ (apart k d h));
@@ -202,7 +202,7 @@ follows_by : (setting : Setting) (world : World) (talk : Talk) (told : ℕ → L
     → numbered (talk.answers (conn_of mark)) (command_of mark) ≡ Some (carried_out setting course (conn_of mark) request serial).answer
     → (mark.counts ≡ IfAnswered → (carried_out setting course (conn_of mark) request serial).store ≡ course.store)
     → Agrees (mark ∷ marks) course other → All (NoMore world mark) marks
-    → IsFollowed setting world (told_talk talk told) marks (after course (conn_of mark) (carried_out setting course (conn_of mark) request serial)) store
+    → IsFollowed setting world (told_talk talk told) marks (course_after course (conn_of mark) (carried_out setting course (conn_of mark) request serial)) store
     → (among : Bool) → nat_le (command_of mark) (answered_of world (conn_of mark)) ≡ among → (counts : Counts) → mark.counts ≡ counts
     → FollowsTo setting (told_talk talk told) other (points_by mark among counts ++ points_of_all world marks) store
 unfolding points_by
@@ -210,7 +210,7 @@ follows_by setting world talk told of same course other store mark request seria
     let in_told : command_of mark ≤ length (told (conn_of mark)) = subst (λ n. command_of mark ≤ n) (same (conn_of mark)) (grind (arith, nat_tests)) in
     let session = head_marks (λ (m : Mark). other.sessions (conn_of m) ≡ course.sessions (conn_of m)) mark marks agrees.sessions in
     let both = same_carried setting course other (conn_of mark) request serial agrees.store session in
-    let rest = later (after other (conn_of mark) (carried_out setting other (conn_of mark) request serial))
+    let rest = later (course_after other (conn_of mark) (carried_out setting other (conn_of mark) request serial))
     (agree_on course other (conn_of mark) _ _ marks both
     (tail_marks (λ (m : Mark). other.sessions (conn_of m) ≡ course.sessions (conn_of m)) mark marks agrees.sessions)) in
     record {
@@ -224,7 +224,7 @@ follows_by setting world talk told of same course other store mark request seria
     }
 follows_by setting world talk told of same course other store mark request serial marks takes answer unless agrees no_more later false h Always c =
     let session = head_marks (λ (m : Mark). other.sessions (conn_of m) ≡ course.sessions (conn_of m)) mark marks agrees.sessions in
-    let rest = later (after other (conn_of mark) (carried_out setting other (conn_of mark) request serial))
+    let rest = later (course_after other (conn_of mark) (carried_out setting other (conn_of mark) request serial))
     (agree_on course other (conn_of mark) _ _ marks (same_carried setting course other (conn_of mark) request serial agrees.store session)
     (tail_marks (λ (m : Mark). other.sessions (conn_of m) ≡ course.sessions (conn_of m)) mark marks agrees.sessions)) in
     record {
@@ -335,8 +335,8 @@ count_both p xs ys = sum_by-append (λ y. cond (p y) 1 0) xs ys
 answers_by : (world : World) (conn number : ℕ) (mark : Mark) → number ≤ answered_of world conn
     → (among : Bool) → nat_le (command_of mark) (answered_of world (conn_of mark)) ≡ among → (counts : Counts)
     → (at : Bool) → nat_eq (conn_of mark) conn ≡ at → (same : Bool) → nat_eq (command_of mark) number ≡ same
-    → count_by (is_about answers conn number) (points_by mark among counts) ≡ cond (at && same) 1 0
-unfolding points_by answers
+    → count_by (is_about answers_its_command conn number) (points_by mark among counts) ≡ cond (at && same) 1 0
+unfolding points_by answers_its_command
 answers_by world conn number mark low true h counts true a true s = rw (a, s) refl
 answers_by world conn number mark low true h counts true a false s = rw (a, s) refl
 answers_by world conn number mark low true h counts false a same s = rw a refl
@@ -349,12 +349,12 @@ answers_by world conn number mark low false h Always false a same s = refl
 answers_by world conn number mark low false h IfAnswered false a same s = refl
 
 pub answering_points : (world : World) (conn number : ℕ) (marks : List Mark) → number ≤ answered_of world conn
-    → count_by (is_about answers conn number) (points_of_all world marks) ≡ count_by (is_mark conn number) marks
+    → count_by (is_about answers_its_command conn number) (points_of_all world marks) ≡ count_by (is_mark conn number) marks
 unfolding points_of_all points_of
 answering_points world conn number [] low = refl
 answering_points world conn number (mark ∷ marks) low =
-    count_both (is_about answers conn number) (points_of world mark) (points_of_all world marks)
-    ∙ ap (λ n. n + count_by (is_about answers conn number) (points_of_all world marks))
+    count_both (is_about answers_its_command conn number) (points_of world mark) (points_of_all world marks)
+    ∙ ap (λ n. n + count_by (is_about answers_its_command conn number) (points_of_all world marks))
     (answers_by world conn number mark low (nat_le (command_of mark) (answered_of world (conn_of mark))) refl mark.counts (nat_eq (conn_of mark) conn) refl
     (nat_eq (command_of mark) number) refl)
     ∙ ap (λ n. cond (is_mark conn number mark) 1 0 + n) (answering_points world conn number marks low)

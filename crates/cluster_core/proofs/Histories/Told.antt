@@ -9,7 +9,7 @@ use Rattle.imap_types.specs.declared.request.Answer.{Answer}
 use Rattle.imap_types.specs.declared.request.Request.{Request}
 use Rattle.mur_model.specs.declared.setting.Setting.{Setting}
 use Rattle.mur_model.specs.Answer.{MayTake}
-use Rattle.mur_model.specs.History.{Course, Talk, GoesOn, TalkGoesOn, numbered, carried_out, after}
+use Rattle.mur_model.specs.History.{Course, Talk, GoesOn, TalkGoesOn, numbered, carried_out, course_after}
 use Rattle.mur_model.proofs.HistoryGrows.{same_lists, item_more}
 use Rattle.mur_model.proofs.Numbered.{with_item, with_item-other, length_with_item, numbered_new, with_item-lengths, with_item-longer}
 use Rattle.cluster_core.specs.declared.world.Mark.{Mark}
@@ -50,7 +50,7 @@ abbrev pub next_mark : ℕ → Talk → ℕ → Counts → Mark
 next_mark now talk conn counts = record { step = now; ask = record { conn = conn; command = length (talk.answers conn) + 1 }; counts = counts }
 
 abbrev pub next_course : Setting → Course → ℕ → Request → ℕ → Course
-next_course setting course conn request serial = after course conn (carried_out setting course conn request serial)
+next_course setting course conn request serial = course_after course conn (carried_out setting course conn request serial)
 
 pub told_push : (setting : Setting) (now : ℕ) (marks : List Mark) (home later_home : Backend) (talk : Talk) (course : Course) (conn : ℕ) (request : Request)
     (serial : ℕ) (counts : Counts)

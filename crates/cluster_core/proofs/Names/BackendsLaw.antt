@@ -18,7 +18,7 @@ use Rattle.mur_config.specs.Nodes.{AreNodes, is_node_named, node_named}
 use Rattle.cluster_core.specs.declared.world.World.{World}
 use Rattle.cluster_core.specs.Headline.Backends.{IsBackendOf, IsBackend}
 use Rattle.cluster_core.specs.Headline.OpenAt.{IsOpenAt, OpensAtOneNode}
-use Rattle.cluster_core.specs.Shown.{held_at}
+use Rattle.cluster_core.specs.Shown.{held_at_node}
 use Rattle.cluster_core.specs.World.{or_backend, backends_of, home_of, home_at}
 use Rattle.mur_config.proofs.NodesApart.{head_apart, tail_apart}
 use Rattle.cluster_core.proofs.Names.HomesLaw.{started, all_named, holds_none}
@@ -73,7 +73,7 @@ open_at_home : (config : Config) (world : World) (backend : Backend) (name node 
 open_at_home config world backend name node nodes is = ⊎_elim
     (λ (e : node ≡ home_of config). e)
     (λ (ne : node ≢ home_of config). absurd (
-    let none : value_at (slice_cmp nat_cmp) (held_at world node) name ≡ None =
+    let none : value_at (slice_cmp nat_cmp) (held_at_node world node) name ≡ None =
     holds_none config world backend node name nodes (λ e. ne (sym e)) (home_at world node) refl in
     let both : None ≡ Some is.held = sym none ∙ is.at in cc
     ))

@@ -17,7 +17,7 @@ use Rattle.mur_config.specs.Nodes.{AreNodes, links_of}
 use Rattle.cluster_core.specs.declared.world.World.{World}
 use Rattle.backend_core.specs.OpenBox.{open_content}
 use Rattle.cluster_core.specs.Headline.OneStore.{or_else, box_among, box_of_home, HasBoxesOf}
-use Rattle.cluster_core.specs.Shown.{held_by, row_if, rows_of}
+use Rattle.cluster_core.specs.Shown.{held_by, row_if, home_rows_of}
 use Rattle.cluster_core.specs.World.{no_world, or_backend, backends_of, home_of, setting_of, start, home_at}
 use Rattle.cluster_core.proofs.Connections.KeepsLaw.{AreNodesOf}
 use Rattle.serve_law.proofs.HomeStore.{IsStoreOf}
@@ -113,22 +113,22 @@ pub has_boxes : (config : Config) (world : World) (backend : Backend) (store : S
 has_boxes config world backend store are nodes same = λ name. same.boxes name ∙ sym (box_here config world backend name are nodes)
 
 rows_none : (config : Config) (world : World) (backend : Backend) (name : List ℕ) (names : List (List ℕ)) → AreNodesOf config world backend
-    → All (λ n. home_of config ≢ n) names → rows_of world name names ≡ []
-unfolding rows_of
+    → All (λ n. home_of config ≢ n) names → home_rows_of world name names ≡ []
+unfolding home_rows_of
 rows_none config world backend name [] nodes all = refl
 rows_none config world backend name (node ∷ names) nodes all =
-    ap (λ h. row_if name node h ++ rows_of world name names)
+    ap (λ h. row_if name node h ++ home_rows_of world name names)
     (holds_none config world backend node name nodes (All-head (λ n. home_of config ≢ n) node names all) (home_at world node) refl)
     ∙ rows_none config world backend name names nodes (All-tail (λ n. home_of config ≢ n) node names all)
 
 -- the rows of a name are the home's
 pub rows_here : (config : Config) (world : World) (backend : Backend) (name : List ℕ) → AreNodes config.nodes → AreNodesOf config world backend
-    → rows_of world name world.backends ≡ row_if name (home_of config) (value_at (slice_cmp nat_cmp) backend.held name)
-unfolding rows_of
+    → home_rows_of world name world.backends ≡ row_if name (home_of config) (value_at (slice_cmp nat_cmp) backend.held name)
+unfolding home_rows_of
 rows_here config world backend name are nodes =
     let first = home_first config world backend are nodes in
-    ap (rows_of world name) first.names
-    ∙ ap (λ h. row_if name (home_of config) (value_at (slice_cmp nat_cmp) (held_by h) name) ++ rows_of world name first.rest) nodes.home_is
+    ap (home_rows_of world name) first.names
+    ∙ ap (λ h. row_if name (home_of config) (value_at (slice_cmp nat_cmp) (held_by h) name) ++ home_rows_of world name first.rest) nodes.home_is
     ∙ ap (λ r. row_if name (home_of config) (value_at (slice_cmp nat_cmp) backend.held name) ++ r)
     (rows_none config world backend name first.rest nodes first.others)
     ∙ append-nil (row_if name (home_of config) (value_at (slice_cmp nat_cmp) backend.held name))

@@ -21,7 +21,7 @@ use Rattle.backend_core.specs.declared.held.Held.{Held}
 use Rattle.mur_base.specs.Map.{value_at}
 use Rattle.mur_base.proofs.MapLaws.{names_apart}
 use Rattle.cluster_core.specs.declared.world.World.{World}
-use Rattle.cluster_core.specs.Shown.{names_at, held_at}
+use Rattle.cluster_core.specs.Shown.{names_at, held_at_node}
 
 -- whether a name is this one
 abbrev pub is_name : List ℕ → List ℕ → Bool
@@ -105,7 +105,7 @@ pub names_rise : (world : World) (nodes names : List (List ℕ)) → IsStrictlyS
 unfolding names_at
 names_rise world [] names sorted = sorted
 names_rise world (node ∷ nodes) names sorted =
-    names_rise world nodes (fold (insert_key (slice_cmp nat_cmp)) names (keys_of (held_at world node))) (fold_rises (keys_of (held_at world node)) names sorted)
+    names_rise world nodes (fold (insert_key (slice_cmp nat_cmp)) names (keys_of (held_at_node world node))) (fold_rises (keys_of (held_at_node world node)) names sorted)
 
 pub nothing_rises : IsStrictlySortedBy (slice_cmp nat_cmp) []
 unfolding IsStrictlySortedBy
@@ -167,18 +167,18 @@ unfolding names_at
 names_keep world p [] names = omega arith
 names_keep world p (node ∷ nodes) names = omega (
   arith,
-  fold_keeps p (keys_of (held_at world node)) names,
-  names_keep world p nodes (fold (insert_key (slice_cmp nat_cmp)) names (keys_of (held_at world node))),
+  fold_keeps p (keys_of (held_at_node world node)) names,
+  names_keep world p nodes (fold (insert_key (slice_cmp nat_cmp)) names (keys_of (held_at_node world node))),
 )
 
 -- what the first node has is listed
-pub first_listed : (world : World) (name node : List ℕ) (nodes : List (List ℕ)) → 1 ≤ count_by (is_name name) (keys_of (held_at world node))
+pub first_listed : (world : World) (name node : List ℕ) (nodes : List (List ℕ)) → 1 ≤ count_by (is_name name) (keys_of (held_at_node world node))
     → 1 ≤ count_by (is_name name) (names_at world [] (node ∷ nodes))
 unfolding names_at
 first_listed world name node nodes some = omega (
   arith,
-  fold_has name (keys_of (held_at world node)) [] some,
-  names_keep world (is_name name) nodes (fold (insert_key (slice_cmp nat_cmp)) [] (keys_of (held_at world node))),
+  fold_has name (keys_of (held_at_node world node)) [] some,
+  names_keep world (is_name name) nodes (fold (insert_key (slice_cmp nat_cmp)) [] (keys_of (held_at_node world node))),
 )
 
 pub bytes_itself : (name : List ℕ) → bytes_eq name name ≡ true

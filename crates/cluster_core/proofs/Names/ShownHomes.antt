@@ -25,7 +25,7 @@ use Rattle.cluster_core.specs.Headline.Backends.{IsBackend}
 use Rattle.cluster_core.specs.Headline.HomeLaw.{is_writable_home}
 use Rattle.cluster_core.specs.Headline.Homes.{numbers_shown, numbers_of, IsHeldAt, ShowsBoxesOf}
 use Rattle.backend_core.specs.OpenBox.{open_box, open_content}
-use Rattle.cluster_core.specs.Shown.{held_at, held_by, home_row, row_if, rows_of, rows_of_all, names_at, home_rows}
+use Rattle.cluster_core.specs.Shown.{held_at_node, held_by, home_row, row_if, home_rows_of, rows_of_all, names_at, home_rows}
 use Rattle.cluster_core.specs.World.{home_of}
 use Rattle.cluster_core.proofs.Names.BackendsLaw.{are_backends}
 use Rattle.cluster_core.proofs.Names.HomesLaw.{home_first, rows_here}
@@ -64,7 +64,7 @@ module _ (config : Config) (world : World) (backend : Backend) (are : AreNodes c
   homes_first : (other : List ℕ) (names : List (List ℕ)) → homes_among (other ∷ names) ≡ homes_of other ++ homes_among names
   unfolding rows_of_all
   homes_first other names =
-      filter_both (is_writable_home name) (rows_of world other world.backends) (rows_of_all world names)
+      filter_both (is_writable_home name) (home_rows_of world other world.backends) (rows_of_all world names)
       ∙ ap (λ rows. filter (is_writable_home name) rows ++ homes_among names) (rows_here config world backend other are nodes)
 
   not_first : (other : List ℕ) (names : List (List ℕ)) → bytes_eq other name ≡ false → homes_among (other ∷ names) ≡ homes_among names
@@ -148,19 +148,19 @@ same_numbers name node (Some held) = numbers_by name node held.phase held.conten
 -- ---- what a row tells, its backend has
 
 row_at : (config : Config) (world : World) (name node : List ℕ) (found : Option Held) → IsBackend config node
-    → value_at (slice_cmp nat_cmp) (held_at world node) name ≡ found → All (IsHeldAt config world) (row_if name node found)
+    → value_at (slice_cmp nat_cmp) (held_at_node world node) name ≡ found → All (IsHeldAt config world) (row_if name node found)
 row_at config world name node None is at = All-nil (IsHeldAt config world)
 row_at config world name node (Some held) is at =
     All-cons (IsHeldAt config world) (home_row name node held) [] (record { backend = is; held = held; at = at; phase = refl; numbers = refl })
     (All-nil (IsHeldAt config world))
 
 rows_at : (config : Config) (world : World) (name : List ℕ) (nodes : List (List ℕ)) → All (IsBackend config) nodes
-    → All (IsHeldAt config world) (rows_of world name nodes)
-unfolding rows_of
+    → All (IsHeldAt config world) (home_rows_of world name nodes)
+unfolding home_rows_of
 rows_at config world name [] are = All-nil (IsHeldAt config world)
 rows_at config world name (node ∷ nodes) are =
-    let found = value_at (slice_cmp nat_cmp) (held_at world node) name in
-    All-append (IsHeldAt config world) (row_if name node found) (rows_of world name nodes)
+    let found = value_at (slice_cmp nat_cmp) (held_at_node world node) name in
+    All-append (IsHeldAt config world) (row_if name node found) (home_rows_of world name nodes)
     (row_at config world name node found (All-head (IsBackend config) node nodes are) refl)
     (rows_at config world name nodes (All-tail (IsBackend config) node nodes are))
 
@@ -169,7 +169,7 @@ all_at : (config : Config) (world : World) (names : List (List ℕ)) → All (Is
 unfolding rows_of_all
 all_at config world [] are = All-nil (IsHeldAt config world)
 all_at config world (name ∷ names) are =
-    All-append (IsHeldAt config world) (rows_of world name world.backends) (rows_of_all world names) (rows_at config world name world.backends are)
+    All-append (IsHeldAt config world) (home_rows_of world name world.backends) (rows_of_all world names) (rows_at config world name world.backends are)
     (all_at config world names are)
 
 pub shows_boxes : (config : Config) (world : World) (backend : Backend) (store : Store) → AreNodes config.nodes → AreNodesOf config world backend

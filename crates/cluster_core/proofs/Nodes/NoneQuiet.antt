@@ -11,10 +11,10 @@ use Rattle.front_core.specs.declared.connection.Stage.{Stage}
 use Rattle.front_core.specs.declared.connection.Stage.TheVariants.{Reading, Asked, Ended}
 use Rattle.front_core.specs.declared.front.Front.{Front}
 use Rattle.front_core.specs.Answered.{answer_by, answer_comes, need_behind, reading_again}
-use Rattle.front_core.specs.Front.{Stepped, connection_at, connect_at, connect, having_read, bytes_by, bytes_at as front_bytes, bytes_in}
+use Rattle.front_core.specs.Front.{Stepped, connection_at, connect_at, connect, having_read, bytes_by, front_bytes_at as front_bytes, bytes_in}
 use Rattle.front_core.specs.Front.{answer_at, deliver as take_message}
 use Rattle.front_core.specs.Reading.{inputs_of_more}
-use Rattle.front_core.specs.Taken.{answers, answers_last, need_in, request_in, input_in, comes_at, input_comes, inputs_come}
+use Rattle.front_core.specs.Taken.{answers_now, answers_last, turned_by_need, request_in, input_in, comes_at, input_comes, inputs_come}
 use Rattle.imap_talk.specs.declared.inputs.Input.{Input}
 use Rattle.imap_talk.specs.declared.inputs.Input.TheVariants.{GoesOn, Asks, Faults}
 use Rattle.link_msg.specs.declared.answer.AnswerBody.{AnswerBody}
@@ -29,8 +29,8 @@ use Rattle.imap_types.specs.declared.command.Tag.{Tag}
 use Rattle.imap_types.specs.declared.request.Request.{Request}
 use Rattle.imap_types.specs.declared.request.Request.TheVariants.{Command as a_command, Unknown as unknown, TooBig as too_big}
 use Rattle.mur_model.specs.declared.setting.Setting.{Setting}
-use Rattle.session_core.specs.declared.need.Need.{Need}
-use Rattle.session_core.specs.declared.need.Need.TheVariants as needs
+use Rattle.mur_model.specs.declared.need.Need.{Need}
+use Rattle.mur_model.specs.declared.need.Need.TheVariants as needs
 use Rattle.session_core.specs.Begin.{begin}
 use Rattle.session_core.specs.Finish.{finish}
 use Rattle.schedule_text.specs.declared.event.Event.{Event}
@@ -41,7 +41,7 @@ use Rattle.cluster_core.specs.Headline.Carried.{is_ask_or_answer}
 use Rattle.cluster_core.specs.Flow.{run_steps}
 use Rattle.link_queue.specs.Links.{Links, on_link}
 use Rattle.cluster_core.specs.World.{client_at, front_at, home_at, given_more, carry, carry_all, with_front, with_client, open_at, opens, bytes_at}
-use Rattle.cluster_core.specs.World.{bytes_from, hang_at, hangs, input_of, home_takes, comes_to_home, comes_to, taken, deliver_first, takes, stepped}
+use Rattle.cluster_core.specs.World.{bytes_from, hang_at, hangs, input_of, home_takes, comes_to_home, comes_to, taken_from_link, deliver_first, takes, stepped}
 use Rattle.cluster_core.specs.World.{steps_by}
 use Rattle.link_queue.proofs.OnWay.{IsOnWay, another_sent, another_taken, none_first}
 
@@ -74,15 +74,15 @@ are_both (out ∷ one) two a b = (a.0, are_both one two a.1 b)
 
 -- the outputs of a frontend
 
-need_not_quiet : (home : List ℕ) (conn : ℕ) (connection : Connection) (tag : Tag) (need : Need) → AreNotQuiet (need_in home conn connection tag need).outs
-unfolding need_in answers answers_last quiet_in
+need_not_quiet : (home : List ℕ) (conn : ℕ) (connection : Connection) (tag : Tag) (need : Need) → AreNotQuiet (turned_by_need home conn connection tag need).outs
+unfolding turned_by_need answers_now answers_last quiet_in
 need_not_quiet home conn connection tag (needs.Reply reply) = (tt, (tt, tt))
 need_not_quiet home conn connection tag (needs.Leave reply) = (tt, (tt, (tt, tt)))
 need_not_quiet home conn connection tag (needs.Home name asking) = (refl, tt)
 
 request_not_quiet : (setting : Setting) (home : List ℕ) (conn : ℕ) (connection : Connection) (request : Request)
     → AreNotQuiet (request_in setting home conn connection request).outs
-unfolding request_in answers
+unfolding request_in answers_now
 request_not_quiet setting home conn connection (a_command tag it) =
     let behind = begin setting connection.session it in need_not_quiet home conn (record connection { session = behind.session }) tag behind.need
 request_not_quiet setting home conn connection (unknown tag) = (tt, (tt, tt))
@@ -285,7 +285,7 @@ pub first_serves : (links : Links LinkMsg) (from to : List ℕ) (message : LinkM
 first_serves links from to message rest e only = asks_or_answers message (first_not_quiet links from to message rest e only)
 
 taken_keeps : (world : World) (from to : List ℕ) (message : LinkMsg) (rest : List LinkMsg) → on_link world.links from to ≡ message ∷ rest
-    → KeepsNoneQuiet world (taken world from to)
+    → KeepsNoneQuiet world (taken_from_link world from to)
 taken_keeps world from to message rest e = record {
   pairs = refl;
   none_quiet = λ only. another_taken quiet_in world.links [] [] from to message rest [] e (first_not_quiet world.links from to message rest e only) only;
@@ -296,7 +296,7 @@ deliver_keeps : (world : World) (from to : List ℕ) (queue : List LinkMsg) → 
 unfolding deliver_first
 deliver_keeps world from to [] e = same_links world world refl refl
 deliver_keeps world from to (message ∷ rest) e =
-    keeps_on world (taken world from to) _ (taken_keeps world from to message rest e) (comes_keep (taken world from to) from to message (front_at world to))
+    keeps_on world (taken_from_link world from to) _ (taken_keeps world from to message rest e) (comes_keep (taken_from_link world from to) from to message (front_at world to))
 
 takes_keeps : (world : World) (event : Event) → KeepsNoneQuiet world (takes world event)
 unfolding takes

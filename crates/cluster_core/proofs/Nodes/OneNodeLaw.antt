@@ -25,7 +25,7 @@ use Rattle.cluster_core.specs.Flow.{run_steps}
 use Rattle.link_queue.specs.Links.{Links, same_link, on_link, without_first}
 use Rattle.cluster_core.specs.Headline.OneNode.{node_of, worker, connected, leaves_on, WasSent, OnlyWorks, WorksBy, OneNodeWorks, OneNodeWorksEach}
 use Rattle.cluster_core.specs.World.{client_at, front_at, home_at, given_more, carry, carry_all, with_front, with_client, open_at, opens, bytes_at}
-use Rattle.cluster_core.specs.World.{bytes_from, hang_at, hangs, input_of, home_takes, comes_to_home, comes_to, taken, deliver_first, takes, stepped, steps_by}
+use Rattle.cluster_core.specs.World.{bytes_from, hang_at, hangs, input_of, home_takes, comes_to_home, comes_to, taken_from_link, deliver_first, takes, stepped, steps_by}
 use Rattle.cluster_core.proofs.Histories.InTime.{takes_adds}
 use Rattle.link_queue.proofs.Wires.{same_names, on_link-sent, on_link-taken}
 
@@ -161,7 +161,7 @@ idle event node world clients none there = record {
 }
 
 -- a message is taken at the node that it goes to
-takes_first : (from to : List ℕ) (world : World) → OnlyWorks (Deliver from to) to world (taken world from to)
+takes_first : (from to : List ℕ) (world : World) → OnlyWorks (Deliver from to) to world (taken_from_link world from to)
 takes_first from to world = record {
   fronts = λ other ne. refl;
   homes = λ other ne. refl;
@@ -319,7 +319,7 @@ deliver_works : (world : World) (from to : List ℕ) (queue : List LinkMsg) → 
 unfolding deliver_first
 deliver_works world from to [] first = takes_nothing from to world first
 deliver_works world from to (message ∷ rest) first =
-    comes_works (Deliver from to) world (taken world from to) from to message (front_at world to) (takes_first from to world)
+    comes_works (Deliver from to) world (taken_from_link world from to) from to message (front_at world to) (takes_first from to world)
 
 takes_works : (world : World) (event : Event) → WorksBy event (worker world event) world (takes world event)
 unfolding takes

@@ -37,7 +37,7 @@ use Rattle.cluster_core.specs.Heard.{heard_from}
 use Rattle.link_queue.specs.Links.{Links, on_link}
 use Rattle.cluster_core.specs.Headline.OneNode.{node_of, ServesItsOwn, ServesItsOwnEach, ServesItsOwnBehind}
 use Rattle.cluster_core.specs.World.{start, home_of, setting_of, client_at, front_at, home_at, given_more, carry, carry_all, with_front, with_home, with_client}
-use Rattle.cluster_core.specs.World.{open_at, opens, bytes_at, bytes_from, hang_at, hangs, input_of, home_takes, comes_to_home, comes_to, taken, deliver_first}
+use Rattle.cluster_core.specs.World.{open_at, opens, bytes_at, bytes_from, hang_at, hangs, input_of, home_takes, comes_to_home, comes_to, taken_from_link, deliver_first}
 use Rattle.cluster_core.specs.World.{takes, stepped, steps_by}
 use Rattle.cluster_core.proofs.Connections.ConnectionLaw.{Story}
 use Rattle.front_core.proofs.OneConnection.Standing.{OnItsWay, Stands, IsLeft}
@@ -184,7 +184,7 @@ deliver_own : (world : World) (from to : List ℕ) (queue : List LinkMsg) → on
 unfolding deliver_first
 deliver_own world from to [] first own other client at ne = at
 deliver_own world from to (message ∷ rest) first own other client at ne =
-    comes_serve (taken world from to) from to message (front_at world to) other
+    comes_serve (taken_from_link world from to) from to message (front_at world to) other
     (λ answer is. λ e. ne (ap (λ node. Some node) (sym (own answer rest client (first ∙ ap (λ m. m ∷ rest) is) (ap (client_at world) (sym e) ∙ at)))))
     ∙ at
 

@@ -12,7 +12,7 @@ use Rattle.cluster_core.specs.declared.world.World.{World}
 use Rattle.cluster_core.specs.Flow.{run, unrolled}
 use Rattle.cluster_core.specs.Headline.{IsOneServer}
 use Rattle.cluster_core.specs.History.{history_of}
-use Rattle.cluster_core.specs.Headline.HomeLaw.{HasCause, RefusesForCause}
+use Rattle.cluster_core.specs.Headline.HomeLaw.{HasRelocationCause, RefusesForCause}
 use Rattle.cluster_core.specs.World.{start}
 use Rattle.cluster_core.proofs.Flows.FlowRests.{are_steps_of_all}
 use Rattle.cluster_core.proofs.OneServer.ClosedLaw.{gives_no_more}
@@ -23,15 +23,15 @@ use Rattle.cluster_core.proofs.Nodes.OwnClientsLaw.{serves_its_own_each}
 use Rattle.cluster_core.proofs.OneServer.ToldSoFar.{told_by_one_store}
 use Rattle.cluster_core.proofs.Runs.Unrolled.{by_steps}
 
-has_cause : (world : World) (mark : Mark) (point : Point) → IsOf world mark point → HasCause point.what
-has_cause world mark point is = ⊎_elim (λ both. subst HasCause (sym both.0) tt) (λ lost. subst HasCause (sym lost) tt) is.either
+has_cause : (world : World) (mark : Mark) (point : Point) → IsOf world mark point → HasRelocationCause point.what
+has_cause world mark point is = ⊎_elim (λ both. subst HasRelocationCause (sym both.0) tt) (λ lost. subst HasRelocationCause (sym lost) tt) is.either
 
 anything : (world : World) (marks : List Mark) → All (λ (mark : Mark). mark ≡ mark) marks
 anything world marks = λ k d h. refl
 
 refuses : (world : World) → RefusesForCause world
 unfolding history_of
-refuses world = all_points world (λ (mark : Mark). mark ≡ mark) (λ (point : Point). HasCause point.what)
+refuses world = all_points world (λ (mark : Mark). mark ≡ mark) (λ (point : Point). HasRelocationCause point.what)
     (λ mark point same is. has_cause world mark point is) world.marks (anything world world.marks)
 
 pub one_server : (config : Config) (events : List Event) → AreNodes config.nodes → IsDate config.date → IsOneServer config events

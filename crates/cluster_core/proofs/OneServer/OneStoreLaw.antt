@@ -17,7 +17,7 @@ use Rattle.mur_base.specs.declared.point.Point.{Point}
 use Rattle.imap_types.specs.declared.request.Answer.{Answer}
 use Rattle.mur_model.specs.declared.setting.Setting.{Setting}
 use Rattle.mur_model.specs.declared.store.Store.{Store}
-use Rattle.mur_model.specs.History.{Course, Talk, IsLegal, IsInOrder, EndsAtLoss, IsUnanswered, loses, reads}
+use Rattle.mur_model.specs.History.{Course, Talk, IsLegal, IsInCommandOrder, EndsAtLoss, IsUnanswered, loses, reads}
 use Rattle.mur_model.proofs.HistoryGrows.{one_up_to}
 use Rattle.imap_talk.specs.Inputs.{inputs_of, requests_in}
 use Rattle.front_core.proofs.OneConnection.Readings.{inputs_in}
@@ -258,7 +258,7 @@ legal_history setting world story home told counts so =
             told.numbers;
         never_read = all_points world (λ (m : Mark). command_of m ≤ length (story.talk.answers (conn_of m))) (λ (point : Point). reads point.what ≡ false)
             (λ mark point bound is. no_read world mark point is) world.marks told.numbers;
-        in_order = pairs_of_points world Later (λ (m : Mark). command_of m ≤ length (story.talk.answers (conn_of m))) IsInOrder
+        in_order = pairs_of_points world Later (λ (m : Mark). command_of m ≤ length (story.talk.answers (conn_of m))) IsInCommandOrder
             (λ earlier later one other behind bound is at. in_order_by world earlier later one other behind is at) world.marks told.later told.numbers;
       };
     }

@@ -22,12 +22,12 @@ use Rattle.mur_config.specs.declared.node.Node.{Node}
 use Rattle.mur_model.specs.declared.setting.Setting.{Setting}
 use Rattle.schedule_text.specs.declared.event.Event.{Event}
 use Rattle.schedule_text.specs.declared.event.Event.TheVariants.{Open, Data, Hang, Deliver, Flow, Heal}
-use Rattle.schedule_text.specs.Brings.{steps_of, bytes_of}
+use Rattle.schedule_text.specs.Brings.{steps_of, bytes_brought}
 use Rattle.cluster_core.specs.declared.world.Client.{Client}
 use Rattle.cluster_core.specs.declared.world.World.{World}
 use Rattle.cluster_core.specs.World.{start, with_node, with_nodes, client_at, front_at, home_at, carry_all, with_front}
 use Rattle.cluster_core.specs.World.{with_client}
-use Rattle.cluster_core.specs.World.{open_at, opens, bytes_at, bytes_from, hang_at, hangs, input_of, home_takes, comes_to_home, comes_to, taken, deliver_first}
+use Rattle.cluster_core.specs.World.{open_at, opens, bytes_at, bytes_from, hang_at, hangs, input_of, home_takes, comes_to_home, comes_to, taken_from_link, deliver_first}
 use Rattle.cluster_core.specs.World.{takes, stepped, steps_by}
 use Rattle.link_queue.specs.Links.{on_link}
 use Rattle.cluster_core.specs.Room.{HaveCommands, HasRoom}
@@ -132,10 +132,10 @@ comes_commands world from to message n (Some front) there have =
 first_commands : (world : World) (from to : List ℕ) (queue : List LinkMsg) (n : ℕ) → HaveCommands world n → HaveCommands (deliver_first world from to queue) n
 unfolding deliver_first
 first_commands world from to [] n have = have
-first_commands world from to (message ∷ rest) n have = comes_commands (taken world from to) from to message n (front_at world to) refl have
+first_commands world from to (message ∷ rest) n have = comes_commands (taken_from_link world from to) from to message n (front_at world to) refl have
 
-takes_commands : (world : World) (event : Event) (n : ℕ) → HaveCommands world n → HaveCommands (takes world event) (n + bytes_of event)
-unfolding takes bytes_of
+takes_commands : (world : World) (event : Event) (n : ℕ) → HaveCommands world n → HaveCommands (takes world event) (n + bytes_brought event)
+unfolding takes bytes_brought
 takes_commands world (Open node conn) n have =
     more_commands (opens world node conn (client_at world conn)) n (n + 0) (omega arith) (opens_commands world node conn n (client_at world conn) have)
 takes_commands world (Data conn bytes) n have = bytes_from_commands world conn bytes n (client_at world conn) have
@@ -146,7 +146,7 @@ takes_commands world (Deliver from to) n have =
     (first_commands world from to (on_link world.links from to) n have)
 takes_commands world event n have = more_commands world n (n + 0) (omega arith) have
 
-pub step_commands : (world : World) (event : Event) (n : ℕ) → HaveCommands world n → HaveCommands (steps_by world event) (n + bytes_of event)
+pub step_commands : (world : World) (event : Event) (n : ℕ) → HaveCommands world n → HaveCommands (steps_by world event) (n + bytes_brought event)
 step_commands world event n have = takes_commands (stepped world) event n have
 
 -- an event that is one step counts one
@@ -216,21 +216,21 @@ step_fits world event room = omega (arith, room.steps, one_step event)
 
 pub bytes_fit : (world : World) (conn : ℕ) (bytes node : List ℕ) (found : Option Front) → front_at world node ≡ found → HasRoom world (Data conn bytes)
     → IfSome found (λ front. HasRoomAt front conn (length bytes))
-unfolding bytes_of
+unfolding bytes_brought
 bytes_fit world conn bytes node None there room = tt
 bytes_fit world conn bytes node (Some front) there room =
     has_room_at front conn room.most (length bytes) (room.commands node front there) room.fits
 
 pub message_fits : (world : World) (from to : List ℕ) (message : LinkMsg) (found : Option Front) → front_at world to ≡ found → HasRoom world (Deliver from to)
     → IfSome found (λ front. HasRoomFor front message)
-unfolding bytes_of
+unfolding bytes_brought
 message_fits world from to message None there room = tt
 message_fits world from to message (Some front) there room =
     has_room_for front message room.most (room.commands to front there) (omega (arith, room.fits))
 
 -- a flow has room for a delivery, and for the others behind it
 pub turn_room : (world : World) (from to : List ℕ) (left : ℕ) → HasRoom world (Flow left) → HasRoom world (Deliver from to)
-unfolding steps_of bytes_of
+unfolding steps_of bytes_brought
 turn_room world from to left room = record {
   most = room.most;
   commands = room.commands;
@@ -240,10 +240,10 @@ turn_room world from to left room = record {
 
 pub later_room : (world : World) (from to : List ℕ) (left : ℕ) → left ≢ 0 → HasRoom world (Flow left)
     → HasRoom (steps_by world (Deliver from to)) (Flow (left - 1))
-unfolding steps_of bytes_of
+unfolding steps_of bytes_brought
 later_room world from to left some room = record {
   most = room.most;
-  commands = more_commands (steps_by world (Deliver from to)) (room.most + bytes_of (Deliver from to)) room.most (omega arith)
+  commands = more_commands (steps_by world (Deliver from to)) (room.most + bytes_brought (Deliver from to)) room.most (omega arith)
       (step_commands world (Deliver from to) room.most room.commands);
   fits = room.fits;
   steps = omega (arith, room.steps, some, step_steps world (Deliver from to));

@@ -5,11 +5,11 @@ use Rattle.mur_config.specs.declared.config.Config.{Config}
 use Rattle.mur_config.specs.declared.node.Link.{Link}
 use Rattle.schedule_text.specs.declared.event.Event.{Event}
 use Rattle.schedule_text.specs.declared.event.Event.TheVariants.{Deliver, Flow}
-use Rattle.schedule_text.specs.Brings.{steps_of, bytes_of, steps_of_all, bytes_of_all}
+use Rattle.schedule_text.specs.Brings.{steps_of, bytes_brought, steps_of_all, bytes_of_all}
 use Rattle.cluster_core.specs.declared.world.World.{World}
 use Rattle.link_queue.specs.Links.{on_link}
 use Rattle.cluster_core.specs.World.{start, steps_by}
-use Rattle.cluster_core.specs.Flow.{Flowing, turn_by, turn_of, round, rounds, rounds_by, flow, happens, run}
+use Rattle.cluster_core.specs.Flow.{Flowing, turn_by, turn_of_link, round, rounds, rounds_by, flow, happens, run}
 use Rattle.cluster_core.specs.Room.{HaveCommands, HasRoom}
 use Rattle.cluster_core.proofs.Runs.RoomLaw.{more_commands, step_commands, step_steps, one_step, start_commands, start_steps}
 
@@ -19,7 +19,7 @@ pub record IsWithin (most total : ℕ) (flowing : Flowing) : Type 0 where
   pub steps : flowing.world.steps + flowing.left ≤ total
 
 delivered_within : (world : World) (from to : List ℕ) (most : ℕ) → HaveCommands world most → HaveCommands (steps_by world (Deliver from to)) most
-unfolding bytes_of
+unfolding bytes_brought
 delivered_within world from to most have =
     more_commands (steps_by world (Deliver from to)) (most + 0) most (omega arith) (step_commands world (Deliver from to) most have)
 
@@ -34,10 +34,10 @@ turn_within most total flowing link (suc left) (message ∷ queue) e within = re
 }
 
 round_within : (most total : ℕ) (flowing : Flowing) (links : List Link) → IsWithin most total flowing → IsWithin most total (round flowing links)
-unfolding round turn_of
+unfolding round turn_of_link
 round_within most total flowing [] within = within
 round_within most total flowing (link ∷ links) within =
-    round_within most total (turn_of flowing link) links
+    round_within most total (turn_of_link flowing link) links
     (turn_within most total flowing link flowing.left (on_link flowing.world.links link.from link.to) refl within)
 
 either_within : (most total : ℕ) (b : Bool) (one more : Flowing) → IsWithin most total one → IsWithin most total more
@@ -67,7 +67,7 @@ flow_counts world count most total has =
     record { commands = within.commands; steps = omega (arith, within.steps) }
 
 step_counts : (world : World) (event : Event) (most total : ℕ) → HasCounts world most total
-    → HasCounts (steps_by world event) (most + bytes_of event) (total + steps_of event)
+    → HasCounts (steps_by world event) (most + bytes_brought event) (total + steps_of event)
 step_counts world event most total has = record {
   commands = step_commands world event most has.commands;
   steps = omega (arith, has.steps, step_steps world event, one_step event);
@@ -77,8 +77,8 @@ more_counts : (world : World) (m n s t : ℕ) → m ≤ n → s ≤ t → HasCou
 more_counts world m n s t h k has = record { commands = more_commands world m n h has.commands; steps = omega (arith, has.steps) }
 
 pub happens_counts : (world : World) (event : Event) (most total : ℕ) → HasCounts world most total
-    → HasCounts (happens world event) (most + bytes_of event) (total + steps_of event)
-unfolding happens steps_of bytes_of
+    → HasCounts (happens world event) (most + bytes_brought event) (total + steps_of event)
+unfolding happens steps_of bytes_brought
 happens_counts world (Flow count) most total has =
     more_counts (flow world count).world most (most + 0) (total + count) (total + (1 + count)) (omega arith) (omega arith)
     (flow_counts world count most total has)
@@ -109,7 +109,7 @@ goes_on : (config : Config) (events : List Event) (world : World) (event : Event
     → IsOnTheWay config events world (event ∷ left) → IsOnTheWay config events (happens world event) left
 unfolding run bytes_of_all steps_of_all
 goes_on config events world event left way = record {
-  taken = way.taken + bytes_of event;
+  taken = way.taken + bytes_brought event;
   done = way.done + steps_of event;
   bytes = omega (arith, way.bytes);
   steps = omega (arith, way.steps);

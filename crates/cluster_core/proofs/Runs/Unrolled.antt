@@ -5,7 +5,7 @@ use Rattle.mur_config.specs.declared.node.Link.{Link}
 use Rattle.schedule_text.specs.declared.event.Event.{Event}
 use Rattle.schedule_text.specs.declared.event.Event.TheVariants.{Open, Data, Hang, Deliver, Cut, Join, Crash, Arm, Start, Flow, Heal}
 use Rattle.cluster_core.specs.declared.world.World.{World}
-use Rattle.cluster_core.specs.Flow.{Flowing, delivered, turn_by, turn_of, round, rounds_by, rounds, flow, steps_of_event, happens, run, unrolled, run_steps}
+use Rattle.cluster_core.specs.Flow.{Flowing, delivered, turn_by, turn_of_link, round, rounds_by, rounds, flow, steps_of_event, happens, run, unrolled, run_steps}
 use Rattle.link_queue.specs.Links.{on_link}
 use Rattle.cluster_core.specs.World.{steps_by}
 
@@ -30,10 +30,10 @@ turn_made start flowing link (suc left) [] e = e
 turn_made start flowing link (suc left) (message ∷ queue) e = delivery_made start flowing left (Deliver link.from link.to) e
 
 round_made : (start : World) (flowing : Flowing) (links : List Link) → IsMadeOf start flowing → IsMadeOf start (round flowing links)
-unfolding round turn_of
+unfolding round turn_of_link
 round_made start flowing [] e = e
 round_made start flowing (link ∷ links) e =
-    round_made start (turn_of flowing link) links (turn_made start flowing link flowing.left (on_link flowing.world.links link.from link.to) e)
+    round_made start (turn_of_link flowing link) links (turn_made start flowing link flowing.left (on_link flowing.world.links link.from link.to) e)
 
 either_made : (start : World) (ends : Bool) (one two : Flowing) → IsMadeOf start one → IsMadeOf start two → IsMadeOf start (rounds_by ends one two)
 unfolding rounds_by

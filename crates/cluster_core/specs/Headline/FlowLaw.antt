@@ -6,7 +6,7 @@ use Rattle.mur_config.specs.declared.node.Link.{Link}
 use Rattle.mur_config.specs.Nodes.{AreNodes, links_of}
 use Rattle.schedule_text.specs.declared.event.Event.{Event}
 use Rattle.schedule_text.specs.declared.event.Event.TheVariants.{Deliver, Flow}
-use Rattle.schedule_text.specs.Brings.{bytes_of, bytes_of_all}
+use Rattle.schedule_text.specs.Brings.{bytes_brought, bytes_of_all}
 use Rattle.cluster_core.specs.declared.world.World.{World}
 use Rattle.cluster_core.specs.Headline.Carried.{is_ask_or_answer}
 use Rattle.cluster_core.specs.Flow.{run_steps, steps_of_event}
@@ -42,7 +42,7 @@ AreStepsOf links sent world event steps = steps ≡ event ∷ []
 pub data AreStepsOfAll (links : List Link) : ℕ → World → List Event → List Event → Type 0 where
   no_event : (sent : ℕ) (world : World) → AreStepsOfAll links sent world [] []
   an_event : (sent : ℕ) (world : World) (event : Event) (events steps more : List Event) → AreStepsOf links sent world event steps
-      → AreStepsOfAll links (sent + bytes_of event) (run_steps world steps) events more
+      → AreStepsOfAll links (sent + bytes_brought event) (run_steps world steps) events more
       → AreStepsOfAll links sent world (event ∷ events) (steps ++ more)
 
 -- whatever steps led here, in whatever configuration: the steps of this event are so

@@ -29,11 +29,11 @@ KeepsOneHomeEach config events =
     → HasOneHomeEach (run_steps (start config) before) × OpensAtOneNode (run_steps (start config) before)
 
 -- no name is reserved and no node is unreached yet, so there is no cause for a refusal of relocation
-abbrev pub HasCause : What → Type 0
-HasCause reserved = ⊥
-HasCause (unreached node) = ⊥
-HasCause _ = ⊤
+abbrev pub HasRelocationCause : What → Type 0
+HasRelocationCause reserved = ⊥
+HasRelocationCause (unreached node) = ⊥
+HasRelocationCause _ = ⊤
 
 -- a refusal of relocation comes only at a reserved name or an unreached node
 abbrev pub RefusesForCause : World → Type 0
-RefusesForCause world = All (λ (point : Point). HasCause point.what) (history_of world)
+RefusesForCause world = All (λ (point : Point). HasRelocationCause point.what) (history_of world)

@@ -14,7 +14,7 @@ use Rattle.cluster_core.specs.declared.cluster.HomeRow.{HomeRow}
 use Rattle.cluster_core.specs.declared.world.World.{World}
 use Rattle.cluster_core.specs.Headline.Backends.{IsBackend}
 use Rattle.cluster_core.specs.Headline.HomeLaw.{is_writable_home}
-use Rattle.cluster_core.specs.Shown.{held_at, home_rows}
+use Rattle.cluster_core.specs.Shown.{held_at_node, home_rows}
 
 -- what is printed of a mailbox: its UIDVALIDITY, its UIDNEXT and how many messages it has
 pub record Numbers : Type 0 where
@@ -32,7 +32,7 @@ numbers_of box = record { serial = box.serial; next = box.next; count = length b
 pub record IsHeldAt (config : Config) (world : World) (row : HomeRow) : Type 0 where
   pub backend : IsBackend config row.backend
   pub held : Held
-  pub at : value_at (slice_cmp nat_cmp) (held_at world row.backend) row.name ≡ Some held
+  pub at : value_at (slice_cmp nat_cmp) (held_at_node world row.backend) row.name ≡ Some held
   pub phase : row.phase ≡ held.phase
   pub numbers : numbers_shown row ≡ numbers_of held.content
 

@@ -34,7 +34,7 @@ use Rattle.store_law.specs.NoneLost.{LosesNone}
 use Rattle.cluster_core.specs.Headline.Points.{AreMadeBy, LosesTheNext}
 use Rattle.imap_talk.specs.Requests.{AreRequests}
 use Rattle.store_law.specs.Serials.{GivesLowSerials}
-use Rattle.cluster_core.specs.Shown.{given_to, held_at}
+use Rattle.cluster_core.specs.Shown.{given_to, held_at_node}
 use Rattle.cluster_core.specs.World.{start}
 
 -- the empty store, and no session begun
@@ -48,7 +48,7 @@ or_else (Some content) other = Some content
 unfoldable pub box_among : World → List ℕ → List (List ℕ) → Option Content
 box_among world name [] = None
 box_among world name (node ∷ nodes) =
-    or_else (open_content (value_at (slice_cmp nat_cmp) (held_at world node) name)) (box_among world name nodes)
+    or_else (open_content (value_at (slice_cmp nat_cmp) (held_at_node world node) name)) (box_among world name nodes)
 
 -- the mailbox of a name at its home, which is the node that has it open
 unfoldable pub box_of_home : World → List ℕ → Option Content

@@ -6,12 +6,12 @@ use Rattle.backend_core.specs.declared.held.Held.{Held}
 use Rattle.mur_base.specs.Map.{value_at}
 use Rattle.mur_base.specs.declared.home.Phase.TheVariants.{Open as open_here}
 use Rattle.cluster_core.specs.declared.world.World.{World}
-use Rattle.cluster_core.specs.Shown.{held_at}
+use Rattle.cluster_core.specs.Shown.{held_at_node}
 
 -- a node has a mailbox of this name, and has it open
 pub record IsOpenAt (world : World) (name node : List ℕ) : Type 0 where
   pub held : Held
-  pub at : value_at (slice_cmp nat_cmp) (held_at world node) name ≡ Some held
+  pub at : value_at (slice_cmp nat_cmp) (held_at_node world node) name ≡ Some held
   pub is_open : held.phase ≡ open_here
 
 -- no two nodes have one name open

@@ -2,12 +2,10 @@
 -- answer of the connection; or it asks a home.
 use Rattle.std.proofs.Common.{◌≡◌, ℕ, true, false, List, Option, None, Some, refl, sym, ◌∙◌, ap}
 use Rattle.front_core.specs.declared.connection.Connection.{Connection}
-use Rattle.front_core.specs.Taken.{answers, answers_last, asks, begun_in, need_in, request_in}
+use Rattle.front_core.specs.Taken.{answers_now, answers_last, asks, begun_in, turned_by_need, request_in}
 use Rattle.imap_types.specs.declared.command.Command.{Command}
 use Rattle.imap_types.specs.declared.command.Tag.{Tag}
-use Rattle.mur_model.specs.declared.need.Need.{Need}
-use Rattle.mur_model.specs.declared.need.Need.TheVariants.{Refusal, Turned as turned_at_once, Mailbox}
-use Rattle.mur_model.specs.declared.need.Work.{Work}
+use Rattle.mur_model.specs.Needed.{Needed, Refusal, Turned as turned_at_once, Mailbox, Work}
 use Rattle.imap_types.specs.declared.reply.BadText.TheVariants.{Syntax}
 use Rattle.imap_types.specs.declared.reply.NoText.TheVariants.{Limit}
 use Rattle.imap_types.specs.declared.reply.Reply.{Reply}
@@ -24,15 +22,16 @@ use Rattle.imap_talk.specs.SessionEnds.{has_ended, TurnEnds}
 use Rattle.imap_talk.specs.Transcript.{ends}
 use Rattle.imap_talk.proofs.AnswersEnd.{turned_ends}
 use Rattle.imap_types.specs.Reply.{reply_of, refused}
-use Rattle.session_core.specs.Asking.{asked_for}
-use Rattle.session_core.specs.Need.{begun_by, told}
+use Rattle.mur_model.specs.Asking.{asked_for}
+use Rattle.mur_model.specs.Need.{begun_of, told_with}
+use Rattle.session_core.specs.Need.{begun_by_need, told_reply}
 
 pub data IsTaken (setting : Setting) (home : List ℕ) (conn : ℕ) (session : Sess) (request : Request) : Type 0 where
   here : (tag : Tag) (reply : Reply) (next : Sess)
       → ((store : Store) → answer_of setting store session request 0 ≡ record { store = store; session = next; answer = record { tag = tag; reply = reply } })
       → ((store : Store) → MayTake setting store session request 0)
       → ends reply ≡ false → has_ended next ≡ false
-      → ((connection : Connection) → connection.session ≡ session → request_in setting home conn connection request ≡ answers conn connection next tag reply)
+      → ((connection : Connection) → connection.session ≡ session → request_in setting home conn connection request ≡ answers_now conn connection next tag reply)
       → IsTaken setting home conn session request
   finishes : (tag : Tag) (it : Command) (reply : Reply) → request ≡ a_command tag it
       → ((store : Store) → answer_of setting store session request 0
@@ -48,21 +47,21 @@ pub data IsTaken (setting : Setting) (home : List ℕ) (conn : ℕ) (session : S
       → IsTaken setting home conn session request
 
 -- the frontend does what the session needs behind the command
-begun_so : (setting : Setting) (home : List ℕ) (conn : ℕ) (session : Sess) (tag : Tag) (it : Command) (need : Need) → need_of setting session it ≡ need
+begun_so : (setting : Setting) (home : List ℕ) (conn : ℕ) (session : Sess) (tag : Tag) (it : Command) (need : Needed) → need_of setting session it ≡ need
     → (connection : Connection) → connection.session ≡ session
-    → request_in setting home conn connection (a_command tag it) ≡ begun_in home conn connection tag (begun_by session need)
+    → request_in setting home conn connection (a_command tag it) ≡ begun_in home conn connection tag (begun_by_need session need)
 unfolding request_in
 begun_so setting home conn session tag it need e connection s =
-    ap (λ x. begun_in home conn connection tag (begun_by x (need_of setting x it))) s
-    ∙ ap (λ n. begun_in home conn connection tag (begun_by session n)) e
+    ap (λ x. begun_in home conn connection tag (begun_by_need x (need_of setting x it))) s
+    ∙ ap (λ n. begun_in home conn connection tag (begun_by_need session n)) e
 
 -- what comes of a command at once
 turn_goes_on : (setting : Setting) (home : List ℕ) (conn : ℕ) (session : Sess) (tag : Tag) (it : Command) (next : Option Sess) (reply : Reply)
     → need_of setting session it ≡ turned_at_once (record { session = next; reply = reply }) → ends reply ≡ false
     → has_ended (session_after session next) ≡ false
-    → ((connection : Connection) → begun_in home conn connection tag (told session reply next) ≡ answers conn connection (session_after session next) tag reply)
+    → ((connection : Connection) → begun_in home conn connection tag (told_reply session reply next) ≡ answers_now conn connection (session_after session next) tag reply)
     → IsTaken setting home conn session (a_command tag it)
-unfolding answer_of act_of act_by MayTake MayAct begun_by
+unfolding answer_of act_of act_by MayTake MayAct begun_of
 turn_goes_on setting home conn session tag it next reply e stays lasts form =
     here tag reply (session_after session next)
     (λ store. rw e refl)
@@ -73,7 +72,7 @@ turn_goes_on setting home conn session tag it next reply e stays lasts form =
 turn_taken : (setting : Setting) (home : List ℕ) (conn : ℕ) (session : Sess) (tag : Tag) (it : Command) (next : Option Sess) (reply : Reply)
     → need_of setting session it ≡ turned_at_once (record { session = next; reply = reply }) → TurnEnds (record { session = next; reply = reply })
     → has_ended session ≡ false → IsTaken setting home conn session (a_command tag it)
-unfolding answer_of act_of act_by MayTake MayAct begun_by told need_in answers answers_last
+unfolding answer_of act_of act_by MayTake MayAct begun_of told_with turned_by_need answers_now answers_last
 turn_taken setting home conn session tag it None reply e stays lasts =
     turn_goes_on setting home conn session tag it None reply e stays lasts (λ connection. refl)
 turn_taken setting home conn session tag it (Some Off) reply e stays lasts =
@@ -89,9 +88,9 @@ turn_taken setting home conn session tag it (Some session_ended) reply e is_end 
     is_end
     (λ connection s. begun_so setting home conn session tag it _ e connection s)
 
-need_taken : (setting : Setting) (home : List ℕ) (conn : ℕ) (session : Sess) (tag : Tag) (it : Command) (need : Need) → need_of setting session it ≡ need
+need_taken : (setting : Setting) (home : List ℕ) (conn : ℕ) (session : Sess) (tag : Tag) (it : Command) (need : Needed) → need_of setting session it ≡ need
     → has_ended session ≡ false → IsTaken setting home conn session (a_command tag it)
-unfolding answer_of act_of act_by MayTake MayAct begun_by need_in answers ends
+unfolding answer_of act_of act_by MayTake MayAct begun_of turned_by_need answers_now ends
 need_taken setting home conn session tag it (Refusal verdict) e lasts =
     here tag (reply_of verdict) session
     (λ store. rw e refl)
@@ -111,6 +110,6 @@ unfolding answer_of MayTake request_in ends
 request_taken setting home conn session (a_command tag it) lasts = need_taken setting home conn session tag it (need_of setting session it) refl lasts
 request_taken setting home conn session (unknown tag) lasts =
     here tag (reply_of (bad_reply Syntax)) session (λ store. refl) (λ store. tt) refl lasts
-    (λ connection s. ap (λ x. answers conn connection x tag (reply_of (bad_reply Syntax))) s)
+    (λ connection s. ap (λ x. answers_now conn connection x tag (reply_of (bad_reply Syntax))) s)
 request_taken setting home conn session (too_big tag) lasts =
-    here tag (refused Limit) session (λ store. refl) (λ store. tt) refl lasts (λ connection s. ap (λ x. answers conn connection x tag (refused Limit)) s)
+    here tag (refused Limit) session (λ store. refl) (λ store. tt) refl lasts (λ connection s. ap (λ x. answers_now conn connection x tag (refused Limit)) s)

@@ -6,9 +6,9 @@ use Rattle.front_core.specs.declared.connection.Stage.{Stage}
 use Rattle.front_core.specs.declared.connection.Stage.TheVariants.{Reading, Asked, Ended}
 use Rattle.front_core.specs.declared.front.Front.{Front}
 use Rattle.front_core.specs.Answered.{answer_comes, answer_by, need_behind, reading_again}
-use Rattle.front_core.specs.Front.{connect, connect_at, connection_at, bytes_in, bytes_at, bytes_by, having_read, answer_at}
+use Rattle.front_core.specs.Front.{connect, connect_at, connection_at, bytes_in, front_bytes_at, bytes_by, having_read, answer_at}
 use Rattle.front_core.specs.Reading.{inputs_of_more}
-use Rattle.front_core.specs.Taken.{answers, answers_last, need_in, request_in, input_in, comes_at, input_comes, inputs_come}
+use Rattle.front_core.specs.Taken.{answers_now, answers_last, turned_by_need, request_in, input_in, comes_at, input_comes, inputs_come}
 use Rattle.imap_talk.specs.declared.inputs.Input.{Input}
 use Rattle.imap_talk.specs.declared.inputs.Input.TheVariants.{GoesOn, Asks, Faults}
 use Rattle.link_msg.specs.declared.answer.BackAnswer.{BackAnswer}
@@ -20,8 +20,8 @@ use Rattle.imap_types.specs.declared.request.Request.{Request}
 use Rattle.imap_types.specs.declared.request.Request.TheVariants.{Command as a_command, Unknown as unknown, TooBig as too_big}
 use Rattle.mur_model.specs.declared.session.Sess.{Sess}
 use Rattle.mur_model.specs.declared.setting.Setting.{Setting}
-use Rattle.session_core.specs.declared.need.Need.{Need}
-use Rattle.session_core.specs.declared.need.Need.TheVariants as needs
+use Rattle.mur_model.specs.declared.need.Need.{Need}
+use Rattle.mur_model.specs.declared.need.Need.TheVariants as needs
 use Rattle.session_core.specs.Begin.{begin}
 use Rattle.session_core.specs.Finish.{finish}
 
@@ -39,16 +39,16 @@ unfolding AreFor
 both_for conn [] two first second = second
 both_for conn (out ∷ one) two first second = (first.0, both_for conn one two first.1 second)
 
-answers_for : (conn : ℕ) (connection : Connection) (session : Sess) (tag : Tag) (reply : Reply) → AreFor conn (answers conn connection session tag reply).outs
-unfolding AreFor answers
+answers_for : (conn : ℕ) (connection : Connection) (session : Sess) (tag : Tag) (reply : Reply) → AreFor conn (answers_now conn connection session tag reply).outs
+unfolding AreFor answers_now
 answers_for conn connection session tag reply = (refl, (tt, tt))
 
 answers_last_for : (conn : ℕ) (connection : Connection) (tag : Tag) (reply : Reply) → AreFor conn (answers_last conn connection tag reply).outs
 unfolding AreFor answers_last
 answers_last_for conn connection tag reply = (refl, (tt, (tt, tt)))
 
-need_for : (home : List ℕ) (conn : ℕ) (connection : Connection) (tag : Tag) (need : Need) → AreFor conn (need_in home conn connection tag need).outs
-unfolding AreFor need_in
+need_for : (home : List ℕ) (conn : ℕ) (connection : Connection) (tag : Tag) (need : Need) → AreFor conn (turned_by_need home conn connection tag need).outs
+unfolding AreFor turned_by_need
 need_for home conn connection tag (needs.Reply reply) = answers_for conn connection connection.session tag reply
 need_for home conn connection tag (needs.Leave reply) = answers_last_for conn connection tag reply
 need_for home conn connection tag (needs.Home name asking) = (tt, tt)
@@ -131,8 +131,8 @@ bytes_for_by front conn bytes connection Reading =
 bytes_for_by front conn bytes connection (Asked tag awaited) =
     inputs_for front.setting front.home conn (having_read front.setting connection bytes) (inputs_of_more front.setting connection.reader bytes)
 
-bytes_for_at : (front : Front) (conn : ℕ) (bytes : List ℕ) (found : Option Connection) → AreFor conn (bytes_at front conn bytes found).outs
-unfolding AreFor bytes_at
+bytes_for_at : (front : Front) (conn : ℕ) (bytes : List ℕ) (found : Option Connection) → AreFor conn (front_bytes_at front conn bytes found).outs
+unfolding AreFor front_bytes_at
 bytes_for_at front conn bytes None = tt
 bytes_for_at front conn bytes (Some connection) = bytes_for_by front conn bytes connection connection.stage
 

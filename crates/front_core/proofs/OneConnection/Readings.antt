@@ -7,7 +7,7 @@ use Rattle.imap_talk.specs.declared.inputs.Before.{Before}
 use Rattle.imap_talk.specs.declared.inputs.Before.TheVariants.{Hears, Waits}
 use Rattle.imap_talk.specs.declared.inputs.Input.{Input}
 use Rattle.imap_talk.specs.declared.inputs.Input.TheVariants.{GoesOn, Asks, Faults}
-use Rattle.imap_talk.specs.Inputs.{at_first, before_next, command_by, input_at, inputs_from, inputs_of, line_at, request_at, too_big_at, whole_at}
+use Rattle.imap_talk.specs.Inputs.{at_first, before_next, command_by, input_at, inputs_from, inputs_of, line_at, request_at, too_big_at, whole_given}
 use Rattle.imap_talk.proofs.InputLaws.{before-append, inputs-append}
 use Rattle.imap_wire.specs.declared.frame.Frame.{Frame}
 use Rattle.imap_wire.specs.declared.frame.Frame.TheVariants.{Whole, NeedLiteral, TooBig, Fault}
@@ -80,8 +80,8 @@ request_no_fault setting on (a_command tag it) = command_no_fault setting on tag
 request_no_fault setting on (unknown tag) = tt
 request_no_fault setting on (too_big tag) = tt
 
-whole_no_fault : (setting : Setting) (before : Before) (bytes : List ℕ) → IsNoFault (whole_at setting before bytes).input
-unfolding whole_at line_at
+whole_no_fault : (setting : Setting) (before : Before) (bytes : List ℕ) → IsNoFault (whole_given setting before bytes).input
+unfolding whole_given line_at
 whole_no_fault setting (Hears on) bytes = request_no_fault setting on (request_of bytes)
 whole_no_fault setting (Waits tag wait) bytes = tt
 
@@ -95,8 +95,8 @@ faults_in : (setting : Setting) (before : Before) (frames : List Frame) (held : 
 unfolding FaultsLast FramesFaultLast inputs_of input_at
 faults_in setting before [] held last = tt
 faults_in setting before (Whole bytes ∷ frames) held last =
-    lets_be (whole_at setting before bytes).input (inputs_of setting (whole_at setting before bytes).next frames) held (whole_no_fault setting before bytes)
-    (faults_in setting (whole_at setting before bytes).next frames held last)
+    lets_be (whole_given setting before bytes).input (inputs_of setting (whole_given setting before bytes).next frames) held (whole_no_fault setting before bytes)
+    (faults_in setting (whole_given setting before bytes).next frames held last)
 faults_in setting before (TooBig bytes ∷ frames) held last =
     lets_be (too_big_at setting before bytes).input (inputs_of setting (too_big_at setting before bytes).next frames) held
     (too_big_no_fault setting before bytes)

@@ -15,8 +15,7 @@ use Rattle.link_msg.specs.declared.answer.AnswerBody.{AnswerBody}
 use Rattle.link_msg.specs.declared.answer.BackAnswer.{BackAnswer}
 use Rattle.imap_types.specs.declared.command.Command.{Command}
 use Rattle.imap_types.specs.declared.command.Tag.{Tag}
-use Rattle.mur_model.specs.declared.need.Need.TheVariants.{Mailbox}
-use Rattle.mur_model.specs.declared.need.Work.{Work}
+use Rattle.mur_model.specs.Needed.{Mailbox, Work}
 use Rattle.imap_types.specs.declared.request.Answer.{Answer}
 use Rattle.imap_types.specs.declared.request.Request.{Request}
 use Rattle.imap_types.specs.declared.request.Request.TheVariants.{Command as a_command}
@@ -25,7 +24,7 @@ use Rattle.mur_model.specs.declared.session.Turn.{Turn}
 use Rattle.mur_model.specs.declared.setting.Setting.{Setting}
 use Rattle.mur_model.specs.Act.{need_of, session_after}
 use Rattle.mur_model.specs.History.{numbered}
-use Rattle.session_core.specs.Asking.{asked_for}
+use Rattle.mur_model.specs.Asking.{asked_for}
 use Rattle.session_core.specs.Finish.{turn_of}
 use Rattle.front_core.specs.Ending.{EndsOnlyLast}
 use Rattle.link_msg.specs.declared.message.LinkMsg.{LinkMsg}
@@ -42,7 +41,7 @@ pub data OnItsWay (links : Links LinkMsg) (conn : ℕ) (front home : List ℕ) (
   there : said ≡ told → connection.session ≡ session → AreOnWay links conn front home (ask_with conn connection name (asked_for name work) ∷ []) []
       → OnItsWay links conn front home connection tag name work told said session
   back : (body : AnswerBody) (turn : Turn) → said ≡ told ++ (record { tag = tag; reply = turn.reply }) ∷ []
-      → turn_of (asked_for name work).awaited body ≡ Some turn
+      → turn_of connection.session (asked_for name work).awaited body ≡ Some turn
       → session ≡ session_after connection.session turn.session → TurnEnds turn
       → AreOnWay links conn front home [] ((record { id = record { conn = conn; command = connection.answered + 1 }; body = body }) ∷ [])
       → OnItsWay links conn front home connection tag name work told said session

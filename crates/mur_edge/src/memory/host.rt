@@ -1,10 +1,11 @@
 // A host in memory. It keeps the objects that it was made with and hands out fresh copies of them.
 ghost use Rattle.std.specs.Prelude.{◌≡◌, ◌<◌, ◌+◌, ◌∷◌, ◌++◌, ◌||◌, [], true, false, None, Some, Err, map, replicate, length, IfOk};
 ghost use Rattle.std.specs.Prelude.{OnOk, IfSome, IsSomeAnd, slice_set};
-ghost use Rattle.mur_edge.specs.Counts.{SourceFault, one_more};
+ghost use Rattle.mur_base.specs.Counts.{one_more};
+ghost use Rattle.mur_edge.specs.Counts.{SourceFault};
 ghost use Rattle.mur_edge.specs.Source.{IsFreshSource, HasContent};
 ghost use Rattle.mur_edge.specs.Sink.{IsFreshSink};
-ghost use Rattle.mur_edge.specs.Returned.{entries_of};
+ghost use Rattle.mur_edge.specs.Returned.{chain_entries};
 ghost use Rattle.mur_edge.specs.Host.{DidAsk, TakesBack, last_output, last_errors};
 ghost use Rattle.mur_edge.specs.Memory.{fails_at, place_named, free_place, content_named, source_facts, sink_facts, memory_came, object_came, IsFreshCopy};
 ghost use Rattle.mur_edge.specs.Memory.{freed, sources_out_after, output_out_after, errors_out_after};
@@ -297,7 +298,7 @@ impl Host for MemHost {
 
 // The bytes of the newest output of a chain.
 fn newest_output(chain: &Chain<MemUsed>) -> &[u8]
-    ensures { result.now ≡ last_output (map memory_came (entries_of chain.now)) }
+    ensures { result.now ≡ last_output (map memory_came (chain_entries chain.now)) }
 {
     match chain {
         Chain::End => &[],
@@ -308,7 +309,7 @@ fn newest_output(chain: &Chain<MemUsed>) -> &[u8]
 
 // The bytes of the newest error output of a chain.
 fn newest_errors(chain: &Chain<MemUsed>) -> &[u8]
-    ensures { result.now ≡ last_errors (map memory_came (entries_of chain.now)) }
+    ensures { result.now ≡ last_errors (map memory_came (chain_entries chain.now)) }
 {
     match chain {
         Chain::End => &[],

@@ -1,7 +1,7 @@
 // A sink in memory, whose failing writes are given by number.
 ghost use Rattle.std.specs.Prelude.{◌≡◌, ◌<◌, [], length, IfOk, IsErr, true};
 ghost use Rattle.std.specs.Io.{WritesAtMost};
-ghost use Rattle.mur_edge.specs.Counts.{one_more};
+ghost use Rattle.mur_base.specs.Counts.{one_more};
 ghost use Rattle.mur_edge.specs.Sink.{DidWrite};
 ghost use Rattle.mur_edge.specs.Memory.{fails_at, sink_facts};
 

@@ -1,7 +1,7 @@
 // A source in memory, whose failing reads are given by number.
 ghost use Rattle.std.specs.Prelude.{◌≡◌, ◌+◌, ◌<◌, ◌^◌, length, take, drop, min, IfOk, is_err};
 ghost use Rattle.std.specs.Io.{ReadsAtMost};
-ghost use Rattle.mur_edge.specs.Counts.{one_more};
+ghost use Rattle.mur_base.specs.Counts.{one_more};
 ghost use Rattle.mur_edge.specs.Source.{DidRead};
 ghost use Rattle.mur_edge.specs.Memory.{fails_at, source_facts};
 

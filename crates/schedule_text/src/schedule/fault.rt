@@ -1,6 +1,6 @@
 // Why a schedule is refused.
 ghost use Rattle.std.specs.Prelude.{◌≡◌};
-ghost use Rattle.schedule_text.specs.ScheduleRules.{rule_number};
+ghost use Rattle.schedule_text.specs.ScheduleRules.{schedule_rule_number};
 
 use mur_base::Memory;
 use thiserror::Error;
@@ -26,9 +26,9 @@ pub enum Rule {
 
 impl Rule {
     /// The rule's number, from 1, as error lines print it.
-    #[tactic(auto, unfolding(crate::specs::ScheduleRules::rule_number))]
+    #[tactic(auto, unfolding(crate::specs::ScheduleRules::schedule_rule_number))]
     pub fn number(self) -> u8
-        ensures { result ≡ rule_number self }
+        ensures { result ≡ schedule_rule_number self }
     {
         match self {
             Rule::UnknownWord => 1,

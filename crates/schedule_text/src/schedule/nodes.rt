@@ -1,6 +1,6 @@
 // The nodes that a schedule's line names.
 ghost use Rattle.std.specs.Prelude.{◌≡◌, MatchResult, Ok, Err, IfOk};
-ghost use Rattle.schedule_text.specs.ScheduleRules.{IsReadAs};
+ghost use Rattle.schedule_text.specs.ScheduleRules.{IsReadByRule};
 ghost use Rattle.schedule_text.specs.ScheduleNodes.{node_in, client_node_in, takes_clients, link_in};
 
 use crate::schedule::fault::{LineError, Rule};
@@ -46,7 +46,7 @@ fn takes_clients(kind: Kind) -> bool
 /// The link from one node of the configuration to another.
 #[tactic(auto, unfolding(crate::specs::ScheduleNodes::link_in))]
 pub fn link_in(alloc: Global, config: &Config, from: &[u8], to: &[u8]) -> Result<Link, LineError>
-    ensures { IsReadAs (link_in config.now from.now to.now) result }
+    ensures { IsReadByRule (link_in config.now from.now to.now) result }
 {
     let sender = node_in(config, from)?;
     let taker = node_in(config, to)?;

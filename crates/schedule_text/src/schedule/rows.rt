@@ -2,7 +2,7 @@
 ghost use Rattle.std.specs.Prelude.{◌≡◌, List, length, map};
 ghost use Rattle.mur_config.specs.declared.config.Config.{Config};
 ghost use Rattle.schedule_text.specs.declared.event.Event.{Event};
-ghost use Rattle.schedule_text.specs.ScheduleRules.{IsReadAs};
+ghost use Rattle.schedule_text.specs.ScheduleRules.{IsReadByRule};
 ghost use Rattle.schedule_text.specs.ScheduleOpened.{KnowsOpened};
 ghost use Rattle.schedule_text.specs.Rows.{event_in, flow_count, text_in};
 ghost use Rattle.schedule_text.specs.Words.{kinds_of};
@@ -33,7 +33,7 @@ pub fn event_in(
 ) -> Result<Event, LineError>
     requires opened { KnowsOpened so_far.now }
     requires count { length arguments.now ≡ length (kinds_of word) }
-    ensures { IsReadAs (event_in config.now so_far.now.events word (map (λ argument. argument.now) arguments.now)) result }
+    ensures { IsReadByRule (event_in config.now so_far.now.events word (map (λ argument. argument.now) arguments.now)) result }
 {
     match word {
         Word::Open => open_in(alloc, config, so_far, arguments),
@@ -53,7 +53,7 @@ fn open_in(
     arguments: &[&[u8]],
 ) -> Result<Event, LineError>
     requires opened { KnowsOpened so_far.now }
-    ensures { IsReadAs (event_in config.now so_far.now.events open_word (map (λ argument. argument.now) arguments.now)) result }
+    ensures { IsReadByRule (event_in config.now so_far.now.events open_word (map (λ argument. argument.now) arguments.now)) result }
 {
     match arguments {
         [node, number] => {
@@ -70,7 +70,7 @@ fn open_in(
 #[tactic(auto, unfolding(crate::specs::Rows::event_in))]
 fn data_in(alloc: Global, so_far: &ReadSoFar, arguments: &[&[u8]]) -> Result<Event, LineError>
     requires opened { KnowsOpened so_far.now }
-    ensures { (config : Config) → IsReadAs (event_in config so_far.now.events data_word (map (λ argument. argument.now) arguments.now)) result }
+    ensures { (config : Config) → IsReadByRule (event_in config so_far.now.events data_word (map (λ argument. argument.now) arguments.now)) result }
 {
     match arguments {
         [number, text] => {
@@ -101,7 +101,7 @@ fn hang_in(so_far: &ReadSoFar, arguments: &[&[u8]]) -> Result<Event, Rule>
 /// `deliver A B`: the first message from node A to node B, which a link joins, is taken.
 #[tactic(auto, unfolding(crate::specs::Rows::event_in))]
 fn deliver_in(alloc: Global, config: &Config, arguments: &[&[u8]]) -> Result<Event, LineError>
-    ensures { (before : List Event) → IsReadAs (event_in config.now before deliver_word (map (λ argument. argument.now) arguments.now)) result }
+    ensures { (before : List Event) → IsReadByRule (event_in config.now before deliver_word (map (λ argument. argument.now) arguments.now)) result }
 {
     match arguments {
         [from, to] => {
@@ -139,7 +139,7 @@ fn flow_count(word: &[u8]) -> Result<u64, Rule>
 /// The bytes that a text spells.
 #[tactic(auto, unfolding(crate::specs::Rows::text_in))]
 fn text_in(alloc: Global, text: &[u8]) -> Result<Bytes, LineError>
-    ensures { IsReadAs (text_in text.now) result }
+    ensures { IsReadByRule (text_in text.now) result }
 {
     match read_text(alloc, text)? {
         Some(bytes) => Ok(bytes),

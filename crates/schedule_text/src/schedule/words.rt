@@ -1,6 +1,6 @@
 // The words of a schedule's line, with one space before each but the first.
 ghost use Rattle.std.specs.Prelude.{◌≡◌, ◌≤◌, length, map, MatchResult, Ok, Err, IfOk};
-ghost use Rattle.schedule_text.specs.ScheduleWords.{IsCutAs, shown, split_word, word_in, argument_in, first_argument, arguments_in, number_in};
+ghost use Rattle.schedule_text.specs.ScheduleWords.{IsCutAs, shown, split_word, word_in, argument_in, first_argument, arguments_in, number_of_word};
 
 use crate::schedule::fault::Rule;
 use crate::words::{Kind, MOST_ARGUMENTS};
@@ -92,9 +92,9 @@ pub fn arguments_in<'a>(
 }
 
 /// The number that a word is.
-#[tactic(auto, unfolding(crate::specs::ScheduleWords::number_in))]
+#[tactic(auto, unfolding(crate::specs::ScheduleWords::number_of_word))]
 pub fn number_in(word: &[u8]) -> Result<u64, Rule>
-    ensures { result ≡ number_in word.now }
+    ensures { result ≡ number_of_word word.now }
 {
     read_number(word).ok_or(Rule::BadNumber)
 }

@@ -1,6 +1,6 @@
 // The lines of the output.
 ghost use Rattle.std.specs.Prelude.{◌≡◌, ℕ, List, ◌++◌, OnOk};
-ghost use Rattle.top_call.specs.Output.{what_text, unreached_text, row_text, phase_text, counts_text, pointer_text};
+ghost use Rattle.top_call.specs.Output.{what_text, unreached_text, row_text, phase_text, row_counts_text, pointer_text};
 
 use cluster_core::HomeRow;
 use mur_base::{Bytes, Memory, NodeName, Phase, Point, What, put_number};
@@ -94,7 +94,7 @@ impl Line for HomeRow {
 
     ghost text = { box_line };
 
-    #[tactic(auto, unfolding(crate::specs::Output::box_line, crate::specs::Output::line_in))]
+    #[tactic(auto, unfolding(crate::specs::Output::box_line, crate::specs::Output::line_by_phase))]
     fn put(&self, out: &mut Bytes) -> Result<(), Memory> {
         match &self.phase {
             Phase::Receiving => Ok(()),
@@ -131,9 +131,9 @@ fn put_phase(row: &HomeRow, out: &mut Bytes) -> Result<(), Memory>
     }
 }
 
-#[tactic(auto, unfolding(crate::specs::Output::counts_text))]
+#[tactic(auto, unfolding(crate::specs::Output::row_counts_text))]
 fn put_counts(phase: &[u8], row: &HomeRow, out: &mut Bytes) -> Result<(), Memory>
-    ensures { OnOk result (out.new ≡ out.old ++ counts_text phase.now row.now) }
+    ensures { OnOk result (out.new ≡ out.old ++ row_counts_text phase.now row.now) }
 {
     out.extend_from_slice(phase)?;
     out.push(b' ')?;

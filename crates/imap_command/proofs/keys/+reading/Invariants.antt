@@ -1,6 +1,6 @@
 use Rattle.std.proofs.Common.{◌≡◌, ◌==◌, ◌+◌, ◌*◌, ◌-◌}
 use Rattle.grammar.specs.Part.{turns}
-use Rattle.grammar.specs.Forms.{one_more}
+use Rattle.grammar.specs.Forms.{next_value}
 use Rattle.imap_command.specs.Keys.{key}
 use Rattle.imap_command.proofs.keys.+reading.Given as goal
 
@@ -30,5 +30,5 @@ decreases-deep_key_of l = 8 * l.below + 5
 -- the keys that are left, behind those so far, are read as all of them are
 abbrev pub invariant-more_keys_of-loop : goal.invariant-more_keys_of-loop
 invariant-more_keys_of-loop l =
-    (turns (λ c. c == 32) (one_more 32 (key l.depth).part) (l.end - l.counter) l.list).at l.rest
-    ≡ (turns (λ c. c == 32) (one_more 32 (key l.depth).part) l.end l.initial.list).at l.bytes
+    (turns (λ c. c == 32) (next_value 32 (key l.depth).part) (l.end - l.counter) l.list).at l.rest
+    ≡ (turns (λ c. c == 32) (next_value 32 (key l.depth).part) l.end l.initial.list).at l.bytes

@@ -1,4 +1,4 @@
-use Rattle.mupdate_codec.proofs.PlaceLaw.{short_is_node}
+use Rattle.text_parts.proofs.PlaceLaw.{short_is_node}
 use Rattle.mupdate_codec.proofs.location.quoted_texts.Goals as goal
 
 pub returns-clause-named : goal.returns-clause-named

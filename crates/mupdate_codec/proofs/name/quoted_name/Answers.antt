@@ -1,6 +1,6 @@
 use Rattle.std.proofs.Common.{sym, ap, ◌∙◌}
 use Rattle.grammar.specs.Words.{Words}
-use Rattle.mupdate_codec.proofs.NameSound.{quoted_is_name}
+use Rattle.text_parts.proofs.NameSound.{quoted_is_name}
 use Rattle.mupdate_codec.proofs.name.quoted_name.Goals as goal
 
 pub returns-clause-named : goal.returns-clause-named

@@ -1,6 +1,6 @@
 use Rattle.std.proofs.Common.{sym, ap, ◌∙◌}
 use Rattle.grammar.specs.Words.{Words}
-use Rattle.mupdate_codec.proofs.NameSound.{sized_is_name}
+use Rattle.text_parts.proofs.NameSound.{sized_is_name}
 use Rattle.mupdate_codec.proofs.name.sized_name.Goals as goal
 
 pub returns-clause-named : goal.returns-clause-named

@@ -1,5 +1,5 @@
 use Rattle.std.proofs.Common.{◌≡◌, ◌-◌, ◌<◌, length, take, false, None}
-use Rattle.imap_wire.specs.Begun.{state_of, Takes}
+use Rattle.imap_wire.specs.Begun.{state_of, TakesFrame}
 use Rattle.imap_wire.specs.Bulk.{IsPaid, IsUpTo, most_moves}
 use Rattle.imap_wire.specs.Tally.{fed}
 use Rattle.imap_wire.proofs.begun.Begun.take.Given as goal
@@ -7,7 +7,7 @@ use Rattle.imap_wire.proofs.begun.Begun.take.Given as goal
 abbrev pub invariant-loop-taken : goal.invariant-loop-taken
 invariant-loop-taken l =
     record {
-      takes : Takes (state_of l.initial.self) l.piece None l.taken
+      takes : TakesFrame (state_of l.initial.self) l.piece None l.taken
           (state_of l.self);
       going : l.self.spent ≡ false;
       tally : l.self.kept.tally ≡ fed l.initial.self.kept.tally None l.taken;

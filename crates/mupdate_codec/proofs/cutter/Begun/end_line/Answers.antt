@@ -1,6 +1,6 @@
 use Rattle.std.proofs.Common.{sym, subst, ◌∙◌}
 use Rattle.mupdate_codec.specs.Cut.{EndsLine}
-use Rattle.mupdate_codec.specs.Waits.{Holds}
+use Rattle.mupdate_codec.specs.Waits.{HasBegunLine}
 use Rattle.mupdate_codec.proofs.CutLaw.{holds_nothing}
 use Rattle.mupdate_codec.proofs.CutSteps.{ended_goes_on, ended_ends}
 use Rattle.mupdate_codec.proofs.cutter.Begun.end_line.Goals as goal
@@ -20,4 +20,4 @@ returns-clause-line c =
     )
 
 pub returns-clause-holds : goal.returns-clause-holds
-returns-clause-holds c = subst (λ bytes. Holds bytes 0) (sym (c.replace.ensures.after ∙ c.new-next.ensures)) holds_nothing
+returns-clause-holds c = subst (λ bytes. HasBegunLine bytes 0) (sym (c.replace.ensures.after ∙ c.new-next.ensures)) holds_nothing

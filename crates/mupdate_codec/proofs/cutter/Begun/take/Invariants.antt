@@ -1,12 +1,12 @@
 use Rattle.std.proofs.Common.{None, ◌-◌, ◌<◌, length}
-use Rattle.mupdate_codec.specs.Waits.{Holds, TakesSome}
+use Rattle.mupdate_codec.specs.Waits.{HasBegunLine, TakesSome}
 use Rattle.mupdate_codec.proofs.cutter.Begun.take.Given as goal
 
 -- so many bytes are taken, and no line ends in them
 abbrev pub invariant-loop-taken : goal.invariant-loop-taken
 invariant-loop-taken l = record {
   takes : TakesSome l.initial.self.bytes l.piece None l.taken l.self.bytes;
-  holds : Holds l.self.bytes l.self.literal_left;
+  holds : HasBegunLine l.self.bytes l.self.literal_left;
 }
 
 abbrev pub decreases-loop-taken : goal.decreases-loop-taken

@@ -1,17 +1,15 @@
 use Rattle.std.proofs.Common.{arith}
-use Rattle.grammar.proofs.TakenSteps.{takes_one}
-use Rattle.mupdate_codec.specs.Characters.{is_no_quote}
-use Rattle.mupdate_codec.specs.Strings.{quoted_char}
-use Rattle.mupdate_codec.proofs.StringSteps.{takes_plain}
+use Rattle.grammar.proofs.QuotedRuns.{takes_other, takes_plain}
+use Rattle.mupdate_codec.specs.Strings.{mupdate_quoted_char}
+use Rattle.mupdate_codec.proofs.StringSteps.{puts_plain}
 use Rattle.mupdate_codec.proofs.strings.QuotedCharsTurn.turns.Goals as goal
 
-pub returns-then-len-eq0-clause-taken : goal.returns-then-len-eq0-clause-taken
-returns-then-len-eq0-clause-taken c =
-    takes_one is_no_quote quoted_char c.args.state c.args.bytes.now c.args.most c.requires.some c.requires.begins _ _ c.in_ok-text.ensures
+pub returns-then-taken-gt0-clause-taken : goal.returns-then-taken-gt0-clause-taken
+returns-then-taken-gt0-clause-taken c =
+    takes_plain mupdate_quoted_char puts_plain c.args.most c.args.state c.args.bytes.now c.in_ok-text.text c.in_ok-text.rest.now c.in_ok-text.taken
+    (omega (arith, c.if-taken-gt0.true)) c.in_ok-text.ensures
 
 pub returns-clause-taken : goal.returns-clause-taken
 returns-clause-taken c =
-    let len = c.passing_upto-len in
-    rw (c.in_ok-extend_from_slice.ensures.ok, c.split_at.ensures.front, c.split_at.ensures.back)
-    (takes_plain c.args.most len.result c.args.state c.args.bytes.now (omega (arith, c.if-len-eq0.false)) len.ensures.upto len.ensures.there
-    len.ensures.passing)
+    takes_other mupdate_quoted_char puts_plain c.args.most c.args.state c.args.bytes.now c.in_ok-text.text c.in_ok-text.rest.now c.in_ok-text-2.text c.in_ok-text-2.rest.now
+    c.in_ok-text.taken (omega (arith, c.if-taken-gt0.false)) c.in_ok-text.ensures c.requires.some c.requires.begins c.in_ok-text-2.ensures

@@ -1,6 +1,0 @@
-use Rattle.std.proofs.Common.{arith}
-use Rattle.mupdate_codec.proofs.PlaceLaw.{server_is_node}
-use Rattle.mupdate_codec.proofs.location.texts_of.Goals as goal
-
-pub returns-clause-named : goal.returns-clause-named
-returns-clause-named c = server_is_node _ _ c.in_ok-server.server.now (omega arith) (omega arith) c.in_ok-server.ensures.whole

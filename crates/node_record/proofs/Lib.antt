@@ -1,0 +1,17 @@
+pub mod StoredLaw
+pub mod PartsLaw
+pub mod KeywordOrder
+pub mod KeywordsLaw
+pub mod RoomSteps
+pub mod FillSteps
+pub mod KeywordSteps
+pub mod FlagsLaw
+pub mod ChangesLaw
+pub mod MasterLaw
+pub mod BackendLaw
+pub mod DecodeLaw
+pub mod TextLaw
+pub mod NumberSteps
+pub mod FlagSteps
+pub mod TableLaw
+pub mod HeldLaw

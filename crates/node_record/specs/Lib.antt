@@ -1,0 +1,10 @@
+pub mod Parts
+pub mod Flags
+pub mod Rising
+pub mod Messages
+pub mod MasterEntries
+pub mod BackendEntries
+pub mod Ruled
+pub mod Stored
+pub mod Table
+pub mod Held

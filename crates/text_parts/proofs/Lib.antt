@@ -1,0 +1,11 @@
+pub mod AnyLaw
+pub mod NameSteps
+pub mod LevelLaw
+pub mod Utf8Law
+pub mod NameLaw
+pub mod NameSound
+pub mod NameComplete
+pub mod WithinLaw
+pub mod LocationsLaw
+pub mod PlaceLaw
+pub mod DatesLaw
