@@ -1,12 +1,14 @@
-//! Worked cases: the fields that they write and the texts that they print.
+//! Files of worked cases: what the programs that read them have in common.
 //!
 //! A case is a line `KIND | FIELD | .. => WANTED`: the text that a call gives for these fields has to be the one that is wanted. Bytes are
 //! written in fields and texts as a schedule writes them. A text that is empty is written `-`. Lines that are empty or begin with `#` are no
-//! cases. The crate of each layer prints the texts of its cases, and the program in `tests/cases` compares them.
+//! cases.
 #![tactic(auto)]
 
+mod cases;
 mod fault;
 mod field;
 
+pub use cases::{Cases, tell_all};
 pub use fault::Fault;
 pub use field::{bytes_of, number_of, parts_of, put_field, put_value, wide_number_of};

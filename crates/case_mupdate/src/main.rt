@@ -1,0 +1,36 @@
+//! Worked cases of lines of MUPDATE: `case_mupdate FILE ..`. It prints how many cases of each file passed, or ends with status 1 at the first one
+//! that doesn't.
+//!
+//! The kinds of cases: `command` and `response` take bytes, `ask` takes a tag, `cut` takes the bytes of a connection; `long command` and `long cut`
+//! take bytes between which a text is repeated. The first lines of each file say more.
+#![tactic(auto)]
+
+mod cuts;
+mod lines;
+mod repeated;
+
+use anyhow::Result;
+use case_base::{Cases, Fault, tell_all};
+use mur_base::Bytes;
+use std::alloc::Global;
+
+/// The kinds of cases of MUPDATE.
+struct Kinds;
+
+impl Cases for Kinds {
+    fn put(&self, alloc: Global, fields: &[&str], out: &mut Bytes) -> Result<(), Fault> {
+        match fields {
+            ["command", bytes] => lines::put_command(alloc, bytes, out),
+            ["response", bytes] => lines::put_response(alloc, bytes, out),
+            ["ask", tag] => lines::put_ask(alloc, tag, out),
+            ["cut", bytes] => cuts::put_cut(alloc, bytes, out),
+            ["long command", parts @ ..] => lines::put_long_command(alloc, parts, out),
+            ["long cut", parts @ ..] => cuts::put_long_cut(alloc, parts, out),
+            _ => Err(Fault::Unreadable("no such kind of case")),
+        }
+    }
+}
+
+fn main(rt: HostRuntime) -> Result<()> {
+    tell_all(&rt, &Kinds, "case_mupdate FILE ..")
+}
