@@ -4,9 +4,9 @@ ghost use Rattle.imap_reply.specs.Greeting.{greeting};
 ghost use Rattle.front_core.specs.Front.{new_front, new_connection, connect, connection_at, bytes_in, hang, deliver, answer_at};
 ghost use Rattle.front_core.specs.Room.{HasRoomAt, HasRoomFor};
 
-use crate::answered::{answer_comes, given};
+use crate::answered::given;
 use crate::connection::{Connection, Stage};
-use crate::piece::piece_comes;
+use crate::desk::Desk;
 use crate::reader::Reader;
 use imap_reply::put_greeting;
 use link_msg::{BackAnswer, LinkMsg, Outs};
@@ -66,15 +66,13 @@ impl Front {
             Stage::Ended => Ok(Outs::new(alloc)),
             Stage::Reading | Stage::Asked(_, _) => {
                 let mut outs = Outs::new(alloc);
-                piece_comes(
+                let desk = Desk {
                     alloc,
-                    &self.setting,
-                    &self.home,
+                    setting: &self.setting,
+                    home: &self.home,
                     conn,
-                    connection,
-                    piece,
-                    &mut outs,
-                )?;
+                };
+                connection.piece_comes(desk, piece, &mut outs)?;
                 Ok(outs)
             }
         }
@@ -111,14 +109,13 @@ impl Front {
         let conn = answer.id.conn;
         match self.connections.get_mut(&conn) {
             Some(connection) => {
-                let outs = answer_comes(
+                let desk = Desk {
                     alloc,
-                    &self.setting,
-                    &self.home,
+                    setting: &self.setting,
+                    home: &self.home,
                     conn,
-                    connection,
-                    answer,
-                )?;
+                };
+                let outs = connection.answer_comes(desk, answer)?;
                 connection.release(alloc);
                 Ok(outs)
             }

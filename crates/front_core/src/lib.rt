@@ -4,6 +4,7 @@
 mod answered;
 mod asks;
 mod connection;
+mod desk;
 mod front;
 mod piece;
 mod reader;

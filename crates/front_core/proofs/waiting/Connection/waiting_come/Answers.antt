@@ -1,22 +1,22 @@
 use Rattle.std.proofs.Common.{sym, ◌∙◌, arith}
 use Rattle.front_core.proofs.WaitingLaws.{waiting_on, waiting_over, waiting_dropped, waiting_stays, taken_counts, taken_shortens}
-use Rattle.front_core.proofs.waiting.waiting_come.Goals as goal
+use Rattle.front_core.proofs.waiting.Connection.waiting_come.Goals as goal
 
 pub returns-in_default : goal.returns-in_default
 returns-in_default c =
-    waiting_over c.args.setting.now c.args.home.now c.args.conn c.loop-alloc.outs c.loop-alloc.connection c.pop.new.self
+    waiting_over c.args.desk.setting.now c.args.desk.home.now c.args.desk.conn c.loop-alloc.outs c.loop-alloc.self c.pop.new.self
     c.in_default.ensures.empty.0 c.in_default.ensures.empty.1
     ∙ c.loop-alloc.invariant.turned
 
 pub returns-then-has_ended : goal.returns-then-has_ended
 returns-then-has_ended c =
-    waiting_dropped c.args.setting.now c.args.home.now c.args.conn c.loop-alloc.outs c.loop-alloc.connection c.clear.new.self
+    waiting_dropped c.args.desk.setting.now c.args.desk.home.now c.args.desk.conn c.loop-alloc.outs c.loop-alloc.self c.clear.new.self
     (sym c.if-has_ended.ensures) c.clear.ensures
     ∙ c.loop-alloc.invariant.turned
 
 pub returns-else-has_ended : goal.returns-else-has_ended
 returns-else-has_ended c =
-    waiting_stays c.args.setting.now c.args.home.now c.args.conn c.loop-alloc.outs c.loop-alloc.connection
+    waiting_stays c.args.desk.setting.now c.args.desk.home.now c.args.desk.conn c.loop-alloc.outs c.loop-alloc.self
     (sym c.loop-alloc-test.ensures) (sym c.if-has_ended.ensures)
     ∙ c.loop-alloc.invariant.turned
 
@@ -24,20 +24,20 @@ pub loop-alloc-smaller : goal.loop-alloc-smaller
 loop-alloc-smaller c =
     omega (
       arith,
-      taken_shortens c.args.setting.now c.args.home.now c.args.conn c.loop-alloc.outs c.input_in.new.outs c.loop-alloc.connection c.input_in.new.connection
+      taken_shortens c.args.desk.setting.now c.args.desk.home.now c.args.desk.conn c.loop-alloc.outs c.input_in.new.outs c.loop-alloc.self c.input_in.new.self
           c.in-Some.input c.pop.new.self c.in-Some.ensures.first c.in_ok-input_in.ensures,
     )
 
 pub loop-alloc-preserved : goal.loop-alloc-preserved
 loop-alloc-preserved c = record {
   turned =
-      waiting_on c.args.setting.now c.args.home.now c.args.conn c.loop-alloc.outs c.input_in.new.outs c.loop-alloc.connection c.input_in.new.connection
+      waiting_on c.args.desk.setting.now c.args.desk.home.now c.args.desk.conn c.loop-alloc.outs c.input_in.new.outs c.loop-alloc.self c.input_in.new.self
       c.in-Some.input c.pop.new.self (sym c.loop-alloc-test.ensures) c.in-Some.ensures.first c.in_ok-input_in.ensures
       ∙ c.loop-alloc.invariant.turned;
   commands =
       omega (
         arith,
-        taken_counts c.args.setting.now c.args.home.now c.args.conn c.loop-alloc.outs c.input_in.new.outs c.loop-alloc.connection c.input_in.new.connection
+        taken_counts c.args.desk.setting.now c.args.desk.home.now c.args.desk.conn c.loop-alloc.outs c.input_in.new.outs c.loop-alloc.self c.input_in.new.self
             c.in-Some.input c.pop.new.self c.in-Some.ensures.first c.in_ok-input_in.ensures,
         c.loop-alloc.invariant.commands,
       );
