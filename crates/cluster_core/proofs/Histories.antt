@@ -1,4 +1,6 @@
 -- The marks of a run, and the points that its history shows for them.
+pub mod Tally
+pub mod NextMarks
 pub mod Marks
 pub mod Told
 pub mod InTime

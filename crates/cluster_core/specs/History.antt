@@ -1,53 +1,49 @@
--- The history of a run: the steps that count as points, by which of their commands were answered.
-use Rattle.std.specs.Prelude.{ℕ, Bool, true, false, nat_le, List, [], ◌∷◌, ◌++◌, Option, None, Some}
-use Rattle.front_core.specs.declared.connection.Connection.{Connection}
-use Rattle.front_core.specs.declared.front.Front.{Front}
-use Rattle.front_core.specs.Front.{connection_at}
+-- The history of a run, read off its marks alone: a mark counts by the next mark of its command.
+use Rattle.std.specs.Prelude.{ℕ, ◌==◌, Bool, ◌&&◌, if◌then◌else◌, List, [], ◌∷◌, ◌++◌, Option, None, Some}
 use Rattle.link_msg.specs.declared.counts.Counts.{Counts}
 use Rattle.link_msg.specs.declared.counts.Counts.TheVariants.{Always, IfAnswered}
+use Rattle.link_msg.specs.declared.how.How.TheVariants.{Here, Behind}
+use Rattle.mur_base.specs.declared.point.AskId.{AskId}
 use Rattle.mur_base.specs.declared.point.Point.{Point}
 use Rattle.mur_base.specs.declared.point.What.{What}
 use Rattle.mur_base.specs.declared.point.What.TheVariants.{Reply as replied, Lost as lost}
-use Rattle.cluster_core.specs.declared.world.Client.{Client}
 use Rattle.cluster_core.specs.declared.world.Mark.{Mark}
+use Rattle.cluster_core.specs.declared.world.MarkKind.{MarkKind}
+use Rattle.cluster_core.specs.declared.world.MarkKind.TheVariants.{Home, Told}
 use Rattle.cluster_core.specs.declared.world.World.{World}
-use Rattle.cluster_core.specs.World.{client_at, front_at}
 
-abbrev pub answered_in : Option Connection → ℕ
-answered_in None = 0
-answered_in (Some connection) = connection.answered
+-- whether a mark is of this command
+abbrev pub is_of : AskId → Mark → Bool
+is_of ask mark = (mark.ask.conn == ask.conn) && (mark.ask.command == ask.command)
 
-abbrev pub connection_in : Option Front → ℕ → Option Connection
-connection_in None conn = None
-connection_in (Some front) conn = connection_at front conn
+-- the first of these marks that is of the command
+unfoldable pub next_of : AskId → List Mark → Option MarkKind
+next_of ask [] = None
+next_of ask (mark ∷ marks) = if is_of ask mark then Some mark.kind else next_of ask marks
 
-abbrev pub connection_by : World → ℕ → Option Client → Option Connection
-connection_by world conn None = None
-connection_by world conn (Some client) = connection_in (front_at world client.at) conn
+-- what a home's step counts as if the client is never told: a loss, where the command was carried out
+unfoldable pub untold_as : Counts → Option What
+untold_as Always = Some lost
+untold_as IfAnswered = None
 
--- a connection at its frontend
-unfoldable pub connection_of : World → ℕ → Option Connection
-connection_of world conn = connection_by world conn (client_at world conn)
-
--- how many commands of a connection were answered
-unfoldable pub answered_of : World → ℕ → ℕ
-answered_of world conn = answered_in (connection_of world conn)
+-- what a mark counts as, by the next one of its command: a home's step is the point of a command whose client is told behind it
+unfoldable pub counts_as : MarkKind → Option MarkKind → Option What
+counts_as (Told Here) next = Some replied
+counts_as (Told Behind) next = None
+counts_as (Home counts) None = untold_as counts
+counts_as (Home counts) (Some (Told Behind)) = Some replied
+counts_as (Home counts) (Some kind) = None
 
 abbrev pub point_as : Mark → What → Point
 point_as mark what = record { step = mark.step; ask = mark.ask; what = what }
 
--- by whether the command was answered: one that wasn't is lost, and then only a step that did it counts
-unfoldable pub points_by : Mark → Bool → Counts → List Point
-points_by mark true counts = point_as mark replied ∷ []
-points_by mark false Always = point_as mark lost ∷ []
-points_by mark false IfAnswered = []
+unfoldable pub points_by : Mark → Option What → List Point
+points_by mark None = []
+points_by mark (Some what) = point_as mark what ∷ []
 
-unfoldable pub points_of : World → Mark → List Point
-points_of world mark = points_by mark (nat_le mark.ask.command (answered_of world mark.ask.conn)) mark.counts
-
-unfoldable pub points_of_all : World → List Mark → List Point
-points_of_all world [] = []
-points_of_all world (mark ∷ marks) = points_of world mark ++ points_of_all world marks
+unfoldable pub points_of : List Mark → List Point
+points_of [] = []
+points_of (mark ∷ marks) = points_by mark (counts_as mark.kind (next_of mark.ask marks)) ++ points_of marks
 
 unfoldable pub history_of : World → List Point
-history_of world = points_of_all world world.marks
+history_of world = points_of world.marks

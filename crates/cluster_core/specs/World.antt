@@ -11,8 +11,9 @@ use Rattle.front_core.specs.Front.{Stepped, new_front, connect, bytes_in, hang, 
 use Rattle.link_msg.specs.declared.message.LinkMsg.{LinkMsg}
 use Rattle.link_msg.specs.declared.message.LinkMsg.TheVariants.{Up, End, Line, Ask, Answer}
 use Rattle.link_msg.specs.declared.out.Out.{Out}
-use Rattle.link_msg.specs.declared.out.Out.TheVariants.{Client as to_client, Close, Link as to_node, Mark as mark}
+use Rattle.link_msg.specs.declared.out.Out.TheVariants.{Client as to_client, Close, Link as to_node, Mark as mark, Told as tell}
 use Rattle.mur_base.specs.Map.{value_at, with_entry, with_value}
+use Rattle.mur_base.specs.declared.point.AskId.{AskId}
 use Rattle.mur_config.specs.declared.config.Config.{Config}
 use Rattle.mur_config.specs.declared.node.Kind.{Kind}
 use Rattle.mur_config.specs.declared.node.Kind.TheVariants.{Master, Frontend, Backend as backend_kind}
@@ -22,6 +23,8 @@ use Rattle.mur_model.specs.declared.setting.Setting.{Setting}
 use Rattle.schedule_text.specs.declared.event.Event.{Event}
 use Rattle.schedule_text.specs.declared.event.Event.TheVariants.{Open, Data, Hang, Deliver}
 use Rattle.cluster_core.specs.declared.world.Client.{Client}
+use Rattle.cluster_core.specs.declared.world.MarkKind.{MarkKind}
+use Rattle.cluster_core.specs.declared.world.MarkKind.TheVariants.{Home, Told}
 use Rattle.cluster_core.specs.declared.world.World.{World}
 use Rattle.link_queue.specs.Links.{on_link, sent, without_first}
 
@@ -82,12 +85,17 @@ given_more world conn bytes None = world
 given_more world conn bytes (Some client) =
     record world { clients = with_value nat_cmp world.clients conn (record client { given = client.given ++ bytes }) }
 
+-- this step says so of a command
+abbrev pub marked : World → AskId → MarkKind → World
+marked world ask kind = record world { marks = world.marks ++ (record { step = world.steps; ask = ask; kind = kind }) ∷ [] }
+
 -- an output of a node in this step is carried out
 unfoldable pub carry : List ℕ → World → Out → World
 carry node world (to_client conn bytes) = given_more world conn bytes (client_at world conn)
 carry node world (Close conn) = world
 carry node world (to_node other message) = record world { links = sent world.links node other message }
-carry node world (mark ask counts) = record world { marks = world.marks ++ (record { step = world.steps; ask = ask; counts = counts }) ∷ [] }
+carry node world (mark ask counts) = marked world ask (Home counts)
+carry node world (tell ask how) = marked world ask (Told how)
 
 unfoldable pub carry_all : List ℕ → World → List Out → World
 carry_all node world [] = world

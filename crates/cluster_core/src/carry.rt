@@ -1,11 +1,11 @@
 // Carrying out what a node lets out.
 ghost use Rattle.std.specs.Prelude.{◌≡◌, OnOk};
-ghost use Rattle.cluster_core.specs.World.{carry, carry_all, given_more, client_at};
+ghost use Rattle.cluster_core.specs.World.{carry, carry_all, given_more, marked, client_at};
 
-use crate::world::{Mark, World};
+use crate::world::{Mark, MarkKind, World};
 use link_msg::{Out, Outs};
 use link_queue::send;
-use mur_base::{Bytes, Memory, NodeName};
+use mur_base::{AskId, Bytes, Memory, NodeName};
 use std::alloc::Global;
 
 /// Carries out what a node lets out in this step, in order. For want of memory the world is spent.
@@ -32,12 +32,16 @@ fn carry(alloc: Global, world: &mut World, node: &NodeName, out: Out) -> Result<
         Out::Client(conn, bytes) => give(world, conn, &bytes),
         Out::Close(_conn) => Ok(()),
         Out::Link(other, message) => send(alloc, &mut world.links, node, other, message),
-        Out::Mark(ask, counts) => world.marks.push(Mark {
-            step: world.steps,
-            ask,
-            counts,
-        }),
+        Out::Mark(ask, counts) => mark(world, ask, MarkKind::Home(counts)),
+        Out::Told(ask, how) => mark(world, ask, MarkKind::Told(how)),
     }
+}
+
+fn mark(world: &mut World, ask: AskId, kind: MarkKind) -> Result<(), Memory>
+    ensures { OnOk result (world.new ≡ marked world.old ask kind) }
+{
+    let step = world.steps;
+    world.marks.push(Mark { step, ask, kind })
 }
 
 #[tactic(auto, unfolding(crate::specs::World::given_more))]

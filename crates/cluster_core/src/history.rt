@@ -1,58 +1,65 @@
 // The history of a run.
 ghost use Rattle.std.specs.Prelude.{◌≡◌, ◌++◌, IfOk, OnOk};
-ghost use Rattle.cluster_core.specs.History.{answered_of, points_of, points_of_all, history_of};
+ghost use Rattle.cluster_core.specs.History.{counts_as, points_by, points_of, history_of};
 
 use crate::cluster::Points;
-use crate::world::{Mark, World};
-use link_msg::Counts;
-use mur_base::{Memory, Point, What};
+use crate::world::{Mark, MarkKind, World};
+use link_msg::{Counts, How};
+use mur_base::{Map, Memory, Point, What};
 use std::alloc::Global;
 
 /// The steps that count as points so far, in order.
-#[tactic(auto, unfolding(crate::specs::History::history_of, crate::specs::History::points_of_all))]
+#[tactic(auto, unfolding(crate::specs::History::history_of))]
 pub fn history(alloc: Global, world: &World) -> Result<Points, Memory>
     ensures { IfOk result (λ points. points ≡ history_of world.now) }
 {
-    let mut points = Points::new(alloc);
-    for mark in world.marks.as_slice() {
-        put_point(world, mark, &mut points)?;
+    points_of(alloc, world.marks.as_slice())
+}
+
+// The points of marks, found from the last mark to the first. Each mark takes logarithmic time.
+fn points_of(alloc: Global, marks: &[Mark]) -> Result<Points, Memory>
+    ensures { IfOk result (λ points. points ≡ points_of marks.now) }
+{
+    // the next mark of each command
+    let mut next = Map::new(alloc);
+    let mut points = Vec::new(alloc);
+    let mut left = marks.len();
+    while left > 0 {
+        left -= 1;
+        let mark = &marks[left];
+        let key = (mark.ask.conn, mark.ask.command);
+        put_point(mark, next.get(&key).copied(), &mut points)?;
+        next.insert(key, mark.kind)?;
     }
-    Ok(points)
+    points.reverse();
+    Ok(Points::from_vec(points))
 }
 
 // Puts the point of a mark at the end, if it counts.
-#[tactic(auto, unfolding(crate::specs::History::points_of, crate::specs::History::points_by))]
-fn put_point(world: &World, mark: &Mark, points: &mut Points) -> Result<(), Memory>
-    ensures { OnOk result (points.new ≡ points.old ++ points_of world.now mark.now) }
+#[tactic(auto, unfolding(crate::specs::History::points_by))]
+fn put_point(mark: &Mark, next: Option<MarkKind>, points: &mut Vec<Point>) -> Result<(), Memory>
+    ensures { OnOk result (points.new.items ≡ points.old.items ++ points_by mark.now (counts_as mark.now.kind next)) }
 {
-    let what = if mark.ask.command <= answered_of(world, mark.ask.conn) {
-        What::Reply
-    } else {
-        match mark.counts {
-            Counts::Always => What::Lost,
-            Counts::IfAnswered => return Ok(()),
-        }
-    };
-    points.push(Point {
-        step: mark.step,
-        ask: mark.ask,
-        what,
-    })
+    if let Some(what) = counts_as(mark.kind, next) {
+        points.push(Point {
+            step: mark.step,
+            ask: mark.ask,
+            what,
+        })?;
+    }
+    Ok(())
 }
 
-/// How many commands of a connection were answered.
-#[tactic(auto, unfolding(crate::specs::History::answered_of, crate::specs::History::connection_of))]
-pub fn answered_of(world: &World, conn: u64) -> u64
-    ensures { result ≡ answered_of world.now conn }
+// What a mark counts as, by the next one of its command.
+#[tactic(auto, unfolding(crate::specs::History::counts_as, crate::specs::History::untold_as))]
+fn counts_as(kind: MarkKind, next: Option<MarkKind>) -> Option<What>
+    ensures { result ≡ counts_as kind next }
 {
-    let Some(client) = world.clients.get(&conn) else {
-        return 0;
-    };
-    let Some(front) = world.fronts.get(&client.at) else {
-        return 0;
-    };
-    match front.connections.get(&conn) {
-        Some(connection) => connection.answered,
-        None => 0,
+    match (kind, next) {
+        (MarkKind::Told(How::Here), _) | (MarkKind::Home(_), Some(MarkKind::Told(How::Behind))) => {
+            Some(What::Reply)
+        }
+        (MarkKind::Home(Counts::Always), None) => Some(What::Lost),
+        _ => None,
     }
 }

@@ -1,7 +1,7 @@
 // The whole cluster at one moment.
 use backend_core::Backend;
 use front_core::Front;
-use link_msg::{Counts, LinkMsg};
+use link_msg::{Counts, How, LinkMsg};
 use link_queue::Links;
 use mur_base::{AskId, Bytes, Items, Map, NodeName};
 use mur_config::Link;
@@ -13,13 +13,22 @@ pub struct Client {
     pub given: Bytes,
 }
 
-/// A step that counts as the point of a command.
+/// What a step says of a command.
 #[derive(Clone, Copy)]
 pub struct Mark {
     /// The number of the step, from 1.
     pub step: u64,
     pub ask: AskId,
-    pub counts: Counts,
+    pub kind: MarkKind,
+}
+
+/// What a mark says of its command. It counts by the next mark of the same command.
+#[derive(Clone, Copy)]
+pub enum MarkKind {
+    /// A home answered the command.
+    Home(Counts),
+    /// The client was told of the command.
+    Told(How),
 }
 
 /// The cluster: its nodes, what is on its way between them, its clients, and what its steps did.

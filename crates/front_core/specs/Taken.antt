@@ -10,9 +10,9 @@ use Rattle.imap_talk.specs.declared.inputs.Input.TheVariants.{GoesOn, Asks, Faul
 use Rattle.link_msg.specs.declared.ask.FrontAsk.{FrontAsk}
 use Rattle.imap_types.specs.declared.op.Op.{Op}
 use Rattle.link_msg.specs.declared.message.LinkMsg.TheVariants.{Ask}
-use Rattle.link_msg.specs.declared.counts.Counts.TheVariants.{Always}
+use Rattle.link_msg.specs.declared.how.How.TheVariants.{Here}
 use Rattle.link_msg.specs.declared.out.Out.{Out}
-use Rattle.link_msg.specs.declared.out.Out.TheVariants.{Client, Close, Link, Mark}
+use Rattle.link_msg.specs.declared.out.Out.TheVariants.{Client, Close, Link, Told}
 use Rattle.imap_types.specs.declared.command.Tag.{Tag}
 use Rattle.imap_types.specs.declared.reply.BadText.TheVariants.{Syntax}
 use Rattle.imap_types.specs.declared.reply.NoText.TheVariants.{Limit}
@@ -37,18 +37,18 @@ pub record Turned : Type 0 where
   pub connection : Connection
   pub outs : List Out
 
--- a command that is answered, and counts as carried out in this step
+-- a command that is answered, of which this step is the point
 unfoldable pub answers_now : ℕ → Connection → Sess → Tag → Reply → Turned
 answers_now conn connection session tag reply = record {
   connection = record connection { session = session; answered = connection.answered + 1 };
-  outs = Client conn (reply_text tag reply) ∷ Mark (record { conn = conn; command = connection.answered + 1 }) Always ∷ [];
+  outs = Client conn (reply_text tag reply) ∷ Told (record { conn = conn; command = connection.answered + 1 }) Here ∷ [];
 }
 
--- the last answer of a connection, which then has ended; it counts as carried out in this step
+-- the last answer of a connection, which then has ended; this step is its point
 unfoldable pub answers_last : ℕ → Connection → Tag → Reply → Turned
 answers_last conn connection tag reply = record {
   connection = record connection { stage = Ended; answered = connection.answered + 1 };
-  outs = Client conn (reply_text tag reply) ∷ Mark (record { conn = conn; command = connection.answered + 1 }) Always ∷ Close conn ∷ [];
+  outs = Client conn (reply_text tag reply) ∷ Told (record { conn = conn; command = connection.answered + 1 }) Here ∷ Close conn ∷ [];
 }
 
 -- what the user of a connection asks for its next command

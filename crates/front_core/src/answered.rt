@@ -1,15 +1,15 @@
 // The answer of a home to the command that waits for it.
-ghost use Rattle.std.specs.Prelude.{◌≡◌, ◌+◌, ◌<◌, ◌^◌, [], ◌∷◌, length, IfOk};
+ghost use Rattle.std.specs.Prelude.{◌≡◌, ◌+◌, ◌<◌, ◌^◌, [], ◌∷◌, length, IfOk, OnOk};
 ghost use Rattle.link_msg.specs.declared.out.Out.TheVariants.{Client};
-ghost use Rattle.front_core.specs.Answered.{answer_comes, ends_with, reading_again, reads_on};
+ghost use Rattle.front_core.specs.Answered.{answer_comes, ends_with, reading_again, reads_on, told_behind};
 ghost use Rattle.front_core.specs.Front.{is_asked};
 ghost use Rattle.front_core.specs.Room.{commands_of};
 
 use crate::connection::{Connection, Stage};
 use crate::desk::Desk;
 use crate::taken::reply_bytes;
-use link_msg::{BackAnswer, Out, Outs};
-use mur_base::{Bytes, Memory};
+use link_msg::{BackAnswer, How, Out, Outs};
+use mur_base::{AskId, Bytes, Memory};
 use session_core::Need;
 use std::alloc::Global;
 use std::mem;
@@ -50,14 +50,29 @@ impl Connection {
         }
     }
 
+    /// Gives the client the reply of the command that waited.
+    fn told_behind(&mut self, desk: Desk, reply: Bytes) -> Result<Outs, Memory>
+        requires room { self.old.answered + 1 < 2 ^ 64 }
+        ensures connection { OnOk result (self.new ≡ record self.old { answered = self.old.answered + 1 }) }
+        ensures outs { IfOk result (λ outs. outs ≡ told_behind desk.conn self.old reply) }
+    {
+        self.answered += 1;
+        let id = AskId {
+            conn: desk.conn,
+            command: self.answered,
+        };
+        let mut outs = given(desk.alloc, desk.conn, reply)?;
+        outs.push(Out::Told(id, How::Behind))?;
+        Ok(outs)
+    }
+
     /// Gives the client the last reply of its connection.
     fn ends_with(&mut self, desk: Desk, reply: Bytes) -> Result<Outs, Memory>
         requires room { self.old.answered + 1 < 2 ^ 64 }
         ensures { IfOk result (λ outs. record { connection = self.new; outs = outs } ≡ ends_with desk.conn self.old reply) }
     {
         self.stage = Stage::Ended;
-        self.answered += 1;
-        let mut outs = given(desk.alloc, desk.conn, reply)?;
+        let mut outs = self.told_behind(desk, reply)?;
         outs.push(Out::Close(desk.conn))?;
         Ok(outs)
     }
@@ -70,8 +85,7 @@ impl Connection {
             ≡ reads_on desk.setting.now desk.home.now desk.conn self.old reply) }
     {
         self.stage = Stage::Reading;
-        self.answered += 1;
-        let mut outs = given(desk.alloc, desk.conn, reply)?;
+        let mut outs = self.told_behind(desk, reply)?;
         self.waiting_come(desk, &mut outs)?;
         Ok(outs)
     }

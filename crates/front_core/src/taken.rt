@@ -16,7 +16,7 @@ use crate::desk::Desk;
 use imap_reply::{Continuation, put_bye, put_continuation, write};
 use imap_talk::Input;
 use imap_wire::FrameFault;
-use link_msg::{Counts, Out, Outs};
+use link_msg::{How, Out, Outs};
 use mur_base::{AskId, Bytes, Memory};
 use mur_model::{BadText, Bye, NoText, Reply, ReplyLines, Request, Tag, Verdict, refused};
 use session_core::Need;
@@ -126,7 +126,7 @@ impl Connection {
         outs.push(Out::Close(desk.conn))
     }
 
-    /// A command that is answered, and counts as carried out in this step.
+    /// A command that is answered, of which this step is the point.
     #[tactic(auto, using(std::proofs::lemmas::Grind::common_steps), unfolding(crate::specs::Taken::answers_now))]
     fn answers(
         &mut self,
@@ -145,7 +145,7 @@ impl Connection {
             command: self.answered,
         };
         outs.push(Out::Client(desk.conn, reply_bytes(desk.alloc, tag, reply)?))?;
-        outs.push(Out::Mark(id, Counts::Always))
+        outs.push(Out::Told(id, How::Here))
     }
 }
 

@@ -5,6 +5,7 @@
 mod answer;
 mod ask;
 mod counts;
+mod how;
 mod message;
 mod out;
 mod outcome;
@@ -12,6 +13,7 @@ mod outcome;
 pub use answer::{AnswerBody, BackAnswer};
 pub use ask::FrontAsk;
 pub use counts::Counts;
+pub use how::How;
 pub use imap_types::Op;
 pub use message::LinkMsg;
 pub use out::{Out, Outs};

@@ -1,5 +1,6 @@
 // What a node's step gives.
 use crate::counts::Counts;
+use crate::how::How;
 use crate::message::LinkMsg;
 use mur_base::{AskId, Bytes, Items, NodeName};
 
@@ -12,8 +13,10 @@ pub enum Out {
     Close(u64),
     /// This message goes to this node.
     Link(NodeName, LinkMsg),
-    /// This step is a point of the command, where it counts.
+    /// A home answers this command in this step, which is its point where it counts.
     Mark(AskId, Counts),
+    /// The client of this command is told of it in this step.
+    Told(AskId, How),
 }
 
 /// The outputs of a step in their order.

@@ -11,7 +11,7 @@ use Rattle.front_core.specs.declared.front.Front.{Front}
 use Rattle.front_core.specs.Front.{Stepped, connect, bytes_in, deliver as take_message}
 use Rattle.link_msg.specs.declared.message.LinkMsg.{LinkMsg}
 use Rattle.link_msg.specs.declared.out.Out.{Out}
-use Rattle.link_msg.specs.declared.out.Out.TheVariants.{Client as to_client, Close, Link as to_node, Mark as mark}
+use Rattle.link_msg.specs.declared.out.Out.TheVariants.{Client as to_client, Close, Link as to_node, Mark as mark, Told as tell}
 use Rattle.mur_base.specs.Map.{with_value, IsInOrder}
 use Rattle.mur_base.proofs.MapOrder.{with_entry-in_order, with_value-in_order}
 use Rattle.mur_config.specs.declared.config.Config.{Config}
@@ -47,6 +47,7 @@ carry-ordered node world (to_client conn bytes) is = given_more-ordered world co
 carry-ordered node world (Close conn) is = is
 carry-ordered node world (to_node other message) is = is
 carry-ordered node world (mark ask counts) is = is
+carry-ordered node world (tell ask how) is = is
 
 carry_all-ordered : (node : List ℕ) (world : World) (outs : List Out) → IsOrdered world → IsOrdered (carry_all node world outs)
 unfolding carry_all

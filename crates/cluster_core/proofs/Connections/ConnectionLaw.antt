@@ -121,7 +121,7 @@ pub record IsStanding (setting : Setting) (front home : List ℕ) (conn : ℕ) (
 pub record IsMade (setting : Setting) (backend : Backend) (conn : ℕ) (before : World) (told : Story) (world : World) (story : Story) : Type 0 where
   pub others : KeepsOthers conn before world
   pub goes_on : GoesOnAt conn told story
-  pub is_told : IsTold setting world.steps world.marks backend story.talk story.course
+  pub is_told : IsTold setting world.steps world.marks backend story.talk story.told story.course
 
 pub record ReadsOn (setting : Setting) (front home : List ℕ) (backend : Backend) (conn : ℕ) (inputs : List Input) (connection : Connection) (before : World)
     (told : Story) (world : World) : Type 0 where

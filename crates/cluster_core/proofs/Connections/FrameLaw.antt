@@ -25,10 +25,11 @@ use Rattle.imap_talk.specs.Inputs.{requests_in}
 use Rattle.imap_talk.proofs.InputLaws.{requests-append}
 use Rattle.front_core.proofs.OneConnection.Readings.{FaultsLast}
 use Rattle.link_msg.specs.declared.ask.FrontAsk.{FrontAsk}
-use Rattle.link_msg.specs.declared.counts.Counts.TheVariants.{Always}
+use Rattle.link_msg.specs.declared.how.How.{How}
+use Rattle.link_msg.specs.declared.how.How.TheVariants.{Here, Behind}
 use Rattle.link_msg.specs.declared.message.LinkMsg.TheVariants.{Ask}
 use Rattle.link_msg.specs.declared.out.Out.{Out}
-use Rattle.link_msg.specs.declared.out.Out.TheVariants.{Client as to_client, Close, Link as to_node, Mark as mark}
+use Rattle.link_msg.specs.declared.out.Out.TheVariants.{Client as to_client, Close, Link as to_node, Told as tell}
 use Rattle.mur_base.specs.Map.{with_value}
 use Rattle.mur_base.specs.declared.point.AskId.{AskId}
 use Rattle.mur_base.proofs.MapLaws.{numbers_apart, value_at-with_value, value_at-with_value-other}
@@ -52,7 +53,7 @@ use Rattle.mur_model.proofs.Numbered.{with_item, with_item-same, with_item-other
 use Rattle.cluster_core.specs.declared.world.Client.{Client}
 use Rattle.cluster_core.specs.declared.world.World.{World}
 use Rattle.link_queue.specs.Links.{sent}
-use Rattle.cluster_core.specs.World.{client_at, given_more, carry, carry_all}
+use Rattle.cluster_core.specs.World.{client_at, given_more, marked, carry, carry_all}
 use Rattle.cluster_core.proofs.Connections.ConnectionLaw.{Story, KeepsOthers, keeps_on, GoesOnAt, stories_follow, client_with}
 use Rattle.cluster_core.proofs.Connections.ConnectionLaw.{IsMade, ReadsOn, StandsOn, session_at, session_of_other}
 use Rattle.front_core.proofs.OneConnection.Standing.OnItsWay.{there}
@@ -62,8 +63,10 @@ use Rattle.front_core.proofs.OneConnection.FrontAnswers.IsTaken.{here, finishes,
 use Rattle.imap_talk.proofs.RequestsOf.{answered_lengths, next_request, replies_stop}
 use Rattle.front_core.proofs.OneConnection.LastAnswer.{all_go_on}
 use Rattle.serve_law.proofs.HomeStore.{IsStoreOf}
-use Rattle.serve_law.proofs.ServedAlike.{apart}
-use Rattle.cluster_core.proofs.Histories.Told.{IsTold, having_said, next_course, told_push}
+use Rattle.cluster_core.specs.declared.world.MarkKind.TheVariants.{Home, Told}
+use Rattle.link_msg.specs.declared.counts.Counts.{Counts}
+use Rattle.cluster_core.proofs.Histories.Tally.{acts}
+use Rattle.cluster_core.proofs.Histories.Told.{IsTold, having_said, next_course, told_push, tells_here}
 use Rattle.front_core.proofs.OneConnection.Ways.{ask_sent, sent_for_another, ask_of_another}
 
 pub carry_all-append : (node : List ℕ) (world : World) (one two : List Out) → carry_all node world (one ++ two) ≡ carry_all node (carry_all node world one) two
@@ -80,18 +83,19 @@ given_there : (world : World) (conn : ℕ) (client : Client) (text : List ℕ) �
 unfolding given_more
 given_there world conn client text at = ap (given_more world conn text) at
 
-abbrev marked_world : World → AskId → World
-marked_world world ask = record world { marks = world.marks ++ (record { step = world.steps; ask = ask; counts = Always }) ∷ [] }
+-- and is told so of its command
+abbrev pub marked_world : World → AskId → How → World
+marked_world world ask how = marked world ask (Told how)
 
-answer_carried : (node : List ℕ) (world : World) (conn : ℕ) (client : Client) (text : List ℕ) (ask : AskId) → client_at world conn ≡ Some client
-    → carry_all node world (to_client conn text ∷ mark ask Always ∷ []) ≡ marked_world (given_world world conn client text) ask
+pub answer_carried : (node : List ℕ) (world : World) (conn : ℕ) (client : Client) (text : List ℕ) (ask : AskId) (how : How) → client_at world conn ≡ Some client
+    → carry_all node world (to_client conn text ∷ tell ask how ∷ []) ≡ marked_world (given_world world conn client text) ask how
 unfolding carry_all carry
-answer_carried node world conn client text ask at = ap (λ w. marked_world w ask) (given_there world conn client text at)
+answer_carried node world conn client text ask how at = ap (λ w. marked_world w ask how) (given_there world conn client text at)
 
-last_carried : (node : List ℕ) (world : World) (conn : ℕ) (client : Client) (text : List ℕ) (ask : AskId) → client_at world conn ≡ Some client
-    → carry_all node world (to_client conn text ∷ mark ask Always ∷ Close conn ∷ []) ≡ marked_world (given_world world conn client text) ask
+pub last_carried : (node : List ℕ) (world : World) (conn : ℕ) (client : Client) (text : List ℕ) (ask : AskId) (how : How) → client_at world conn ≡ Some client
+    → carry_all node world (to_client conn text ∷ tell ask how ∷ Close conn ∷ []) ≡ marked_world (given_world world conn client text) ask how
 unfolding carry_all carry
-last_carried node world conn client text ask at = ap (λ w. marked_world w ask) (given_there world conn client text at)
+last_carried node world conn client text ask how at = ap (λ w. marked_world w ask how) (given_there world conn client text at)
 
 pub line_carried : (node : List ℕ) (world : World) (conn : ℕ) (client : Client) (text : List ℕ) → client_at world conn ≡ Some client
     → carry_all node world (to_client conn text ∷ []) ≡ given_world world conn client text
@@ -114,8 +118,8 @@ given_keeps world conn client text = record {
   ways = λ other ne front home asked answered way. way;
 }
 
-marked_keeps : (conn : ℕ) (world : World) (ask : AskId) → KeepsOthers conn world (marked_world world ask)
-marked_keeps conn world ask = record {
+pub marked_keeps : (conn : ℕ) (world : World) (ask : AskId) (how : How) → KeepsOthers conn world (marked_world world ask how)
+marked_keeps conn world ask how = record {
   fronts = refl;
   homes = refl;
   backends = refl;
@@ -146,6 +150,13 @@ said_goes_on setting story conn request answer = record {
   };
 }
 
+acting_here : acts (Told Here) ≡ true
+unfolding acts
+acting_here = refl
+
+not_a_home : {how : How} {counts : Counts} → Told how ≡ Home counts → ⊥
+not_a_home h = cc
+
 -- one answer more is that of the one store
 said_made : (setting : Setting) (front home : List ℕ) (backend : Backend) (conn : ℕ) (inputs : List Input) (connection : Connection) (before : World)
     (told : Story) (world : World)
@@ -156,7 +167,7 @@ said_made : (setting : Setting) (front home : List ℕ) (backend : Backend) (con
     (was.story.course.sessions conn) request 0 ≡ record { store = store; session = session; answer = record { tag = tag; reply = reply } })
     → ((store : Store) → MayTake setting store (was.story.course.sessions conn) request 0)
     → IsMade setting backend conn before told
-    (marked_world (given_world world conn (client_with front inputs (was.story.told conn)) text) (record { conn = conn; command = connection.answered + 1 }))
+    (marked_world (given_world world conn (client_with front inputs (was.story.told conn)) text) (record { conn = conn; command = connection.answered + 1 }) Here)
     (said_story setting was.story conn request (record { tag = tag; reply = reply }))
 said_made setting front home backend conn inputs connection before told world request tag reply session text was number is free =
     let story = was.story in
@@ -166,19 +177,20 @@ said_made setting front home backend conn inputs connection before told world re
     is course.store in
     let client : Client = client_with front inputs (story.told conn) in
     let lengths : length (story.talk.answers conn) ≡ connection.answered = ap length was.reading.said ∙ sym was.reading.count in
-    let after_world = marked_world (given_world world conn client text) (record { conn = conn; command = connection.answered + 1 }) in
+    let after_world = marked_world (given_world world conn client text) (record { conn = conn; command = connection.answered + 1 }) Here in
     let now : Story = said_story setting story conn request answer in
     record {
       others = keeps_on conn before world after_world was.made.others
           (keeps_on conn world (given_world world conn client text) after_world (given_keeps world conn client text)
-          (marked_keeps conn (given_world world conn client text) _));
+          (marked_keeps conn (given_world world conn client text) _ Here));
       goes_on = stories_follow conn told story now was.made.goes_on (said_goes_on setting story conn request answer);
       is_told = subst (λ n. IsTold setting world.steps
-          (world.marks ++ (record { step = world.steps; ask = record { conn = conn; command = n + 1 }; counts = Always }) ∷ []) backend now.talk now.course)
+          (world.marks ++ (record { step = world.steps; ask = record { conn = conn; command = n + 1 }; kind = Told Here }) ∷ []) backend now.talk now.told now.course)
           lengths
-          (told_push setting world.steps world.marks backend backend story.talk course conn request 0 Always
+          (told_push setting world.steps world.marks backend backend story.talk story.told now.told course conn request 0 (Told Here) acting_here
+          (tells_here setting story.talk conn story.told answer (ap length was.reading.said))
           (subst (λ n. numbered (story.talk.requests conn) (n + 1) ≡ Some request) (sym (ap length was.reading.said)) number) (free course.store)
-          (λ h. absurd (apart h))
+          (λ h. absurd (not_a_home h))
           (subst (λ s. IsStoreOf s backend) (sym (ap (λ (a : Answered). a.store) out)) was.made.is_told.same) was.made.is_told);
     }
 
@@ -204,8 +216,8 @@ answered_here setting front home backend conn inputs next connection before told
     let same_answer : (carried_out setting course conn request 0).answer ≡ answer = ap (λ (a : Answered). a.answer) out in
     let client : Client = client_with front inputs (story.told conn) in
     let text : List ℕ = reply_text tag reply in
-    let world_is = answer_carried front world conn client text (record { conn = conn; command = connection.answered + 1 }) was.reading.client in
-    let after_world = marked_world (given_world world conn client text) (record { conn = conn; command = connection.answered + 1 }) in
+    let world_is = answer_carried front world conn client text (record { conn = conn; command = connection.answered + 1 }) Here was.reading.client in
+    let after_world = marked_world (given_world world conn client text) (record { conn = conn; command = connection.answered + 1 }) Here in
     let now : Story = said_story setting story conn request answer in
     let grown = grows answer stays in
     subst (λ w. ReadsOn setting front home backend conn next (answers_now conn connection session tag reply).connection before told w) (sym world_is)
@@ -254,8 +266,8 @@ last_here setting front home backend conn inputs more held connection before tol
     let client : Client = client_with front inputs (story.told conn) in
     let text : List ℕ = reply_text tag reply in
     let next : List Input = inputs ++ Asks request ∷ more in
-    let world_is = last_carried front world conn client text (record { conn = conn; command = connection.answered + 1 }) was.reading.client in
-    let after_world = marked_world (given_world world conn client text) (record { conn = conn; command = connection.answered + 1 }) in
+    let world_is = last_carried front world conn client text (record { conn = conn; command = connection.answered + 1 }) Here was.reading.client in
+    let after_world = marked_world (given_world world conn client text) (record { conn = conn; command = connection.answered + 1 }) Here in
     let now : Story = said_story setting story conn request answer in
     subst (λ w. StandsOn setting front home backend conn next held (last_of conn connection tag reply).connection before told w) (sym world_is)
     (record {

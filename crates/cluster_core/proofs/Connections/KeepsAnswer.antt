@@ -1,12 +1,12 @@
 -- An answer that comes to the frontend keeps the law: the client is given its reply, and what waited behind the command is taken.
 use Rattle.std.proofs.Common.{◌≡◌, ℕ, ◌+◌, Bool, true, false, nat_eq, List, [], ◌∷◌, ◌++◌, length, Option, None, Some, refl, sym, ◌∙◌, ap, subst}
-use Rattle.std.proofs.Common.{arith, append_assoc}
+use Rattle.std.proofs.Common.{arith, append_assoc, length-append}
 use Rattle.std.specs.Ordering.{nat_cmp}
 use Rattle.std.proofs.lemmas.Bool.Decides.{nat_tests}
 use Rattle.backend_core.specs.declared.backend.Backend.{Backend}
 use Rattle.front_core.specs.declared.connection.Connection.{Connection}
 use Rattle.front_core.specs.declared.connection.Stage.TheVariants.{Asked, Ended}
-use Rattle.front_core.specs.Answered.{answer_by, answer_comes, ends_with, finished_in, reading_again, reads_on, unchanged}
+use Rattle.front_core.specs.Answered.{answer_by, answer_comes, ends_with, finished_in, reading_again, reads_on, told_behind, unchanged}
 use Rattle.front_core.specs.Taken.{Turned, inputs_come}
 use Rattle.imap_reply.specs.Greeting.{greeting}
 use Rattle.imap_reply.specs.ReplyText.{reply_text}
@@ -22,7 +22,9 @@ use Rattle.imap_talk.specs.Inputs.{requests_in}
 use Rattle.front_core.proofs.OneConnection.Readings.{FaultsLast}
 use Rattle.link_msg.specs.declared.answer.AnswerBody.{AnswerBody}
 use Rattle.link_msg.specs.declared.answer.BackAnswer.{BackAnswer}
-use Rattle.link_msg.specs.declared.out.Out.TheVariants.{Client as to_client}
+use Rattle.link_msg.specs.declared.how.How.TheVariants.{Behind}
+use Rattle.cluster_core.specs.declared.world.MarkKind.TheVariants.{Told}
+use Rattle.mur_base.specs.declared.point.AskId.{AskId}
 use Rattle.mur_base.proofs.MapLaws.{numbers_apart, value_at-with_value}
 use Rattle.imap_types.specs.declared.command.Tag.{Tag}
 use Rattle.mur_model.specs.Needed.{Work}
@@ -41,11 +43,11 @@ use Rattle.mur_model.specs.Need.{told_with}
 use Rattle.cluster_core.specs.declared.world.Client.{Client}
 use Rattle.cluster_core.specs.declared.world.World.{World}
 use Rattle.cluster_core.specs.World.{client_at, carry_all}
-use Rattle.cluster_core.proofs.Connections.ConnectionLaw.{Story, client_with, GoesOnAt, ReadsOn, StandsOn}
+use Rattle.cluster_core.proofs.Connections.ConnectionLaw.{Story, KeepsOthers, keeps_on, client_with, GoesOnAt, ReadsOn, StandsOn}
 use Rattle.front_core.proofs.OneConnection.Standing.Stands.{finished}
-use Rattle.cluster_core.proofs.Connections.FrameLaw.{carry_all-append, line_carried, end_carried, given_keeps, inputs_kept}
+use Rattle.cluster_core.proofs.Connections.FrameLaw.{carry_all-append, answer_carried, last_carried, given_world, given_keeps, marked_world, marked_keeps, inputs_kept}
 use Rattle.imap_talk.proofs.RequestsOf.{replies_stop}
-use Rattle.cluster_core.proofs.Histories.Told.{IsTold}
+use Rattle.cluster_core.proofs.Histories.Told.{IsTold, told_behind_push}
 use Rattle.front_core.proofs.OneConnection.Ways.{AreOnWay}
 
 abbrev told_more : Story → ℕ → AnswerOf → Story
@@ -64,6 +66,25 @@ told_goes_on story conn answer = record {
   };
 }
 
+-- the client is given the reply of its command, and told so
+told_keeps : (world : World) (conn : ℕ) (client : Client) (text : List ℕ) (ask : AskId)
+    → KeepsOthers conn world (marked_world (given_world world conn client text) ask Behind)
+told_keeps world conn client text ask = keeps_on conn world (given_world world conn client text) (marked_world (given_world world conn client text) ask Behind)
+    (given_keeps world conn client text) (marked_keeps conn (given_world world conn client text) ask Behind)
+
+told_on : (setting : Setting) (backend : Backend) (conn : ℕ) (connection : Connection) (world : World) (story : Story) (answer : AnswerOf)
+    → connection.answered ≡ length (story.told conn) → story.talk.answers conn ≡ story.told conn ++ answer ∷ []
+    → IsTold setting world.steps world.marks backend story.talk story.told story.course
+    → IsTold setting world.steps
+    (world.marks ++ (record { step = world.steps; ask = record { conn = conn; command = connection.answered + 1 }; kind = Told Behind }) ∷ []) backend story.talk
+    (with_item story.told conn answer) story.course
+told_on setting backend conn connection world story answer count said told =
+    subst (λ n. IsTold setting world.steps
+    (world.marks ++ (record { step = world.steps; ask = record { conn = conn; command = n + 1 }; kind = Told Behind }) ∷ []) backend story.talk
+    (with_item story.told conn answer) story.course) (sym count)
+    (told_behind_push setting world.steps world.marks backend story.talk story.told story.course conn answer
+    (ap length said ∙ length-append (story.told conn) (answer ∷ [])) told)
+
 -- the connection reads again behind the reply
 replied_reads : (setting : Setting) (front home : List ℕ) (backend : Backend) (conn : ℕ) (all passed : List Input) (request : Request) (connection : Connection)
     (tag : Tag) (reply : Reply) (later : Option Sess) (world : World) (story : Story)
@@ -72,10 +93,10 @@ replied_reads : (setting : Setting) (front home : List ℕ) (backend : Backend) 
     → story.course.sessions conn ≡ session_after connection.session later → has_ended (story.course.sessions conn) ≡ false
     → AreAnswered passed (story.told conn)
     → story.talk.answers conn ≡ story.told conn ++ (record { tag = tag; reply = reply }) ∷ []
-    → ends reply ≡ false → AreOnWay world.links conn front home [] [] → IsTold setting world.steps world.marks backend story.talk story.course
+    → ends reply ≡ false → AreOnWay world.links conn front home [] [] → IsTold setting world.steps world.marks backend story.talk story.told story.course
     → ReadsOn setting front home backend conn (passed ++ Asks request ∷ [])
     (reading_again (record connection { session = session_after connection.session later })) world story
-    (carry_all front world (to_client conn (reply_text tag reply) ∷ []))
+    (carry_all front world (told_behind conn connection (reply_text tag reply)))
 replied_reads setting front home backend conn all passed request connection tag reply later world story parts count at session lasts answered said stays
     way told =
     let answer : AnswerOf = record { tag = tag; reply = reply } in
@@ -87,13 +108,13 @@ replied_reads setting front home backend conn all passed request connection tag 
     ap (λ f. replies_to f (story.told conn)) parts ∙ sym (replies_stop passed (story.told conn) request connection.waiting answered) in
     subst (λ w. ReadsOn setting front home backend conn (passed ++ Asks request ∷ [])
     (reading_again (record connection { session = session_after connection.session later })) world story w)
-    (sym (line_carried front world conn client text at))
+    (sym (answer_carried front world conn client text (record { conn = conn; command = connection.answered + 1 }) Behind at))
     (record {
       story = now;
       made = record {
-        others = given_keeps world conn client text;
+        others = told_keeps world conn client text (record { conn = conn; command = connection.answered + 1 });
         goes_on = told_goes_on story conn answer;
-        is_told = told;
+        is_told = told_on setting backend conn connection world story answer count said told;
       };
       reading = record {
         stage_is = refl;
@@ -123,7 +144,7 @@ read_stands : (setting : Setting) (front home : List ℕ) (backend : Backend) (c
     → story.course.sessions conn ≡ session_after connection.session later → has_ended (story.course.sessions conn) ≡ false
     → AreAnswered passed (story.told conn)
     → story.talk.answers conn ≡ story.told conn ++ (record { tag = tag; reply = reply }) ∷ []
-    → ends reply ≡ false → AreOnWay world.links conn front home [] [] → IsTold setting world.steps world.marks backend story.talk story.course
+    → ends reply ≡ false → AreOnWay world.links conn front home [] [] → IsTold setting world.steps world.marks backend story.talk story.told story.course
     → FaultsLast connection.waiting held → story.talk.requests conn ≡ requests_in all
     → StandsOn setting front home backend conn all held (read_turn setting home conn connection (reply_text tag reply) later).connection world story
     (carry_all front world (read_turn setting home conn connection (reply_text tag reply) later).outs)
@@ -133,12 +154,12 @@ read_stands setting front home backend conn all passed held request connection t
     inputs_come setting home conn (reading_again (record connection { session = session_after connection.session later })) connection.waiting in
     let whole : all ≡ (passed ++ Asks request ∷ []) ++ connection.waiting = parts ∙ sym (append_assoc passed (Asks request ∷ []) connection.waiting) in
     subst (λ w. StandsOn setting front home backend conn all held behind.connection world story w)
-    (sym (carry_all-append front world (to_client conn (reply_text tag reply) ∷ []) behind.outs))
+    (sym (carry_all-append front world (told_behind conn connection (reply_text tag reply)) behind.outs))
     (subst (λ f. StandsOn setting front home backend conn f held behind.connection world story
-    (carry_all front (carry_all front world (to_client conn (reply_text tag reply) ∷ [])) behind.outs)) (sym whole)
+    (carry_all front (carry_all front world (told_behind conn connection (reply_text tag reply))) behind.outs)) (sym whole)
     (inputs_kept setting front home backend conn connection.waiting held world story last (passed ++ Asks request ∷ [])
     (reading_again (record connection { session = session_after connection.session later }))
-    (carry_all front world (to_client conn (reply_text tag reply) ∷ []))
+    (carry_all front world (told_behind conn connection (reply_text tag reply)))
     (asked ∙ ap requests_in whole)
     (replied_reads setting front home backend conn all passed request connection tag reply later world story parts count at session lasts answered said stays
     way told)))
@@ -149,7 +170,7 @@ ended_stands : (setting : Setting) (front home : List ℕ) (backend : Backend) (
     → all ≡ passed ++ Asks request ∷ connection.waiting → connection.answered ≡ length (story.told conn)
     → client_at world conn ≡ Some (client_with front all (story.told conn)) → AreAnswered passed (story.told conn)
     → story.talk.answers conn ≡ story.told conn ++ (record { tag = tag; reply = reply }) ∷ []
-    → ends reply ≡ true → AreOnWay world.links conn front home [] [] → IsTold setting world.steps world.marks backend story.talk story.course
+    → ends reply ≡ true → AreOnWay world.links conn front home [] [] → IsTold setting world.steps world.marks backend story.talk story.told story.course
     → StandsOn setting front home backend conn all held (ends_with conn connection (reply_text tag reply)).connection world story
     (carry_all front world (ends_with conn connection (reply_text tag reply)).outs)
 ended_stands setting front home backend conn all passed held request connection tag reply world story parts count at answered said is_end way told =
@@ -162,13 +183,13 @@ ended_stands setting front home backend conn all passed held request connection 
     ap (λ f. replies_to f (story.told conn ++ answer ∷ [])) parts
     ∙ end_told silent passed (story.told conn) request connection.waiting answer [] answered is_end in
     subst (λ w. StandsOn setting front home backend conn all held (ends_with conn connection text).connection world story w)
-    (sym (end_carried front world conn client text at))
+    (sym (last_carried front world conn client text (record { conn = conn; command = connection.answered + 1 }) Behind at))
     (record {
       story = told_more story conn answer;
       made = record {
-        others = given_keeps world conn client text;
+        others = told_keeps world conn client text (record { conn = conn; command = connection.answered + 1 });
         goes_on = told_goes_on story conn answer;
-        is_told = told;
+        is_told = told_on setting backend conn connection world story answer count said told;
       };
       standing = record {
         count = ap (λ n. n + 1) count ∙ sym (length_with_item story.told conn answer);
@@ -218,7 +239,7 @@ replied_by : (setting : Setting) (front home : List ℕ) (backend : Backend) (co
     → has_ended connection.session ≡ false → story.course.sessions conn ≡ session_after connection.session turn.session → TurnEnds turn
     → AreAnswered passed (story.told conn)
     → story.talk.answers conn ≡ story.told conn ++ (record { tag = tag; reply = turn.reply }) ∷ []
-    → AreOnWay world.links conn front home [] [] → IsTold setting world.steps world.marks backend story.talk story.course
+    → AreOnWay world.links conn front home [] [] → IsTold setting world.steps world.marks backend story.talk story.told story.course
     → FaultsLast connection.waiting held → story.talk.requests conn ≡ requests_in all
     → (ended : Bool) → ends_session turn.session ≡ ended
     → StandsOn setting front home backend conn all held (replied_turn setting home conn connection tag turn).connection world story
@@ -244,7 +265,7 @@ pub replied_stands : (setting : Setting) (front home : List ℕ) (backend : Back
     → has_ended connection.session ≡ false → story.course.sessions conn ≡ session_after connection.session turn.session → TurnEnds turn
     → AreAnswered passed (story.told conn)
     → story.talk.answers conn ≡ story.told conn ++ (record { tag = tag; reply = turn.reply }) ∷ []
-    → AreOnWay world.links conn front home [] [] → IsTold setting world.steps world.marks backend story.talk story.course
+    → AreOnWay world.links conn front home [] [] → IsTold setting world.steps world.marks backend story.talk story.told story.course
     → FaultsLast connection.waiting held → story.talk.requests conn ≡ requests_in all
     → StandsOn setting front home backend conn all held (replied_turn setting home conn connection tag turn).connection world story
     (carry_all front world (replied_turn setting home conn connection tag turn).outs)

@@ -51,7 +51,9 @@ use Rattle.imap_talk.proofs.RequestsOf.{requests_of}
 use Rattle.serve_law.proofs.HomeStore.{IsStoreOf}
 use Rattle.serve_law.proofs.ServedAlike.{ServesAlike}
 use Rattle.serve_law.proofs.ServeLaw.{plain_ask, serves_alike}
-use Rattle.cluster_core.proofs.Histories.Told.{IsTold, having_said, next_course, told_push}
+use Rattle.cluster_core.specs.declared.world.MarkKind.TheVariants.{Home}
+use Rattle.cluster_core.proofs.Histories.Tally.{acts}
+use Rattle.cluster_core.proofs.Histories.Told.{still_told, IsTold, having_said, next_course, told_push}
 use Rattle.front_core.proofs.OneConnection.Ways.{answer_of_another, ask_of_another, taken_for_another, sent_for_another}
 
 -- the world behind the home's answer
@@ -59,7 +61,7 @@ abbrev pub answered_world : World → List ℕ → List ℕ → Backend → Fron
 answered_world world front home backend ask body counts = record world {
   homes = with_value (slice_cmp nat_cmp) world.homes home backend;
   links = sent (without_first world.links front home) home front (Answer (record { id = ask.id; body = body }));
-  marks = world.marks ++ (record { step = world.steps; ask = ask.id; counts = counts }) ∷ [];
+  marks = world.marks ++ (record { step = world.steps; ask = ask.id; kind = Home counts }) ∷ [];
 }
 
 pub answers_so : (world : World) (front home : List ℕ) (backend : Backend) (ask : FrontAsk) (body : AnswerBody) → (home_step backend ask).body ≡ Some body
@@ -97,6 +99,13 @@ unfolding store_after
 same_store setting course conn tag it name work serial need left =
     ap (λ (a : Answered). a.store) (carried_as setting course conn tag it name work serial need) ∙ ap (store_after course.store name) left
 
+acting_home : {counts : Counts} → acts (Home counts) ≡ true
+unfolding acts
+acting_home = refl
+
+counts_same : {one other : Counts} → Home one ≡ Home other → one ≡ other
+counts_same h = cc
+
 -- what the home answers to the ask of a connection, and what is then told of it
 pub record IsAnswered (config : Config) (heard : ℕ → Heard) (world : World) (law : KeepsLaw config heard world) (conn : ℕ) (front : List ℕ)
     (connection : Connection) (tag : Tag) (name : List ℕ) (work : Work) (ask : FrontAsk) : Type 0 where
@@ -110,8 +119,8 @@ pub record IsAnswered (config : Config) (heard : ℕ → Heard) (world : World) 
   pub course : Course
   pub world_is : with_home (taken_from_link world front (home_of config)) (home_of config) (plan_of law.backend (FromFront front ask)) ≡ answered_world world front
       (home_of config) backend ask body counts
-  pub is_told : IsTold (setting_of config) world.steps (world.marks ++ (record { step = world.steps; ask = ask.id; counts = counts }) ∷ []) backend
-      (having_said law.story.talk conn reply serial) course
+  pub is_told : IsTold (setting_of config) world.steps (world.marks ++ (record { step = world.steps; ask = ask.id; kind = Home counts }) ∷ []) backend
+      (having_said law.story.talk conn reply serial) law.story.told course
   pub others : (other : ℕ) → other ≢ conn → course.sessions other ≡ law.story.course.sessions other
   pub mine : course.sessions conn ≡ session_after (law.story.course.sessions conn) turn.session
   pub shown : turn_of (law.story.course.sessions conn) (asked_for name work).awaited body ≡ Some turn
@@ -148,13 +157,14 @@ answers_ask config heard world law conn front connection tag it name work ask is
       course = next_course (setting_of config) course conn (a_command tag it) serial;
       world_is = answers_so world front (home_of config) backend ask serves.body serves.is_body;
       is_told = subst (λ a. IsTold (setting_of config) world.steps
-          (world.marks ++ (record { step = world.steps; ask = a; counts = (home_step backend ask).counts }) ∷ []) (home_step backend ask).home
-          (having_said law.story.talk conn (carried_out (setting_of config) course conn (a_command tag it) serial).answer serial)
+          (world.marks ++ (record { step = world.steps; ask = a; kind = Home (home_step backend ask).counts }) ∷ []) (home_step backend ask).home
+          (having_said law.story.talk conn (carried_out (setting_of config) course conn (a_command tag it) serial).answer serial) law.story.told
           (next_course (setting_of config) course conn (a_command tag it) serial)) mark_is
-          (told_push (setting_of config) world.steps world.marks backend (home_step backend ask).home law.story.talk course conn (a_command tag it) serial
-          (home_step backend ask).counts
+          (told_push (setting_of config) world.steps world.marks backend (home_step backend ask).home law.story.talk law.story.told law.story.told course conn (a_command tag it) serial
+          (Home (home_step backend ask).counts) acting_home
+          (still_told (setting_of config) law.story.talk conn (home_step backend ask).counts law.story.told (law.is_told.ahead conn))
           asked (may_take (setting_of config) course conn tag it name work serial need serves.free)
-          (λ h. same_store (setting_of config) course conn tag it name work serial need (serves.unless h))
+          (λ h. same_store (setting_of config) course conn tag it name work serial need (serves.unless (counts_same h)))
           (subst (λ s. IsStoreOf s (home_step backend ask).home) (sym (ap (λ (a : Answered). a.store) out)) serves.still) law.is_told);
       others = λ other ne. session_of_other course.sessions conn _ other ne;
       mine = session_at course.sessions conn _ ∙ ap (λ (a : Answered). a.session) out;

@@ -186,9 +186,9 @@ Behind config heard world law conn bytes more node connection =
 
 now_told : (config : Config) (heard : ℕ → Heard) (world : World) (law : KeepsLaw config heard world) (conn : ℕ) (bytes more : List ℕ) (held : Read)
     → heard conn ≡ client bytes false → reading_of (setting_of config) bytes ≡ held
-    → IsTold (setting_of config) world.steps world.marks law.backend (asked_talk config heard conn more law.story).talk law.story.course
+    → IsTold (setting_of config) world.steps world.marks law.backend (asked_talk config heard conn more law.story).talk law.story.told law.story.course
 now_told config heard world law conn bytes more held e is =
-    told_asked (setting_of config) world.steps world.marks law.backend law.story.talk law.story.course _
+    told_asked (setting_of config) world.steps world.marks law.backend law.story.talk law.story.told law.story.course _
     (asked_more config heard conn bytes more held e is law.story.talk.requests law.requests) law.is_told
 
 all_inputs : (config : Config) (heard : ℕ → Heard) (conn : ℕ) (bytes more : List ℕ) (held : Read) → heard conn ≡ client bytes false

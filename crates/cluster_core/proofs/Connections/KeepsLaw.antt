@@ -87,7 +87,7 @@ pub record KeepsLaw (config : Config) (heard : ℕ → Heard) (world : World) : 
   pub nodes : AreNodesOf config world backend
   pub below_next : HasUidsBelowNext backend
   pub story : Story
-  pub is_told : IsTold (setting_of config) world.steps world.marks backend story.talk story.course
+  pub is_told : IsTold (setting_of config) world.steps world.marks backend story.talk story.told story.course
   pub requests : (conn : ℕ) → story.talk.requests conn ≡ requests_of (setting_of config) (frames_heard (heard conn))
   pub connections : (conn : ℕ) → ConnectionIs (setting_of config) (home_of config) conn world story (heard conn)
 

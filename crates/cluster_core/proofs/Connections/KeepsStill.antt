@@ -8,7 +8,7 @@ use Rattle.backend_core.specs.declared.backend.Backend.{Backend}
 use Rattle.front_core.specs.declared.front.Front.{Front}
 use Rattle.front_core.specs.Front.{connection_at}
 use Rattle.link_msg.specs.declared.out.Out.{Out}
-use Rattle.link_msg.specs.declared.out.Out.TheVariants.{Client as to_client, Close, Link as to_node, Mark as mark}
+use Rattle.link_msg.specs.declared.out.Out.TheVariants.{Client as to_client, Close, Link as to_node, Mark as mark, Told as tell}
 use Rattle.mur_base.specs.Map.{value_at, with_value}
 use Rattle.mur_base.proofs.MapLaws.{names_apart, same_or_other, value_at-with_value, value_at-with_value-other}
 use Rattle.mur_config.specs.declared.config.Config.{Config}
@@ -43,8 +43,8 @@ still_kept config heard after world next alike same law = record {
     nodes = nodes_alike config world next law.backend alike.fronts alike.homes alike.backends law.nodes;
     below_next = law.below_next;
     story = law.story;
-    is_told = subst (λ m. IsTold (setting_of config) next.steps m law.backend law.story.talk law.story.course) (sym alike.marks)
-        (told_later (setting_of config) world.steps next.steps world.marks law.backend law.story.talk law.story.course alike.steps law.is_told);
+    is_told = subst (λ m. IsTold (setting_of config) next.steps m law.backend law.story.talk law.story.told law.story.course) (sym alike.marks)
+        (told_later (setting_of config) world.steps next.steps world.marks law.backend law.story.talk law.story.told law.story.course alike.steps law.is_told);
     requests = λ conn. law.requests conn ∙ ap (λ h. requests_of (setting_of config) (frames_heard h)) (sym (same conn));
     connections = λ conn. subst (λ h. ConnectionIs (setting_of config) (home_of config) conn next law.story h) (sym (same conn))
         (connection_stays (setting_of config) (home_of config) conn world next law.story law.story (heard conn)
@@ -127,6 +127,7 @@ carry_fronts node world fronts (to_client conn bytes) = given_fronts world front
 carry_fronts node world fronts (Close conn) = refl
 carry_fronts node world fronts (to_node other message) = refl
 carry_fronts node world fronts (mark ask counts) = refl
+carry_fronts node world fronts (tell ask how) = refl
 
 pub carry_all_fronts : (node : List ℕ) (world : World) (fronts : List (List ℕ × Front)) (outs : List Out)
     → carry_all node (with_fronts world fronts) outs ≡ with_fronts (carry_all node world outs) fronts

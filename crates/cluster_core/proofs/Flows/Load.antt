@@ -29,7 +29,7 @@ use Rattle.link_msg.specs.declared.counts.Counts.{Counts}
 use Rattle.link_msg.specs.declared.message.LinkMsg.{LinkMsg}
 use Rattle.link_msg.specs.declared.message.LinkMsg.TheVariants.{Up, End, Line, Ask, Answer}
 use Rattle.link_msg.specs.declared.out.Out.{Out}
-use Rattle.link_msg.specs.declared.out.Out.TheVariants.{Client as to_client, Close, Link as to_node, Mark as mark}
+use Rattle.link_msg.specs.declared.out.Out.TheVariants.{Client as to_client, Close, Link as to_node, Mark as mark, Told as tell}
 use Rattle.mur_base.specs.declared.point.AskId.{AskId}
 use Rattle.mur_base.specs.Map.{value_at, with_entry, with_value}
 use Rattle.mur_config.specs.declared.node.Link.{Link}
@@ -69,6 +69,7 @@ out_load (to_client conn bytes) = 0
 out_load (Close conn) = 0
 out_load (to_node other message) = message_load message
 out_load (mark ask counts) = 0
+out_load (tell ask how) = 0
 
 unfoldable pub outs_load : List Out → ℕ
 outs_load [] = 0

@@ -10,7 +10,7 @@ use Rattle.front_core.specs.Front.{Stepped, new_front, connect, bytes_in, hang, 
 use Rattle.link_msg.specs.declared.message.LinkMsg.{LinkMsg}
 use Rattle.link_msg.specs.declared.message.LinkMsg.TheVariants.{Up, End, Line, Ask, Answer}
 use Rattle.link_msg.specs.declared.out.Out.{Out}
-use Rattle.link_msg.specs.declared.out.Out.TheVariants.{Client as to_client, Close, Link as to_node, Mark as mark}
+use Rattle.link_msg.specs.declared.out.Out.TheVariants.{Client as to_client, Close, Link as to_node, Mark as mark, Told as tell}
 use Rattle.mur_base.specs.Map.{with_value}
 use Rattle.mur_config.specs.declared.config.Config.{Config}
 use Rattle.mur_config.specs.declared.node.Kind.{Kind}
@@ -64,6 +64,7 @@ module _ (pairs : List Link) (once : (from to : List ℕ) → times from to pair
   carry_load node world (Close conn) = omega arith
   carry_load node world (to_node other message) = omega (arith, send_load world.links node other message pairs (once node other))
   carry_load node world (mark ask counts) = omega arith
+  carry_load node world (tell ask how) = omega arith
 
   carry_all_load : (node : List ℕ) (world : World) (outs : List Out) → load pairs (carry_all node world outs) ≤ load pairs world + outs_load outs
   unfolding carry_all outs_load

@@ -7,7 +7,7 @@ use Rattle.std.proofs.lemmas.List.Elements.{All-append, All-nil, All-push, All-w
 use Rattle.front_core.specs.Front.{Stepped}
 use Rattle.link_msg.specs.declared.message.LinkMsg.{LinkMsg}
 use Rattle.link_msg.specs.declared.out.Out.{Out}
-use Rattle.link_msg.specs.declared.out.Out.TheVariants.{Client as to_client, Close, Link as to_node, Mark as mark_out}
+use Rattle.link_msg.specs.declared.out.Out.TheVariants.{Client as to_client, Close, Link as to_node, Mark as mark_out, Told as tell}
 use Rattle.backend_core.specs.declared.backend.Backend.{Backend}
 use Rattle.backend_core.specs.declared.input.BackInput.{BackInput}
 use Rattle.backend_core.specs.Plan.{plan_of}
@@ -16,10 +16,13 @@ use Rattle.schedule_text.specs.declared.event.Event.{Event}
 use Rattle.schedule_text.specs.declared.event.Event.TheVariants.{Open, Data, Hang, Deliver}
 use Rattle.cluster_core.specs.declared.world.Client.{Client}
 use Rattle.cluster_core.specs.declared.world.Mark.{Mark}
+use Rattle.mur_base.specs.declared.point.AskId.{AskId}
+use Rattle.cluster_core.specs.declared.world.MarkKind.{MarkKind}
+use Rattle.cluster_core.specs.declared.world.MarkKind.TheVariants.{Home, Told}
 use Rattle.cluster_core.specs.declared.world.World.{World}
 use Rattle.cluster_core.specs.Flow.{run_steps}
 use Rattle.link_queue.specs.Links.{on_link}
-use Rattle.cluster_core.specs.World.{client_at, front_at, home_at, given_more, carry, carry_all, with_front, with_client, open_at, opens, bytes_at}
+use Rattle.cluster_core.specs.World.{marked, client_at, front_at, home_at, given_more, carry, carry_all, with_front, with_client, open_at, opens, bytes_at}
 use Rattle.cluster_core.specs.World.{bytes_from, hang_at, hangs, input_of, home_takes, comes_to_home, comes_to, taken_from_link, deliver_first, takes, stepped}
 use Rattle.cluster_core.specs.World.{steps_by}
 
@@ -53,13 +56,9 @@ unfolding given_more
 given_adds world conn bytes None = adds_none world world refl refl
 given_adds world conn bytes (Some client) = adds_none world _ refl refl
 
-carry_adds : (node : List ℕ) (world : World) (out : Out) → Adds world (carry node world out)
-unfolding carry
-carry_adds node world (to_client conn bytes) = given_adds world conn bytes (client_at world conn)
-carry_adds node world (Close conn) = adds_none world world refl refl
-carry_adds node world (to_node other message) = adds_none world _ refl refl
-carry_adds node world (mark_out ask counts) =
-    let new : Mark = record { step = world.steps; ask = ask; counts = counts } in
+marked_adds : (world : World) (ask : AskId) (kind : MarkKind) → Adds world (marked world ask kind)
+marked_adds world ask kind =
+    let new : Mark = record { step = world.steps; ask = ask; kind = kind } in
     record {
       rest = new ∷ [];
       parts = refl;
@@ -67,6 +66,14 @@ carry_adds node world (mark_out ask counts) =
           All-push (λ (m : Mark). m.step ≡ world.steps) [] new (All-nil (λ (m : Mark). m.step ≡ world.steps)) refl;
       same_step = refl;
     }
+
+carry_adds : (node : List ℕ) (world : World) (out : Out) → Adds world (carry node world out)
+unfolding carry
+carry_adds node world (to_client conn bytes) = given_adds world conn bytes (client_at world conn)
+carry_adds node world (Close conn) = adds_none world world refl refl
+carry_adds node world (to_node other message) = adds_none world _ refl refl
+carry_adds node world (mark_out ask counts) = marked_adds world ask (Home counts)
+carry_adds node world (tell ask how) = marked_adds world ask (Told how)
 
 carry_all_adds : (node : List ℕ) (world : World) (outs : List Out) → Adds world (carry_all node world outs)
 unfolding carry_all

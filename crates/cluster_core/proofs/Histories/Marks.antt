@@ -1,6 +1,6 @@
 -- The marks of a run carry out their requests one after another, and what history they make.
-use Rattle.std.proofs.Common.{◌≡◌, ◌≢◌, ℕ, zero, suc, ◌+◌, ◌≤◌, ◌<◌, ◌&&◌, Bool, true, false, cond, nat_eq, nat_le, List, [], ◌∷◌, ◌++◌, length}
-use Rattle.std.proofs.Common.{if◌then◌else◌, Some, inl, inr, ◌⊎◌, refl, sym, ◌∙◌, ap, subst, arith}
+use Rattle.std.proofs.Common.{◌≡◌, ◌≢◌, ℕ, zero, suc, ◌+◌, ◌≤◌, ◌<◌, ◌&&◌, Bool, true, false, not, cond, nat_eq, nat_le, List, [], ◌∷◌, ◌++◌, length}
+use Rattle.std.proofs.Common.{if◌then◌else◌, Option, None, Some, inl, inr, ◌⊎◌, refl, sym, ◌∙◌, ap, subst, arith}
 use Rattle.std.specs.Prelude.{All, AllPairs, count_by, slice_get}
 use Rattle.std.proofs.Math.Logic.{⊎_elim}
 use Rattle.std.proofs.lemmas.Bool.{cases_eq}
@@ -8,9 +8,9 @@ use Rattle.std.proofs.lemmas.Bool.Decides.{nat_tests}
 use Rattle.std.proofs.lemmas.List.Elements.{All-push, All-cons, All-nil}
 use Rattle.std.proofs.lemmas.List.Kept.{AllPairs-cons}
 use Rattle.std.proofs.lemmas.List.Sums.{sum_by-append}
-use Rattle.link_msg.specs.declared.counts.Counts.{Counts}
 use Rattle.link_msg.specs.declared.counts.Counts.TheVariants.{Always, IfAnswered}
 use Rattle.mur_base.specs.declared.point.Point.{Point}
+use Rattle.mur_base.specs.declared.point.What.{What}
 use Rattle.mur_base.specs.declared.point.What.TheVariants.{Reply as replied, Lost as lost}
 use Rattle.imap_types.specs.declared.request.Answer.{Answer}
 use Rattle.imap_types.specs.declared.request.Request.{Request}
@@ -22,44 +22,58 @@ use Rattle.mur_model.specs.History.{Course, Talk, TalkGoesOn, Takes, numbered, w
 use Rattle.mur_model.specs.History.Follows.{no_points, a_reply, a_loss}
 use Rattle.mur_model.proofs.HistoryGrows.{one_up_to, takes_on, numbered_on}
 use Rattle.cluster_core.specs.declared.world.Mark.{Mark}
-use Rattle.cluster_core.specs.declared.world.World.{World}
-use Rattle.cluster_core.specs.History.{answered_of, points_by, points_of, points_of_all}
+use Rattle.cluster_core.specs.declared.world.MarkKind.{MarkKind}
+use Rattle.cluster_core.specs.declared.world.MarkKind.TheVariants.{Home}
+use Rattle.cluster_core.specs.History.{is_of, next_of, counts_as, point_as, points_by, points_of}
+use Rattle.cluster_core.proofs.Histories.Tally.{acts, conn_of, command_of, Fit, Verdict, verdict, none_next, of_both}
+use Rattle.cluster_core.proofs.Histories.Tally.Verdict.{replies, is_lost, is_open, tells}
 
-abbrev pub conn_of : Mark → ℕ
-conn_of mark = (mark.ask).conn
-
-abbrev pub command_of : Mark → ℕ
-command_of mark = (mark.ask).command
-
--- each mark carries out its request, whose answer is this step's; one that counts only for an answered command leaves the store
--- as it was
+-- each mark of a step that acts carries out its request, whose answer is this step's; one that counts only for an answered command
+-- leaves the store as it was. A mark behind a home's answer carries out nothing.
 pub data Carries (setting : Setting) (talk : Talk) : Course → List Mark → Course → Type 0 where
   no_marks : (course : Course) → Carries setting talk course [] course
-  a_mark : (course last : Course) (mark : Mark) (request : Request) (serial : ℕ) (marks : List Mark)
+  a_mark : (course last : Course) (mark : Mark) (request : Request) (serial : ℕ) (marks : List Mark) → acts mark.kind ≡ true
       → Takes setting talk course (conn_of mark) (command_of mark) request serial
       → numbered (talk.answers (conn_of mark)) (command_of mark) ≡ Some (carried_out setting course (conn_of mark) request serial).answer
-      → (mark.counts ≡ IfAnswered → (carried_out setting course (conn_of mark) request serial).store ≡ course.store)
+      → (mark.kind ≡ Home IfAnswered → (carried_out setting course (conn_of mark) request serial).store ≡ course.store)
       → Carries setting talk (course_after course (conn_of mark) (carried_out setting course (conn_of mark) request serial)) marks last
+      → Carries setting talk course (mark ∷ marks) last
+  a_telling : (course last : Course) (mark : Mark) (marks : List Mark) → acts mark.kind ≡ false → Carries setting talk course marks last
       → Carries setting talk course (mark ∷ marks) last
 
 pub carries_on : (setting : Setting) (talk longer : Talk) → TalkGoesOn talk longer → (first last : Course) (marks : List Mark)
     → Carries setting talk first marks last → Carries setting longer first marks last
 carries_on setting talk longer on first last marks (no_marks course) = no_marks course
-carries_on setting talk longer on first last marks (a_mark course end mark request serial rest takes answer unless later) =
-    a_mark course end mark request serial rest (takes_on setting talk longer on course (conn_of mark) (command_of mark) request serial takes)
+carries_on setting talk longer on first last marks (a_mark course end mark request serial rest acting takes answer unless later) =
+    a_mark course end mark request serial rest acting (takes_on setting talk longer on course (conn_of mark) (command_of mark) request serial takes)
     (numbered_on talk.answers longer.answers on.answers (conn_of mark) (command_of mark)
     (carried_out setting course (conn_of mark) request serial).answer answer)
     unless (carries_on setting talk longer on _ end rest later)
+carries_on setting talk longer on first last marks (a_telling course end mark rest telling later) =
+    a_telling course end mark rest telling (carries_on setting talk longer on course end rest later)
 
 pub carries_push : (setting : Setting) (talk : Talk) (first last : Course) (marks : List Mark) (mark : Mark) (request : Request) (serial : ℕ)
-    → Carries setting talk first marks last → Takes setting talk last (conn_of mark) (command_of mark) request serial
+    → Carries setting talk first marks last → acts mark.kind ≡ true → Takes setting talk last (conn_of mark) (command_of mark) request serial
     → numbered (talk.answers (conn_of mark)) (command_of mark) ≡ Some (carried_out setting last (conn_of mark) request serial).answer
-    → (mark.counts ≡ IfAnswered → (carried_out setting last (conn_of mark) request serial).store ≡ last.store)
+    → (mark.kind ≡ Home IfAnswered → (carried_out setting last (conn_of mark) request serial).store ≡ last.store)
     → Carries setting talk first (marks ++ mark ∷ []) (course_after last (conn_of mark) (carried_out setting last (conn_of mark) request serial))
-carries_push setting talk first last marks mark request serial (no_marks course) takes answer unless =
-    a_mark course _ mark request serial [] takes answer unless (no_marks _)
-carries_push setting talk first last marks mark request serial (a_mark course end m r s rest its_takes its_answer its_unless later) takes answer unless =
-    a_mark course _ m r s _ its_takes its_answer its_unless (carries_push setting talk _ end rest mark request serial later takes answer unless)
+carries_push setting talk first last marks mark request serial (no_marks course) acting takes answer unless =
+    a_mark course _ mark request serial [] acting takes answer unless (no_marks _)
+carries_push setting talk first last marks mark request serial (a_mark course end m r s rest its_acting its_takes its_answer its_unless later) acting takes
+    answer unless =
+    a_mark course _ m r s _ its_acting its_takes its_answer its_unless
+    (carries_push setting talk _ end rest mark request serial later acting takes answer unless)
+carries_push setting talk first last marks mark request serial (a_telling course end m rest telling later) acting takes answer unless =
+    a_telling course _ m _ telling (carries_push setting talk course end rest mark request serial later acting takes answer unless)
+
+-- a client is told behind a home's answer
+pub carries_telling : (setting : Setting) (talk : Talk) (first last : Course) (marks : List Mark) (mark : Mark) → acts mark.kind ≡ false
+    → Carries setting talk first marks last → Carries setting talk first (marks ++ mark ∷ []) last
+carries_telling setting talk first last marks mark telling (no_marks course) = a_telling course course mark [] telling (no_marks course)
+carries_telling setting talk first last marks mark telling (a_mark course end m r s rest acting takes answer unless later) =
+    a_mark course end m r s _ acting takes answer unless (carries_telling setting talk _ end rest mark telling later)
+carries_telling setting talk first last marks mark telling (a_telling course end m rest its_telling later) =
+    a_telling course end m _ its_telling (carries_telling setting talk course end rest mark telling later)
 
 get_front : {T : Type 0} (items more : List T) (k : ℕ) (item : T) → k < length items → slice_get (items ++ more) k ≡ Some item → slice_get items k ≡ Some item
 get_front [] more k item h e = absurd (omega arith)
@@ -84,21 +98,46 @@ told_takes : (setting : Setting) (talk : Talk) (told : ℕ → List Answer) (cou
     → Takes setting talk course conn number request serial → Takes setting (told_talk talk told) course conn number request serial
 told_takes setting talk told course conn number request serial takes = record { asked = takes.asked; given = takes.given; free = takes.free }
 
--- each point is of its mark, and a loss of a command that wasn't answered
-pub record IsOf (world : World) (mark : Mark) (point : Point) : Type 0 where
+-- each point is of its mark, whose step acts, and a loss of a command that wasn't told of
+pub record IsOf (told : ℕ → ℕ) (mark : Mark) (point : Point) : Type 0 where
   pub same_step : point.step ≡ mark.step
   pub same_ask : point.ask ≡ mark.ask
-  pub if_lost : loses point.what ≡ true → answered_of world (conn_of mark) < command_of mark
-  pub either : (point.what ≡ replied) × (command_of mark ≤ answered_of world (conn_of mark)) ⊎ (point.what ≡ lost)
+  pub acting : acts mark.kind ≡ true
+  pub if_lost : loses point.what ≡ true → told (conn_of mark) < command_of mark
+  pub either : (point.what ≡ replied) × (command_of mark ≤ told (conn_of mark)) ⊎ (point.what ≡ lost)
 
-all_by : (world : World) (mark : Mark) (P : Point → Type 0) (points : List Point) → ((point : Point) → IsOf world mark point → P point) → All P points
-    → (among : Bool) → nat_le (command_of mark) (answered_of world (conn_of mark)) ≡ among → (counts : Counts) → All P (points_by mark among counts ++ points)
-unfolding points_by loses
-all_by world mark P points of rest true h counts =
-    All-cons P _ points (of _ (record { same_step = refl; same_ask = refl; if_lost = λ k. cc; either = inl (refl, grind (arith, nat_tests)) })) rest
-all_by world mark P points of rest false h Always =
-    All-cons P _ points (of _ (record { same_step = refl; same_ask = refl; if_lost = λ k. grind (arith, nat_tests); either = inr refl })) rest
-all_by world mark P points of rest false h IfAnswered = rest
+-- a mark's command is among those that its client was told of, or isn't
+within : (told : ℕ → ℕ) (mark : Mark) (b : Bool) → nat_le (command_of mark) (told (conn_of mark)) ≡ b → b ≡ true → command_of mark ≤ told (conn_of mark)
+within told mark b h t = let both : nat_le (command_of mark) (told (conn_of mark)) ≡ true = h ∙ t in grind (arith, nat_tests)
+
+beyond : (told : ℕ → ℕ) (mark : Mark) (b : Bool) → nat_le (command_of mark) (told (conn_of mark)) ≡ b → b ≡ false → told (conn_of mark) < command_of mark
+beyond told mark b h t = let both : nat_le (command_of mark) (told (conn_of mark)) ≡ false = h ∙ t in grind (arith, nat_tests)
+
+its_reply : (told : ℕ → ℕ) (mark : Mark) → acts mark.kind ≡ true → command_of mark ≤ told (conn_of mark) → IsOf told mark (point_as mark replied)
+unfolding loses
+its_reply told mark acting low = record { same_step = refl; same_ask = refl; acting = acting; if_lost = λ k. cc; either = inl (refl, low) }
+
+its_loss : (told : ℕ → ℕ) (mark : Mark) → acts mark.kind ≡ true → told (conn_of mark) < command_of mark → IsOf told mark (point_as mark lost)
+its_loss told mark acting high = record { same_step = refl; same_ask = refl; acting = acting; if_lost = λ k. high; either = inr refl }
+
+acting_always : (mark : Mark) → mark.kind ≡ Home Always → acts mark.kind ≡ true
+unfolding acts
+acting_always mark e = ap acts e
+
+acting_if : (mark : Mark) → mark.kind ≡ Home IfAnswered → acts mark.kind ≡ true
+unfolding acts
+acting_if mark e = ap acts e
+
+all_by : (told : ℕ → ℕ) (mark : Mark) (P : Point → Type 0) (points : List Point) → ((point : Point) → IsOf told mark point → P point) → All P points
+    → (b : Bool) → nat_le (command_of mark) (told (conn_of mark)) ≡ b → (next : Option MarkKind) → Verdict b mark.kind next
+    → All P (points_by mark (counts_as mark.kind next) ++ points)
+unfolding points_by
+all_by told mark P points of rest b h next (replies t acting is) = subst (λ w. All P (points_by mark w ++ points)) (sym is)
+    (All-cons P _ points (of _ (its_reply told mark acting (within told mark b h t))) rest)
+all_by told mark P points of rest b h next (is_lost t always none is) = subst (λ w. All P (points_by mark w ++ points)) (sym is)
+    (All-cons P _ points (of _ (its_loss told mark (acting_always mark always) (beyond told mark b h t))) rest)
+all_by told mark P points of rest b h next (is_open t if none is) = subst (λ w. All P (points_by mark w ++ points)) (sym is) rest
+all_by told mark P points of rest b h next (tells telling is) = subst (λ w. All P (points_by mark w ++ points)) (sym is) rest
 
 tail_marks : (Q : Mark → Type 0) (x : Mark) (xs : List Mark) → All Q (x ∷ xs) → All Q xs
 tail_marks Q x xs all = λ k d h. all (suc k) d (omega arith)
@@ -107,24 +146,26 @@ head_marks : (Q : Mark → Type 0) (x : Mark) (xs : List Mark) → All Q (x ∷ 
 head_marks Q x xs all = all 0 x (omega arith)
 
 -- what holds of each mark holds of each point of the history
-pub all_points : (world : World) (Q : Mark → Type 0) (P : Point → Type 0) → ((mark : Mark) (point : Point) → Q mark → IsOf world mark point → P point)
-    → (marks : List Mark) → All Q marks → All P (points_of_all world marks)
-unfolding points_of_all points_of
-all_points world Q P of [] all = All-nil P
-all_points world Q P of (mark ∷ marks) all =
-    all_by world mark P (points_of_all world marks) (λ point is. of mark point (head_marks Q mark marks all) is)
-    (all_points world Q P of marks (tail_marks Q mark marks all)) (nat_le (command_of mark) (answered_of world (conn_of mark))) refl mark.counts
+pub all_points : (told : ℕ → ℕ) (Q : Mark → Type 0) (P : Point → Type 0) → ((mark : Mark) (point : Point) → Q mark → IsOf told mark point → P point)
+    → (marks : List Mark) → Fit told marks → All Q marks → All P (points_of marks)
+unfolding points_of Fit
+all_points told Q P of [] fit all = All-nil P
+all_points told Q P of (mark ∷ marks) fit all =
+    all_by told mark P (points_of marks) (λ point is. of mark point (head_marks Q mark marks all) is)
+    (all_points told Q P of marks fit.1 (tail_marks Q mark marks all)) (nat_le (command_of mark) (told (conn_of mark))) refl (next_of mark.ask marks)
+    (verdict mark.kind (next_of mark.ask marks) (nat_le (command_of mark) (told (conn_of mark))) fit.0)
 
-pairs_by : (world : World) (mark : Mark) (R : Point → Point → Type 0) (points : List Point) → ((point : Point) → IsOf world mark point → All (R point) points)
-    → AllPairs R points
-    → (among : Bool) → nat_le (command_of mark) (answered_of world (conn_of mark)) ≡ among → (counts : Counts)
-    → AllPairs R (points_by mark among counts ++ points)
-unfolding points_by loses
-pairs_by world mark R points of rest true h counts =
-    AllPairs-cons R _ points (of _ (record { same_step = refl; same_ask = refl; if_lost = λ k. cc; either = inl (refl, grind (arith, nat_tests)) })) rest
-pairs_by world mark R points of rest false h Always =
-    AllPairs-cons R _ points (of _ (record { same_step = refl; same_ask = refl; if_lost = λ k. grind (arith, nat_tests); either = inr refl })) rest
-pairs_by world mark R points of rest false h IfAnswered = rest
+pairs_by : (told : ℕ → ℕ) (mark : Mark) (R : Point → Point → Type 0) (points : List Point)
+    → ((point : Point) → IsOf told mark point → All (R point) points) → AllPairs R points
+    → (b : Bool) → nat_le (command_of mark) (told (conn_of mark)) ≡ b → (next : Option MarkKind) → Verdict b mark.kind next
+    → AllPairs R (points_by mark (counts_as mark.kind next) ++ points)
+unfolding points_by
+pairs_by told mark R points of rest b h next (replies t acting is) = subst (λ w. AllPairs R (points_by mark w ++ points)) (sym is)
+    (AllPairs-cons R _ points (of _ (its_reply told mark acting (within told mark b h t))) rest)
+pairs_by told mark R points of rest b h next (is_lost t always none is) = subst (λ w. AllPairs R (points_by mark w ++ points)) (sym is)
+    (AllPairs-cons R _ points (of _ (its_loss told mark (acting_always mark always) (beyond told mark b h t))) rest)
+pairs_by told mark R points of rest b h next (is_open t if none is) = subst (λ w. AllPairs R (points_by mark w ++ points)) (sym is) rest
+pairs_by told mark R points of rest b h next (tells telling is) = subst (λ w. AllPairs R (points_by mark w ++ points)) (sym is) rest
 
 head_pairs : (R : Mark → Mark → Type 0) (x : Mark) (xs : List Mark) → AllPairs R (x ∷ xs) → All (R x) xs
 head_pairs R x xs pairs = λ k d h. pairs 0 (suc k) d (omega arith) (omega arith)
@@ -137,9 +178,47 @@ record Agrees (marks : List Mark) (course other : Course) : Type 0 where
   store : other.store ≡ course.store
   sessions : All (λ (m : Mark). other.sessions (conn_of m) ≡ course.sessions (conn_of m)) marks
 
--- behind a mark whose command wasn't answered there is none of its connection
-abbrev pub NoMore : World → Mark → Mark → Type 0
-NoMore world earlier later = answered_of world (conn_of earlier) < command_of earlier → conn_of earlier ≢ conn_of later
+-- a later mark: of the same connection none of an earlier command
+abbrev pub Later : Mark → Mark → Type 0
+Later earlier later = (conn_of earlier ≡ conn_of later → command_of earlier ≤ command_of later) × (earlier.step ≤ later.step)
+
+-- behind a step that acts, and whose client wasn't told, there is none of its connection
+abbrev pub NoMore : (ℕ → ℕ) → Mark → Mark → Type 0
+NoMore told earlier later = acts earlier.kind ≡ true → told (conn_of earlier) < command_of earlier → conn_of earlier ≢ conn_of later
+
+-- all commands of the marks were replied to, and at most one that no client was told of
+pub record Replied (told said : ℕ → ℕ) (marks : List Mark) : Type 0 where
+  pub numbers : All (λ (mark : Mark). command_of mark ≤ said (conn_of mark)) marks
+  pub few : (conn : ℕ) → said conn ≤ told conn + 1
+
+none_of_it : (told said : ℕ → ℕ) (mark later : Mark) → ((conn : ℕ) → said conn ≤ told conn + 1) → Later mark later → command_of later ≤ said (conn_of later)
+    → is_of mark.ask later ≡ false → told (conn_of mark) < command_of mark → conn_of mark ≢ conn_of later
+none_of_it told said mark later few behind low other high = λ e.
+    (let both : is_of mark.ask later ≡ true =
+    of_both mark later (sym e) (omega (arith, behind.0 e, low, few (conn_of later), high, ap told e, ap said e)) in cc)
+
+none_behind_by : (told said : ℕ → ℕ) (mark : Mark) (marks : List Mark) → ((conn : ℕ) → said conn ≤ told conn + 1) → All (Later mark) marks
+    → All (λ (m : Mark). command_of m ≤ said (conn_of m)) marks → (b : Bool) → nat_le (command_of mark) (told (conn_of mark)) ≡ b
+    → (next : Option MarkKind) → next_of mark.ask marks ≡ next → Verdict b mark.kind next → All (NoMore told mark) marks
+none_behind_by told said mark marks few later numbers b h next is (replies t acting counted) =
+    λ k d at. λ a high. absurd (omega (arith, high, within told mark b h t))
+none_behind_by told said mark marks few later numbers b h next is (is_lost t always none counted) =
+    λ k d at. λ a high. none_of_it told said mark _ few (later k d at) (numbers k d at) (none_next mark.ask marks (is ∙ none) k d at) high
+none_behind_by told said mark marks few later numbers b h next is (is_open t if none counted) =
+    λ k d at. λ a high. none_of_it told said mark _ few (later k d at) (numbers k d at) (none_next mark.ask marks (is ∙ none) k d at) high
+none_behind_by told said mark marks few later numbers b h next is (tells telling counted) =
+    λ k d at. λ a high. (let both : false ≡ true = sym telling ∙ a in cc)
+
+pub none_behind : (told said : ℕ → ℕ) (marks : List Mark) → Fit told marks → AllPairs Later marks → Replied told said marks → AllPairs (NoMore told) marks
+unfolding Fit
+none_behind told said [] fit later replied_to = λ i j d h k. absurd (omega arith)
+none_behind told said (mark ∷ marks) fit later replied_to =
+    let numbers = tail_marks (λ (m : Mark). command_of m ≤ said (conn_of m)) mark marks replied_to.numbers in
+    AllPairs-cons (NoMore told) mark marks
+    (none_behind_by told said mark marks replied_to.few (head_pairs Later mark marks later) numbers
+    (nat_le (command_of mark) (told (conn_of mark))) refl (next_of mark.ask marks) refl
+    (verdict mark.kind (next_of mark.ask marks) (nat_le (command_of mark) (told (conn_of mark))) fit.0))
+    (none_behind told said marks fit.1 (tail_pairs Later mark marks later) (record { numbers = numbers; few = replied_to.few }))
 
 -- a history is followed, and its store comes out so
 pub record FollowsTo (setting : Setting) (talk : Talk) (first : Course) (points : List Point) (store : Store) : Type 0 where
@@ -191,92 +270,126 @@ agree_still course other conn done marks still same all apart = record {
 }
 
 -- what the marks behind this one make is followed from each course that agrees with the one that it leaves
-abbrev IsFollowed : Setting → World → Talk → List Mark → Course → Store → Type 0
-IsFollowed setting world talk marks course store = (other : Course) → Agrees marks course other → FollowsTo setting talk other (points_of_all world marks) store
+abbrev IsFollowed : Setting → Talk → List Mark → Course → Store → Type 0
+IsFollowed setting talk marks course store = (other : Course) → Agrees marks course other → FollowsTo setting talk other (points_of marks) store
+
+abbrev counts_of : (ℕ → List Answer) → ℕ → ℕ
+counts_of told conn = length (told conn)
 
 -- the history that the marks make is followed by the store, of which the clients were told the answers that they were given
-follows_by : (setting : Setting) (world : World) (talk : Talk) (told : ℕ → List Answer) → IsTold_of talk told
-    → ((conn : ℕ) → answered_of world conn ≡ length (told conn))
-    → (course other : Course) (store : Store) (mark : Mark) (request : Request) (serial : ℕ) (marks : List Mark)
+follows_by : (setting : Setting) (talk : Talk) (told : ℕ → List Answer) → IsTold_of talk told
+    → (course other : Course) (store : Store) (mark : Mark) (request : Request) (serial : ℕ) (marks : List Mark) → acts mark.kind ≡ true
     → Takes setting talk course (conn_of mark) (command_of mark) request serial
     → numbered (talk.answers (conn_of mark)) (command_of mark) ≡ Some (carried_out setting course (conn_of mark) request serial).answer
-    → (mark.counts ≡ IfAnswered → (carried_out setting course (conn_of mark) request serial).store ≡ course.store)
-    → Agrees (mark ∷ marks) course other → All (NoMore world mark) marks
-    → IsFollowed setting world (told_talk talk told) marks (course_after course (conn_of mark) (carried_out setting course (conn_of mark) request serial)) store
-    → (among : Bool) → nat_le (command_of mark) (answered_of world (conn_of mark)) ≡ among → (counts : Counts) → mark.counts ≡ counts
-    → FollowsTo setting (told_talk talk told) other (points_by mark among counts ++ points_of_all world marks) store
+    → (mark.kind ≡ Home IfAnswered → (carried_out setting course (conn_of mark) request serial).store ≡ course.store)
+    → Agrees (mark ∷ marks) course other → All (NoMore (counts_of told) mark) marks
+    → IsFollowed setting (told_talk talk told) marks (course_after course (conn_of mark) (carried_out setting course (conn_of mark) request serial)) store
+    → (b : Bool) → nat_le (command_of mark) (length (told (conn_of mark))) ≡ b → (next : Option MarkKind) → Verdict b mark.kind next
+    → FollowsTo setting (told_talk talk told) other (points_by mark (counts_as mark.kind next) ++ points_of marks) store
 unfolding points_by
-follows_by setting world talk told of same course other store mark request serial marks takes answer unless agrees no_more later true h counts c =
-    let in_told : command_of mark ≤ length (told (conn_of mark)) = subst (λ n. command_of mark ≤ n) (same (conn_of mark)) (grind (arith, nat_tests)) in
+follows_by setting talk told of course other store mark request serial marks acting takes answer unless agrees no_more later b h next (replies t a is) =
+    let in_told : command_of mark ≤ length (told (conn_of mark)) = within (counts_of told) mark b h t in
     let session = head_marks (λ (m : Mark). other.sessions (conn_of m) ≡ course.sessions (conn_of m)) mark marks agrees.sessions in
     let both = same_carried setting course other (conn_of mark) request serial agrees.store session in
     let rest = later (course_after other (conn_of mark) (carried_out setting other (conn_of mark) request serial))
     (agree_on course other (conn_of mark) _ _ marks both
     (tail_marks (λ (m : Mark). other.sessions (conn_of m) ≡ course.sessions (conn_of m)) mark marks agrees.sessions)) in
-    record {
+    subst (λ w. FollowsTo setting (told_talk talk told) other (points_by mark w ++ points_of marks) store) (sym is)
+    (record {
       end = rest.end;
       same_store = rest.same_store;
-      follows = a_reply other rest.end mark.step (conn_of mark) (command_of mark) request serial (points_of_all world marks)
+      follows = a_reply other rest.end mark.step (conn_of mark) (command_of mark) request serial (points_of marks)
           (told_takes setting talk told other (conn_of mark) (command_of mark) request serial
           (same_takes setting talk course other (conn_of mark) (command_of mark) request serial agrees.store session takes))
           (numbered_front (told (conn_of mark)) (of.rest (conn_of mark)) (command_of mark) _ in_told
           (ap (λ l. numbered l (command_of mark)) (sym (of.parts (conn_of mark))) ∙ answer ∙ ap (λ (a : Answered). Some a.answer) (sym both))) rest.follows;
-    }
-follows_by setting world talk told of same course other store mark request serial marks takes answer unless agrees no_more later false h Always c =
+    })
+follows_by setting talk told of course other store mark request serial marks acting takes answer unless agrees no_more later b h next
+    (is_lost t always none is) =
     let session = head_marks (λ (m : Mark). other.sessions (conn_of m) ≡ course.sessions (conn_of m)) mark marks agrees.sessions in
     let rest = later (course_after other (conn_of mark) (carried_out setting other (conn_of mark) request serial))
     (agree_on course other (conn_of mark) _ _ marks (same_carried setting course other (conn_of mark) request serial agrees.store session)
     (tail_marks (λ (m : Mark). other.sessions (conn_of m) ≡ course.sessions (conn_of m)) mark marks agrees.sessions)) in
-    record {
+    subst (λ w. FollowsTo setting (told_talk talk told) other (points_by mark w ++ points_of marks) store) (sym is)
+    (record {
       end = rest.end;
       same_store = rest.same_store;
-      follows = a_loss other rest.end mark.step (conn_of mark) (command_of mark) request serial (points_of_all world marks)
+      follows = a_loss other rest.end mark.step (conn_of mark) (command_of mark) request serial (points_of marks)
           (told_takes setting talk told other (conn_of mark) (command_of mark) request serial
           (same_takes setting talk course other (conn_of mark) (command_of mark) request serial agrees.store session takes)) rest.follows;
-    }
-follows_by setting world talk told of same course other store mark request serial marks takes answer unless agrees no_more later false h IfAnswered c =
-    let behind : answered_of world (conn_of mark) < command_of mark = grind (arith, nat_tests) in
-    later other (agree_still course other (conn_of mark) (carried_out setting course (conn_of mark) request serial) marks (unless c) agrees.store
+    })
+follows_by setting talk told of course other store mark request serial marks acting takes answer unless agrees no_more later b h next
+    (is_open t if none is) =
+    let behind : length (told (conn_of mark)) < command_of mark = beyond (counts_of told) mark b h t in
+    subst (λ w. FollowsTo setting (told_talk talk told) other (points_by mark w ++ points_of marks) store) (sym is)
+    (later other (agree_still course other (conn_of mark) (carried_out setting course (conn_of mark) request serial) marks (unless if) agrees.store
     (tail_marks (λ (m : Mark). other.sessions (conn_of m) ≡ course.sessions (conn_of m)) mark marks agrees.sessions)
-    (λ k d at. no_more k d at behind))
+    (λ k d at. no_more k d at acting behind)))
+follows_by setting talk told of course other store mark request serial marks acting takes answer unless agrees no_more later b h next (tells telling is) =
+    (let both : false ≡ true = sym telling ∙ acting in cc)
 
--- a command that wasn't answered is the last of its connection; so where its mark makes no point, only that connection's session
+agree_behind : (mark : Mark) (marks : List Mark) (course other : Course) → Agrees (mark ∷ marks) course other → Agrees marks course other
+agree_behind mark marks course other agrees = record {
+  store = agrees.store;
+  sessions = tail_marks (λ (m : Mark). other.sessions (conn_of m) ≡ course.sessions (conn_of m)) mark marks agrees.sessions;
+}
+
+-- a mark behind a home's answer is no point
+told_by : (setting : Setting) (talk : Talk) (other : Course) (store : Store) (mark : Mark) (marks : List Mark) → acts mark.kind ≡ false
+    → FollowsTo setting talk other (points_of marks) store → (b : Bool) (next : Option MarkKind) → Verdict b mark.kind next
+    → FollowsTo setting talk other (points_by mark (counts_as mark.kind next) ++ points_of marks) store
+unfolding points_by
+told_by setting talk other store mark marks telling rest b next (replies t acting is) = (let both : false ≡ true = sym telling ∙ acting in cc)
+told_by setting talk other store mark marks telling rest b next (is_lost t always none is) =
+    (let both : false ≡ true = sym telling ∙ acting_always mark always in cc)
+told_by setting talk other store mark marks telling rest b next (is_open t if none is) =
+    subst (λ w. FollowsTo setting talk other (points_by mark w ++ points_of marks) store) (sym is) rest
+told_by setting talk other store mark marks telling rest b next (tells its is) =
+    subst (λ w. FollowsTo setting talk other (points_by mark w ++ points_of marks) store) (sym is) rest
+
+-- a command of which no client was told is the last of its connection; so where its mark makes no point, only that connection's session
 -- differs from there on, and nothing asks for it
-followed : (setting : Setting) (world : World) (talk : Talk) (told : ℕ → List Answer) → IsTold_of talk told
-    → ((conn : ℕ) → answered_of world conn ≡ length (told conn))
-    → (first last : Course) (marks : List Mark) → Carries setting talk first marks last → AllPairs (NoMore world) marks
-    → IsFollowed setting world (told_talk talk told) marks first last.store
-unfolding points_of_all points_of
-followed setting world talk told of same first last marks (no_marks course) no_more =
+followed : (setting : Setting) (talk : Talk) (told : ℕ → List Answer) → IsTold_of talk told
+    → (first last : Course) (marks : List Mark) → Carries setting talk first marks last → Fit (counts_of told) marks → AllPairs (NoMore (counts_of told)) marks
+    → IsFollowed setting (told_talk talk told) marks first last.store
+unfolding points_of Fit
+followed setting talk told of first last marks (no_marks course) fit no_more =
     λ other agrees. record { end = other; same_store = agrees.store; follows = no_points other }
-followed setting world talk told of same first last marks (a_mark course end mark request serial rest takes answer unless later) no_more =
-    λ other agrees. follows_by setting world talk told of same course other end.store mark request serial rest takes answer unless agrees
-    (head_pairs (NoMore world) mark rest no_more)
-    (followed setting world talk told of same _ end rest later (tail_pairs (NoMore world) mark rest no_more))
-    (nat_le (command_of mark) (answered_of world (conn_of mark))) refl mark.counts refl
+followed setting talk told of first last marks (a_mark course end mark request serial rest acting takes answer unless later) fit no_more =
+    λ other agrees. follows_by setting talk told of course other end.store mark request serial rest acting takes answer unless agrees
+    (head_pairs (NoMore (counts_of told)) mark rest no_more)
+    (followed setting talk told of _ end rest later fit.1 (tail_pairs (NoMore (counts_of told)) mark rest no_more))
+    (nat_le (command_of mark) (length (told (conn_of mark)))) refl (next_of mark.ask rest)
+    (verdict mark.kind (next_of mark.ask rest) (nat_le (command_of mark) (length (told (conn_of mark)))) fit.0)
+followed setting talk told of first last marks (a_telling course end mark rest telling later) fit no_more =
+    λ other agrees. told_by setting (told_talk talk told) other end.store mark rest telling
+    (followed setting talk told of course end rest later fit.1 (tail_pairs (NoMore (counts_of told)) mark rest no_more) other
+    (agree_behind mark rest course other agrees))
+    (nat_le (command_of mark) (length (told (conn_of mark)))) (next_of mark.ask rest)
+    (verdict mark.kind (next_of mark.ask rest) (nat_le (command_of mark) (length (told (conn_of mark)))) fit.0)
 
-pub marks_follow : (setting : Setting) (world : World) (talk : Talk) (told : ℕ → List Answer) → IsTold_of talk told
-    → ((conn : ℕ) → answered_of world conn ≡ length (told conn))
-    → (first last : Course) (marks : List Mark) → Carries setting talk first marks last → AllPairs (NoMore world) marks
-    → FollowsTo setting (told_talk talk told) first (points_of_all world marks) last.store
-marks_follow setting world talk told of same first last marks carries no_more =
-    followed setting world talk told of same first last marks carries no_more first (record { store = refl; sessions = λ k d h. refl })
+pub marks_follow : (setting : Setting) (talk : Talk) (told : ℕ → List Answer) → IsTold_of talk told
+    → (first last : Course) (marks : List Mark) → Carries setting talk first marks last → Fit (counts_of told) marks → AllPairs (NoMore (counts_of told)) marks
+    → FollowsTo setting (told_talk talk told) first (points_of marks) last.store
+marks_follow setting talk told of first last marks carries fit no_more =
+    followed setting talk told of first last marks carries fit no_more first (record { store = refl; sessions = λ k d h. refl })
 
 both_hold : (P Q : Mark → Type 0) (xs : List Mark) → All P xs → All Q xs → All (λ m. P m × Q m) xs
 both_hold P Q xs one two = λ k d h. (one k d h, two k d h)
 
 -- what holds of each mark and a later one, with what holds of each, holds of their points
-pub pairs_of_points : (world : World) (S : Mark → Mark → Type 0) (Q : Mark → Type 0) (R : Point → Point → Type 0)
-    → ((earlier later : Mark) (one other : Point) → S earlier later → Q later → IsOf world earlier one → IsOf world later other → R one other)
-    → (marks : List Mark) → AllPairs S marks → All Q marks → AllPairs R (points_of_all world marks)
-unfolding points_of_all points_of
-pairs_of_points world S Q R of [] pairs all = λ i j d h k. absurd (omega arith)
-pairs_of_points world S Q R of (mark ∷ marks) pairs all =
-    pairs_by world mark R (points_of_all world marks)
-    (λ point is. all_points world (λ m. S mark m × Q m) (R point) (λ m p both at. of mark m point p both.0 both.1 is at) marks
+pub pairs_of_points : (told : ℕ → ℕ) (S : Mark → Mark → Type 0) (Q : Mark → Type 0) (R : Point → Point → Type 0)
+    → ((earlier later : Mark) (one other : Point) → S earlier later → Q later → IsOf told earlier one → IsOf told later other → R one other)
+    → (marks : List Mark) → Fit told marks → AllPairs S marks → All Q marks → AllPairs R (points_of marks)
+unfolding points_of Fit
+pairs_of_points told S Q R of [] fit pairs all = λ i j d h k. absurd (omega arith)
+pairs_of_points told S Q R of (mark ∷ marks) fit pairs all =
+    pairs_by told mark R (points_of marks)
+    (λ point is. all_points told (λ m. S mark m × Q m) (R point) (λ m p both at. of mark m point p both.0 both.1 is at) marks fit.1
     (both_hold (S mark) Q marks (head_pairs S mark marks pairs) (tail_marks Q mark marks all)))
-    (pairs_of_points world S Q R of marks (tail_pairs S mark marks pairs) (tail_marks Q mark marks all))
-    (nat_le (command_of mark) (answered_of world (conn_of mark))) refl mark.counts
+    (pairs_of_points told S Q R of marks fit.1 (tail_pairs S mark marks pairs) (tail_marks Q mark marks all))
+    (nat_le (command_of mark) (told (conn_of mark))) refl (next_of mark.ask marks)
+    (verdict mark.kind (next_of mark.ask marks) (nat_le (command_of mark) (told (conn_of mark))) fit.0)
 
 -- a mark to which all earlier ones are related is put at the end
 pub marks_push : (R : Mark → Mark → Type 0) (xs : List Mark) (y : Mark) → AllPairs R xs → All (λ x. R x y) xs → AllPairs R (xs ++ y ∷ [])
@@ -285,11 +398,11 @@ marks_push R (x ∷ xs) y pairs all =
     AllPairs-cons R x (xs ++ y ∷ []) (All-push (R x) xs y (head_pairs R x xs pairs) (head_marks (λ m. R m y) x xs all))
     (marks_push R xs y (tail_pairs R x xs pairs) (tail_marks (λ m. R m y) x xs all))
 
--- whether a mark is of this command
+-- whether a mark is of a step of this command that acts
 abbrev pub is_mark : ℕ → ℕ → Mark → Bool
-is_mark conn number mark = nat_eq (conn_of mark) conn && nat_eq (command_of mark) number
+is_mark conn number mark = acts mark.kind && (nat_eq (conn_of mark) conn && nat_eq (command_of mark) number)
 
--- each connection's commands up to a number have one mark each
+-- of each connection's commands up to a number one step each acts
 abbrev pub MarkedOnce : (ℕ → ℕ) → List Mark → Type 0
 MarkedOnce counts marks = (conn number : ℕ) → count_by (is_mark conn number) marks ≡ one_up_to (counts conn) number
 
@@ -302,16 +415,21 @@ count_marks_push : (conn number : ℕ) (marks : List Mark) (mark : Mark)
 count_marks_push conn number marks mark =
     sum_by-append (λ (m : Mark). cond (is_mark conn number m) 1 0) marks (mark ∷ []) ∙ ap (λ n. count_by (is_mark conn number) marks + n) (omega arith)
 
-pub marked_once_push : (counts next : ℕ → ℕ) (marks : List Mark) (mark : Mark) → command_of mark ≡ counts (conn_of mark) + 1
+acting_mark : (conn number : ℕ) (mark : Mark) → acts mark.kind ≡ true
+    → is_mark conn number mark ≡ (nat_eq (conn_of mark) conn && nat_eq (command_of mark) number)
+acting_mark conn number mark acting = ap (λ a. a && (nat_eq (conn_of mark) conn && nat_eq (command_of mark) number)) acting
+
+pub marked_once_push : (counts next : ℕ → ℕ) (marks : List Mark) (mark : Mark) → acts mark.kind ≡ true → command_of mark ≡ counts (conn_of mark) + 1
     → next (conn_of mark) ≡ counts (conn_of mark) + 1
     → ((other : ℕ) → other ≢ conn_of mark → next other ≡ counts other) → MarkedOnce counts marks → MarkedOnce next (marks ++ mark ∷ [])
-marked_once_push counts next marks mark is more others once other number =
+marked_once_push counts next marks mark acting is more others once other number =
     ⊎_elim
     (λ (same : other ≡ conn_of mark).
     let tested : nat_eq (conn_of mark) other ≡ true = grind (arith, nat_tests) in
     let here : next other ≡ counts (conn_of mark) + 1 = ap next same ∙ more in
     let before : one_up_to (counts other) number ≡ one_up_to (counts (conn_of mark)) number = ap (λ c. one_up_to (counts c) number) same in
     count_marks_push other number marks mark
+    ∙ ap (λ t. count_by (is_mark other number) marks + cond t 1 0) (acting_mark other number mark acting)
     ∙ ap (λ k. k + cond (nat_eq (conn_of mark) other && nat_eq (command_of mark) number) 1 0) (once other number ∙ before)
     ∙ ap (λ t. one_up_to (counts (conn_of mark)) number + cond (t && nat_eq (command_of mark) number) 1 0) tested
     ∙ ap (λ c. one_up_to (counts (conn_of mark)) number + cond (nat_eq c number) 1 0) is
@@ -320,10 +438,20 @@ marked_once_push counts next marks mark is more others once other number =
     (λ (ne : other ≢ conn_of mark).
     let tested : nat_eq (conn_of mark) other ≡ false = grind (arith, nat_tests) in
     count_marks_push other number marks mark
+    ∙ ap (λ t. count_by (is_mark other number) marks + cond t 1 0) (acting_mark other number mark acting)
     ∙ ap (λ t. count_by (is_mark other number) marks + cond (t && nat_eq (command_of mark) number) 1 0) tested
     ∙ (let zero_more : count_by (is_mark other number) marks + 0 ≡ count_by (is_mark other number) marks = omega arith in zero_more)
     ∙ once other number ∙ sym (ap (λ k. one_up_to k number) (others other ne)))
     (cases_eq other (conn_of mark))
+
+-- a mark behind a home's answer isn't counted
+pub marked_once_telling : (counts : ℕ → ℕ) (marks : List Mark) (mark : Mark) → acts mark.kind ≡ false → MarkedOnce counts marks
+    → MarkedOnce counts (marks ++ mark ∷ [])
+marked_once_telling counts marks mark telling once conn number =
+    count_marks_push conn number marks mark
+    ∙ ap (λ a. count_by (is_mark conn number) marks + cond (a && (nat_eq (conn_of mark) conn && nat_eq (command_of mark) number)) 1 0) telling
+    ∙ (let zero_more : count_by (is_mark conn number) marks + 0 ≡ count_by (is_mark conn number) marks = omega arith in zero_more)
+    ∙ once conn number
 
 count_cons : {T : Type 0} (p : T → Bool) (x : T) (xs : List T) → count_by p (x ∷ xs) ≡ cond (p x) 1 0 + count_by p xs
 count_cons p x xs = sum_by-append (λ y. cond (p y) 1 0) (x ∷ []) xs ∙ ap (λ n. n + count_by p xs) (omega arith)
@@ -331,55 +459,86 @@ count_cons p x xs = sum_by-append (λ y. cond (p y) 1 0) (x ∷ []) xs ∙ ap (�
 count_both : {T : Type 0} (p : T → Bool) (xs ys : List T) → count_by p (xs ++ ys) ≡ count_by p xs + count_by p ys
 count_both p xs ys = sum_by-append (λ y. cond (p y) 1 0) xs ys
 
--- a command that was answered has just as many answering points as marks
-answers_by : (world : World) (conn number : ℕ) (mark : Mark) → number ≤ answered_of world conn
-    → (among : Bool) → nat_le (command_of mark) (answered_of world (conn_of mark)) ≡ among → (counts : Counts)
-    → (at : Bool) → nat_eq (conn_of mark) conn ≡ at → (same : Bool) → nat_eq (command_of mark) number ≡ same
-    → count_by (is_about answers_its_command conn number) (points_by mark among counts) ≡ cond (at && same) 1 0
-unfolding points_by answers_its_command
-answers_by world conn number mark low true h counts true a true s = rw (a, s) refl
-answers_by world conn number mark low true h counts true a false s = rw (a, s) refl
-answers_by world conn number mark low true h counts false a same s = rw a refl
-answers_by world conn number mark low false h counts true a true s =
-    absurd (let c : conn_of mark ≡ conn = grind (arith, nat_tests) in let low_here : number ≤ answered_of world (conn_of mark) =
-    subst (λ x. number ≤ answered_of world x) (sym c) low in grind (arith, nat_tests))
-answers_by world conn number mark low false h Always true a false s = refl
-answers_by world conn number mark low false h IfAnswered true a false s = refl
-answers_by world conn number mark low false h Always false a same s = refl
-answers_by world conn number mark low false h IfAnswered false a same s = refl
+reply_counted : (conn number : ℕ) (mark : Mark) (at : Bool) → nat_eq (conn_of mark) conn ≡ at → (same : Bool) → nat_eq (command_of mark) number ≡ same
+    → count_by (is_about answers_its_command conn number) (point_as mark replied ∷ []) ≡ cond (at && same) 1 0
+unfolding answers_its_command
+reply_counted conn number mark true a true s = rw (a, s) refl
+reply_counted conn number mark true a false s = rw (a, s) refl
+reply_counted conn number mark false a same s = rw a refl
 
-pub answering_points : (world : World) (conn number : ℕ) (marks : List Mark) → number ≤ answered_of world conn
-    → count_by (is_about answers_its_command conn number) (points_of_all world marks) ≡ count_by (is_mark conn number) marks
-unfolding points_of_all points_of
-answering_points world conn number [] low = refl
-answering_points world conn number (mark ∷ marks) low =
-    count_both (is_about answers_its_command conn number) (points_of world mark) (points_of_all world marks)
-    ∙ ap (λ n. n + count_by (is_about answers_its_command conn number) (points_of_all world marks))
-    (answers_by world conn number mark low (nat_le (command_of mark) (answered_of world (conn_of mark))) refl mark.counts (nat_eq (conn_of mark) conn) refl
-    (nat_eq (command_of mark) number) refl)
-    ∙ ap (λ n. cond (is_mark conn number mark) 1 0 + n) (answering_points world conn number marks low)
+loss_counted : (conn number : ℕ) (mark : Mark) (at : Bool) → nat_eq (conn_of mark) conn ≡ at → (same : Bool) → nat_eq (command_of mark) number ≡ same
+    → count_by (is_about loses conn number) (point_as mark lost ∷ []) ≡ cond (at && same) 1 0
+unfolding loses
+loss_counted conn number mark true a true s = rw (a, s) refl
+loss_counted conn number mark true a false s = rw (a, s) refl
+loss_counted conn number mark false a same s = rw a refl
+
+-- a mark of a command that no client was told of is none of a command that one was told of
+not_this : (told : ℕ → ℕ) (conn number : ℕ) (mark : Mark) → number ≤ told conn → told (conn_of mark) < command_of mark
+    → (at : Bool) → nat_eq (conn_of mark) conn ≡ at → (same : Bool) → nat_eq (command_of mark) number ≡ same → (at && same) ≡ false
+not_this told conn number mark low high true a true s =
+    (let c : conn_of mark ≡ conn = grind (arith, nat_tests) in
+    let n : command_of mark ≡ number = grind (arith, nat_tests) in
+    absurd (omega (arith, low, high, n, ap told c)))
+not_this told conn number mark low high true a false s = refl
+not_this told conn number mark low high false a same s = refl
+
+-- a command that a client was told of has just as many answering points as steps that act
+answers_by : (told : ℕ → ℕ) (conn number : ℕ) (mark : Mark) → number ≤ told conn
+    → (b : Bool) → nat_le (command_of mark) (told (conn_of mark)) ≡ b → (next : Option MarkKind) → Verdict b mark.kind next
+    → count_by (is_about answers_its_command conn number) (points_by mark (counts_as mark.kind next)) ≡ cond (is_mark conn number mark) 1 0
+unfolding points_by answers_its_command
+answers_by told conn number mark low b h next (replies t acting is) =
+    ap (λ w. count_by (is_about answers_its_command conn number) (points_by mark w)) is
+    ∙ reply_counted conn number mark (nat_eq (conn_of mark) conn) refl (nat_eq (command_of mark) number) refl
+    ∙ ap (λ t. cond t 1 0) (sym (acting_mark conn number mark acting))
+answers_by told conn number mark low b h next (is_lost t always none is) =
+    ap (λ w. count_by (is_about answers_its_command conn number) (points_by mark w)) is
+    ∙ sym (ap (λ t. cond t 1 0) (acting_mark conn number mark (acting_always mark always)
+    ∙ not_this told conn number mark low (beyond told mark b h t) (nat_eq (conn_of mark) conn) refl (nat_eq (command_of mark) number) refl))
+answers_by told conn number mark low b h next (is_open t if none is) =
+    ap (λ w. count_by (is_about answers_its_command conn number) (points_by mark w)) is
+    ∙ sym (ap (λ t. cond t 1 0) (acting_mark conn number mark (acting_if mark if)
+    ∙ not_this told conn number mark low (beyond told mark b h t) (nat_eq (conn_of mark) conn) refl (nat_eq (command_of mark) number) refl))
+answers_by told conn number mark low b h next (tells telling is) =
+    ap (λ w. count_by (is_about answers_its_command conn number) (points_by mark w)) is
+    ∙ sym (ap (λ a. cond (a && (nat_eq (conn_of mark) conn && nat_eq (command_of mark) number)) 1 0) telling)
+
+pub answering_points : (told : ℕ → ℕ) (conn number : ℕ) (marks : List Mark) → Fit told marks → number ≤ told conn
+    → count_by (is_about answers_its_command conn number) (points_of marks) ≡ count_by (is_mark conn number) marks
+unfolding points_of Fit
+answering_points told conn number [] fit low = refl
+answering_points told conn number (mark ∷ marks) fit low =
+    count_both (is_about answers_its_command conn number) (points_by mark (counts_as mark.kind (next_of mark.ask marks))) (points_of marks)
+    ∙ ap (λ n. n + count_by (is_about answers_its_command conn number) (points_of marks))
+    (answers_by told conn number mark low (nat_le (command_of mark) (told (conn_of mark))) refl (next_of mark.ask marks)
+    (verdict mark.kind (next_of mark.ask marks) (nat_le (command_of mark) (told (conn_of mark))) fit.0))
+    ∙ ap (λ n. cond (is_mark conn number mark) 1 0 + n) (answering_points told conn number marks fit.1 low)
     ∙ sym (count_cons (is_mark conn number) mark marks)
 
-losses_by : (conn number : ℕ) (mark : Mark) (among : Bool) (counts : Counts)
-    → (at : Bool) → nat_eq (conn_of mark) conn ≡ at → (same : Bool) → nat_eq (command_of mark) number ≡ same
-    → count_by (is_about loses conn number) (points_by mark among counts) ≤ cond (at && same) 1 0
+losses_by : (conn number : ℕ) (mark : Mark) (b : Bool) (next : Option MarkKind) → Verdict b mark.kind next
+    → count_by (is_about loses conn number) (points_by mark (counts_as mark.kind next)) ≤ cond (is_mark conn number mark) 1 0
 unfolding points_by loses
-losses_by conn number mark true counts at a same s = omega arith
-losses_by conn number mark false Always true a true s = rw (a, s) (omega arith)
-losses_by conn number mark false Always true a false s = rw (a, s) (omega arith)
-losses_by conn number mark false Always false a same s = rw a (omega arith)
-losses_by conn number mark false IfAnswered at a same s = omega arith
-
--- no command has more losses than marks
-pub losing_points : (world : World) (conn number : ℕ) (marks : List Mark)
-    → count_by (is_about loses conn number) (points_of_all world marks) ≤ count_by (is_mark conn number) marks
-unfolding points_of_all points_of
-losing_points world conn number [] = omega arith
-losing_points world conn number (mark ∷ marks) = omega (
+losses_by conn number mark b next (replies t acting is) = omega (arith, ap (λ w. count_by (is_about loses conn number) (points_by mark w)) is)
+losses_by conn number mark b next (is_lost t always none is) = omega (
   arith,
-  losing_points world conn number marks,
-  count_both (is_about loses conn number) (points_of world mark) (points_of_all world marks),
+  ap (λ w. count_by (is_about loses conn number) (points_by mark w)) is,
+  loss_counted conn number mark (nat_eq (conn_of mark) conn) refl (nat_eq (command_of mark) number) refl,
+  ap {B = ℕ} (λ t. cond t 1 0) (acting_mark conn number mark (acting_always mark always)),
+)
+losses_by conn number mark b next (is_open t if none is) = omega (arith, ap (λ w. count_by (is_about loses conn number) (points_by mark w)) is)
+losses_by conn number mark b next (tells telling is) = omega (arith, ap (λ w. count_by (is_about loses conn number) (points_by mark w)) is)
+
+-- no command has more losses than steps that act
+pub losing_points : (told : ℕ → ℕ) (conn number : ℕ) (marks : List Mark) → Fit told marks
+    → count_by (is_about loses conn number) (points_of marks) ≤ count_by (is_mark conn number) marks
+unfolding points_of Fit
+losing_points told conn number [] fit = omega arith
+losing_points told conn number (mark ∷ marks) fit = omega (
+  arith,
+  losing_points told conn number marks fit.1,
+  count_both (is_about loses conn number) (points_by mark (counts_as mark.kind (next_of mark.ask marks))) (points_of marks),
   count_cons (is_mark conn number) mark marks,
-  losses_by conn number mark (nat_le (command_of mark) (answered_of world (conn_of mark))) mark.counts (nat_eq (conn_of mark) conn) refl
-      (nat_eq (command_of mark) number) refl,
+  losses_by conn number mark (nat_le (command_of mark) (told (conn_of mark))) (next_of mark.ask marks)
+      (verdict mark.kind (next_of mark.ask marks) (nat_le (command_of mark) (told (conn_of mark))) fit.0),
 )

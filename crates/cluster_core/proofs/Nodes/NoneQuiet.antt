@@ -23,7 +23,7 @@ use Rattle.link_msg.specs.declared.counts.Counts.{Counts}
 use Rattle.link_msg.specs.declared.message.LinkMsg.{LinkMsg}
 use Rattle.link_msg.specs.declared.message.LinkMsg.TheVariants.{Up, End, Line, Ask, Answer}
 use Rattle.link_msg.specs.declared.out.Out.{Out}
-use Rattle.link_msg.specs.declared.out.Out.TheVariants.{Client as to_client, Close, Link as to_node, Mark as mark}
+use Rattle.link_msg.specs.declared.out.Out.TheVariants.{Client as to_client, Close, Link as to_node, Mark as mark, Told as tell}
 use Rattle.mur_base.specs.declared.point.AskId.{AskId}
 use Rattle.imap_types.specs.declared.command.Tag.{Tag}
 use Rattle.imap_types.specs.declared.request.Request.{Request}
@@ -62,6 +62,7 @@ IsNotQuiet (to_client conn bytes) = ⊤
 IsNotQuiet (Close conn) = ⊤
 IsNotQuiet (to_node other message) = quiet_in message ≡ []
 IsNotQuiet (mark ask counts) = ⊤
+IsNotQuiet (tell ask how) = ⊤
 
 -- none is among the outputs of a node
 abbrev AreNotQuiet : List Out → Type 0
@@ -203,6 +204,7 @@ carry_keeps node world (to_node other message) is = record {
   none_quiet = λ only. another_sent quiet_in world.links [] [] node other message [] is only;
 }
 carry_keeps node world (mark ask counts) is = same_links world _ refl refl
+carry_keeps node world (tell ask how) is = same_links world _ refl refl
 
 carry_all_keeps : (node : List ℕ) (world : World) (outs : List Out) → AreNotQuiet outs → KeepsNoneQuiet world (carry_all node world outs)
 unfolding carry_all

@@ -13,18 +13,21 @@ use Rattle.front_core.specs.declared.front.Front.{Front}
 use Rattle.front_core.specs.Front.{Stepped, connect, bytes_in, hang, deliver as take_message}
 use Rattle.link_msg.specs.declared.message.LinkMsg.{LinkMsg}
 use Rattle.link_msg.specs.declared.out.Out.{Out}
-use Rattle.link_msg.specs.declared.out.Out.TheVariants.{Client as to_client, Close, Link as to_node, Mark as mark_out}
+use Rattle.link_msg.specs.declared.out.Out.TheVariants.{Client as to_client, Close, Link as to_node, Mark as mark_out, Told as tell}
 use Rattle.mur_base.specs.Map.{value_at, with_value}
 use Rattle.mur_base.proofs.MapLaws.{names_apart, numbers_apart, not_equal, same_or_other, value_at-with_entry, value_at-with_entry-other}
 use Rattle.mur_base.proofs.MapLaws.{value_at-with_value, value_at-with_value-other}
 use Rattle.schedule_text.specs.declared.event.Event.{Event}
 use Rattle.schedule_text.specs.declared.event.Event.TheVariants.{Open, Data, Hang, Deliver}
 use Rattle.cluster_core.specs.declared.world.Client.{Client}
+use Rattle.mur_base.specs.declared.point.AskId.{AskId}
+use Rattle.cluster_core.specs.declared.world.MarkKind.{MarkKind}
+use Rattle.cluster_core.specs.declared.world.MarkKind.TheVariants.{Home, Told}
 use Rattle.cluster_core.specs.declared.world.World.{World}
 use Rattle.cluster_core.specs.Flow.{run_steps}
 use Rattle.link_queue.specs.Links.{Links, same_link, on_link, without_first}
 use Rattle.cluster_core.specs.Headline.OneNode.{node_of, worker, connected, leaves_on, WasSent, OnlyWorks, WorksBy, OneNodeWorks, OneNodeWorksEach}
-use Rattle.cluster_core.specs.World.{client_at, front_at, home_at, given_more, carry, carry_all, with_front, with_client, open_at, opens, bytes_at}
+use Rattle.cluster_core.specs.World.{marked, client_at, front_at, home_at, given_more, carry, carry_all, with_front, with_client, open_at, opens, bytes_at}
 use Rattle.cluster_core.specs.World.{bytes_from, hang_at, hangs, input_of, home_takes, comes_to_home, comes_to, taken_from_link, deliver_first, takes, stepped, steps_by}
 use Rattle.cluster_core.proofs.Histories.InTime.{takes_adds}
 use Rattle.link_queue.proofs.Wires.{same_names, on_link-sent, on_link-taken}
@@ -97,11 +100,8 @@ given_sends node world conn bytes (Some client) there = record {
   pairs = refl;
 }
 
-carry_sends : (node : List ℕ) (world : World) (out : Out) → Sends node world (carry node world out)
-unfolding carry
-carry_sends node world (to_client conn bytes) = given_sends node world conn bytes (client_at world conn) refl
-carry_sends node world (Close conn) = sends_nothing node world
-carry_sends node world (mark_out ask counts) = record {
+marked_sends : (node : List ℕ) (world : World) (ask : AskId) (kind : MarkKind) → Sends node world (marked world ask kind)
+marked_sends node world ask kind = record {
   fronts = refl;
   homes = refl;
   clients = λ conn. refl;
@@ -110,6 +110,13 @@ carry_sends node world (mark_out ask counts) = record {
   backends = refl;
   pairs = refl;
 }
+
+carry_sends : (node : List ℕ) (world : World) (out : Out) → Sends node world (carry node world out)
+unfolding carry
+carry_sends node world (to_client conn bytes) = given_sends node world conn bytes (client_at world conn) refl
+carry_sends node world (Close conn) = sends_nothing node world
+carry_sends node world (mark_out ask counts) = marked_sends node world ask (Home counts)
+carry_sends node world (tell ask how) = marked_sends node world ask (Told how)
 carry_sends node world (to_node other message) = record {
   fronts = refl;
   homes = refl;

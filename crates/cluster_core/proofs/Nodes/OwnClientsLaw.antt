@@ -17,7 +17,7 @@ use Rattle.link_msg.specs.declared.counts.Counts.{Counts}
 use Rattle.link_msg.specs.declared.message.LinkMsg.{LinkMsg}
 use Rattle.link_msg.specs.declared.message.LinkMsg.TheVariants.{Up, End, Line, Ask, Answer}
 use Rattle.link_msg.specs.declared.out.Out.{Out}
-use Rattle.link_msg.specs.declared.out.Out.TheVariants.{Client as to_client, Close, Link as to_node, Mark as mark_out}
+use Rattle.link_msg.specs.declared.out.Out.TheVariants.{Client as to_client, Close, Link as to_node, Mark as mark_out, Told as tell}
 use Rattle.mur_base.specs.declared.point.AskId.{AskId}
 use Rattle.mur_base.specs.Map.{with_value}
 use Rattle.mur_base.proofs.MapLaws.{numbers_apart, value_at-with_entry-other, value_at-with_value-other}
@@ -67,6 +67,7 @@ unfolding carry
 carry_serves node world conn (to_client own bytes) is other ne = given_serves world own bytes (client_at world own) other (λ e. ne (e ∙ is))
 carry_serves node world conn (Close own) is other ne = refl
 carry_serves node world conn (mark_out ask counts) is other ne = refl
+carry_serves node world conn (tell ask how) is other ne = refl
 carry_serves node world conn (to_node name message) is other ne = refl
 
 carry_all_serves : (node : List ℕ) (world : World) (conn : ℕ) (outs : List Out) → AreFor conn outs → Serves conn world (carry_all node world outs)

@@ -1,38 +1,50 @@
 -- The headline holds of every run.
-use Rattle.std.proofs.Common.{◌≡◌, List, refl, sym, subst}
+use Rattle.std.proofs.Common.{List, [], ◌∷◌, ◌++◌, Option, None, Some}
 use Rattle.std.specs.Prelude.{All}
-use Rattle.std.proofs.Math.Logic.{⊎_elim}
+use Rattle.std.proofs.lemmas.List.Elements.{All-cons, All-nil}
+use Rattle.link_msg.specs.declared.counts.Counts.TheVariants.{Always, IfAnswered}
+use Rattle.link_msg.specs.declared.how.How.TheVariants.{Here, Behind}
 use Rattle.imap_command.specs.Ruled.{IsDate}
 use Rattle.mur_base.specs.declared.point.Point.{Point}
 use Rattle.mur_config.specs.declared.config.Config.{Config}
 use Rattle.mur_config.specs.Nodes.{AreNodes}
 use Rattle.schedule_text.specs.declared.event.Event.{Event}
 use Rattle.cluster_core.specs.declared.world.Mark.{Mark}
+use Rattle.cluster_core.specs.declared.world.MarkKind.{MarkKind}
+use Rattle.cluster_core.specs.declared.world.MarkKind.TheVariants.{Home, Told}
 use Rattle.cluster_core.specs.declared.world.World.{World}
 use Rattle.cluster_core.specs.Flow.{run, unrolled}
 use Rattle.cluster_core.specs.Headline.{IsOneServer}
-use Rattle.cluster_core.specs.History.{history_of}
+use Rattle.cluster_core.specs.History.{next_of, counts_as, untold_as, points_by, points_of, history_of}
 use Rattle.cluster_core.specs.Headline.HomeLaw.{HasRelocationCause, RefusesForCause}
 use Rattle.cluster_core.specs.World.{start}
 use Rattle.cluster_core.proofs.Flows.FlowRests.{are_steps_of_all}
 use Rattle.cluster_core.proofs.OneServer.ClosedLaw.{gives_no_more}
-use Rattle.cluster_core.proofs.Histories.Marks.{IsOf, all_points}
 use Rattle.cluster_core.proofs.Nodes.OneNodeLaw.{one_node_each}
 use Rattle.cluster_core.proofs.Names.OneHome.{keeps_one_home_each}
 use Rattle.cluster_core.proofs.Nodes.OwnClientsLaw.{serves_its_own_each}
 use Rattle.cluster_core.proofs.OneServer.ToldSoFar.{told_by_one_store}
 use Rattle.cluster_core.proofs.Runs.Unrolled.{by_steps}
 
-has_cause : (world : World) (mark : Mark) (point : Point) → IsOf world mark point → HasRelocationCause point.what
-has_cause world mark point is = ⊎_elim (λ both. subst HasRelocationCause (sym both.0) tt) (λ lost. subst HasRelocationCause (sym lost) tt) is.either
+put_cause : (kind : MarkKind) (next : Option MarkKind) (mark : Mark) (points : List Point) → All (λ (point : Point). HasRelocationCause point.what) points
+    → All (λ (point : Point). HasRelocationCause point.what) (points_by mark (counts_as kind next) ++ points)
+unfolding counts_as untold_as points_by
+put_cause (Told Here) next mark points rest = All-cons (λ (point : Point). HasRelocationCause point.what) _ points tt rest
+put_cause (Told Behind) next mark points rest = rest
+put_cause (Home Always) None mark points rest = All-cons (λ (point : Point). HasRelocationCause point.what) _ points tt rest
+put_cause (Home IfAnswered) None mark points rest = rest
+put_cause (Home counts) (Some (Told Behind)) mark points rest = All-cons (λ (point : Point). HasRelocationCause point.what) _ points tt rest
+put_cause (Home counts) (Some (Told Here)) mark points rest = rest
+put_cause (Home counts) (Some (Home other)) mark points rest = rest
 
-anything : (world : World) (marks : List Mark) → All (λ (mark : Mark). mark ≡ mark) marks
-anything world marks = λ k d h. refl
+have_causes : (marks : List Mark) → All (λ (point : Point). HasRelocationCause point.what) (points_of marks)
+unfolding points_of
+have_causes [] = All-nil (λ (point : Point). HasRelocationCause point.what)
+have_causes (mark ∷ marks) = put_cause mark.kind (next_of mark.ask marks) mark (points_of marks) (have_causes marks)
 
 refuses : (world : World) → RefusesForCause world
 unfolding history_of
-refuses world = all_points world (λ (mark : Mark). mark ≡ mark) (λ (point : Point). HasRelocationCause point.what)
-    (λ mark point same is. has_cause world mark point is) world.marks (anything world world.marks)
+refuses world = have_causes world.marks
 
 pub one_server : (config : Config) (events : List Event) → AreNodes config.nodes → IsDate config.date → IsOneServer config events
 one_server config events are date_is = record {

@@ -26,7 +26,7 @@ use Rattle.cluster_core.specs.declared.world.Mark.{Mark}
 use Rattle.cluster_core.specs.declared.world.World.{World}
 use Rattle.front_core.specs.Ending.{EndsOnlyLast}
 use Rattle.imap_talk.specs.Heard.{Heard, bytes_heard, frames_heard, has_closed}
-use Rattle.cluster_core.specs.History.{answered_in, connection_in, connection_by, connection_of, answered_of, history_of}
+use Rattle.cluster_core.specs.History.{history_of}
 use Rattle.cluster_core.specs.Headline.OneStore.{AreEmpty, IsAnsweredThrough, first_course}
 use Rattle.cluster_core.specs.Headline.Points.{AreMadeBy, LosesTheNext}
 use Rattle.cluster_core.specs.Shown.{given_by, given_to}
@@ -38,11 +38,11 @@ use Rattle.front_core.proofs.OneConnection.Standing.Stands.{reads as it_reads, w
 use Rattle.front_core.proofs.OneConnection.Standing.IsLeft.{nothing, its_ask, its_answer}
 use Rattle.cluster_core.proofs.Connections.KeepsLaw.{ConnectionIs, IsAt}
 use Rattle.cluster_core.proofs.Connections.KeepsLaw.ConnectionIs.{is_nobody, is_elsewhere, is_open, is_closed}
-use Rattle.cluster_core.proofs.Histories.Marks.{conn_of, command_of, IsOf, all_points, pairs_of_points, marks_follow, answering_points, losing_points}
+use Rattle.cluster_core.proofs.Histories.Tally.{conn_of, command_of}
+use Rattle.cluster_core.proofs.Histories.Marks.{IsOf, Later, NoMore, Replied, all_points, counts_of, none_behind, pairs_of_points, marks_follow, answering_points, losing_points}
 use Rattle.front_core.proofs.OneConnection.LastAnswer.{none_given, stands_last}
-use Rattle.cluster_core.proofs.Histories.Marks.{NoMore}
 use Rattle.imap_talk.proofs.RequestsOf.{requests_of, answered_lengths}
-use Rattle.cluster_core.proofs.Histories.Told.{IsTold, Later}
+use Rattle.cluster_core.proofs.Histories.Told.{IsTold}
 use Rattle.front_core.proofs.OneConnection.Ways.{none_on_empty}
 
 -- what was replied is what was told and at most one more
@@ -74,27 +74,10 @@ told_left setting front home conn requests connection links told said session (i
 
 -- what can be said of a connection, whatever was heard of it
 pub record SaysOf (setting : Setting) (world : World) (conn : ℕ) (heard : Heard) (told said : List Answer) : Type 0 where
-  pub count : answered_of world conn ≡ length told
   pub given : given_to world conn ≡ transcript_of setting (bytes_heard heard) told
   pub so : IsToldSo told said
   pub lasts : EndsOnlyLast told
   pub waits_not : AreEmpty world → has_closed heard ≡ false → IsAnsweredThrough (requests_of setting (frames_heard heard)) told
-
-count_at : (world : World) (conn : ℕ) (node : List ℕ) (given : List ℕ) (front : Front) (connection : Connection)
-    → client_at world conn ≡ Some (record { at = node; given = given }) → IsAt world conn node front connection
-    → answered_of world conn ≡ connection.answered
-unfolding answered_of connection_of
-count_at world conn node given front connection at is =
-    ap (λ c. answered_in (connection_by world conn c)) at ∙ ap (λ f. answered_in (connection_in f conn)) is.at ∙ ap answered_in is.has
-
-count_none : (world : World) (conn : ℕ) → client_at world conn ≡ None → answered_of world conn ≡ 0
-unfolding answered_of connection_of
-count_none world conn at = ap (λ c. answered_in (connection_by world conn c)) at
-
-count_elsewhere : (world : World) (conn : ℕ) (node given : List ℕ) → client_at world conn ≡ Some (record { at = node; given = given })
-    → front_at world node ≡ None → answered_of world conn ≡ 0
-unfolding answered_of connection_of
-count_elsewhere world conn node given at none = ap (λ c. answered_in (connection_by world conn c)) at ∙ ap (λ f. answered_in (connection_in f conn)) none
 
 given_at : (world : World) (conn : ℕ) (found : Option Client) → client_at world conn ≡ found → given_to world conn ≡ given_by found
 unfolding given_to
@@ -129,21 +112,18 @@ pub says_of : (setting : Setting) (home : List ℕ) (conn : ℕ) (world : World)
     → SaysOf setting world conn heard (story.told conn) (story.talk.answers conn)
 unfolding all_told_till bytes_heard frames_heard has_closed requests_in inputs_of
 says_of setting home conn world story heard (is_nobody none fronts untold) = record {
-  count = count_none world conn none ∙ ap length (sym untold.told);
   given = given_at world conn None none;
   so = all_told (story.told conn) (story.talk.answers conn) (untold.said ∙ sym untold.told);
   lasts = none_given (story.told conn) untold.told;
   waits_not = λ empty stays. inl (ap length untold.told);
 }
 says_of setting home conn world story heard (is_elsewhere node at none untold) = record {
-  count = count_elsewhere world conn node [] at none ∙ ap length (sym untold.told);
   given = given_at world conn (Some (record { at = node; given = [] })) at;
   so = all_told (story.told conn) (story.talk.answers conn) (untold.said ∙ sym untold.told);
   lasts = none_given (story.told conn) untold.told;
   waits_not = λ empty stays. inl (ap length untold.told);
 }
 says_of setting home conn world story heard (is_open bytes node front connection at reader standing) = record {
-  count = count_at world conn node _ front connection standing.client at ∙ standing.count;
   given = given_at world conn (Some (client_with node (inputs_in setting bytes) (story.told conn))) standing.client;
   so = told_standing setting node home conn (inputs_in setting bytes) (begun bytes) connection world.links (story.told conn) (story.talk.answers conn)
       (story.course.sessions conn) standing.stands;
@@ -153,7 +133,6 @@ says_of setting home conn world story heard (is_open bytes node front connection
       (story.course.sessions conn) empty standing.stands;
 }
 says_of setting home conn world story heard (is_closed bytes node front connection at gone) = record {
-  count = count_at world conn node _ front connection gone.client at ∙ gone.count;
   given = given_at world conn (Some (client_with node (inputs_in setting bytes) (story.told conn))) gone.client;
   so = told_left setting node home conn (requests_in (inputs_in setting bytes)) connection world.links (story.told conn) (story.talk.answers conn)
       (story.course.sessions conn) gone.left;
@@ -170,58 +149,45 @@ unfolding one_up_to
 at_most_one count number n e = grind (arith, nat_tests)
 
 -- what is related of two points, by their marks
-conns_same : (world : World) (earlier later : Mark) (one other : Point) → IsOf world earlier one → IsOf world later other → one.ask.conn ≡ other.ask.conn
+conns_same : (told : ℕ → ℕ) (earlier later : Mark) (one other : Point) → IsOf told earlier one → IsOf told later other → one.ask.conn ≡ other.ask.conn
     → conn_of earlier ≡ conn_of later
-conns_same world earlier later one other is at same = sym (ap (λ (a : AskId). a.conn) is.same_ask) ∙ same ∙ ap (λ (a : AskId). a.conn) at.same_ask
+conns_same told earlier later one other is at same = sym (ap (λ (a : AskId). a.conn) is.same_ask) ∙ same ∙ ap (λ (a : AskId). a.conn) at.same_ask
 
-in_order_by : (world : World) (earlier later : Mark) (one other : Point) → Later earlier later → IsOf world earlier one → IsOf world later other
+in_order_by : (told : ℕ → ℕ) (earlier later : Mark) (one other : Point) → Later earlier later → IsOf told earlier one → IsOf told later other
     → one.ask.conn ≡ other.ask.conn → one.ask.command ≤ other.ask.command
-in_order_by world earlier later one other behind is at same =
+in_order_by told earlier later one other behind is at same =
     omega (
       arith,
-      behind.0 (conns_same world earlier later one other is at same),
+      behind.0 (conns_same told earlier later one other is at same),
       ap (λ (a : AskId). a.command) is.same_ask,
       ap (λ (a : AskId). a.command) at.same_ask,
     )
 
--- behind a mark whose command wasn't answered there is none of its connection
-none_behind : (world : World) (story : Story) → ((conn : ℕ) → answered_of world conn ≡ length (story.told conn))
-    → ((conn : ℕ) → IsToldSo (story.told conn) (story.talk.answers conn))
-    → (earlier later : Mark) → Later earlier later → command_of later ≤ length (story.talk.answers (conn_of later)) → NoMore world earlier later
-none_behind world story counts so earlier later behind bound = λ unanswered e.
-    absurd (omega (
-      arith,
-      unanswered,
-      counts (conn_of earlier),
-      behind.0 e,
-      bound,
-      ap (λ c. length (story.talk.answers c)) e,
-      ap length (so (conn_of earlier)).parts,
-      length-append (story.told (conn_of earlier)) (so (conn_of earlier)).rest,
-      (so (conn_of earlier)).few,
-    ))
-
-no_more : (world : World) (story : Story) → ((conn : ℕ) → answered_of world conn ≡ length (story.told conn))
-    → ((conn : ℕ) → IsToldSo (story.told conn) (story.talk.answers conn))
-    → (earlier later : Mark) (one other : Point) → Later earlier later → command_of later ≤ length (story.talk.answers (conn_of later))
-    → IsOf world earlier one → IsOf world later other
+no_more : (told : ℕ → ℕ) (earlier later : Mark) (one other : Point) → NoMore told earlier later → IsOf told earlier one → IsOf told later other
     → loses one.what ≡ true → one.ask.conn ≡ other.ask.conn → ⊥
-no_more world story counts so earlier later one other behind bound is at loss same =
-    none_behind world story counts so earlier later behind bound (is.if_lost loss) (conns_same world earlier later one other is at same)
+no_more told earlier later one other none is at loss same =
+    none is.acting (is.if_lost loss) (conns_same told earlier later one other is at same)
 
-no_read : (world : World) (mark : Mark) (point : Point) → IsOf world mark point → reads point.what ≡ false
+no_read : (told : ℕ → ℕ) (mark : Mark) (point : Point) → IsOf told mark point → reads point.what ≡ false
 unfolding reads
-no_read world mark point is = ⊎_elim (λ both. ap reads both.0) (λ lost. ap reads lost) is.either
+no_read told mark point is = ⊎_elim (λ both. ap reads both.0) (λ lost. ap reads lost) is.either
 
-unanswered : (world : World) (story : Story) → ((conn : ℕ) → answered_of world conn ≡ length (story.told conn)) → (mark : Mark) (point : Point)
-    → IsOf world mark point → IsUnanswered (told_of story) point
-unanswered world story counts mark point is = λ loss. omega (
+unanswered : (story : Story) (mark : Mark) (point : Point) → IsOf (counts_of story.told) mark point → IsUnanswered (told_of story) point
+unanswered story mark point is = λ loss. omega (
   arith,
   is.if_lost loss,
-  counts (conn_of mark),
   ap (λ (a : AskId). a.command) is.same_ask,
   ap (λ (a : AskId). length (story.told a.conn)) is.same_ask,
 )
+
+-- the commands of the marks were replied to, of which at most one that no client was told of
+replied_to : (setting : Setting) (now : ℕ) (marks : List Mark) (home : _) (story : Story) → IsTold setting now marks home story.talk story.told story.course
+    → ((conn : ℕ) → IsToldSo (story.told conn) (story.talk.answers conn))
+    → Replied (counts_of story.told) (λ conn. length (story.talk.answers conn)) marks
+replied_to setting now marks home story told so = record {
+  numbers = told.numbers;
+  few = λ conn. omega (arith, ap length (so conn).parts, length-append (story.told conn) (so conn).rest, (so conn).few);
+}
 
 -- a history is legal, and its store comes out so
 pub record IsLegalTo (setting : Setting) (talk : Talk) (points : List Point) (store : Store) : Type 0 where
@@ -230,72 +196,79 @@ pub record IsLegalTo (setting : Setting) (talk : Talk) (points : List Point) (st
   pub legal : IsLegal setting first_course talk points last
 
 -- the history is legal for what was asked and told
-pub legal_history : (setting : Setting) (world : World) (story : Story) (home : _) → IsTold setting world.steps world.marks home story.talk story.course
-    → ((conn : ℕ) → answered_of world conn ≡ length (story.told conn)) → ((conn : ℕ) → IsToldSo (story.told conn) (story.talk.answers conn))
+pub legal_history : (setting : Setting) (world : World) (story : Story) (home : _)
+    → IsTold setting world.steps world.marks home story.talk story.told story.course
+    → ((conn : ℕ) → IsToldSo (story.told conn) (story.talk.answers conn))
     → IsLegalTo setting (told_of story) (history_of world) story.course.store
 unfolding history_of
-legal_history setting world story home told counts so =
-    let followed = marks_follow setting world story.talk story.told
-    (record { rest = λ conn. (so conn).rest; parts = λ conn. (so conn).parts }) counts first_course story.course world.marks told.carries
-    (λ i j d h k. none_behind world story counts so (get_or world.marks i d) (get_or world.marks j d) (told.later i j d h k) (told.numbers j d k)) in
+legal_history setting world story home told so =
+    let none : AllPairs (NoMore (counts_of story.told)) world.marks =
+    none_behind (counts_of story.told) (λ conn. length (story.talk.answers conn)) world.marks told.fit told.later
+    (replied_to setting world.steps world.marks home story told so) in
+    let followed = marks_follow setting story.talk story.told
+    (record { rest = λ conn. (so conn).rest; parts = λ conn. (so conn).parts }) first_course story.course world.marks told.carries told.fit none in
     record {
       last = followed.end;
       same_store = followed.same_store;
       legal = record {
         follows = followed.follows;
-        answered_once = λ conn number low high. answering_points world conn number world.marks (subst (λ n. number ≤ n) (sym (counts conn)) high)
+        answered_once = λ conn number low high. answering_points (counts_of story.told) conn number world.marks told.fit high
             ∙ answered_once (length (story.talk.answers conn)) number _ (told.once conn number) low
             (omega (arith, high, ap length (so conn).parts, length-append (story.told conn) (so conn).rest));
-        lost_unanswered = all_points world (λ (m : Mark). command_of m ≤ length (story.talk.answers (conn_of m))) (IsUnanswered (told_of story))
-            (λ mark point bound is. unanswered world story counts mark point is) world.marks told.numbers;
+        lost_unanswered = all_points (counts_of story.told) (λ (m : Mark). command_of m ≤ length (story.talk.answers (conn_of m)))
+            (IsUnanswered (told_of story)) (λ mark point bound is. unanswered story mark point is) world.marks told.fit told.numbers;
         lost_once = λ conn number. omega (
           arith,
-          losing_points world conn number world.marks,
+          losing_points (counts_of story.told) conn number world.marks told.fit,
           at_most_one (length (story.talk.answers conn)) number _ (told.once conn number),
         );
-        lost_last = pairs_of_points world Later (λ (m : Mark). command_of m ≤ length (story.talk.answers (conn_of m))) EndsAtLoss
-            (λ earlier later one other behind bound is at. no_more world story counts so earlier later one other behind bound is at) world.marks told.later
+        lost_last = pairs_of_points (counts_of story.told) (NoMore (counts_of story.told))
+            (λ (m : Mark). command_of m ≤ length (story.talk.answers (conn_of m))) EndsAtLoss
+            (λ earlier later one other behind bound is at. no_more (counts_of story.told) earlier later one other behind is at) world.marks told.fit none
             told.numbers;
-        never_read = all_points world (λ (m : Mark). command_of m ≤ length (story.talk.answers (conn_of m))) (λ (point : Point). reads point.what ≡ false)
-            (λ mark point bound is. no_read world mark point is) world.marks told.numbers;
-        in_order = pairs_of_points world Later (λ (m : Mark). command_of m ≤ length (story.talk.answers (conn_of m))) IsInCommandOrder
-            (λ earlier later one other behind bound is at. in_order_by world earlier later one other behind is at) world.marks told.later told.numbers;
+        never_read = all_points (counts_of story.told) (λ (m : Mark). command_of m ≤ length (story.talk.answers (conn_of m)))
+            (λ (point : Point). reads point.what ≡ false)
+            (λ mark point bound is. no_read (counts_of story.told) mark point is) world.marks told.fit told.numbers;
+        in_order = pairs_of_points (counts_of story.told) Later (λ (m : Mark). command_of m ≤ length (story.talk.answers (conn_of m))) IsInCommandOrder
+            (λ earlier later one other behind bound is at. in_order_by (counts_of story.told) earlier later one other behind is at) world.marks told.fit
+            told.later told.numbers;
       };
     }
 
 -- the steps of the history rise
-pub steps_rise : (setting : Setting) (world : World) (story : Story) (home : _) → IsTold setting world.steps world.marks home story.talk story.course
+pub steps_rise : (setting : Setting) (world : World) (story : Story) (home : _)
+    → IsTold setting world.steps world.marks home story.talk story.told story.course
     → AllPairs (λ (one other : Point). one.step ≤ other.step) (history_of world)
 unfolding history_of
 steps_rise setting world story home told =
-    pairs_of_points world Later (λ (m : Mark). command_of m ≤ length (story.talk.answers (conn_of m))) (λ (one other : Point). one.step ≤ other.step)
-    (λ earlier later one other behind bound is at. omega (arith, behind.1, is.same_step, at.same_step)) world.marks told.later told.numbers
+    pairs_of_points (counts_of story.told) Later (λ (m : Mark). command_of m ≤ length (story.talk.answers (conn_of m)))
+    (λ (one other : Point). one.step ≤ other.step)
+    (λ earlier later one other behind bound is at. omega (arith, behind.1, is.same_step, at.same_step)) world.marks told.fit told.later told.numbers
 
 -- no point of the history is of a later step
-pub made_by_now : (setting : Setting) (world : World) (story : Story) (home : _) → IsTold setting world.steps world.marks home story.talk story.course
-    → AreMadeBy world.steps (history_of world)
+pub made_by_now : (setting : Setting) (world : World) (story : Story) (home : _)
+    → IsTold setting world.steps world.marks home story.talk story.told story.course → AreMadeBy world.steps (history_of world)
 unfolding history_of
 made_by_now setting world story home told =
-    all_points world (λ (m : Mark). m.step ≤ world.steps) (λ (p : Point). p.step ≤ world.steps)
-    (λ mark point timely is. omega (arith, timely, is.same_step)) world.marks told.timely
+    all_points (counts_of story.told) (λ (m : Mark). m.step ≤ world.steps) (λ (p : Point). p.step ≤ world.steps)
+    (λ mark point timely is. omega (arith, timely, is.same_step)) world.marks told.fit told.timely
 
 -- a lost command is the first that wasn't answered
-pub loses_the_next : (setting : Setting) (world : World) (story : Story) (home : _) → IsTold setting world.steps world.marks home story.talk story.course
-    → ((conn : ℕ) → answered_of world conn ≡ length (story.told conn)) → ((conn : ℕ) → IsToldSo (story.told conn) (story.talk.answers conn))
-    → LosesTheNext (told_of story) (history_of world)
+pub loses_the_next : (setting : Setting) (world : World) (story : Story) (home : _)
+    → IsTold setting world.steps world.marks home story.talk story.told story.course
+    → ((conn : ℕ) → IsToldSo (story.told conn) (story.talk.answers conn)) → LosesTheNext (told_of story) (history_of world)
 unfolding history_of
-loses_the_next setting world story home told counts so =
-    all_points world (λ (m : Mark). command_of m ≤ length (story.talk.answers (conn_of m)))
+loses_the_next setting world story home told so =
+    all_points (counts_of story.told) (λ (m : Mark). command_of m ≤ length (story.talk.answers (conn_of m)))
     (λ (p : Point). loses p.what ≡ true → p.ask.command ≡ length (story.told p.ask.conn) + 1)
     (λ mark point bound is. λ loss. omega (
       arith,
       bound,
       is.if_lost loss,
-      counts (conn_of mark),
       ap length (so (conn_of mark)).parts,
       length-append (story.told (conn_of mark)) (so (conn_of mark)).rest,
       (so (conn_of mark)).few,
       ap (λ (a : AskId). a.command) is.same_ask,
       ap (λ (a : AskId). length (story.told a.conn)) is.same_ask,
     ))
-    world.marks told.numbers
+    world.marks told.fit told.numbers

@@ -1,5 +1,5 @@
 -- What is told at every step of a run.
-use Rattle.std.proofs.Common.{◌≡◌, ℕ, zero, suc, ◌+◌, ◌≤◌, ◌<◌, Bool, true, cond, nat_eq, List, [], ◌∷◌, ◌++◌, length}
+use Rattle.std.proofs.Common.{◌≡◌, ℕ, zero, suc, ◌+◌, ◌≤◌, ◌<◌, Bool, true, false, cond, nat_eq, List, [], ◌∷◌, ◌++◌, length}
 use Rattle.std.proofs.Common.{Some, refl, sym, ◌∙◌, ap, subst, arith, length-append}
 use Rattle.std.specs.Prelude.{All, IfSome, count_by}
 use Rattle.std.proofs.lemmas.Bool.Decides.{nat_tests}
@@ -41,8 +41,9 @@ use Rattle.cluster_core.proofs.Connections.Keeps.{IsKeptAt, KeepsAll, run_keeps}
 use Rattle.cluster_core.proofs.Connections.KeepsLaw.{KeepsLaw}
 use Rattle.store_law.proofs.NoneLost.{both_hold, loses_none}
 use Rattle.serve_law.proofs.HomeStore.{store_below}
-use Rattle.cluster_core.proofs.Histories.Marks.{Carries, conn_of, command_of, is_mark, all_points}
-use Rattle.cluster_core.proofs.Histories.Marks.Carries.{no_marks, a_mark}
+use Rattle.cluster_core.proofs.Histories.Tally.{acts, conn_of, command_of}
+use Rattle.cluster_core.proofs.Histories.Marks.{Carries, counts_of, is_mark, all_points}
+use Rattle.cluster_core.proofs.Histories.Marks.Carries.{no_marks, a_mark, a_telling}
 use Rattle.store_law.proofs.NoRelocation.{have_causes}
 use Rattle.cluster_core.proofs.OneServer.OneStoreLaw.{SaysOf, says_of, IsLegalTo, legal_history, loses_the_next, made_by_now, steps_rise, IsToldSo}
 use Rattle.imap_talk.proofs.ReadLaw.{heard_sound, read_of_legal}
@@ -60,13 +61,17 @@ unfolding numbered
 numbered_within items zero item e = omega arith
 numbered_within items (suc number) item e = omega (arith, slice_get_within items number item e)
 
--- every mark is of a command that was asked
+-- every step that acts is of a command that was asked
 marks_asked : (setting : Setting) (talk : Talk) (first last : Course) (marks : List Mark) → Carries setting talk first marks last
-    → All (λ (m : Mark). command_of m ≤ length (talk.requests (conn_of m))) marks
-marks_asked setting talk first last marks (no_marks course) = All-nil (λ (m : Mark). command_of m ≤ length (talk.requests (conn_of m)))
-marks_asked setting talk first last marks (a_mark course end mark request serial rest takes answer unless later) =
-    All-cons (λ (m : Mark). command_of m ≤ length (talk.requests (conn_of m))) mark rest
-    (numbered_within (talk.requests (conn_of mark)) (command_of mark) request takes.asked) (marks_asked setting talk _ end rest later)
+    → All (λ (m : Mark). acts m.kind ≡ true → command_of m ≤ length (talk.requests (conn_of m))) marks
+marks_asked setting talk first last marks (no_marks course) =
+    All-nil (λ (m : Mark). acts m.kind ≡ true → command_of m ≤ length (talk.requests (conn_of m)))
+marks_asked setting talk first last marks (a_mark course end mark request serial rest acting takes answer unless later) =
+    All-cons (λ (m : Mark). acts m.kind ≡ true → command_of m ≤ length (talk.requests (conn_of m))) mark rest
+    (λ a. numbered_within (talk.requests (conn_of mark)) (command_of mark) request takes.asked) (marks_asked setting talk _ end rest later)
+marks_asked setting talk first last marks (a_telling course end mark rest telling later) =
+    All-cons (λ (m : Mark). acts m.kind ≡ true → command_of m ≤ length (talk.requests (conn_of m))) mark rest
+    (λ a. (let both : false ≡ true = sym telling ∙ a in cc)) (marks_asked setting talk course end rest later)
 
 count_cons : (p : Mark → Bool) (x : Mark) (xs : List Mark) → count_by p (x ∷ xs) ≡ cond (p x) 1 0 + count_by p xs
 count_cons p x xs = sum_by-append (λ y. cond (p y) 1 0) (x ∷ []) xs ∙ ap (λ n. n + count_by p xs) (omega arith)
@@ -74,19 +79,21 @@ count_cons p x xs = sum_by-append (λ y. cond (p y) 1 0) (x ∷ []) xs ∙ ap (�
 count_both : (p : Mark → Bool) (xs ys : List Mark) → count_by p (xs ++ ys) ≡ count_by p xs + count_by p ys
 count_both p xs ys = sum_by-append (λ y. cond (p y) 1 0) xs ys
 
-own_mark : (mark : Mark) → is_mark (conn_of mark) (command_of mark) mark ≡ true
-own_mark mark = let one : nat_eq (conn_of mark) (conn_of mark) ≡ true = grind (arith, nat_tests) in
-    let two : nat_eq (command_of mark) (command_of mark) ≡ true = grind (arith, nat_tests) in rw (one, two) refl
+own_mark : (mark : Mark) → acts mark.kind ≡ true → is_mark (conn_of mark) (command_of mark) mark ≡ true
+own_mark mark acting = let one : nat_eq (conn_of mark) (conn_of mark) ≡ true = grind (arith, nat_tests) in
+    let two : nat_eq (command_of mark) (command_of mark) ≡ true = grind (arith, nat_tests) in rw (acting, one, two) refl
 
--- each mark of a list is counted in it
-counted : (marks : List Mark) → All (λ (m : Mark). 1 ≤ count_by (is_mark (conn_of m) (command_of m)) marks) marks
-counted [] = All-nil (λ (m : Mark). 1 ≤ count_by (is_mark (conn_of m) (command_of m)) [])
+abbrev IsCounted : List Mark → Mark → Type 0
+IsCounted marks m = acts m.kind ≡ true → 1 ≤ count_by (is_mark (conn_of m) (command_of m)) marks
+
+-- each mark of a list whose step acts is counted in it
+counted : (marks : List Mark) → All (IsCounted marks) marks
+counted [] = All-nil (IsCounted [])
 counted (mark ∷ marks) =
-    All-cons (λ (m : Mark). 1 ≤ count_by (is_mark (conn_of m) (command_of m)) (mark ∷ marks)) mark marks
-    (omega (arith, count_cons (is_mark (conn_of mark) (command_of mark)) mark marks, ap {B = ℕ} (λ b. cond b 1 0) (own_mark mark)))
-    (All-weaker (λ (m : Mark). 1 ≤ count_by (is_mark (conn_of m) (command_of m)) marks)
-    (λ (m : Mark). 1 ≤ count_by (is_mark (conn_of m) (command_of m)) (mark ∷ marks))
-    (λ m h. omega (arith, h, count_cons (is_mark (conn_of m) (command_of m)) mark marks)) marks (counted marks))
+    All-cons (IsCounted (mark ∷ marks)) mark marks
+    (λ acting. omega (arith, count_cons (is_mark (conn_of mark) (command_of mark)) mark marks, ap {B = ℕ} (λ b. cond b 1 0) (own_mark mark acting)))
+    (All-weaker (IsCounted marks) (IsCounted (mark ∷ marks))
+    (λ m h. λ acting. omega (arith, h acting, count_cons (is_mark (conn_of m) (command_of m)) mark marks)) marks (counted marks))
 
 -- a command that has its mark has no other one behind
 no_other : (now later count number in_all in_now in_rest : ℕ) → in_all ≡ one_up_to later number → in_now ≡ one_up_to now number → in_all ≡ in_now + in_rest
@@ -94,52 +101,59 @@ no_other : (now later count number in_all in_now in_rest : ℕ) → in_all ≡ o
 unfolding one_up_to
 no_other now later count number in_all in_now in_rest a n parts some = grind (arith, nat_tests)
 
+-- a step up to now that acts is of a command that was asked by now
+abbrev AskedBy : Story → ℕ → Mark → Type 0
+AskedBy story now m = acts m.kind ≡ true → m.step ≤ now → command_of m ≤ length (story.talk.requests (conn_of m))
+
+-- a step that acts of a command that a client was told of by now is none behind now
+abbrev ToldBy : Story → ℕ → Mark → Type 0
+ToldBy story now m = acts m.kind ≡ true → command_of m ≤ length (story.told (conn_of m)) → m.step ≤ now
+
 -- the points of the whole run, as they stand to a moment of it
 pub stands_in_time : (setting : Setting) (now later : World) (story whole : Story) (home last_home : _)
-    → IsTold setting now.steps now.marks home story.talk story.course
-    → IsTold setting later.steps later.marks last_home whole.talk whole.course → StandsBehind now later
+    → IsTold setting now.steps now.marks home story.talk story.told story.course
+    → IsTold setting later.steps later.marks last_home whole.talk whole.told whole.course → StandsBehind now later
     → ((conn : ℕ) → IsToldSo (story.told conn) (story.talk.answers conn))
     → StandsInTime (told_of story) now.steps (history_of later)
 unfolding history_of
 stands_in_time setting now later story whole home last_home told all behind so =
     let asked = marks_asked setting story.talk _ story.course now.marks told.carries in
     record {
-      behind_command = all_points later (λ (m : Mark). m.step ≤ now.steps → command_of m ≤ length (story.talk.requests (conn_of m)))
+      behind_command = all_points (counts_of whole.told) (AskedBy story now.steps)
           (λ (p : Point). p.step ≤ now.steps → p.ask.command ≤ length (story.talk.requests p.ask.conn))
           (λ mark point holds is. λ low. omega (
             arith,
-            holds (omega (arith, is.same_step, low)),
+            holds is.acting (omega (arith, is.same_step, low)),
             ap (λ (a : AskId). a.command) is.same_ask,
             ap (λ (a : AskId). length (story.talk.requests a.conn)) is.same_ask,
           ))
-          later.marks
-          (subst (λ m. All (λ (m : Mark). m.step ≤ now.steps → command_of m ≤ length (story.talk.requests (conn_of m))) m) (sym behind.parts)
-          (All-append (λ (m : Mark). m.step ≤ now.steps → command_of m ≤ length (story.talk.requests (conn_of m))) now.marks behind.rest
-          (All-weaker (λ (m : Mark). command_of m ≤ length (story.talk.requests (conn_of m)))
-          (λ (m : Mark). m.step ≤ now.steps → command_of m ≤ length (story.talk.requests (conn_of m))) (λ m h. λ low. h) now.marks asked)
-          (All-weaker (λ (m : Mark). now.steps < m.step) (λ (m : Mark). m.step ≤ now.steps → command_of m ≤ length (story.talk.requests (conn_of m)))
-          (λ m h. λ low. absurd (omega arith)) behind.rest behind.from_now)));
-      before_reply = all_points later (λ (m : Mark). command_of m ≤ length (story.told (conn_of m)) → m.step ≤ now.steps)
+          later.marks all.fit
+          (subst (λ m. All (AskedBy story now.steps) m) (sym behind.parts)
+          (All-append (AskedBy story now.steps) now.marks behind.rest
+          (All-weaker (λ (m : Mark). acts m.kind ≡ true → command_of m ≤ length (story.talk.requests (conn_of m))) (AskedBy story now.steps)
+          (λ m h. λ acting low. h acting) now.marks asked)
+          (All-weaker (λ (m : Mark). now.steps < m.step) (AskedBy story now.steps)
+          (λ m h. λ acting low. absurd (omega arith)) behind.rest behind.from_now)));
+      before_reply = all_points (counts_of whole.told) (ToldBy story now.steps)
           (λ (p : Point). p.ask.command ≤ length (story.told p.ask.conn) → p.step ≤ now.steps)
           (λ mark point holds is. λ low. omega (
             arith,
             is.same_step,
-            holds (omega (arith, low, ap (λ (a : AskId). a.command) is.same_ask, ap (λ (a : AskId). length (story.told a.conn)) is.same_ask)),
+            holds is.acting (omega (arith, low, ap (λ (a : AskId). a.command) is.same_ask, ap (λ (a : AskId). length (story.told a.conn)) is.same_ask)),
           ))
-          later.marks
-          (subst (λ m. All (λ (m : Mark). command_of m ≤ length (story.told (conn_of m)) → m.step ≤ now.steps) m) (sym behind.parts)
-          (All-append (λ (m : Mark). command_of m ≤ length (story.told (conn_of m)) → m.step ≤ now.steps) now.marks behind.rest
-          (All-weaker (λ (m : Mark). m.step ≤ now.steps) (λ (m : Mark). command_of m ≤ length (story.told (conn_of m)) → m.step ≤ now.steps)
-          (λ m h. λ low. h) now.marks told.timely)
-          (All-weaker (λ (m : Mark). 1 ≤ count_by (is_mark (conn_of m) (command_of m)) behind.rest)
-          (λ (m : Mark). command_of m ≤ length (story.told (conn_of m)) → m.step ≤ now.steps)
-          (λ m h. λ low. absurd (omega (
+          later.marks all.fit
+          (subst (λ m. All (ToldBy story now.steps) m) (sym behind.parts)
+          (All-append (ToldBy story now.steps) now.marks behind.rest
+          (All-weaker (λ (m : Mark). m.step ≤ now.steps) (ToldBy story now.steps) (λ m h. λ acting low. h) now.marks told.timely)
+          (All-weaker (IsCounted behind.rest) (ToldBy story now.steps)
+          (λ m h. λ acting low. absurd (omega (
             arith,
             low,
             told_within (conn_of m),
             no_other (length (story.talk.answers (conn_of m))) (length (whole.talk.answers (conn_of m))) 0 (command_of m) _ _ _
                 (all.once (conn_of m) (command_of m)) (told.once (conn_of m) (command_of m))
-                (ap (count_by (is_mark (conn_of m) (command_of m))) behind.parts ∙ count_both (is_mark (conn_of m) (command_of m)) now.marks behind.rest) h,
+                (ap (count_by (is_mark (conn_of m) (command_of m))) behind.parts ∙ count_both (is_mark (conn_of m) (command_of m)) now.marks behind.rest)
+                (h acting),
           ))) behind.rest (counted behind.rest))));
     }
   where
@@ -163,7 +177,7 @@ told_so_far config talk before later are date_is now last =
     λ conn. subst (λ r. AreRequests (setting_of config) (frames_heard (heard conn)) r) (sym (law.requests conn))
     (asks_all (setting_of config) (frames_heard (heard conn))) in
     let legal : IsLegalTo (setting_of config) (told_of law.story) (history_of world) law.story.course.store =
-    legal_history (setting_of config) world law.story law.backend law.is_told (λ conn. (says conn).count) (λ conn. (says conn).so) in
+    legal_history (setting_of config) world law.story law.backend law.is_told (λ conn. (says conn).so) in
     let below_next : (name : List ℕ) → IfSome (box_at legal.last.store name) AreUidsBelowNext =
     subst (λ (s : Store). (name : List ℕ) → IfSome (box_at s name) AreUidsBelowNext) (sym legal.same_store)
     (store_below law.story.course.store law.backend law.is_told.same law.below_next) in
@@ -193,7 +207,7 @@ told_so_far config talk before later are date_is now last =
           (λ name. both_hold (box_at legal.last.store name) (below_next name) (rises name));
       appended_there = keeps_appended (setting_of config) legal.last.store rises;
       low_serials = subst GivesLowSerials (sym legal.same_store) (low_serials law.story.course.store law.backend law.is_told.same);
-      lost_next = loses_the_next (setting_of config) world law.story law.backend law.is_told (λ conn. (says conn).count) (λ conn. (says conn).so);
+      lost_next = loses_the_next (setting_of config) world law.story law.backend law.is_told (λ conn. (says conn).so);
       made_by_now = made_by_now (setting_of config) world law.story law.backend law.is_told;
       in_time = stands_in_time (setting_of config) world
           (run_steps (start config) (before ++ later)) law.story last.story law.backend last.backend law.is_told last.is_told behind (λ conn. (says conn).so);

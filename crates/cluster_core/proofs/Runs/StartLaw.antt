@@ -32,9 +32,9 @@ use Rattle.cluster_core.proofs.Runs.FrontsOfStart.{NoFrontend, apart_here, front
 use Rattle.mur_config.proofs.NodesApart.{head_apart, tail_apart}
 use Rattle.cluster_core.proofs.Connections.KeepsLaw.{KeepsLaw}
 use Rattle.cluster_core.proofs.Connections.KeepsLaw.ConnectionIs.{is_nobody}
-use Rattle.cluster_core.proofs.Histories.Marks.{Carries, MarkedOnce, command_of}
+use Rattle.cluster_core.proofs.Histories.Tally.{Fit, command_of}
+use Rattle.cluster_core.proofs.Histories.Marks.{Carries, Later, MarkedOnce}
 use Rattle.cluster_core.proofs.Histories.Marks.Carries.{no_marks}
-use Rattle.cluster_core.proofs.Histories.Told.{Later}
 use Rattle.cluster_core.specs.declared.world.Mark.{Mark}
 use Rattle.imap_talk.specs.Inputs.{inputs_of, requests_in}
 use Rattle.imap_talk.proofs.RequestsOf.{requests_of}
@@ -273,6 +273,10 @@ no_requests : (setting : Setting) → [] ≡ requests_of setting (frames_heard n
 unfolding requests_in inputs_of frames_heard
 no_requests setting = refl
 
+fits_none : Fit (λ conn. 0) []
+unfolding Fit
+fits_none = tt
+
 pub start_keeps : (config : Config) → AreNodes config.nodes → KeepsLaw config (λ conn. nobody) (start config)
 unfolding start
 start_keeps config are =
@@ -307,6 +311,8 @@ start_keeps config are =
         numbers = subst (λ m. All (λ (mark : Mark). command_of mark ≤ 0) m) (sym fresh.marks) (λ k d h. absurd (omega arith));
         timely = subst (λ m. All (λ (mark : Mark). mark.step ≤ (start config).steps) m) (sym fresh.marks) (λ k d h. absurd (omega arith));
         serials = λ conn. refl;
+        ahead = λ conn. omega arith;
+        fit = subst (λ m. Fit (λ conn. 0) m) (sym fresh.marks) fits_none;
       };
       requests = λ conn. no_requests (setting_of config);
       connections = λ conn. is_nobody (ap (λ c. value_at nat_cmp c conn) fresh.clients)

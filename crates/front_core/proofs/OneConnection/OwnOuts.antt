@@ -89,8 +89,8 @@ behind_for : (setting : Setting) (home : List ℕ) (conn : ℕ) (connection : Co
 unfolding AreFor
 behind_for setting home conn connection tag None = tt
 behind_for setting home conn connection tag (Some (needs.Reply reply)) =
-    (refl, inputs_for setting home conn (reading_again connection) connection.waiting)
-behind_for setting home conn connection tag (Some (needs.Leave reply)) = (refl, (tt, tt))
+    (refl, (tt, inputs_for setting home conn (reading_again connection) connection.waiting))
+behind_for setting home conn connection tag (Some (needs.Leave reply)) = (refl, (tt, (tt, tt)))
 behind_for setting home conn connection tag (Some (needs.Home name asking)) = (tt, tt)
 
 answer_by_for : (setting : Setting) (home : List ℕ) (conn : ℕ) (connection : Connection) (answer : BackAnswer) (fits : Bool) (stage : Stage)

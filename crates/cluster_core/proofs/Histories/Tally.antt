@@ -1,0 +1,155 @@
+-- What each mark of a run counts as, by how many commands of each connection its client was told of.
+use Rattle.std.proofs.Common.{◌≡◌, ℕ, suc, ◌<◌, ◌&&◌, Bool, true, false, not, nat_eq, nat_le, List, [], ◌∷◌, ◌++◌, if◌then◌else◌, Option, None, Some, refl, sym, ◌∙◌, ap, subst}
+use Rattle.std.proofs.Common.{arith}
+use Rattle.std.specs.Prelude.{All, ⊤}
+use Rattle.std.proofs.lemmas.Bool.Decides.{nat_tests}
+use Rattle.std.proofs.lemmas.List.Elements.{All-cons, All-nil}
+use Rattle.link_msg.specs.declared.counts.Counts.TheVariants.{Always, IfAnswered}
+use Rattle.link_msg.specs.declared.how.How.TheVariants.{Here, Behind}
+use Rattle.mur_base.specs.declared.point.AskId.{AskId}
+use Rattle.mur_base.specs.declared.point.What.TheVariants.{Reply as replied, Lost as lost}
+use Rattle.cluster_core.specs.declared.world.Mark.{Mark}
+use Rattle.cluster_core.specs.declared.world.MarkKind.{MarkKind}
+use Rattle.cluster_core.specs.declared.world.MarkKind.TheVariants.{Home, Told}
+use Rattle.cluster_core.specs.History.{is_of, next_of, counts_as, untold_as}
+
+abbrev pub conn_of : Mark → ℕ
+conn_of mark = (mark.ask).conn
+
+abbrev pub command_of : Mark → ℕ
+command_of mark = (mark.ask).command
+
+-- whether the step of a mark carries its command out or answers it
+unfoldable pub acts : MarkKind → Bool
+acts (Home counts) = true
+acts (Told Here) = true
+acts (Told Behind) = false
+
+-- whether a mark may have this next mark of its command, by whether its client was told of the command
+unfoldable pub fits : MarkKind → Option MarkKind → Bool → Bool
+fits (Told Here) next told = told
+fits (Told Behind) next told = true
+fits (Home counts) None told = not told
+fits (Home counts) (Some (Told Behind)) told = told
+fits (Home counts) (Some kind) told = false
+
+-- each mark fits, where so many commands of each connection were told of
+unfoldable pub Fit : (ℕ → ℕ) → List Mark → Type 0
+Fit told [] = ⊤
+Fit told (mark ∷ marks) = (fits mark.kind (next_of mark.ask marks) (nat_le (command_of mark) (told (conn_of mark))) ≡ true) × Fit told marks
+
+-- what a mark that fits counts as
+pub data Verdict (told : Bool) (kind : MarkKind) (next : Option MarkKind) : Type 0 where
+  replies : told ≡ true → acts kind ≡ true → counts_as kind next ≡ Some replied → Verdict told kind next
+  is_lost : told ≡ false → kind ≡ Home Always → next ≡ None → counts_as kind next ≡ Some lost → Verdict told kind next
+  is_open : told ≡ false → kind ≡ Home IfAnswered → next ≡ None → counts_as kind next ≡ None → Verdict told kind next
+  tells : acts kind ≡ false → counts_as kind next ≡ None → Verdict told kind next
+
+pub verdict : (kind : MarkKind) (next : Option MarkKind) (told : Bool) → fits kind next told ≡ true → Verdict told kind next
+unfolding fits counts_as untold_as acts
+verdict (Told Here) next true h = replies refl refl refl
+verdict (Told Here) next false h = cc
+verdict (Told Behind) next told h = tells refl refl
+verdict (Home counts) (Some (Told Behind)) true h = replies refl refl refl
+verdict (Home counts) (Some (Told Behind)) false h = cc
+verdict (Home counts) (Some (Told Here)) told h = cc
+verdict (Home counts) (Some (Home other)) told h = cc
+verdict (Home counts) None true h = cc
+verdict (Home Always) None false h = is_lost refl refl refl refl
+verdict (Home IfAnswered) None false h = is_open refl refl refl refl
+
+none_by : (ask : AskId) (mark : Mark) (marks : List Mark)
+    → (next_of ask marks ≡ None → All (λ (m : Mark). is_of ask m ≡ false) marks)
+    → (b : Bool) → is_of ask mark ≡ b → (if b then Some mark.kind else next_of ask marks) ≡ None → All (λ (m : Mark). is_of ask m ≡ false) (mark ∷ marks)
+none_by ask mark marks rest true h none = cc
+none_by ask mark marks rest false h none = All-cons (λ (m : Mark). is_of ask m ≡ false) mark marks h (rest none)
+
+-- a command without a next mark has none behind
+pub none_next : (ask : AskId) (marks : List Mark) → next_of ask marks ≡ None → All (λ (m : Mark). is_of ask m ≡ false) marks
+unfolding next_of
+none_next ask [] e = All-nil (λ (m : Mark). is_of ask m ≡ false)
+none_next ask (mark ∷ marks) e = none_by ask mark marks (none_next ask marks) (is_of ask mark) refl e
+
+-- two marks of one command
+pub of_both : (mark later : Mark) → conn_of later ≡ conn_of mark → command_of later ≡ command_of mark → is_of mark.ask later ≡ true
+of_both mark later c n =
+    let one : nat_eq (conn_of later) (conn_of mark) ≡ true = grind (arith, nat_tests) in
+    let two : nat_eq (command_of later) (command_of mark) ≡ true = grind (arith, nat_tests) in rw (one, two) refl
+
+-- two marks of different commands
+pub of_another : (mark later : Mark) (b : Bool) → is_of mark.ask later ≡ b → (conn_of later ≡ conn_of mark → command_of mark < command_of later) → b ≡ false
+of_another mark later true h apart = by (nat_eq (conn_of later) (conn_of mark)) refl (nat_eq (command_of later) (command_of mark)) refl h
+  where
+    by : (a : Bool) → nat_eq (conn_of later) (conn_of mark) ≡ a → (c : Bool) → nat_eq (command_of later) (command_of mark) ≡ c → a && c ≡ true → true ≡ false
+    by true e true f both =
+        (let same : conn_of later ≡ conn_of mark = grind (arith, nat_tests) in
+        let equal : command_of later ≡ command_of mark = grind (arith, nat_tests) in absurd (omega (arith, apart same, equal)))
+    by true e false f both = cc
+    by false e c f both = cc
+of_another mark later false h apart = refl
+
+unfoldable pub next_or : Option MarkKind → Option MarkKind → Option MarkKind
+next_or None other = other
+next_or (Some kind) other = Some kind
+
+abbrev its_kind : AskId → Mark → Option MarkKind
+its_kind ask mark = if is_of ask mark then Some mark.kind else None
+
+next_if : (b : Bool) (kind : MarkKind) (one other : Option MarkKind)
+    → (if b then Some kind else next_or one other) ≡ next_or (if b then Some kind else one) other
+unfolding next_or
+next_if true kind one other = refl
+next_if false kind one other = refl
+
+-- the next mark of a command where one was put behind
+next_push : (ask : AskId) (marks : List Mark) (mark : Mark) → next_of ask (marks ++ mark ∷ []) ≡ next_or (next_of ask marks) (its_kind ask mark)
+unfolding next_of next_or
+next_push ask [] mark = refl
+next_push ask (first ∷ marks) mark =
+    ap (λ x. if is_of ask first then Some first.kind else x) (next_push ask marks mark) ∙ next_if (is_of ask first) first.kind (next_of ask marks) _
+
+-- a mark still fits when another one is put behind, where the clients were told of so many and then of so many
+abbrev pub StillFits : (ℕ → ℕ) → (ℕ → ℕ) → Mark → Mark → Type 0
+StillFits told now mark first = (next : Option MarkKind) → fits first.kind next (nat_le (command_of first) (told (conn_of first))) ≡ true
+    → fits first.kind (next_or next (its_kind first.ask mark)) (nat_le (command_of first) (now (conn_of first))) ≡ true
+
+pub fit_push : (told now : ℕ → ℕ) (marks : List Mark) (mark : Mark) → Fit told marks → All (StillFits told now mark) marks
+    → fits mark.kind None (nat_le (command_of mark) (now (conn_of mark))) ≡ true → Fit now (marks ++ mark ∷ [])
+unfolding Fit next_of
+fit_push told now [] mark fit all own = (own, tt)
+fit_push told now (first ∷ marks) mark fit all own = (
+  ap (λ n. fits first.kind n (nat_le (command_of first) (now (conn_of first)))) (next_push first.ask marks mark)
+      ∙ all 0 first (omega arith) (next_of first.ask marks) fit.0,
+  fit_push told now marks mark fit.1 (λ k d h. all (suc k) d (omega arith)) own,
+)
+
+next_none : (next : Option MarkKind) → next_or next None ≡ next
+unfolding next_or
+next_none None = refl
+next_none (Some kind) = refl
+
+-- so does a mark of another command, of which as much is told
+pub fits_apart : (told now : ℕ → ℕ) (mark first : Mark) → is_of first.ask mark ≡ false
+    → nat_le (command_of first) (now (conn_of first)) ≡ nat_le (command_of first) (told (conn_of first)) → StillFits told now mark first
+fits_apart told now mark first other same = λ next fit.
+    ap (λ b. fits first.kind (next_or next (if b then Some mark.kind else None)) (nat_le (command_of first) (now (conn_of first)))) other
+    ∙ ap (λ n. fits first.kind n (nat_le (command_of first) (now (conn_of first)))) (next_none next)
+    ∙ ap (fits first.kind next) same ∙ fit
+
+told_now : (kind : MarkKind) (next : Option MarkKind) → fits kind next false ≡ true → fits kind (next_or next (Some (Told Behind))) true ≡ true
+unfolding fits next_or
+told_now (Told Here) next h = cc
+told_now (Told Behind) next h = refl
+told_now (Home counts) None h = refl
+told_now (Home counts) (Some (Told Behind)) h = cc
+told_now (Home counts) (Some (Told Here)) h = cc
+told_now (Home counts) (Some (Home other)) h = cc
+
+-- and a mark of the command that its client is told of now
+pub fits_told : (told now : ℕ → ℕ) (mark first : Mark) → mark.kind ≡ Told Behind → is_of first.ask mark ≡ true
+    → nat_le (command_of first) (told (conn_of first)) ≡ false → nat_le (command_of first) (now (conn_of first)) ≡ true → StillFits told now mark first
+fits_told told now mark first telling own before after = λ next fit.
+    ap (λ b. fits first.kind (next_or next (if b then Some mark.kind else None)) (nat_le (command_of first) (now (conn_of first)))) own
+    ∙ ap (λ c. fits first.kind (next_or next (Some c)) (nat_le (command_of first) (now (conn_of first)))) telling
+    ∙ ap (fits first.kind (next_or next (Some (Told Behind)))) after
+    ∙ told_now first.kind next (ap (fits first.kind next) (sym before) ∙ fit)

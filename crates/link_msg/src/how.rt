@@ -1,0 +1,10 @@
+// How a client is told of its command.
+
+/// How the client of a command is told of it, and so which step is the command's point in the history.
+#[derive(Clone, Copy, Debug, PartialEq, Eq)]
+pub enum How {
+    /// The frontend answers by itself: this step is the point.
+    Here,
+    /// The frontend hands on the answer of a home: the home's step is the point.
+    Behind,
+}
