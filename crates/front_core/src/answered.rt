@@ -21,7 +21,7 @@ impl Connection {
     pub(crate) fn answer_comes(&mut self, desk: Desk, answer: BackAnswer) -> Result<Outs, Memory>
         requires room { commands_of self.old < 2 ^ 64 }
         ensures { IfOk result (λ outs. record { connection = self.new; outs = outs }
-            ≡ answer_comes desk.setting.now desk.home.now desk.conn self.old answer) }
+            ≡ answer_comes desk.entry.setting.now desk.entry.home.now desk.entry.conn self.old answer) }
     {
         match &self.stage {
             Stage::Asked(tag, awaited) if answer.id.command == self.answered + 1 => {
@@ -54,7 +54,7 @@ impl Connection {
     fn told_behind(&mut self, desk: Desk, reply: Bytes) -> Result<Outs, Memory>
         requires room { self.old.answered + 1 < 2 ^ 64 }
         ensures connection { OnOk result (self.new ≡ record self.old { answered = self.old.answered + 1 }) }
-        ensures outs { IfOk result (λ outs. outs ≡ told_behind desk.conn self.old reply) }
+        ensures outs { IfOk result (λ outs. outs ≡ told_behind desk.entry.conn self.old reply) }
     {
         self.answered += 1;
         let id = AskId {
@@ -69,7 +69,7 @@ impl Connection {
     /// Gives the client the last reply of its connection.
     fn ends_with(&mut self, desk: Desk, reply: Bytes) -> Result<Outs, Memory>
         requires room { self.old.answered + 1 < 2 ^ 64 }
-        ensures { IfOk result (λ outs. record { connection = self.new; outs = outs } ≡ ends_with desk.conn self.old reply) }
+        ensures { IfOk result (λ outs. record { connection = self.new; outs = outs } ≡ ends_with desk.entry.conn self.old reply) }
     {
         self.stage = Stage::Ended;
         let mut outs = self.told_behind(desk, reply)?;
@@ -82,7 +82,7 @@ impl Connection {
     fn reads_on(&mut self, desk: Desk, reply: Bytes) -> Result<Outs, Memory>
         requires room { commands_of (reading_again self.old) + length self.old.waiting < 2 ^ 64 }
         ensures { IfOk result (λ outs. record { connection = self.new; outs = outs }
-            ≡ reads_on desk.setting.now desk.home.now desk.conn self.old reply) }
+            ≡ reads_on desk.entry.setting.now desk.entry.home.now desk.entry.conn self.old reply) }
     {
         self.stage = Stage::Reading;
         let mut outs = self.told_behind(desk, reply)?;

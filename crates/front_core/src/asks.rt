@@ -23,7 +23,7 @@ impl Connection {
         requires room { self.old.answered + 1 < 2 ^ 64 }
         requires begun { HasBegun self.old.session }
         ensures { OnOk result (record { connection = self.new; outs = outs.new }
-            ≡ behind_outs outs.old (asks desk.home.now desk.conn self.old tag name asking)) }
+            ≡ behind_outs outs.old (asks desk.entry.home.now desk.entry.conn self.old tag name asking)) }
     {
         let Asking {
             op,
@@ -46,7 +46,7 @@ impl Connection {
     ) -> Result<FrontAsk, Memory>
         requires room { self.now.answered + 1 < 2 ^ 64 }
         requires begun { HasBegun self.now.session }
-        ensures { IfOk result (λ ask. ask ≡ ask_of desk.conn self.now name selected op) }
+        ensures { IfOk result (λ ask. ask ≡ ask_of desk.entry.conn self.now name selected op) }
     {
         let user = self.session.user(desk.alloc)?;
         Ok(FrontAsk {

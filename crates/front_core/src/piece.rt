@@ -23,8 +23,8 @@ impl Connection {
     ) -> Result<(), Memory>
         requires room { commands_of self.old + length piece.now < 2 ^ 64 }
         ensures { OnOk result (record { connection = self.new; outs = outs.new } ≡ with_released (behind_outs outs.old
-            (inputs_come desk.setting.now desk.home.now desk.conn (having_read desk.setting.now self.old piece.now)
-            (inputs_of_more desk.setting.now self.old.reader piece.now)))) }
+            (inputs_come desk.entry.setting.now desk.entry.home.now desk.entry.conn (having_read desk.entry.setting.now self.old piece.now)
+            (inputs_of_more desk.entry.setting.now self.old.reader piece.now)))) }
     {
         self.inputs_come(desk, piece, outs)?;
         self.release(desk.alloc);
@@ -35,8 +35,8 @@ impl Connection {
     fn inputs_come(&mut self, desk: Desk, piece: &[u8], outs: &mut Outs) -> Result<(), Memory>
         requires room { commands_of self.old + length piece.now < 2 ^ 64 }
         ensures { OnOk result (with_released (record { connection = self.new; outs = outs.new }) ≡ with_released (behind_outs outs.old
-            (inputs_come desk.setting.now desk.home.now desk.conn (having_read desk.setting.now self.old piece.now)
-            (inputs_of_more desk.setting.now self.old.reader piece.now)))) }
+            (inputs_come desk.entry.setting.now desk.entry.home.now desk.entry.conn (having_read desk.entry.setting.now self.old piece.now)
+            (inputs_of_more desk.entry.setting.now self.old.reader piece.now)))) }
     {
         let mut taken = 0;
         while taken < piece.len() && !self.has_ended() && !self.reader.ended() {
@@ -56,7 +56,7 @@ impl Connection {
     ) -> Result<(), Memory>
         requires room { self.old.answered + 1 < 2 ^ 64 }
         ensures { OnOk result (record { connection = self.new; outs = outs.new }
-            ≡ behind_outs outs.old (inputs_come desk.setting.now desk.home.now desk.conn self.old (option_to_list input))) }
+            ≡ behind_outs outs.old (inputs_come desk.entry.setting.now desk.entry.home.now desk.entry.conn self.old (option_to_list input))) }
     {
         match input {
             Some(input) => self.input_comes(desk, input, outs),

@@ -33,7 +33,7 @@ impl Connection {
     ) -> Result<(), Memory>
         requires room { self.old.answered + 1 < 2 ^ 64 }
         ensures { OnOk result (record { connection = self.new; outs = outs.new }
-            ≡ behind_outs outs.old (input_comes desk.setting.now desk.home.now desk.conn self.old input)) }
+            ≡ behind_outs outs.old (input_comes desk.entry.setting.now desk.entry.home.now desk.entry.conn self.old input)) }
     {
         match self.stage {
             Stage::Reading => self.input_in(desk, input, outs),
@@ -52,7 +52,7 @@ impl Connection {
     ) -> Result<(), Memory>
         requires room { self.old.answered + 1 < 2 ^ 64 }
         ensures { OnOk result (record { connection = self.new; outs = outs.new }
-            ≡ behind_outs outs.old (input_in desk.setting.now desk.home.now desk.conn self.old input)) }
+            ≡ behind_outs outs.old (input_in desk.entry.setting.now desk.entry.home.now desk.entry.conn self.old input)) }
     {
         match input {
             Input::Asks(request) => self.request_in(desk, request, outs),
@@ -64,7 +64,7 @@ impl Connection {
     /// A fault ends the connection, with a BYE.
     fn faults(&mut self, desk: Desk, fault: FrameFault, outs: &mut Outs) -> Result<(), Memory>
         ensures connection { OnOk result (self.new ≡ record self.old { stage = Ended }) }
-        ensures outs { OnOk result (outs.new ≡ outs.old ++ Client desk.conn (bye_line (bye_of fault)) ∷ Close desk.conn ∷ []) }
+        ensures outs { OnOk result (outs.new ≡ outs.old ++ Client desk.entry.conn (bye_line (bye_of fault)) ∷ Close desk.entry.conn ∷ []) }
     {
         self.stage = Stage::Ended;
         outs.push(Out::Client(desk.conn, bye_line(desk.alloc, fault)?))?;
@@ -75,7 +75,7 @@ impl Connection {
     fn request_in(&mut self, desk: Desk, request: Request, outs: &mut Outs) -> Result<(), Memory>
         requires room { self.old.answered + 1 < 2 ^ 64 }
         ensures { OnOk result (record { connection = self.new; outs = outs.new }
-            ≡ behind_outs outs.old (request_in desk.setting.now desk.home.now desk.conn self.old request)) }
+            ≡ behind_outs outs.old (request_in desk.entry.setting.now desk.entry.home.now desk.entry.conn self.old request)) }
     {
         match request {
             Request::Command(tag, command) => {
@@ -99,7 +99,7 @@ impl Connection {
         requires room { self.old.answered + 1 < 2 ^ 64 }
         requires fits { MayNeed self.old.session need }
         ensures { OnOk result (record { connection = self.new; outs = outs.new }
-            ≡ behind_outs outs.old (turned_by_need desk.home.now desk.conn self.old tag need)) }
+            ≡ behind_outs outs.old (turned_by_need desk.entry.home.now desk.entry.conn self.old tag need)) }
     {
         match need {
             Need::Reply(reply) => self.answers(desk, &tag, reply, outs),
@@ -119,7 +119,7 @@ impl Connection {
     ) -> Result<(), Memory>
         requires room { self.old.answered + 1 < 2 ^ 64 }
         ensures { OnOk result (record { connection = self.new; outs = outs.new }
-            ≡ behind_outs outs.old (answers_last desk.conn self.old tag.now reply)) }
+            ≡ behind_outs outs.old (answers_last desk.entry.conn self.old tag.now reply)) }
     {
         self.stage = Stage::Ended;
         self.answers(desk, tag, reply, outs)?;
@@ -137,7 +137,7 @@ impl Connection {
     ) -> Result<(), Memory>
         requires room { self.old.answered + 1 < 2 ^ 64 }
         ensures { OnOk result (record { connection = self.new; outs = outs.new }
-            ≡ behind_outs outs.old (answers_now desk.conn self.old self.old.session tag.now reply)) }
+            ≡ behind_outs outs.old (answers_now desk.entry.conn self.old self.old.session tag.now reply)) }
     {
         self.answered += 1;
         let id = AskId {

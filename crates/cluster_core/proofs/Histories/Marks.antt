@@ -1,6 +1,6 @@
 -- The marks of a run carry out their requests one after another, and what history they make.
 use Rattle.std.proofs.Common.{◌≡◌, ◌≢◌, ℕ, zero, suc, ◌+◌, ◌≤◌, ◌<◌, ◌&&◌, Bool, true, false, not, cond, nat_eq, nat_le, List, [], ◌∷◌, ◌++◌, length}
-use Rattle.std.proofs.Common.{if◌then◌else◌, Option, None, Some, inl, inr, ◌⊎◌, refl, sym, ◌∙◌, ap, subst, arith}
+use Rattle.std.proofs.Common.{get_or, if◌then◌else◌, Option, None, Some, inl, inr, ◌⊎◌, refl, sym, ◌∙◌, ap, subst, arith}
 use Rattle.std.specs.Prelude.{All, AllPairs, count_by, slice_get}
 use Rattle.std.proofs.Math.Logic.{⊎_elim}
 use Rattle.std.proofs.lemmas.Bool.{cases_eq}
@@ -136,7 +136,7 @@ all_by told mark P points of rest b h next (replies t acting is) = subst (λ w. 
     (All-cons P _ points (of _ (its_reply told mark acting (within told mark b h t))) rest)
 all_by told mark P points of rest b h next (is_lost t always none is) = subst (λ w. All P (points_by mark w ++ points)) (sym is)
     (All-cons P _ points (of _ (its_loss told mark (acting_always mark always) (beyond told mark b h t))) rest)
-all_by told mark P points of rest b h next (is_open t if none is) = subst (λ w. All P (points_by mark w ++ points)) (sym is) rest
+all_by told mark P points of rest b h next (is_open t only none is) = subst (λ w. All P (points_by mark w ++ points)) (sym is) rest
 all_by told mark P points of rest b h next (tells telling is) = subst (λ w. All P (points_by mark w ++ points)) (sym is) rest
 
 tail_marks : (Q : Mark → Type 0) (x : Mark) (xs : List Mark) → All Q (x ∷ xs) → All Q xs
@@ -164,7 +164,7 @@ pairs_by told mark R points of rest b h next (replies t acting is) = subst (λ w
     (AllPairs-cons R _ points (of _ (its_reply told mark acting (within told mark b h t))) rest)
 pairs_by told mark R points of rest b h next (is_lost t always none is) = subst (λ w. AllPairs R (points_by mark w ++ points)) (sym is)
     (AllPairs-cons R _ points (of _ (its_loss told mark (acting_always mark always) (beyond told mark b h t))) rest)
-pairs_by told mark R points of rest b h next (is_open t if none is) = subst (λ w. AllPairs R (points_by mark w ++ points)) (sym is) rest
+pairs_by told mark R points of rest b h next (is_open t only none is) = subst (λ w. AllPairs R (points_by mark w ++ points)) (sym is) rest
 pairs_by told mark R points of rest b h next (tells telling is) = subst (λ w. AllPairs R (points_by mark w ++ points)) (sym is) rest
 
 head_pairs : (R : Mark → Mark → Type 0) (x : Mark) (xs : List Mark) → AllPairs R (x ∷ xs) → All (R x) xs
@@ -203,9 +203,9 @@ none_behind_by : (told said : ℕ → ℕ) (mark : Mark) (marks : List Mark) →
 none_behind_by told said mark marks few later numbers b h next is (replies t acting counted) =
     λ k d at. λ a high. absurd (omega (arith, high, within told mark b h t))
 none_behind_by told said mark marks few later numbers b h next is (is_lost t always none counted) =
-    λ k d at. λ a high. none_of_it told said mark _ few (later k d at) (numbers k d at) (none_next mark.ask marks (is ∙ none) k d at) high
-none_behind_by told said mark marks few later numbers b h next is (is_open t if none counted) =
-    λ k d at. λ a high. none_of_it told said mark _ few (later k d at) (numbers k d at) (none_next mark.ask marks (is ∙ none) k d at) high
+    λ k d at. λ a high. none_of_it told said mark (get_or marks k d) few (later k d at) (numbers k d at) (none_next mark.ask marks (is ∙ none) k d at) high
+none_behind_by told said mark marks few later numbers b h next is (is_open t only none counted) =
+    λ k d at. λ a high. none_of_it told said mark (get_or marks k d) few (later k d at) (numbers k d at) (none_next mark.ask marks (is ∙ none) k d at) high
 none_behind_by told said mark marks few later numbers b h next is (tells telling counted) =
     λ k d at. λ a high. (let both : false ≡ true = sym telling ∙ a in cc)
 
@@ -273,7 +273,7 @@ agree_still course other conn done marks still same all apart = record {
 abbrev IsFollowed : Setting → Talk → List Mark → Course → Store → Type 0
 IsFollowed setting talk marks course store = (other : Course) → Agrees marks course other → FollowsTo setting talk other (points_of marks) store
 
-abbrev counts_of : (ℕ → List Answer) → ℕ → ℕ
+abbrev pub counts_of : (ℕ → List Answer) → ℕ → ℕ
 counts_of told conn = length (told conn)
 
 -- the history that the marks make is followed by the store, of which the clients were told the answers that they were given
@@ -319,10 +319,10 @@ follows_by setting talk told of course other store mark request serial marks act
           (same_takes setting talk course other (conn_of mark) (command_of mark) request serial agrees.store session takes)) rest.follows;
     })
 follows_by setting talk told of course other store mark request serial marks acting takes answer unless agrees no_more later b h next
-    (is_open t if none is) =
+    (is_open t only none is) =
     let behind : length (told (conn_of mark)) < command_of mark = beyond (counts_of told) mark b h t in
     subst (λ w. FollowsTo setting (told_talk talk told) other (points_by mark w ++ points_of marks) store) (sym is)
-    (later other (agree_still course other (conn_of mark) (carried_out setting course (conn_of mark) request serial) marks (unless if) agrees.store
+    (later other (agree_still course other (conn_of mark) (carried_out setting course (conn_of mark) request serial) marks (unless only) agrees.store
     (tail_marks (λ (m : Mark). other.sessions (conn_of m) ≡ course.sessions (conn_of m)) mark marks agrees.sessions)
     (λ k d at. no_more k d at acting behind)))
 follows_by setting talk told of course other store mark request serial marks acting takes answer unless agrees no_more later b h next (tells telling is) =
@@ -342,7 +342,7 @@ unfolding points_by
 told_by setting talk other store mark marks telling rest b next (replies t acting is) = (let both : false ≡ true = sym telling ∙ acting in cc)
 told_by setting talk other store mark marks telling rest b next (is_lost t always none is) =
     (let both : false ≡ true = sym telling ∙ acting_always mark always in cc)
-told_by setting talk other store mark marks telling rest b next (is_open t if none is) =
+told_by setting talk other store mark marks telling rest b next (is_open t only none is) =
     subst (λ w. FollowsTo setting talk other (points_by mark w ++ points_of marks) store) (sym is) rest
 told_by setting talk other store mark marks telling rest b next (tells its is) =
     subst (λ w. FollowsTo setting talk other (points_by mark w ++ points_of marks) store) (sym is) rest
@@ -496,9 +496,9 @@ answers_by told conn number mark low b h next (is_lost t always none is) =
     ap (λ w. count_by (is_about answers_its_command conn number) (points_by mark w)) is
     ∙ sym (ap (λ t. cond t 1 0) (acting_mark conn number mark (acting_always mark always)
     ∙ not_this told conn number mark low (beyond told mark b h t) (nat_eq (conn_of mark) conn) refl (nat_eq (command_of mark) number) refl))
-answers_by told conn number mark low b h next (is_open t if none is) =
+answers_by told conn number mark low b h next (is_open t only none is) =
     ap (λ w. count_by (is_about answers_its_command conn number) (points_by mark w)) is
-    ∙ sym (ap (λ t. cond t 1 0) (acting_mark conn number mark (acting_if mark if)
+    ∙ sym (ap (λ t. cond t 1 0) (acting_mark conn number mark (acting_if mark only)
     ∙ not_this told conn number mark low (beyond told mark b h t) (nat_eq (conn_of mark) conn) refl (nat_eq (command_of mark) number) refl))
 answers_by told conn number mark low b h next (tells telling is) =
     ap (λ w. count_by (is_about answers_its_command conn number) (points_by mark w)) is
@@ -526,7 +526,7 @@ losses_by conn number mark b next (is_lost t always none is) = omega (
   loss_counted conn number mark (nat_eq (conn_of mark) conn) refl (nat_eq (command_of mark) number) refl,
   ap {B = ℕ} (λ t. cond t 1 0) (acting_mark conn number mark (acting_always mark always)),
 )
-losses_by conn number mark b next (is_open t if none is) = omega (arith, ap (λ w. count_by (is_about loses conn number) (points_by mark w)) is)
+losses_by conn number mark b next (is_open t only none is) = omega (arith, ap (λ w. count_by (is_about loses conn number) (points_by mark w)) is)
 losses_by conn number mark b next (tells telling is) = omega (arith, ap (λ w. count_by (is_about loses conn number) (points_by mark w)) is)
 
 -- no command has more losses than steps that act

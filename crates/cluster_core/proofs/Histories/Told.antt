@@ -1,5 +1,5 @@
 -- The marks so far are those of one store, whose mailboxes the home has; and one more.
-use Rattle.std.proofs.Common.{◌≡◌, ◌≢◌, ◌⊎◌, inl, inr, ℕ, ◌+◌, ◌<◌, ◌≤◌, nat_le, true, false, List, [], ◌∷◌, ◌++◌, length, None, Some, refl, sym, ◌∙◌, ap, subst, arith}
+use Rattle.std.proofs.Common.{◌≡◌, ◌≢◌, ◌⊎◌, inl, inr, ℕ, ◌+◌, ◌<◌, ◌≤◌, nat_le, true, false, List, [], ◌∷◌, ◌++◌, length, get_or, None, Some, refl, sym, ◌∙◌, ap, subst, arith}
 use Rattle.std.specs.Prelude.{All, AllPairs}
 use Rattle.std.proofs.Math.Logic.{⊎_elim}
 use Rattle.std.proofs.lemmas.Bool.{cases_eq}
@@ -132,7 +132,7 @@ told_push setting now marks home later_home talk told later_told course conn req
           ))
           (cases_eq other conn);
       fit = fit_push (counts_of told) (counts_of later_told) marks mark is.fit
-          (λ k d h. fits_still setting talk conn kind told later_told on mark _ refl refl (is.numbers k d h)) on.own;
+          (λ k d h. fits_still setting talk conn kind told later_told on mark (get_or marks k d) refl refl (is.numbers k d h)) on.own;
     }
 
 abbrev pub telling_mark : ℕ → (ℕ → List Answer) → ℕ → Mark
@@ -219,7 +219,7 @@ told_behind_push setting now marks home talk told course conn answer said is =
           (λ (ne : other ≢ conn). omega (arith, is.ahead other, ap length (with_item-other told conn answer other ne)))
           (cases_eq other conn);
       fit = fit_push (counts_of told) (counts_of (with_item told conn answer)) marks mark is.fit
-          (λ k d h. fits_behind now talk told conn answer said _ (is.numbers k d h)) (fits_any _);
+          (λ k d h. fits_behind now talk told conn answer said (get_or marks k d) (is.numbers k d h)) (fits_any _);
     }
 
 -- more is asked

@@ -1,7 +1,7 @@
 use Rattle.std.proofs.Common.{sym, ◌∙◌, ap, arith}
 use Rattle.front_core.specs.Ended.{with_released}
 use Rattle.front_core.proofs.PieceLaws.{rest_on, rest_some, still_read, piece_over, reader_over, ended_over, next_counts}
-use Rattle.front_core.proofs.piece.Connection.inputs_come.Goals as goal
+use Rattle.front_core.proofs.connection.Connection.inputs_come.Goals as goal
 
 pub returns-else-not-has_ended : goal.returns-else-not-has_ended
 returns-else-not-has_ended c =

@@ -1,7 +1,7 @@
 use Rattle.std.proofs.Common.{◌≡◌, ◌+◌, ◌-◌, ◌≤◌, length, drop}
 use Rattle.front_core.specs.Room.{commands_of}
 use Rattle.front_core.proofs.PieceLaws.{rest_comes}
-use Rattle.front_core.proofs.piece.Connection.inputs_come.Given as goal
+use Rattle.front_core.proofs.connection.Connection.inputs_come.Given as goal
 
 abbrev pub invariant-loop-taken : goal.invariant-loop-taken
 invariant-loop-taken l = record {
