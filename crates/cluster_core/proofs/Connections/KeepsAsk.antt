@@ -1,5 +1,5 @@
 -- An ask that comes to the home keeps the law: its command is carried out there, and the answer is on its way.
-use Rattle.std.proofs.Common.{◌≡◌, ◌≢◌, ℕ, ◌+◌, List, [], ◌∷◌, ◌++◌, length, Some, refl, sym, ◌∙◌, ap, subst}
+use Rattle.std.proofs.Common.{◌≡◌, ◌≢◌, ℕ, ◌+◌, true, List, [], ◌∷◌, ◌++◌, length, Some, refl, sym, ◌∙◌, ap, subst}
 use Rattle.std.specs.Prelude.{is_some}
 use Rattle.std.specs.Ordering.{nat_cmp}
 use Rattle.std.specs.Cmp.Lexicographic.{slice_cmp}
@@ -99,9 +99,9 @@ unfolding store_after
 same_store setting course conn tag it name work serial need left =
     ap (λ (a : Answered). a.store) (carried_as setting course conn tag it name work serial need) ∙ ap (store_after course.store name) left
 
-acting_home : {counts : Counts} → acts (Home counts) ≡ true
+acting_home : (counts : Counts) → acts (Home counts) ≡ true
 unfolding acts
-acting_home = refl
+acting_home counts = refl
 
 counts_same : {one other : Counts} → Home one ≡ Home other → one ≡ other
 counts_same h = cc
@@ -161,7 +161,7 @@ answers_ask config heard world law conn front connection tag it name work ask is
           (having_said law.story.talk conn (carried_out (setting_of config) course conn (a_command tag it) serial).answer serial) law.story.told
           (next_course (setting_of config) course conn (a_command tag it) serial)) mark_is
           (told_push (setting_of config) world.steps world.marks backend (home_step backend ask).home law.story.talk law.story.told law.story.told course conn (a_command tag it) serial
-          (Home (home_step backend ask).counts) acting_home
+          (Home (home_step backend ask).counts) (acting_home (home_step backend ask).counts)
           (still_told (setting_of config) law.story.talk conn (home_step backend ask).counts law.story.told (law.is_told.ahead conn))
           asked (may_take (setting_of config) course conn tag it name work serial need serves.free)
           (λ h. same_store (setting_of config) course conn tag it name work serial need (serves.unless (counts_same h)))

@@ -48,6 +48,12 @@ same_key ask mark e =
     let one : nat_eq (conn_of mark) ask.conn ≡ true = grind (arith, nat_tests) in
     let two : nat_eq (command_of mark) ask.command ≡ true = grind (arith, nat_tests) in rw (one, two) refl
 
+same_pair : (a b c d : ℕ) → a ≡ c → b ≡ d → ◌≡◌ {A = ℕ × ℕ} (a, b) (c, d)
+same_pair a b c d e f =
+    let one : ◌≡◌ {A = ℕ × ℕ} (a, b) (c, b) = ap {B = ℕ × ℕ} (λ x. (x, b)) e in
+    let two : ◌≡◌ {A = ℕ × ℕ} (c, b) (c, d) = ap {B = ℕ × ℕ} (λ y. (c, y)) f in
+    one ∙ two
+
 other_key : (ask : AskId) (mark : Mark) (b : Bool) → is_of ask mark ≡ b → (ask.conn, ask.command) ≢ key_of mark → b ≡ false
 other_key ask mark true h ne = by (nat_eq (conn_of mark) ask.conn) refl (nat_eq (command_of mark) ask.command) refl h
   where
@@ -55,7 +61,7 @@ other_key ask mark true h ne = by (nat_eq (conn_of mark) ask.conn) refl (nat_eq 
     by true e true f both =
         (let conn : ask.conn ≡ conn_of mark = grind (arith, nat_tests) in
         let command : ask.command ≡ command_of mark = grind (arith, nat_tests) in
-        absurd (ne (ap (λ c. (c, ask.command)) conn ∙ ap (λ k. (conn_of mark, k)) command)))
+        absurd (ne (same_pair ask.conn ask.command (conn_of mark) (command_of mark) conn command)))
     by true e false f both = cc
     by false e c f both = cc
 other_key ask mark false h ne = refl

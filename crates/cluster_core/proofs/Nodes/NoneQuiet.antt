@@ -117,8 +117,8 @@ behind_not_quiet : (setting : Setting) (home : List ℕ) (conn : ℕ) (connectio
 unfolding quiet_in
 behind_not_quiet setting home conn connection tag None = tt
 behind_not_quiet setting home conn connection tag (Some (needs.Reply reply)) =
-    (tt, inputs_not_quiet setting home conn (reading_again connection) connection.waiting)
-behind_not_quiet setting home conn connection tag (Some (needs.Leave reply)) = (tt, (tt, tt))
+    (tt, (tt, inputs_not_quiet setting home conn (reading_again connection) connection.waiting))
+behind_not_quiet setting home conn connection tag (Some (needs.Leave reply)) = (tt, (tt, (tt, tt)))
 behind_not_quiet setting home conn connection tag (Some (needs.Home name asking)) = (refl, tt)
 
 answer_not_quiet : (setting : Setting) (home : List ℕ) (conn : ℕ) (connection : Connection) (answer : BackAnswer) (fits : Bool) (stage : Stage)
