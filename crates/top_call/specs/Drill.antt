@@ -35,8 +35,8 @@ is_open_phase open_here = true
 is_open_phase phase = false
 
 -- a mailbox whose `box` line says `open`
-abbrev pub is_open : HomeRow → Bool
-is_open row = is_open_phase row.phase
+abbrev pub is_open_row : HomeRow → Bool
+is_open_row row = is_open_phase row.phase
 
 -- the counts of a run: its steps, the points of its history, the tagged lines and the BYE lines that clients were given, and the open
 -- mailboxes
@@ -50,7 +50,7 @@ summary_of number size world = record {
   no = count_of No (kinds_given world);
   bad = count_of Bad (kinds_given world);
   bye = count_of Bye (kinds_given world);
-  boxes = length (filter is_open (home_rows world));
+  boxes = length (filter is_open_row (home_rows world));
 }
 
 -- the line of the run of a drill

@@ -153,8 +153,8 @@ EndsWriting text before now (Schedule line rule) = ⊥
 EndsWriting text before now Read = ⊥
 
 -- the text of the run of a configuration's cluster
-abbrev pub run_text : Configuration → List Event → List ℕ
-run_text config events = output_of (run (start config) events)
+abbrev pub replay_text : Configuration → List Event → List ℕ
+replay_text config events = output_of (run (start config) events)
 
 -- the configuration was right, and the call ended at the schedule
 pub record EndsBehindConfig (names : Names) (before now : HostFacts) (status : Status) : Type 0 where
@@ -174,8 +174,8 @@ pub record EndsBehindRun (names : Names) (before now : HostFacts) (status : Stat
   pub configured : HasConfig names.config config before configured_at
   pub scheduled : HasEvents config names.schedule events configured_at between
   pub one_server : IsOneServer config events
-  pub tells : TellsRun (run_text config events) (run (start config) events)
-  pub ended : EndsWriting (run_text config events) between now status
+  pub tells : TellsRun (replay_text config events) (run (start config) events)
+  pub ended : EndsWriting (replay_text config events) between now status
 
 -- a replay ends at the configuration, else at the schedule, else as it writes the text of the run
 abbrev pub DidReplay : Names → HostFacts → HostFacts → Status → Type 0

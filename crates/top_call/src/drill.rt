@@ -6,7 +6,7 @@ ghost use Rattle.drill_gen.specs.DrillCluster.{drill_config};
 ghost use Rattle.drill_gen.specs.Summary.{summary_line};
 ghost use Rattle.mur_config.specs.declared.job.Job.TheVariants.{Drill};
 ghost use Rattle.schedule_text.specs.ScheduleFits.{HasCountRoom};
-ghost use Rattle.top_call.specs.Drill.{DidDrill, kinds_given, is_open, summary_of};
+ghost use Rattle.top_call.specs.Drill.{DidDrill, kinds_given, is_open_row, summary_of};
 ghost use Rattle.top_call.specs.Replay.{EndsWriting};
 ghost use Rattle.top_call.specs.Status.{CountsStatus};
 ghost use Rattle.top_call.specs.TopCall.{DidWords};
@@ -112,13 +112,13 @@ fn kinds_given(alloc: Global, world: &World) -> Result<Items<LineKind>, Memory>
 }
 
 fn open_boxes(rows: &[HomeRow]) -> u64
-    ensures { result ≡ length (filter is_open rows.now) }
+    ensures { result ≡ length (filter is_open_row rows.now) }
 {
-    rows.iter().filter(|row| is_open(row)).count() as u64
+    rows.iter().filter(|row| is_open_row(row)).count() as u64
 }
 
-fn is_open(row: &HomeRow) -> bool
-    ensures { result ≡ is_open row.now }
+fn is_open_row(row: &HomeRow) -> bool
+    ensures { result ≡ is_open_row row.now }
 {
     matches!(row.phase, Phase::Open)
 }

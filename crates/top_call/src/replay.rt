@@ -6,7 +6,7 @@ ghost use Rattle.cluster_core.specs.World.{start};
 ghost use Rattle.schedule_text.specs.ScheduleFits.{HasCountRoom};
 ghost use Rattle.top_call.specs.Output.{lines_of, output_of};
 ghost use Rattle.top_call.specs.ReadBack.{TellsRun};
-ghost use Rattle.top_call.specs.Replay.{DidReadConfig, DidReadSchedule, EndsWriting, DidReplay, run_text};
+ghost use Rattle.top_call.specs.Replay.{DidReadConfig, DidReadSchedule, EndsWriting, DidReplay, replay_text};
 ghost use Rattle.top_call.specs.Status.{CountsStatus, CountsFile};
 ghost use Rattle.mur_config.specs.Rules.{config_rule_number as config_rule};
 ghost use Rattle.top_call.specs.declared.status.Status.TheVariants.{Schedule};
@@ -110,8 +110,8 @@ fn refused(fault: SchedFault) -> Status
 fn write_run<H: Host>(alloc: Global, host: &mut H, config: Config, events: Events) -> Status
     requires room { HasCountRoom events }
     ensures one_server { IsOneServer config events }
-    ensures tells { TellsRun (run_text config events) (run (start config) events) }
-    ensures did { EndsWriting (run_text config events) (H.facts host.old) (H.facts host.new) result }
+    ensures tells { TellsRun (replay_text config events) (run (start config) events) }
+    ensures did { EndsWriting (replay_text config events) (H.facts host.old) (H.facts host.new) result }
     ensures counts { CountsStatus result (H.facts host.old).faults (H.facts host.new).faults }
 {
     match run(alloc, &config, events) {
