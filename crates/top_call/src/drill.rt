@@ -1,20 +1,20 @@
 // `drill NUMBER SIZE`: runs the schedule that a number makes, and writes the line of its counts.
 ghost use Rattle.std.specs.Prelude.{◌≡◌, ◌≤◌, IfOk, Some, length};
-ghost use Rattle.std.specs.List.{filter};
+ghost use Rattle.std.specs.List.{filter, flat_map};
 ghost use Rattle.drill_gen.specs.Drill.{drill_events};
 ghost use Rattle.drill_gen.specs.DrillCluster.{drill_config};
 ghost use Rattle.drill_gen.specs.Summary.{summary_line};
 ghost use Rattle.mur_config.specs.declared.job.Job.TheVariants.{Drill};
 ghost use Rattle.schedule_text.specs.ScheduleFits.{HasCountRoom};
-ghost use Rattle.top_call.specs.Drill.{DidDrill, kinds_given, is_open_row, summary_of};
+ghost use Rattle.top_call.specs.Drill.{DidDrill, client_kinds, is_open_row, summary_of};
 ghost use Rattle.top_call.specs.Replay.{EndsWriting};
 ghost use Rattle.top_call.specs.Status.{CountsStatus};
 ghost use Rattle.top_call.specs.TopCall.{DidWords};
 
 use crate::status::Status;
-use cluster_core::{Cluster, HomeRow, World, run};
+use cluster_core::{Client, Cluster, HomeRow, run};
 use drill_gen::{LineKind, Summary, count_of, put_kinds};
-use mur_base::{Bytes, Items, Memory, Phase};
+use mur_base::{Bytes, Items, Map, Memory, Phase};
 use mur_config::Config;
 use mur_edge::{Host, HostFault, Used, write_all};
 use schedule_text::Events;
@@ -79,13 +79,13 @@ fn line(alloc: Global, number: u64, size: u32, cluster: &Cluster) -> Result<Byte
     Ok(line)
 }
 
-#[tactic(auto, unfolding(crate::specs::Drill::summary_of))]
+#[tactic(auto, unfolding(crate::specs::Drill::summary_of, crate::specs::Drill::kinds_given))]
 fn summary(alloc: Global, number: u64, size: u32, cluster: &Cluster) -> Result<Summary, Memory>
     ensures { IfOk result (λ summary. summary ≡ summary_of number size cluster.now) }
 {
     let points = cluster.history(alloc)?;
     let rows = cluster.homes(alloc)?;
-    let kinds = kinds_given(alloc, cluster.world())?;
+    let kinds = kinds_given(alloc, &cluster.world().clients)?;
     Ok(Summary {
         number,
         size,
@@ -100,12 +100,11 @@ fn summary(alloc: Global, number: u64, size: u32, cluster: &Cluster) -> Result<S
 }
 
 // What each line tells that a client was given, in the order of connections.
-#[tactic(auto, unfolding(crate::specs::Drill::kinds_given))]
-fn kinds_given(alloc: Global, world: &World) -> Result<Items<LineKind>, Memory>
-    ensures { IfOk result (λ kinds. kinds ≡ kinds_given world.now) }
+fn kinds_given(alloc: Global, clients: &Map<u64, Client>) -> Result<Items<LineKind>, Memory>
+    ensures { IfOk result (λ kinds. kinds ≡ flat_map client_kinds clients.now) }
 {
     let mut kinds = Items::new(alloc);
-    for (_, client) in world.clients.iter() {
+    for (_, client) in clients.iter() {
         put_kinds(client.given.as_slice(), &mut kinds)?;
     }
     Ok(kinds)
