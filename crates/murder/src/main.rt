@@ -1,5 +1,6 @@
 //! `murder replay CONFIG SCHEDULE` runs the schedule on the cluster of the configuration and writes what clients were
-//! given and the history. Here stands the process: its files, its outputs and its words.
+//! given and the history. `murder drill NUMBER SIZE` runs a schedule that it makes, and writes a line of counts. Here stands the process: its
+//! files, its outputs and its words.
 #![tactic(auto)]
 
 mod host;

@@ -5,3 +5,4 @@ mod CutsJoined
 mod FoundLaw
 mod LinesRead
 mod ReadBackLaw
+mod KindsGiven

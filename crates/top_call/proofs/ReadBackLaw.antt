@@ -12,7 +12,7 @@ use Rattle.cluster_core.specs.Shown.{home_rows}
 use Rattle.cluster_core.specs.World.{start}
 use Rattle.top_call.specs.Output.{output_of, lines_of, client_lines, point_line, box_line, end_line}
 use Rattle.top_call.specs.ReadBack.{TellsClient, IsPointLine, IsBoxLine, TellsRun}
-use Rattle.top_call.specs.Replay.{run_text}
+use Rattle.top_call.specs.Replay.{replay_text}
 use Rattle.cluster_core.proofs.Connections.ClientsInOrder.{clients_in_order}
 use Rattle.cluster_core.proofs.Runs.Unrolled.{by_steps}
 use Rattle.top_call.proofs.FoundLaw.{clients_found}
@@ -33,7 +33,7 @@ output_read world ordered = record {
   ends = end_line_read world.steps (length (history_of world));
 }
 
-pub run_read : (config : Config) (events : List Event) → TellsRun (run_text config events) (run (start config) events)
+pub run_read : (config : Config) (events : List Event) → TellsRun (replay_text config events) (run (start config) events)
 run_read config events =
     output_read (run (start config) events)
     (subst (λ (world : World). IsInOrder nat_cmp world.clients) (sym (by_steps (start config) events))

@@ -1,6 +1,7 @@
+pub mod Drill
 pub mod Output
 pub mod ReadBack
 pub mod Replay
 pub mod Status
-pub mod Words
+pub mod TopCall
 pub mod Writing

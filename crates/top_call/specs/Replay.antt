@@ -1,15 +1,14 @@
--- What a call did, by cases on how it ended: the objects that it asked the host for, and those that came back, each with
+-- What a replay did, by cases on how it ended: the objects that it asked the host for, and those that came back, each with
 -- all that it tells.
-use Rattle.std.specs.Prelude.{◌≡◌, ℕ, ◌+◌, ◌≤◌, List, [], ◌∷◌, ◌++◌, ◌⊎◌, Option, None, Some, MatchOption, Result, Ok, Err, length}
+use Rattle.std.specs.Prelude.{◌≡◌, ℕ, ◌+◌, ◌≤◌, List, [], ◌∷◌, ◌++◌, ◌⊎◌, Result, Ok, Err, length}
 use Rattle.mur_base.specs.declared.limits.TheConstants.{SCHEDULE_LIMIT}
-use Rattle.mur_edge.specs.Counts.{ErrorFault}
-use Rattle.mur_edge.specs.Host.{HostFacts, Came, source_came, out_came, errors_came}
+use Rattle.mur_edge.specs.Host.{HostFacts, Came, source_came, out_came}
 use Rattle.mur_edge.specs.Source.{SourceFacts, HasContent, GaveFront, GaveAtMost}
 use Rattle.mur_edge.specs.Sink.{SinkFacts, HoldsAll, HoldsFront}
 use Rattle.mur_edge.specs.declared.fault.HostFault.{HostFault}
 use Rattle.mur_edge.specs.declared.fault.HostFault.TheVariants.{Failed as failed, Memory as no_memory}
 use Rattle.mur_edge.specs.declared.host.Asked.{Asked}
-use Rattle.mur_edge.specs.declared.host.Asked.TheVariants.{Source, Out, Errors}
+use Rattle.mur_edge.specs.declared.host.Asked.TheVariants.{Source, Out}
 use Rattle.mur_config.specs.declared.config.Config.{Config as Configuration}
 use Rattle.schedule_text.specs.declared.event.Event.{Event}
 use Rattle.cluster_core.specs.Flow.{run}
@@ -24,11 +23,14 @@ use Rattle.schedule_text.specs.ScheduleRules.{schedule_rule_number}
 use Rattle.schedule_text.specs.declared.schedule.fault.SchedFault.{SchedFault}
 use Rattle.top_call.specs.Output.{output_of}
 use Rattle.top_call.specs.ReadBack.{TellsRun}
-use Rattle.top_call.specs.Status.{line_of, CountsStatus}
-use Rattle.top_call.specs.Words.{Names, names_in}
 use Rattle.mur_config.specs.declared.config.TheConstants.{CONFIG_LIMIT}
 use Rattle.top_call.specs.declared.status.Status.{Status}
 use Rattle.top_call.specs.declared.status.Status.TheVariants.{Done, Words, Config, Schedule, Read, Write, Memory}
+
+-- the names of the files that a replay reads
+pub record Names : Type 0 where
+  pub config : List ℕ
+  pub schedule : List ℕ
 
 -- since then these calls were made and these objects came back. As many objects are out as then, and of each name the same is told
 pub record Adds (before now : HostFacts) (calls : List Asked) (came : List Came) : Type 0 where
@@ -151,8 +153,8 @@ EndsWriting text before now (Schedule line rule) = ⊥
 EndsWriting text before now Read = ⊥
 
 -- the text of the run of a configuration's cluster
-abbrev pub run_text : Configuration → List Event → List ℕ
-run_text config events = output_of (run (start config) events)
+abbrev pub replay_text : Configuration → List Event → List ℕ
+replay_text config events = output_of (run (start config) events)
 
 -- the configuration was right, and the call ended at the schedule
 pub record EndsBehindConfig (names : Names) (before now : HostFacts) (status : Status) : Type 0 where
@@ -172,48 +174,10 @@ pub record EndsBehindRun (names : Names) (before now : HostFacts) (status : Stat
   pub configured : HasConfig names.config config before configured_at
   pub scheduled : HasEvents config names.schedule events configured_at between
   pub one_server : IsOneServer config events
-  pub tells : TellsRun (run_text config events) (run (start config) events)
-  pub ended : EndsWriting (run_text config events) between now status
+  pub tells : TellsRun (replay_text config events) (run (start config) events)
+  pub ended : EndsWriting (replay_text config events) between now status
 
 -- a replay ends at the configuration, else at the schedule, else as it writes the text of the run
 abbrev pub DidReplay : Names → HostFacts → HostFacts → Status → Type 0
 DidReplay names before now status =
     EndsAtConfig names.config before now status ⊎ (EndsBehindConfig names before now status ⊎ EndsBehindRun names before now status)
-
--- what words without a form do
-pub record RefusesWords (before now : HostFacts) (status : Status) : Type 0 where
-  pub refused : status ≡ Words
-  pub nothing : Adds before now [] []
-
-abbrev pub DidWords : Option Names → HostFacts → HostFacts → Status → Type 0
-DidWords None before now status = RefusesWords before now status
-DidWords (Some names) before now status = DidReplay names before now status
-
--- the error output was asked for and came back with a front of the line: with all of it, or else a fault was counted
-pub record TellsLine (line : List ℕ) (before now : HostFacts) : Type 0 where
-  pub sink : SinkFacts
-  pub front : HoldsFront sink.taken line
-  pub all : (now.faults ≡ before.faults × HoldsAll sink.taken line) ⊎ ErrorFault before.faults now.faults
-  pub adds : Adds before now (Errors ∷ []) (errors_came sink ∷ [])
-
--- the error output was asked for and refused, and that was counted
-pub record IsRefusedErrors (before now : HostFacts) : Type 0 where
-  pub counted : ErrorFault before.faults now.faults
-  pub adds : Adds before now (Errors ∷ []) []
-
--- nothing was done
-pub record DidNothing (before now : HostFacts) : Type 0 where
-  pub counted : now.faults ≡ before.faults
-  pub adds : Adds before now [] []
-
--- nothing is asked for where there is no line, or memory is wanting for it; else the line is written, or refused
-abbrev pub DidTell : Option (List ℕ) → HostFacts → HostFacts → Type 0
-DidTell line before now =
-    DidNothing before now ⊎ MatchOption line ⊥ (λ text. IsRefusedErrors before now ⊎ TellsLine text before now)
-
--- a whole call: what its words say, and then the line of its status
-pub record DidTopCall (words : List (List ℕ)) (before now : HostFacts) (status : Status) : Type 0 where
-  pub between : HostFacts
-  pub did : DidWords (names_in words) before between status
-  pub counted : CountsStatus status before.faults between.faults
-  pub told : DidTell (line_of status) between now

@@ -6,7 +6,7 @@ ghost use Rattle.cluster_core.specs.World.{start};
 ghost use Rattle.schedule_text.specs.ScheduleFits.{HasCountRoom};
 ghost use Rattle.top_call.specs.Output.{lines_of, output_of};
 ghost use Rattle.top_call.specs.ReadBack.{TellsRun};
-ghost use Rattle.top_call.specs.Replay.{DidReadConfig, DidReadSchedule, EndsWriting, DidReplay, run_text};
+ghost use Rattle.top_call.specs.Replay.{DidReadConfig, DidReadSchedule, EndsWriting, DidReplay, replay_text};
 ghost use Rattle.top_call.specs.Status.{CountsStatus, CountsFile};
 ghost use Rattle.mur_config.specs.Rules.{config_rule_number as config_rule};
 ghost use Rattle.top_call.specs.declared.status.Status.TheVariants.{Schedule};
@@ -15,7 +15,6 @@ ghost use Rattle.schedule_text.specs.ScheduleRules.{schedule_rule_number};
 use crate::file::read_file;
 use crate::output::write_output;
 use crate::status::Status;
-use crate::words::Names;
 use cluster_core::{Cluster, HomeRows, Points, World, run};
 use mur_base::limits::SCHEDULE_LIMIT;
 use mur_config::{CONFIG_LIMIT, Config, ConfigError, ConfigFault, read_config};
@@ -23,16 +22,21 @@ use mur_edge::{Host, HostFault, Used};
 use schedule_text::{Events, SchedFault, ScheduleError, read_schedule};
 use std::alloc::Global;
 
-/// Runs a schedule on the cluster of a configuration, and writes what clients were given and the history.
-pub fn replay<H: Host>(alloc: Global, host: &mut H, names: &Names<'_>) -> Status
-    ensures did { DidReplay (record { config = names.now.config.now; schedule = names.now.schedule.now }) (H.facts host.old) (H.facts host.new) result }
+/// Runs the schedule of a file on the cluster of another file, and writes what clients were given and the history.
+pub fn replay<H: Host>(
+    alloc: Global,
+    host: &mut H,
+    config_name: &[u8],
+    schedule_name: &[u8],
+) -> Status
+    ensures did { DidReplay (record { config = config_name.now; schedule = schedule_name.now }) (H.facts host.old) (H.facts host.new) result }
     ensures counts { CountsStatus result (H.facts host.old).faults (H.facts host.new).faults }
 {
-    let config = match configuration(alloc, host, names.config) {
+    let config = match configuration(alloc, host, config_name) {
         Ok(config) => config,
         Err(status) => return status,
     };
-    let events = match schedule(alloc, host, names.schedule, &config) {
+    let events = match schedule(alloc, host, schedule_name, &config) {
         Ok(events) => events,
         Err(status) => return status,
     };
@@ -106,8 +110,8 @@ fn refused(fault: SchedFault) -> Status
 fn write_run<H: Host>(alloc: Global, host: &mut H, config: Config, events: Events) -> Status
     requires room { HasCountRoom events }
     ensures one_server { IsOneServer config events }
-    ensures tells { TellsRun (run_text config events) (run (start config) events) }
-    ensures did { EndsWriting (run_text config events) (H.facts host.old) (H.facts host.new) result }
+    ensures tells { TellsRun (replay_text config events) (run (start config) events) }
+    ensures did { EndsWriting (replay_text config events) (H.facts host.old) (H.facts host.new) result }
     ensures counts { CountsStatus result (H.facts host.old).faults (H.facts host.new).faults }
 {
     match run(alloc, &config, events) {
