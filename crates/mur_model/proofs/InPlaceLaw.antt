@@ -15,7 +15,7 @@ use Rattle.mail_message.specs.RowOrder.{AreRising, row_at}
 use Rattle.imap_types.specs.declared.reply.ReplyLine.{ReplyLine}
 use Rattle.mur_model.specs.ClientView.{uids}
 use Rattle.mur_model.specs.InPlace.{are_in_place, are_same_rows, lines_in_place, told_in_place}
-use Rattle.mur_model.specs.News.{news, told_of, has_row, is_among, is_above, expunge_lines, rows_there, rows_behind, fresh_rows, changed_lines, changed_line}
+use Rattle.mur_model.specs.News.{news, told_of, is_among, is_above, expunge_lines, rows_there, rows_behind, fresh_rows, changed_lines, changed_line}
 use Rattle.mur_model.specs.SameFlags.{is_same_flags}
 
 and_false : (b : Bool) → (b && false) ≡ false

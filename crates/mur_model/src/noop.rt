@@ -37,12 +37,7 @@ pub fn news_asks(alloc: Global, view: &View, why: NewsFor) -> Result<Begun, Memo
 }
 
 /// The news that are told of a mailbox that has these rows.
-pub fn news_told(
-    alloc: Global,
-    view: &View,
-    why: NewsFor,
-    now: OrderedRows,
-) -> Result<Turn, Memory>
+pub fn news_told(alloc: Global, view: &View, why: NewsFor, now: OrderedRows) -> Result<Turn, Memory>
     ensures { IfOk result (λ turn. turn ≡ news_told view.now why now) }
 {
     let news = news_of(alloc, &view.rows, now, true, &[])?;
