@@ -4,6 +4,7 @@ pub mod HistoryGrows
 pub mod EachAnswer
 pub mod ClientLaw
 mod ViewLaw
+mod InPlaceLaw
 mod StoreLaw
 mod FlagLaw
 mod ViewedLaw

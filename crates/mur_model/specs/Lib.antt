@@ -13,6 +13,7 @@ pub mod Answer
 pub mod History
 pub mod SameFlags
 pub mod News
+pub mod InPlace
 pub mod ClientView
 pub mod Selected
 pub mod Needed

@@ -17,7 +17,6 @@ use mail_message::{MailBox, OrderedRows, SetParts};
 use mail_store::expunge as take_deleted;
 use mur_base::{Bytes, Copied, Memory};
 use std::alloc::Global;
-use std::collections::BTreeSet;
 
 /// What EXPUNGE needs, of all messages or of those of a set of UIDs.
 #[tactic(auto, unfolding(crate::specs::Asking::view_op))]
@@ -50,7 +49,7 @@ pub fn expunge_at(
 {
     let _ = take_deleted(alloc, mailbox, only)?;
     let now = mailbox.look(alloc)?.rows;
-    expunge_told(alloc, view, only, &now)
+    expunge_told(alloc, view, only, now)
 }
 
 /// What is told where a mailbox has these rows behind an EXPUNGE.
@@ -58,11 +57,11 @@ pub fn expunge_told(
     alloc: Global,
     view: &View,
     only: Option<&[u32]>,
-    now: &OrderedRows,
+    now: OrderedRows,
 ) -> Result<Turn, Memory>
-    ensures { IfOk result (λ turn. turn ≡ expunge_told view.now (option_copied only.entry) now.now) }
+    ensures { IfOk result (λ turn. turn ≡ expunge_told view.now (option_copied only.entry) now) }
 {
-    let news = news_of(alloc, &view.rows, now, true, &BTreeSet::new(alloc))?;
+    let news = news_of(alloc, &view.rows, now, true, &[])?;
     let verdict = Verdict::Ok(Code::None, Bytes::from_slice(alloc, expunge_name(only))?);
     with_news(alloc, view, ReplyLines::new(alloc), news, verdict)
 }

@@ -31,7 +31,7 @@ use mail_message::{
     FetchItems, FlagName, FlagSet, Item, MailBox, Message, Messages, Mode, OrderedRows, Partial,
     Row, SetParts, SystemFlag, Uids,
 };
-use mail_store::{set_flags, set_of};
+use mail_store::set_flags;
 use mur_base::{Bytes, Copied, Memory};
 use std::alloc::Global;
 
@@ -322,18 +322,15 @@ pub fn fetch_told(
     view: &View,
     it: &Fetching,
     before: &Messages,
-    now: &OrderedRows,
+    now: OrderedRows,
 ) -> Result<Turn, Memory>
-    ensures { IfOk result (λ turn. turn ≡ fetch_told view.now it.now before.now now.now) }
+    ensures { IfOk result (λ turn. turn ≡ fetch_told view.now it.now before.now now) }
 {
     let mut lines = ReplyLines::new(alloc);
-    put_lines(alloc, &mut lines, it, &view.rows, now, before.as_slice())?;
-    let told = set_of(
-        alloc,
-        flag_uids(alloc, it, now, before.as_slice())?.as_slice(),
-    )?;
-    let news = news_of(alloc, &view.rows, now, it.by_uid, &told)?;
-    let code = code_for(it.by_uid, now, it.uids.as_slice());
+    put_lines(alloc, &mut lines, it, &view.rows, &now, before.as_slice())?;
+    let told = flag_uids(alloc, it, &now, before.as_slice())?;
+    let code = code_for(it.by_uid, &now, it.uids.as_slice());
+    let news = news_of(alloc, &view.rows, now, it.by_uid, told.as_slice())?;
     let verdict = Verdict::Ok(code, Bytes::from_slice(alloc, fetch_name(it.by_uid))?);
     with_news(alloc, view, lines, news, verdict)
 }
@@ -359,7 +356,7 @@ pub fn fetch_at(
         see(alloc, mailbox, it)?;
     }
     let now = mailbox.look(alloc)?.rows;
-    fetch_told(alloc, view, it, &before, &now)
+    fetch_told(alloc, view, it, &before, now)
 }
 
 /// Gives the named messages `\Seen`, which passes no limit.

@@ -14,7 +14,6 @@ use crate::view::View;
 use imap_types::{Parts, ReplyLine, ReplyLines, Verdict};
 use mail_fetch::{flags_part, uid_part};
 use mail_message::{Item, OrderedRows, Row, Uids};
-use mail_store::set_of;
 use mur_base::{Bytes, Memory};
 use std::alloc::Global;
 
@@ -112,22 +111,23 @@ fn told_uids(alloc: Global, it: &Fetching, now: &OrderedRows) -> Result<Uids, Me
     }
 }
 
-/// What is told where a mailbox has these rows. Time is linear in the rows and the UIDs, but for the set of those whose flags are told.
+/// What is told where a mailbox has these rows. Time is linear in the rows and the UIDs, but for the set of those whose flags are told,
+/// which is made where something has changed.
 pub fn rows_told(
     alloc: Global,
     view: &View,
     it: &Fetching,
-    now: &OrderedRows,
+    now: OrderedRows,
 ) -> Result<Turn, Memory>
-    ensures { IfOk result (λ turn. turn ≡ rows_told view.now it.now now.now) }
+    ensures { IfOk result (λ turn. turn ≡ rows_told view.now it.now now) }
 {
     let mut lines = ReplyLines::new(alloc);
     let items = items_told(alloc, it, false)?;
     let uids = it.uids.as_slice();
-    put_row_lines(alloc, &mut lines, items.as_slice(), &view.rows, now, uids)?;
-    let told = set_of(alloc, told_uids(alloc, it, now)?.as_slice())?;
-    let news = news_of(alloc, &view.rows, now, it.by_uid, &told)?;
-    let code = code_for(it.by_uid, now, uids);
+    put_row_lines(alloc, &mut lines, items.as_slice(), &view.rows, &now, uids)?;
+    let told = told_uids(alloc, it, &now)?;
+    let code = code_for(it.by_uid, &now, uids);
+    let news = news_of(alloc, &view.rows, now, it.by_uid, told.as_slice())?;
     let verdict = Verdict::Ok(code, Bytes::from_slice(alloc, fetch_name(it.by_uid))?);
     with_news(alloc, view, lines, news, verdict)
 }

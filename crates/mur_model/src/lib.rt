@@ -11,6 +11,7 @@ mod create;
 mod expunge;
 mod fetch;
 mod fetch_rows;
+mod in_place;
 mod keys;
 mod login;
 mod named_rows;

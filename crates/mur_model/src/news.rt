@@ -1,15 +1,18 @@
 // What a client is told of its view (RFC 9051, 7.4 and 7.5).
-ghost use Rattle.std.specs.Prelude.{◌≡◌, ◌++◌, IfOk, OnOk};
+ghost use Rattle.std.specs.Prelude.{◌≡◌, ◌++◌, ◌↔◌, IfOk, OnOk, IsTrue};
 ghost use Rattle.mail_message.specs.RowOrder.{AreRising};
+ghost use Rattle.mail_store.specs.Named.{set_of};
 ghost use Rattle.mur_model.specs.ClientView.{Known, Agrees, known_after_all, uids};
 ghost use Rattle.mur_model.specs.News.{is_among, news, told_of, expunge_lines, rows_there, rows_behind, is_above};
 ghost use Rattle.mur_model.specs.News.{fresh_rows, exists_lines, changed_lines, changed_line, flag_parts};
 ghost use Rattle.mur_model.specs.SameFlags.{is_same_flags};
 ghost use Rattle.std.specs.Option.{option_copied};
 
+use crate::in_place::{are_in_place, are_same_rows, told_in_place, told_unchanged};
 use imap_types::{Parts, ReplyLine, ReplyLines};
 use mail_fetch::{flags_part, uid_part};
 use mail_message::{FlagSet, OrderedRows, Row, Rows};
+use mail_store::set_of;
 use mur_base::{Copied, Memory};
 use std::alloc::Global;
 use std::collections::BTreeSet;
@@ -22,22 +25,58 @@ pub struct Told {
 }
 
 /// The news of a view of a mailbox that has these rows now. Expunged messages are told where numbers may change; the flags of the rows
-/// that are told already stand in no line. Time is linear in both lists of rows, but that each row of the view is looked up among those.
+/// with the UIDs that are told already stand in no line. Where no message of the view is gone, each of its rows is compared with one, and
+/// those of the mailbox become the view's without a copy; else time is linear in both lists of rows, but that each row of the view is
+/// looked up among those.
 pub fn news_of(
     alloc: Global,
     rows: &OrderedRows,
-    now: &OrderedRows,
+    now: OrderedRows,
     expunges: bool,
-    told: &BTreeSet<u32>,
+    told: &[u32],
 ) -> Result<Told, Memory>
-    ensures news { IfOk result (λ it. it ≡ news rows.now now.now expunges told.now.keys) }
+    ensures news { IfOk result (λ it. it ≡ news rows.now now expunges (set_of told.now)) }
     ensures client { IfOk result (λ it. (known : Known) → Agrees known (uids rows.now) → Agrees (known_after_all known it.lines) (uids it.rows)) }
 {
     news_by(alloc, rows, now, expunges, told)
 }
 
-#[tactic(auto, unfolding(crate::specs::News::news))]
+#[tactic(auto, using(crate::proofs::InPlaceLaw::same_rows))]
 fn news_by(
+    alloc: Global,
+    rows: &OrderedRows,
+    now: OrderedRows,
+    expunges: bool,
+    told: &[u32],
+) -> Result<Told, Memory>
+    ensures { IfOk result (λ it. it ≡ news rows.now now expunges (set_of told.now)) }
+{
+    if are_same_rows(rows.as_slice(), now.as_slice()) {
+        return told_unchanged(alloc, rows.len(), now);
+    }
+    news_beside(alloc, rows, now, expunges, &set_of(alloc, told)?)
+}
+
+/// The news where something has changed.
+#[tactic(auto, using(crate::proofs::InPlaceLaw::in_place))]
+fn news_beside(
+    alloc: Global,
+    rows: &OrderedRows,
+    now: OrderedRows,
+    expunges: bool,
+    told: &BTreeSet<u32>,
+) -> Result<Told, Memory>
+    ensures { IfOk result (λ it. it ≡ news rows.now now expunges told.now.keys) }
+{
+    if are_in_place(rows.as_slice(), now.as_slice()) {
+        return told_in_place(alloc, rows, now, told);
+    }
+    news_apart(alloc, rows, &now, expunges, told)
+}
+
+/// The news where messages may be gone.
+#[tactic(auto, unfolding(crate::specs::News::news))]
+fn news_apart(
     alloc: Global,
     rows: &OrderedRows,
     now: &OrderedRows,
@@ -156,7 +195,7 @@ fn is_behind(rows: &OrderedRows, uid: u32) -> bool
     rows.is_below(uid)
 }
 
-fn put_exists(lines: &mut ReplyLines, before: usize, more: usize) -> Result<(), Memory>
+pub fn put_exists(lines: &mut ReplyLines, before: usize, more: usize) -> Result<(), Memory>
     ensures { OnOk result (lines.new ≡ lines.old ++ exists_lines before more) }
 {
     if more == 0 {
@@ -190,17 +229,27 @@ fn put_changed(
 pub fn is_same_flags(one: &FlagSet, other: &FlagSet) -> bool
     ensures { result ≡ is_same_flags one.now other.now }
 {
+    are_same(one, other)
+}
+
+/// Whether flags are the same; sets of keywords are compared where there are some.
+fn are_same(one: &FlagSet, other: &FlagSet) -> bool
+    ensures { IsTrue result ↔ (one.now ≡ other.now) }
+{
+    if one.keywords().len() == 0 && other.keywords().len() == 0 {
+        return one.system() == other.system();
+    }
     one.is_same(other)
 }
 
 #[tactic(auto, unfolding(crate::specs::News::is_among))]
-fn is_among(uids: &BTreeSet<u32>, uid: u32) -> bool
+pub fn is_among(uids: &BTreeSet<u32>, uid: u32) -> bool
     ensures { result ≡ is_among uids.now.keys uid }
 {
     uids.contains(&uid)
 }
 
-fn put_changed_line(
+pub fn put_changed_line(
     alloc: Global,
     lines: &mut ReplyLines,
     number: u32,

@@ -16,7 +16,6 @@ use imap_types::{Code, Op, ReplyLines, Verdict};
 use mail_message::{MailBox, OrderedRows};
 use mur_base::{Bytes, Memory};
 use std::alloc::Global;
-use std::collections::BTreeSet;
 
 /// The name of the command that news are told for.
 #[tactic(auto, unfolding(crate::specs::Noop::news_name))]
@@ -38,15 +37,10 @@ pub fn news_asks(alloc: Global, view: &View, why: NewsFor) -> Result<Begun, Memo
 }
 
 /// The news that are told of a mailbox that has these rows.
-pub fn news_told(
-    alloc: Global,
-    view: &View,
-    why: NewsFor,
-    now: &OrderedRows,
-) -> Result<Turn, Memory>
-    ensures { IfOk result (λ turn. turn ≡ news_told view.now why now.now) }
+pub fn news_told(alloc: Global, view: &View, why: NewsFor, now: OrderedRows) -> Result<Turn, Memory>
+    ensures { IfOk result (λ turn. turn ≡ news_told view.now why now) }
 {
-    let news = news_of(alloc, &view.rows, now, true, &BTreeSet::new(alloc))?;
+    let news = news_of(alloc, &view.rows, now, true, &[])?;
     let verdict = Verdict::Ok(Code::None, Bytes::from_slice(alloc, news_name(why))?);
     with_news(alloc, view, ReplyLines::new(alloc), news, verdict)
 }
@@ -62,5 +56,5 @@ pub fn news_at(
     ensures { IfOk result (λ turn. IsLeft mailbox.old (news_at view.now why mailbox.old) mailbox.new turn) }
 {
     let now = mailbox.look(alloc)?.rows;
-    news_told(alloc, view, why, &now)
+    news_told(alloc, view, why, now)
 }

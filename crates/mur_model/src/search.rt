@@ -25,7 +25,6 @@ use mail_message::{Keys, MailBox, Message, Messages, OrderedRows, Uids};
 use mail_search::search as found;
 use mur_base::{Bytes, Memory};
 use std::alloc::Global;
-use std::collections::BTreeSet;
 
 /// A SEARCH, with numbers in the place of `*`.
 #[derive(Drop)]
@@ -144,14 +143,14 @@ pub fn search_told(
     view: &View,
     it: &Searching,
     messages: &Messages,
-    now: &OrderedRows,
+    now: OrderedRows,
 ) -> Result<Turn, Memory>
-    ensures { IfOk result (λ turn. turn ≡ search_told view.now it.now messages.now now.now) }
+    ensures { IfOk result (λ turn. turn ≡ search_told view.now it.now messages.now now) }
 {
     let mut lines = ReplyLines::new(alloc);
     lines.push(search_line(alloc, &view.rows, it, messages)?)?;
-    let news = news_of(alloc, &view.rows, now, it.by_uid, &BTreeSet::new(alloc))?;
-    let code = search_code(alloc, it.by_uid, &view.rows, now)?;
+    let code = search_code(alloc, it.by_uid, &view.rows, &now)?;
+    let news = news_of(alloc, &view.rows, now, it.by_uid, &[])?;
     let verdict = Verdict::Ok(code, Bytes::from_slice(alloc, search_name(it.by_uid))?);
     with_news(alloc, view, lines, news, verdict)
 }
@@ -175,5 +174,5 @@ pub fn search_at(
     let named = uids_of(alloc, view.rows.as_slice())?;
     let messages = mailbox.read(alloc, named.as_slice())?;
     let now = mailbox.look(alloc)?.rows;
-    search_told(alloc, view, it, &messages, &now)
+    search_told(alloc, view, it, &messages, now)
 }

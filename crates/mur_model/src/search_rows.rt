@@ -91,11 +91,11 @@ pub fn rows_searched(
     alloc: Global,
     view: &View,
     it: &Searching,
-    now: &OrderedRows,
+    now: OrderedRows,
 ) -> Result<Turn, Memory>
-    ensures { IfOk result (λ turn. turn ≡ rows_searched view.now it.now now.now) }
+    ensures { IfOk result (λ turn. turn ≡ rows_searched view.now it.now now) }
 {
     let named = uids_of(alloc, view.rows.as_slice())?;
-    let messages = bare_at(alloc, now, named.as_slice())?;
+    let messages = bare_at(alloc, &now, named.as_slice())?;
     search_told(alloc, view, it, &messages, now)
 }

@@ -18,10 +18,9 @@ use crate::view::View;
 use crate::work::ViewWork;
 use imap_types::{Code, NoText, Op, ReplyLine, ReplyLines, Verdict};
 use mail_message::{FlagSet, MailBox, Mode, OrderedRows, Row, SetParts, Uids};
-use mail_store::{StoreFault, set_flags, set_of};
+use mail_store::{StoreFault, set_flags};
 use mur_base::{Bytes, Copied, Memory};
 use std::alloc::Global;
-use std::collections::BTreeSet;
 
 /// A STORE whose messages are named by their UIDs, whichever way its client named them.
 #[derive(Drop)]
@@ -96,7 +95,7 @@ fn stored(
     ensures { IfOk result (λ turn. turn ≡ store_told view.now it.now changes.now (rows_of mailbox.now)) }
 {
     let now = mailbox.look(alloc)?.rows;
-    store_told(alloc, view, it, changes, &now)
+    store_told(alloc, view, it, changes, now)
 }
 
 /// What is told where the named messages that are there have these rows, and the mailbox has those now.
@@ -105,15 +104,15 @@ pub fn store_told(
     view: &View,
     it: &FlagStore,
     changes: &OrderedRows,
-    now: &OrderedRows,
+    now: OrderedRows,
 ) -> Result<Turn, Memory>
-    ensures { IfOk result (λ turn. turn ≡ store_told view.now it.now changes.now now.now) }
+    ensures { IfOk result (λ turn. turn ≡ store_told view.now it.now changes.now now) }
 {
     let mut lines = ReplyLines::new(alloc);
     put_own_lines(alloc, &mut lines, it, changes, &view.rows)?;
-    let told = set_of(alloc, uids_of(alloc, changes.as_slice())?.as_slice())?;
-    let news = news_of(alloc, &view.rows, now, it.by_uid, &told)?;
-    let code = code_for(it.by_uid, now, it.uids.as_slice());
+    let told = uids_of(alloc, changes.as_slice())?;
+    let code = code_for(it.by_uid, &now, it.uids.as_slice());
+    let news = news_of(alloc, &view.rows, now, it.by_uid, told.as_slice())?;
     let verdict = Verdict::Ok(code, Bytes::from_slice(alloc, store_name(it.by_uid))?);
     with_news(alloc, view, lines, news, verdict)
 }
@@ -131,7 +130,7 @@ fn refused_for(
         return Err(Memory);
     }
     let now = mailbox.look(alloc)?.rows;
-    store_refused(alloc, view, it, &now)
+    store_refused(alloc, view, it, now)
 }
 
 /// What is told where a message would have too many keywords.
@@ -139,11 +138,11 @@ pub fn store_refused(
     alloc: Global,
     view: &View,
     it: &FlagStore,
-    now: &OrderedRows,
+    now: OrderedRows,
 ) -> Result<Turn, Memory>
-    ensures { IfOk result (λ turn. turn ≡ store_refused view.now it.now now.now) }
+    ensures { IfOk result (λ turn. turn ≡ store_refused view.now it.now now) }
 {
-    let news = news_of(alloc, &view.rows, now, it.by_uid, &BTreeSet::new(alloc))?;
+    let news = news_of(alloc, &view.rows, now, it.by_uid, &[])?;
     let verdict = Verdict::No(NoText::Limit);
     with_news(alloc, view, ReplyLines::new(alloc), news, verdict)
 }

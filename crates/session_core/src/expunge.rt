@@ -16,13 +16,13 @@ pub fn expunge_done(
     alloc: Global,
     view: &View,
     only: &Option<Uids>,
-    outcome: &Outcome,
-    seen: &Snapshot,
+    outcome: Outcome,
+    seen: Snapshot,
 ) -> Result<Option<Turn>, Memory>
-    ensures { IfOk result (λ turn. turn ≡ viewed_done view.now (Expunge only.now) outcome.now seen.now) }
+    ensures { IfOk result (λ turn. turn ≡ viewed_done view.now (Expunge only.now) outcome seen) }
 {
     match outcome {
-        Outcome::Uids(_) => Ok(Some(expunge_told(alloc, view, only_of(only), &seen.rows)?)),
+        Outcome::Uids(_) => Ok(Some(expunge_told(alloc, view, only_of(only), seen.rows)?)),
         _ => Ok(None),
     }
 }

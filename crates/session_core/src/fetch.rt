@@ -15,14 +15,14 @@ pub fn fetch_done(
     alloc: Global,
     view: &View,
     it: &Fetching,
-    outcome: &Outcome,
-    seen: &Snapshot,
+    outcome: Outcome,
+    seen: Snapshot,
 ) -> Result<Option<Turn>, Memory>
-    ensures { IfOk result (λ turn. turn ≡ viewed_done view.now (Fetch it.now) outcome.now seen.now) }
+    ensures { IfOk result (λ turn. turn ≡ viewed_done view.now (Fetch it.now) outcome seen) }
 {
     match outcome {
-        Outcome::None => Ok(Some(rows_told(alloc, view, it, &seen.rows)?)),
-        Outcome::Messages(before) => Ok(Some(fetch_told(alloc, view, it, before, &seen.rows)?)),
+        Outcome::None => Ok(Some(rows_told(alloc, view, it, seen.rows)?)),
+        Outcome::Messages(before) => Ok(Some(fetch_told(alloc, view, it, &before, seen.rows)?)),
         _ => Ok(None),
     }
 }

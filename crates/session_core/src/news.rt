@@ -15,13 +15,13 @@ pub fn news_done(
     alloc: Global,
     view: &View,
     why: NewsFor,
-    outcome: &Outcome,
-    seen: &Snapshot,
+    outcome: Outcome,
+    seen: Snapshot,
 ) -> Result<Option<Turn>, Memory>
-    ensures { IfOk result (λ turn. turn ≡ viewed_done view.now (News why) outcome.now seen.now) }
+    ensures { IfOk result (λ turn. turn ≡ viewed_done view.now (News why) outcome seen) }
 {
     match outcome {
-        Outcome::None => Ok(Some(news_told(alloc, view, why, &seen.rows)?)),
+        Outcome::None => Ok(Some(news_told(alloc, view, why, seen.rows)?)),
         _ => Ok(None),
     }
 }

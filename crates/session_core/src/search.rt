@@ -15,14 +15,14 @@ pub fn search_done(
     alloc: Global,
     view: &View,
     it: &Searching,
-    outcome: &Outcome,
-    seen: &Snapshot,
+    outcome: Outcome,
+    seen: Snapshot,
 ) -> Result<Option<Turn>, Memory>
-    ensures { IfOk result (λ turn. turn ≡ viewed_done view.now (Search it.now) outcome.now seen.now) }
+    ensures { IfOk result (λ turn. turn ≡ viewed_done view.now (Search it.now) outcome seen) }
 {
     match outcome {
-        Outcome::None => Ok(Some(rows_searched(alloc, view, it, &seen.rows)?)),
-        Outcome::Messages(found) => Ok(Some(search_told(alloc, view, it, found, &seen.rows)?)),
+        Outcome::None => Ok(Some(rows_searched(alloc, view, it, seen.rows)?)),
+        Outcome::Messages(found) => Ok(Some(search_told(alloc, view, it, &found, seen.rows)?)),
         _ => Ok(None),
     }
 }

@@ -15,14 +15,14 @@ pub fn store_done(
     alloc: Global,
     view: &View,
     it: &FlagStore,
-    outcome: &Outcome,
-    seen: &Snapshot,
+    outcome: Outcome,
+    seen: Snapshot,
 ) -> Result<Option<Turn>, Memory>
-    ensures { IfOk result (λ turn. turn ≡ viewed_done view.now (Store it.now) outcome.now seen.now) }
+    ensures { IfOk result (λ turn. turn ≡ viewed_done view.now (Store it.now) outcome seen) }
 {
     match outcome {
-        Outcome::Rows(changes) => Ok(Some(store_told(alloc, view, it, changes, &seen.rows)?)),
-        Outcome::Limit => Ok(Some(store_refused(alloc, view, it, &seen.rows)?)),
+        Outcome::Rows(changes) => Ok(Some(store_told(alloc, view, it, &changes, seen.rows)?)),
+        Outcome::Limit => Ok(Some(store_refused(alloc, view, it, seen.rows)?)),
         _ => Ok(None),
     }
 }

@@ -41,7 +41,7 @@ fn viewed_turn(
     ensures { IfOk result (λ turn. turn ≡ viewed_turn view.now work.now body) }
 {
     match body {
-        AnswerBody::Done(outcome, seen) => viewed_told(alloc, view, work, &outcome, &seen),
+        AnswerBody::Done(outcome, seen) => viewed_told(alloc, view, work, outcome, seen),
         AnswerBody::NotNow => Ok(Some(gone(alloc)?)),
         _ => Ok(None),
     }
@@ -53,10 +53,10 @@ fn viewed_told(
     alloc: Global,
     view: &View,
     work: &ViewWork,
-    outcome: &Outcome,
-    seen: &Snapshot,
+    outcome: Outcome,
+    seen: Snapshot,
 ) -> Result<Option<Turn>, Memory>
-    ensures { IfOk result (λ turn. turn ≡ viewed_told view.now work.now outcome.now seen.now) }
+    ensures { IfOk result (λ turn. turn ≡ viewed_told view.now work.now outcome seen) }
 {
     match outcome {
         Outcome::Gone => Ok(Some(gone(alloc)?)),
@@ -68,14 +68,14 @@ fn viewed_done(
     alloc: Global,
     view: &View,
     work: &ViewWork,
-    outcome: &Outcome,
-    seen: &Snapshot,
+    outcome: Outcome,
+    seen: Snapshot,
 ) -> Result<Option<Turn>, Memory>
-    ensures { IfOk result (λ turn. turn ≡ viewed_done view.now work.now outcome.now seen.now) }
+    ensures { IfOk result (λ turn. turn ≡ viewed_done view.now work.now outcome seen) }
 {
     match work {
         ViewWork::News(why) => news_done(alloc, view, *why, outcome, seen),
-        ViewWork::Close => close_done(alloc, view, outcome),
+        ViewWork::Close => close_done(alloc, view, &outcome),
         ViewWork::Expunge(only) => expunge_done(alloc, view, only, outcome, seen),
         ViewWork::Store(it) => store_done(alloc, view, it, outcome, seen),
         ViewWork::Fetch(it) => fetch_done(alloc, view, it, outcome, seen),

@@ -4,4 +4,4 @@ use Rattle.mur_model.specs.SameFlags.{is_same_flags}
 use Rattle.mur_model.proofs.news.is_same_flags.Goals as goal
 
 pub returns : goal.returns
-returns c = one_answer c.is_same.result (is_same_flags c.args.one.now c.args.other.now) c.is_same.ensures (same_flags_decide c.args.one.now c.args.other.now)
+returns c = one_answer c.are_same.result (is_same_flags c.args.one.now c.args.other.now) c.are_same.ensures (same_flags_decide c.args.one.now c.args.other.now)
