@@ -1,0 +1,5 @@
+pub mod LinesLaw
+pub mod CuttingLaw
+pub mod BootLaw
+pub mod OutsideLaw
+pub mod ServersLaw
