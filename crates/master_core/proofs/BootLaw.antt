@@ -1,9 +1,10 @@
 -- The entries of a disk, one after another.
-use Rattle.std.proofs.Common.{◌≡◌, ℕ, ◌+◌, ◌<◌, List, [], ◌∷◌, ◌++◌, take, drop, length, get_or, suc, refl, sym, ap, ◌∙◌, subst}
+use Rattle.std.proofs.Common.{◌≡◌, ℕ, ◌+◌, ◌<◌, List, [], ◌∷◌, ◌++◌, take, drop, length, get_or, suc, Result, Err, refl, sym, ap, ◌∙◌, subst}
 use Rattle.std.proofs.Common.{add-one, drop-cons}
 use Rattle.std.proofs.lemmas.List.{take-append-drop, take_more}
 use Rattle.std.proofs.lemmas.List.Sums.{fold-append}
 use Rattle.node_record.specs.declared.master.MasterRecord.{MasterRecord}
+use Rattle.node_record.specs.declared.fault.RecordFault.{RecordFault}
 use Rattle.node_record.specs.MasterEntries.{master_entry}
 use Rattle.node_record.specs.Ruled.{IsMasterRecord}
 use Rattle.node_record.specs.Stored.{IsStored, IsFirstBad}
@@ -44,3 +45,7 @@ no_entry all i bytes at table within is r bad = record {
   stored = r.stored;
   bad = bad;
 }
+
+-- a fault that is handed on
+pub err_is : {A B : Type 0} (x y : RecordFault) → (let r : Result A RecordFault = Err x in r ≡ Err y) → (let s : Result B RecordFault = Err x in s ≡ Err y)
+err_is x y e = let same : x ≡ y = cc in ap Err same

@@ -1,6 +1,6 @@
 -- Bytes are cut into lines byte by byte as they are at once.
 use Rattle.std.proofs.Common.{◌≡◌, ℕ, ◌+◌, ◌≤◌, List, [], ◌∷◌, ◌++◌, length, take, drop, Bool, true, false, ◌&&◌, not, nat_eq, cond, Option, None, Some, ⊎_elim, refl, sym, ap, ◌∙◌, subst}
-use Rattle.std.proofs.Common.{append-nil, append_assoc, eqb-true, arith}
+use Rattle.std.proofs.Common.{append-nil, append_assoc, eqb-true, arith, zero, suc, ◌-◌}
 use Rattle.std.proofs.lemmas.List.{take-append-drop, drop-drop}
 use Rattle.std.specs.Option.{option_to_list, IfSome}
 use Rattle.grammar.proofs.Conditions.{and_left, and_right}
@@ -9,6 +9,7 @@ use Rattle.mupdate_codec.specs.Commands.{IsCommandLine}
 use Rattle.mupdate_codec.specs.Cut.{IsUncut, EndsLine, IsCut, waits, cuts, Feeds}
 use Rattle.mupdate_codec.specs.Waits.{goes_on}
 use Rattle.mupdate_codec.proofs.CutLaw.{goes_to, goes_from, lf_in, cut_once}
+use Rattle.mupdate_codec.proofs.CutSteps.{rest_is}
 use Rattle.master_core.specs.Cutting.{Cut, ends_at, with_line, cut_from}
 
 abbrev pub HasCut : List ℕ → Cut → Type 0
@@ -49,13 +50,15 @@ line_ends begun byte u h = record {
 pub cut_is : (begun piece : List ℕ) → IsUncut begun → HasCut (begun ++ piece) (cut_from begun piece)
 unfolding cut_from
 cut_is begun [] u = subst (λ s. IsCut s [] begun) (sym (append-nil begun)) (waits begun u)
-cut_is begun (byte ∷ more) u = subst (λ s. HasCut s (cut_from begun (byte ∷ more))) (append_assoc begun (byte ∷ []) more) (by_end (ends_at byte (begun ++ byte ∷ [])) refl)
+cut_is begun (byte ∷ more) u =
+    subst (λ s. HasCut s (cut_from begun (byte ∷ more))) (append_assoc begun (byte ∷ []) more)
+    (by_end (ends_at byte (begun ++ byte ∷ [])) refl (cut_is [] more uncut_nothing) (λ v. cut_is (begun ++ byte ∷ []) more v))
   where
-    by_end : (b : Bool) → ends_at byte (begun ++ byte ∷ []) ≡ b
+    by_end : (b : Bool) → ends_at byte (begun ++ byte ∷ []) ≡ b → HasCut more (cut_from [] more)
+        → (IsUncut (begun ++ byte ∷ []) → HasCut ((begun ++ byte ∷ []) ++ more) (cut_from (begun ++ byte ∷ []) more))
         → HasCut ((begun ++ byte ∷ []) ++ more) (cond b (with_line (begun ++ byte ∷ []) (cut_from [] more)) (cut_from (begun ++ byte ∷ []) more))
-    by_end true is =
-        cuts (begun ++ byte ∷ []) more (cut_from [] more).lines (cut_from [] more).begun (line_ends begun byte u is) (cut_is [] more uncut_nothing)
-    by_end false is = cut_is (begun ++ byte ∷ []) more (uncut_more begun byte u is)
+    by_end true is next on = cuts (begun ++ byte ∷ []) more (cut_from [] more).lines (cut_from [] more).begun (line_ends begun byte u is) next
+    by_end false is next on = on (uncut_more begun byte u is)
 
 -- as many pieces as there may be: the lines so far, and those to come
 pub record CutsOn (begun piece : List ℕ) (before lines : List (List ℕ)) (self : Option (List ℕ)) (taken : ℕ) : Type 0 where
@@ -88,10 +91,10 @@ fed_is now rest None more next u f =
     }
 fed_is now rest (Some line) more next u f =
     let parts : line ++ drop more rest ≡ now ++ rest = ap (λ s. s ++ drop more rest) f.1 ∙ append_assoc now (take more rest) (drop more rest)
-        ∙ ap (λ s. now ++ s) (take-append-drop more rest) in
+    ∙ ap (λ s. now ++ s) (take-append-drop more rest) in
     let whole = cuts line (drop more rest) (cut_from [] (drop more rest)).lines (cut_from [] (drop more rest)).begun f.2 (cut_is [] (drop more rest) uncut_nothing) in
     let one = cut_once (line ++ drop more rest) (now ++ rest) (line ∷ (cut_from [] (drop more rest)).lines) (cut_from now rest).lines
-        (cut_from [] (drop more rest)).begun (cut_from now rest).begun parts whole (cut_is now rest u) in
+    (cut_from [] (drop more rest)).begun (cut_from now rest).begun parts whole (cut_is now rest u) in
     record { after = []; is = f.3; lines_are = one.0; begun_is = one.1 }
 
 -- one call more
@@ -109,3 +112,37 @@ cuts_more begun piece before lines self taken more line next on u f =
           ∙ ap (λ s. lines ++ s) fed.lines_are ∙ on.lines_are;
       begun_is = ap (λ s. (cut_from fed.after s).begun) (sym rest) ∙ fed.begun_is ∙ on.begun_is;
     }
+
+-- the same of a cutter that may be spent
+
+abbrev pub CutsSoFar : List ℕ → Option (List ℕ) → List (List ℕ) → List (List ℕ) → Option (List ℕ) → ℕ → Type 0
+CutsSoFar piece start before lines self taken = IfSome start (λ begun. CutsOn begun piece before lines self taken)
+
+pub cuts_step : (piece : List ℕ) (start : Option (List ℕ)) (before lines : List (List ℕ)) (self : Option (List ℕ)) (taken more : ℕ) (line : Option (List ℕ)) (next : Option (List ℕ))
+    → CutsSoFar piece start before lines self taken → IfSome self IsUncut
+    → IfSome self (λ now. Feeds now (take (length piece - taken) (drop taken piece)) line more next)
+    → CutsSoFar piece start before (lines ++ option_to_list line) next (taken + more)
+cuts_step piece None before lines self taken more line next on u f = on
+cuts_step piece (Some begun) before lines self taken more line next on u f =
+    cuts_more begun piece before lines self taken more line next on u (subst (λ r. IfSome self (λ now. Feeds now r line more next)) (rest_is piece taken) f)
+
+drop_over : (xs : List ℕ) (n : ℕ) → length xs ≤ n → drop n xs ≡ []
+drop_over [] zero h = refl
+drop_over [] (suc n) h = refl
+drop_over (x ∷ xs) zero h = absurd (omega arith)
+drop_over (x ∷ xs) (suc n) h = drop_over xs n (omega arith)
+
+-- all of a piece
+pub lines_end : (piece : List ℕ) (start : Option (List ℕ)) (before lines : List (List ℕ)) (self : Option (List ℕ)) (taken : ℕ) → length piece ≤ taken
+    → CutsSoFar piece start before lines self taken → IfSome start (λ begun. lines ≡ before ++ (cut_from begun piece).lines)
+unfolding cut_from
+lines_end piece None before lines self taken over on = tt
+lines_end piece (Some begun) before lines self taken over on =
+    sym (append-nil lines) ∙ ap (λ s. lines ++ (cut_from on.now s).lines) (sym (drop_over piece taken over)) ∙ on.lines_are
+
+pub begun_end : (piece : List ℕ) (start : Option (List ℕ)) (before lines : List (List ℕ)) (self : Option (List ℕ)) (taken : ℕ) → length piece ≤ taken
+    → CutsSoFar piece start before lines self taken → IfSome start (λ begun. self ≡ Some (cut_from begun piece).begun)
+unfolding cut_from
+begun_end piece None before lines self taken over on = tt
+begun_end piece (Some begun) before lines self taken over on =
+    on.is ∙ ap Some (ap (λ s. (cut_from on.now s).begun) (sym (drop_over piece taken over)) ∙ on.begun_is)

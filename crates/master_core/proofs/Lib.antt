@@ -3,3 +3,4 @@ pub mod CuttingLaw
 pub mod BootLaw
 pub mod OutsideLaw
 pub mod ServersLaw
+pub mod StepLaw

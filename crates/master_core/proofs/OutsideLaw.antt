@@ -61,10 +61,11 @@ command_leaves : (master : Master) (conn : ℕ) (tag : Tag) (it : MCommand) → 
 unfolding command_step
 command_leaves master conn tag it =
     elim (is_stream master (sender.Outside conn) && not (may_follow_update it))
-    as (λ b. Leaves master (cond b (bad_step master (sender.Outside conn) tag) (settled (replied master (sender.Outside conn) tag (reply_to master.table (sender.Outside conn) it)) (sender.Outside conn) tag (stream_step it))))
-    [ true ↦ bad_leaves master (sender.Outside conn) tag
-    | false ↦ settled_leaves master (replied master (sender.Outside conn) tag (reply_to master.table (sender.Outside conn) it)) (sender.Outside conn) tag (stream_step it)
-      (replied_leaves master (sender.Outside conn) tag (reply_to master.table (sender.Outside conn) it) (no_entry master.table conn it)) ]
+    as (λ b. Leaves master (cond b (bad_step master (sender.Outside conn) tag) (settled (replied master (sender.Outside conn) tag (reply_to master.table (sender.Outside conn) it)) (sender.Outside conn) tag (stream_step it)))) [
+      | true ↦ bad_leaves master (sender.Outside conn) tag
+      | false ↦ settled_leaves master (replied master (sender.Outside conn) tag (reply_to master.table (sender.Outside conn) it)) (sender.Outside conn) tag (stream_step it)
+          (replied_leaves master (sender.Outside conn) tag (reply_to master.table (sender.Outside conn) it) (no_entry master.table conn it))
+    ]
 
 pub line_leaves : (master : Master) (conn : ℕ) (line : List ℕ) → Leaves master (line_step master (sender.Outside conn) line)
 unfolding line_step line_by

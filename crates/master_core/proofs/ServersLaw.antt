@@ -104,7 +104,7 @@ module _ (table : MailboxTable) (from : Sender) (e : MasterRecord) where
           let b = none_first (not (is_server from (place_in (record_at table name) place))) _ _ a.1 in
           is_by (entry.Active name place acl) (some_is h)
           (by_backend table name from (is_so (is_backend from) a.0) (λ node is_node it there.
-              at_server from it.place node is_node (ap (λ (f : Option Record). is_server from (place_in f place)) (sym there) ∙ is_so _ b.0)))
+          at_server from it.place node is_node (ap (λ (f : Option Record). is_server from (place_in f place)) (sym there) ∙ is_so _ b.0)))
 
   by_deactivate : (name : List ℕ) (place : Location) → (deactivate_reply table from name place).entry ≡ Some e → IsByServer table from (name_of e)
   unfolding deactivate_reply deactivate_refusal
@@ -120,7 +120,7 @@ module _ (table : MailboxTable) (from : Sender) (e : MasterRecord) where
           let d = neither (is_elsewhere from (record_at table name)) _ c.0 in
           is_by (entry.Inactive name place) (some_is h)
           (by_backend table name from (is_so (is_backend from) a.0) (λ node is_node it there.
-              at_server from it.place node is_node (is_so (is_server from it.place) (ap (is_elsewhere from) (sym there) ∙ d.0))))
+          at_server from it.place node is_node (is_so (is_server from it.place) (ap (is_elsewhere from) (sym there) ∙ d.0))))
 
   by_delete : (name : List ℕ) → (delete_reply table from name).entry ≡ Some e → IsByServer table from (name_of e)
   unfolding delete_reply delete_refusal
@@ -134,7 +134,7 @@ module _ (table : MailboxTable) (from : Sender) (e : MasterRecord) where
           let c = none_first (is_elsewhere from (record_at table name)) _ _ b.1 in
           is_by (entry.Deleted name) (some_is h)
           (by_backend table name from (is_so (is_backend from) a.0) (λ node is_node it there.
-              at_server from it.place node is_node (is_so (is_server from it.place) (ap (is_elsewhere from) (sym there) ∙ c.0))))
+          at_server from it.place node is_node (is_so (is_server from it.place) (ap (is_elsewhere from) (sym there) ∙ c.0))))
 
   by_reply : (it : MCommand) → (reply_to table from it).entry ≡ Some e → IsByServer table from (name_of e)
   unfolding reply_to find_reply list_reply update_reply noop_reply logout_reply

@@ -14,8 +14,10 @@ fn table_of(alloc: Global, entries: &[Bytes]) -> Result<Table, RecordFault>
 {
     let mut table = Table::new(alloc);
     for entry in entries {
-        let record = decode_master(alloc, entry.as_slice())?;
-        apply_master(&mut table, record)?;
+        match decode_master(alloc, entry.as_slice()) {
+            Ok(record) => apply_master(&mut table, record)?,
+            Err(fault) => return Err(fault),
+        }
     }
     Ok(table)
 }

@@ -6,11 +6,7 @@ use mupdate_codec::Cutter;
 use mur_base::{Bytes, Items, Memory};
 
 /// Takes a whole piece, and puts the lines that end in it after the others.
-pub fn cut_piece(
-    cutter: &mut Cutter,
-    piece: &[u8],
-    lines: &mut Items<Bytes>,
-) -> Result<(), Memory>
+pub fn cut_piece(cutter: &mut Cutter, piece: &[u8], lines: &mut Items<Bytes>) -> Result<(), Memory>
     ensures lines { OnOk result (IfSome cutter.old (λ begun. lines.new ≡ lines.old ++ (cut_from begun piece.now).lines)) }
     ensures begun { OnOk result (IfSome cutter.old (λ begun. cutter.new ≡ Some (cut_from begun piece.now).begun)) }
 {

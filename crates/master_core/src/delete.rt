@@ -31,17 +31,17 @@ fn refusal(from: &Sender, found: Option<&Record>) -> Option<Refusal>
 
 /// Takes the record of a name away.
 #[tactic(auto, unfolding(crate::specs::Replies::delete_reply))]
-pub fn delete(
-    alloc: Global,
-    table: &Table,
-    from: &Sender,
-    name: MailName,
-) -> Result<Reply, Memory>
+pub fn delete(alloc: Global, table: &Table, from: &Sender, name: MailName) -> Result<Reply, Memory>
     ensures { IfOk result (λ reply. reply ≡ delete_reply table.now from.now name) }
 {
     if let Some(why) = refusal(from, table.record(&name)) {
         return Reply::refused(alloc, None, why);
     }
     let text = Bytes::from_slice(alloc, b"done")?;
-    Reply::changed(alloc, MasterRecord::Deleted(name), Some(Counts::Always), text)
+    Reply::changed(
+        alloc,
+        MasterRecord::Deleted(name),
+        Some(Counts::Always),
+        text,
+    )
 }

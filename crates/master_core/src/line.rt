@@ -25,7 +25,7 @@ pub fn command_in(alloc: Global, line: &[u8]) -> Result<Option<(Tag, MCommand)>,
             }
         }
         Err(LineFault::More) => Ok(None),
-        Err(LineFault::Bad(_)) => Ok(None),
+        Err(LineFault::Bad(_at)) => Ok(None),
         Err(LineFault::Memory) => Err(Memory),
     }
 }

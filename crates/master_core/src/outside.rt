@@ -1,5 +1,5 @@
 // Connections from outside.
-ghost use Rattle.std.specs.Prelude.{◌≡◌, ℕ, List, IfOk, OnOk};
+ghost use Rattle.std.specs.Prelude.{◌≡◌, ◌++◌, ℕ, List, IfOk, OnOk};
 ghost use Rattle.master_core.specs.Cutting.{cut_from};
 ghost use Rattle.master_core.specs.Outside.{outside_at, takes_bytes_at, IsCutAt, connect, is_open, line_comes, lines_come, bytes_in};
 
@@ -21,6 +21,19 @@ pub enum Outside {
     Ended,
 }
 
+impl Outside {
+    /// Cuts more bytes, where it is open, and puts the lines that end in them after others.
+    fn cut(&mut self, piece: &[u8], lines: &mut Items<Bytes>) -> Result<(), Memory>
+        ensures lines { OnOk result ((begun : List ℕ) → self.old ≡ Outside.Open (Some begun) → lines.new ≡ lines.old ++ (cut_from begun piece.now).lines) }
+        ensures begun { OnOk result ((begun : List ℕ) → self.old ≡ Outside.Open (Some begun) → self.new ≡ Outside.Open (Some (cut_from begun piece.now).begun)) }
+    {
+        if let Outside::Open(cutter) = self {
+            cut_piece(cutter, piece, lines)?;
+        }
+        Ok(())
+    }
+}
+
 impl Master {
     /// Someone from outside connects, and is given the greeting. For want of memory the master is spent.
     #[tactic(auto, unfolding(crate::specs::Outside::connect, crate::specs::Outside::connect_at))]
@@ -31,7 +44,8 @@ impl Master {
         if self.outside.contains_key(&conn) {
             return Ok(outs);
         }
-        self.outside.insert(conn, Outside::Open(Cutter::new(alloc)))?;
+        self.outside
+            .insert(conn, Outside::Open(Cutter::new(alloc)))?;
         outs.push(Out::Client(conn, greeting(alloc, &self.me)?))?;
         Ok(outs)
     }
@@ -45,7 +59,13 @@ impl Master {
 
     /// A line of a connection, unless it has ended by then.
     #[tactic(auto, unfolding(crate::specs::Outside::line_comes))]
-    fn line_from(&mut self, alloc: Global, conn: u64, line: &[u8], outs: &mut Outs) -> Result<(), Memory>
+    fn line_from(
+        &mut self,
+        alloc: Global,
+        conn: u64,
+        line: &[u8],
+        outs: &mut Outs,
+    ) -> Result<(), Memory>
         ensures { OnOk result (record { master = self.new; outs = outs.new }
             ≡ line_comes conn (record { master = self.old; outs = outs.old }) line.now) }
     {
@@ -82,8 +102,8 @@ impl Master {
             → IsCutAt self.old self.new conn lines (cut_from begun piece.now)) }
     {
         let mut lines = Items::new(alloc);
-        if let Some(Outside::Open(cutter)) = self.outside.get_mut(&conn) {
-            cut_piece(cutter, piece, &mut lines)?;
+        if let Some(connection) = self.outside.get_mut(&conn) {
+            connection.cut(piece, &mut lines)?;
         }
         Ok(lines)
     }

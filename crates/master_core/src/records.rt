@@ -61,11 +61,7 @@ pub fn put_record_lines(
 }
 
 /// The line of a record, if there is one.
-pub fn found_line(
-    alloc: Global,
-    name: &MailName,
-    found: Option<&Record>,
-) -> Result<Answers, Memory>
+pub fn found_line(alloc: Global, name: &MailName, found: Option<&Record>) -> Result<Answers, Memory>
     ensures { IfOk result (λ lines. lines ≡ found_line name.now (option_copied found.entry)) }
 {
     let mut lines = Answers::new(alloc);

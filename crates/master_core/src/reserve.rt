@@ -82,5 +82,10 @@ pub fn reserve(
     }
     let serial = table.serial() + 1;
     let text = serial_text(alloc, serial)?;
-    Reply::changed(alloc, MasterRecord::Reserved(name, place, serial), None, text)
+    Reply::changed(
+        alloc,
+        MasterRecord::Reserved(name, place, serial),
+        None,
+        text,
+    )
 }

@@ -1,8 +1,9 @@
 // One step of the master: it takes a line.
-ghost use Rattle.std.specs.Prelude.{◌≡◌, ◌++◌, map, Option, IfOk, OnOk};
+ghost use Rattle.std.specs.Prelude.{◌≡◌, ◌++◌, ◌&&◌, not, map, Option, IfOk, OnOk};
 ghost use Rattle.node_record.specs.declared.master.MasterRecord.{MasterRecord};
 ghost use Rattle.master_core.specs.Changes.{change_outs};
 ghost use Rattle.master_core.specs.Replies.{reply_to};
+ghost use Rattle.master_core.specs.Streams.{is_stream, may_follow_update};
 ghost use Rattle.master_core.specs.Step.{answered, mark_outs, table_with, reply_outs, replied, settled, bad_step, command_step, line_step, after};
 
 use crate::activate::activate;
@@ -26,12 +27,7 @@ use std::alloc::Global;
 
 /// The reply to a command, by the table and by who sends it.
 #[tactic(auto, unfolding(crate::specs::Replies::reply_to))]
-fn reply_to(
-    alloc: Global,
-    table: &Table,
-    from: &Sender,
-    command: MCommand,
-) -> Result<Reply, Memory>
+fn reply_to(alloc: Global, table: &Table, from: &Sender, command: MCommand) -> Result<Reply, Memory>
     ensures { IfOk result (λ reply. reply ≡ reply_to table.now from.now command) }
 {
     match command {
@@ -65,12 +61,7 @@ fn put_answers(
 }
 
 /// A step counts for the client's command that the tag of a node's line tells.
-fn put_mark(
-    from: &Sender,
-    tag: &Tag,
-    counts: Option<Counts>,
-    outs: &mut Outs,
-) -> Result<(), Memory>
+fn put_mark(from: &Sender, tag: &Tag, counts: Option<Counts>, outs: &mut Outs) -> Result<(), Memory>
     ensures { OnOk result (outs.new ≡ outs.old ++ mark_outs from.now tag.now counts) }
 {
     if let Sender::Outside(_) = from {
@@ -166,6 +157,13 @@ impl Master {
         self.give(alloc, from, tag, reply, outs)
     }
 
+    /// Whether a command may not come from a sender, which has sent UPDATE.
+    fn is_barred(&self, from: &Sender, command: &MCommand) -> bool
+        ensures { result ≡ (is_stream self.now from.now && not (may_follow_update command.now)) }
+    {
+        self.is_stream(from) && !may_follow_update(command)
+    }
+
     #[tactic(auto, unfolding(crate::specs::Step::command_step, crate::specs::Step::settled))]
     fn command_comes(
         &mut self,
@@ -178,7 +176,7 @@ impl Master {
         ensures { IfOk result (λ entry. record { master = self.new; entry = entry; outs = outs.new }
             ≡ after outs.old (command_step self.old from.now tag command)) }
     {
-        if self.is_stream(from) && !may_follow_update(&command) {
+        if self.is_barred(from, &command) {
             return self.refuse(alloc, from, &tag, outs);
         }
         let step = stream_step(&command);

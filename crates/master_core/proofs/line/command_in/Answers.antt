@@ -10,7 +10,7 @@ returns-else-used-line c =
     sym (read_front c.args.line.now (c.in-Ok.tag, c.in-Ok.command) c.in-Ok.used (omega (arith, c.in-Ok.ensures.within, c.if-used-line.false)) c.in-Ok.ensures.line)
 
 pub returns-in-Err-More : goal.returns-in-Err-More
-returns-in-Err-More c = sym (begun_none c.args.line.now (c.read_command.ensures.more c.in-Err-More.is))
+returns-in-Err-More c = sym (begun_none c.args.line.now (c.read_command.ensures.more (cc)))
 
 pub returns-in-Err-Bad : goal.returns-in-Err-Bad
-returns-in-Err-Bad c = sym (other_none c.args.line.now (c.read_command.ensures.bad _ c.in-Err-Bad.is))
+returns-in-Err-Bad c = sym (other_none c.args.line.now (c.read_command.ensures.bad c.in-Err-Bad._at (cc)))

@@ -3,7 +3,7 @@ use Rattle.link_msg.specs.declared.out.Out.{Out}
 use Rattle.master_core.specs.declared.master.Master.{Master}
 use Rattle.std.specs.List.{fold}
 use Rattle.master_core.specs.Outside.{Stepped, still, line_comes}
-use Rattle.master_core.proofs.outside.Master.lines_from.Given as goal
+use Rattle.master_core.proofs.master.Master.lines_from.Given as goal
 
 abbrev stepped : Master → List Out → Stepped
 stepped master outs = record { master = master; outs = outs }
