@@ -1,0 +1,153 @@
+// Steps of the master.
+use case_base::{Fault, bytes_of, number_of, wide_number_of};
+use link_msg::{LinkMsg, Out, Outs};
+use master_core::{Master, Sender};
+use mur_base::{Bytes, Items, Location, Memory, mail_name, node_name};
+use node_record::{MasterRecord, RecordFault, encode_master};
+use schedule_text::put_text;
+use std::alloc::Global;
+
+/// Takes steps of a master, of which the first is its boot, and prints what each gives.
+pub fn put(alloc: Global, steps: &[&str], out: &mut Bytes) -> Result<(), Fault> {
+    let [entries, steps @ ..] = steps else {
+        return Err(Fault::Unreadable("no entries"));
+    };
+    let entries = entries_of(alloc, entries)?;
+    match Master::boot(alloc, node_name(alloc, b"m")?, entries.as_slice()) {
+        Ok(mut master) => put_steps(alloc, &mut master, steps, out),
+        Err(RecordFault::Bad(at)) => {
+            Ok(out.extend_from_slice(format!(in alloc; "bad {at}")?.as_bytes())?)
+        }
+        Err(RecordFault::Memory) => Err(Fault::Memory),
+    }
+}
+
+fn put_steps(
+    alloc: Global,
+    master: &mut Master,
+    steps: &[&str],
+    out: &mut Bytes,
+) -> Result<(), Fault> {
+    for step in steps {
+        if !out.is_empty() {
+            out.extend_from_slice(b" | ")?;
+        }
+        let before = out.len();
+        put_step(alloc, master, step, out)?;
+        if out.len() == before {
+            out.push(b'-')?;
+        }
+    }
+    Ok(())
+}
+
+/// The entries that a field writes: `-` for none, `full COUNT` for so many active mailboxes at b1, or the bytes of one.
+fn entries_of(alloc: Global, field: &str) -> Result<Items<Bytes>, Fault> {
+    let mut entries = Items::new(alloc);
+    match field.split_once(' ') {
+        Some(("full", count)) => put_active(alloc, number_of(count)?, &mut entries)?,
+        Some(("entry", bytes)) => entries.push(bytes_of(alloc, bytes)?)?,
+        _ => {}
+    }
+    Ok(entries)
+}
+
+fn put_active(alloc: Global, count: u32, entries: &mut Items<Bytes>) -> Result<(), Fault> {
+    for i in 0..count {
+        let text = format!(in alloc; "n{i}")?;
+        let name = mail_name(alloc, text.as_bytes())?;
+        let place = Location {
+            server: node_name(alloc, b"b1")?,
+            partition: Bytes::from_slice(alloc, b"p")?,
+        };
+        let entry = MasterRecord::Active(name, place, Bytes::new(alloc));
+        entries.push(encode_master(alloc, &entry)?)?;
+    }
+    Ok(())
+}
+
+/// Takes a step: a connection opens, its bytes come, a sender ends, or a node sends a line.
+fn put_step(alloc: Global, master: &mut Master, step: &str, out: &mut Bytes) -> Result<(), Fault> {
+    let (word, rest) = step.split_once(' ').unwrap_or((step, ""));
+    match word {
+        "open" => {
+            let outs = master.connect(alloc, wide_number_of(rest)?)?;
+            Ok(put_outs(alloc, outs.as_slice(), out)?)
+        }
+        "data" => {
+            let (conn, text) = rest.split_once(' ').unwrap_or((rest, ""));
+            let piece = bytes_of(alloc, text)?;
+            let outs = master.bytes_in(alloc, wide_number_of(conn)?, piece.as_slice())?;
+            Ok(put_outs(alloc, outs.as_slice(), out)?)
+        }
+        "end" => {
+            let (kind, name) = rest.split_once(' ').unwrap_or((rest, ""));
+            master.ended(&sender_of(alloc, kind, name)?);
+            Ok(())
+        }
+        kind => {
+            let (name, text) = rest.split_once(' ').unwrap_or((rest, ""));
+            put_line(alloc, master, &sender_of(alloc, kind, name)?, text, out)
+        }
+    }
+}
+
+fn sender_of(alloc: Global, kind: &str, name: &str) -> Result<Sender, Fault> {
+    match kind {
+        "backend" => Ok(Sender::Backend(node_name(alloc, name.as_bytes())?)),
+        "frontend" => Ok(Sender::Frontend(node_name(alloc, name.as_bytes())?)),
+        "outside" => Ok(Sender::Outside(wide_number_of(name)?)),
+        _ => Err(Fault::Unreadable("no such sender")),
+    }
+}
+
+/// Prints the bytes of the entry that a line makes, if it makes one, and what goes out.
+fn put_line(
+    alloc: Global,
+    master: &mut Master,
+    from: &Sender,
+    text: &str,
+    out: &mut Bytes,
+) -> Result<(), Fault> {
+    let line = bytes_of(alloc, text)?;
+    let plan = master.plan(alloc, from, line.as_slice())?;
+    if let Some(entry) = &plan.entry {
+        out.push(b'[')?;
+        put_text(encode_master(alloc, entry)?.as_slice(), out)?;
+        out.extend_from_slice(b"] ")?;
+    }
+    let outs: Outs = master.settle(plan);
+    Ok(put_outs(alloc, outs.as_slice(), out)?)
+}
+
+fn put_outs(alloc: Global, outs: &[Out], text: &mut Bytes) -> Result<(), Memory> {
+    for (at, out) in outs.iter().enumerate() {
+        if at > 0 {
+            text.extend_from_slice(b"; ")?;
+        }
+        put_out(alloc, out, text)?;
+    }
+    Ok(())
+}
+
+fn put_out(alloc: Global, out: &Out, text: &mut Bytes) -> Result<(), Memory> {
+    match out {
+        Out::Client(conn, bytes) => {
+            text.extend_from_slice(format!(in alloc; "{conn}: ")?.as_bytes())?;
+            put_text(bytes.as_slice(), text)
+        }
+        Out::Close(conn) => {
+            text.extend_from_slice(format!(in alloc; "close {conn}")?.as_bytes())
+        }
+        Out::Link(node, LinkMsg::Line(line)) => {
+            text.extend_from_slice(node.as_bytes())?;
+            text.extend_from_slice(b": ")?;
+            put_text(line.as_slice(), text)
+        }
+        Out::Link(_, _) => text.extend_from_slice(b"another message"),
+        Out::Mark(ask, counts) => {
+            let mark = format!(in alloc; "{}.{} {counts:?}", ask.conn, ask.command)?;
+            text.extend_from_slice(mark.as_bytes())
+        }
+    }
+}

@@ -1,0 +1,6 @@
+pub mod LinesLaw
+pub mod CuttingLaw
+pub mod BootLaw
+pub mod OutsideLaw
+pub mod ServersLaw
+pub mod StepLaw

@@ -1,0 +1,13 @@
+pub mod Senders
+pub mod Refusals
+pub mod Records
+pub mod Replies
+pub mod Changes
+pub mod Greeting
+pub mod Lines
+pub mod Cutting
+pub mod Streams
+pub mod Step
+pub mod Servers
+pub mod Outside
+pub mod Boot
