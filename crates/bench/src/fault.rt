@@ -24,14 +24,12 @@ pub enum Fault {
     Refused,
     /// An operation touches no message, or rises by a fifth or more when the box doubles.
     Rise,
-    /// An operation takes longer than its bound.
-    Slow,
 }
 
 impl Fault {
     pub fn text(self) -> &'static str {
         match self {
-            Fault::Usage => "bench [frames|commands|replies|boxes|search|mupdate [ROUNDS]]",
+            Fault::Usage => "bench [frames|commands|replies|boxes|search [ROUNDS]]",
             Fault::Memory => "out of memory",
             Fault::Io => "a clock, the arguments or the output failed",
             Fault::Date => "no date",
@@ -40,7 +38,6 @@ impl Fault {
             Fault::Refused => "a mailbox refuses a change",
             Fault::Rise =>
                 "an operation touches nothing, or rises by a fifth or more when the box doubles",
-            Fault::Slow => "an operation takes longer than its bound",
         }
     }
 }

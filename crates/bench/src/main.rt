@@ -1,6 +1,6 @@
-//! Times libraries of the Murder, each beside plain work on the same bytes: `bench frames|commands|replies|boxes|search|mupdate ROUNDS`
+//! Times libraries of the Murder, each beside plain work on the same bytes: `bench frames|commands|replies|boxes|search ROUNDS`
 //! does what the bench does so many times, and says how long it took. Without a number each is done once, and only what it came
-//! to is counted; without a word that is done of all six.
+//! to is counted; without a word that is done of all five.
 #![tactic(auto)]
 
 mod boxes;
@@ -8,7 +8,6 @@ mod commands;
 mod fault;
 mod frames;
 mod making;
-mod mupdate;
 mod replies;
 mod search;
 mod task;
@@ -27,16 +26,14 @@ enum Bench {
     Replies,
     Boxes,
     Search,
-    Mupdate,
 }
 
-static BENCHES: [(&str, Bench); 6] = [
+static BENCHES: [(&str, Bench); 5] = [
     ("frames", Bench::Frames),
     ("commands", Bench::Commands),
     ("replies", Bench::Replies),
     ("boxes", Bench::Boxes),
     ("search", Bench::Search),
-    ("mupdate", Bench::Mupdate),
 ];
 
 impl Bench {
@@ -56,7 +53,6 @@ impl Bench {
             Bench::Replies => replies::run(rt, task),
             Bench::Boxes => boxes::run(rt, task),
             Bench::Search => search::run(rt, task),
-            Bench::Mupdate => mupdate::run(rt, task),
         }
     }
 }
