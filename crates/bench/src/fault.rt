@@ -24,16 +24,14 @@ pub enum Fault {
     Refused,
     /// An operation touches no message, or rises by a fifth or more when the box doubles.
     Rise,
-    /// An operation, or the reading of a configuration, takes longer than its bound.
+    /// A configuration takes more than twice the time of `serde_json` alone.
     Slow,
 }
 
 impl Fault {
     pub fn text(self) -> &'static str {
         match self {
-            Fault::Usage => {
-                "bench [frames|commands|replies|boxes|search|configurations|mupdate [ROUNDS]]"
-            }
+            Fault::Usage => "bench [frames|commands|replies|boxes|search|configurations [ROUNDS]]",
             Fault::Memory => "out of memory",
             Fault::Io => "a clock, the arguments or the output failed",
             Fault::Date => "no date",
@@ -42,7 +40,7 @@ impl Fault {
             Fault::Refused => "a mailbox refuses a change",
             Fault::Rise =>
                 "an operation touches nothing, or rises by a fifth or more when the box doubles",
-            Fault::Slow => "an operation takes longer than its bound",
+            Fault::Slow => "a configuration takes more than twice the time of serde_json alone",
         }
     }
 }

@@ -8,7 +8,7 @@ use Rattle.node_record.specs.declared.fault.RecordFault.{RecordFault}
 use Rattle.node_record.specs.MasterEntries.{master_entry}
 use Rattle.node_record.specs.Ruled.{IsMasterRecord}
 use Rattle.node_record.specs.Stored.{IsStored, IsFirstBad}
-use Rattle.node_record.specs.Table.{MailboxTable, table_after, empty_table, table_of}
+use Rattle.node_record.specs.Table.{MailboxTable, table_after, empty_table}
 use Rattle.master_core.specs.Boot.{AreStored, none, next, IsRead, IsNoEntry}
 
 stored_more : (all : List (List ℕ)) (entries : List MasterRecord) (bytes : List ℕ) (entry : MasterRecord) → AreStored all entries

@@ -1,5 +1,5 @@
 -- One step of the master, put together of its parts.
-use Rattle.std.proofs.Common.{◌≡◌, ℕ, Bool, true, false, ◌&&◌, not, cond, List, [], ◌∷◌, ◌++◌, Option, None, Some, refl, sym, ap, ◌∙◌, append_assoc}
+use Rattle.std.proofs.Common.{◌≡◌, ℕ, true, false, ◌&&◌, not, List, Option, refl, sym, ap, ◌∙◌, append_assoc}
 use Rattle.link_msg.specs.declared.out.Out.{Out}
 use Rattle.mupdate_codec.specs.declared.command.MCommand.{MCommand}
 use Rattle.mupdate_codec.specs.declared.tag.Tag.{Tag}

@@ -1,5 +1,5 @@
 -- The command that bytes are, and the tag under which those that are none are answered.
-use Rattle.std.specs.Prelude.{ℕ, Bool, ◌&&◌, nat_le, nat_lt, List, [], ◌∷◌, length, take, position, Option, None, Some, Result, Ok, Err, ◌==◌, if◌then◌else◌}
+use Rattle.std.specs.Prelude.{ℕ, Bool, ◌&&◌, nat_le, nat_lt, List, [], length, take, position, Option, None, Some, Result, Ok, ◌==◌, if◌then◌else◌}
 use Rattle.std.specs.List.{list_all}
 use Rattle.mur_base.specs.Ascii.{space}
 use Rattle.mupdate_codec.specs.declared.command.MCommand.{MCommand}

@@ -1,13 +1,12 @@
 -- The lines that tell of a record (RFC 3656, 3.5 and 3.6).
-use Rattle.std.specs.Prelude.{ℕ, Bool, true, List, [], ◌∷◌, nat_eq, filter, map, Option, None, Some}
-use Rattle.std.specs.List.{flat_map, starts_with}
+use Rattle.std.specs.Prelude.{ℕ, Bool, true, List, [], ◌∷◌, nat_eq, Option, None, Some}
+use Rattle.std.specs.List.{starts_with}
 use Rattle.mur_base.specs.declared.home.Location.{Location}
 use Rattle.mupdate_codec.specs.declared.command.MResponse.{MResponse}
 use Rattle.mupdate_codec.specs.declared.command.MResponse.TheVariants as response
 use Rattle.node_record.specs.declared.table.State.{State}
 use Rattle.node_record.specs.declared.table.State.TheVariants.{Bare, Kept, Active}
 use Rattle.node_record.specs.declared.table.Record.{Record}
-use Rattle.node_record.specs.Table.{Records}
 use Rattle.text_parts.specs.Locations.{location_text}
 
 -- one line: MAILBOX where the name is active, RESERVE where it is reserved

@@ -5,7 +5,7 @@ use Rattle.mur_base.specs.declared.limits.TheConstants.{MAILBOX_LIMIT}
 use Rattle.node_record.specs.declared.table.State.{State}
 use Rattle.node_record.specs.declared.table.State.TheVariants.{Bare, Kept, Active}
 use Rattle.node_record.specs.declared.table.Record.{Record}
-use Rattle.node_record.specs.Table.{MailboxTable, record_at, is_mailbox_if}
+use Rattle.node_record.specs.Table.{MailboxTable, is_mailbox_if}
 use Rattle.master_core.specs.declared.refusal.Refusal.{Refusal}
 use Rattle.master_core.specs.declared.refusal.Refusal.TheVariants as refusal
 use Rattle.master_core.specs.declared.sender.Sender.{Sender}

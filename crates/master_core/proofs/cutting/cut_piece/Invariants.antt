@@ -1,4 +1,4 @@
-use Rattle.std.proofs.Common.{ℕ, List, ◌-◌, ◌≤◌, length}
+use Rattle.std.proofs.Common.{◌-◌, ◌≤◌, length}
 use Rattle.std.specs.Option.{IfSome}
 use Rattle.master_core.proofs.CuttingLaw.{CutsOn}
 use Rattle.master_core.proofs.cutting.cut_piece.Given as goal
