@@ -149,5 +149,9 @@ fn put_out(alloc: Global, out: &Out, text: &mut Bytes) -> Result<(), Memory> {
             let mark = format!(in alloc; "{}.{} {counts:?}", ask.conn, ask.command)?;
             text.extend_from_slice(mark.as_bytes())
         }
+        Out::Told(ask, how) => {
+            let told = format!(in alloc; "{}.{} told {how:?}", ask.conn, ask.command)?;
+            text.extend_from_slice(told.as_bytes())
+        }
     }
 }
