@@ -6,6 +6,8 @@ pub mod ClientLaw
 mod ViewLaw
 mod InPlaceLaw
 mod StoreLaw
+mod PartLaw
+mod StoredLaw
 mod FlagLaw
 mod ViewedLaw
 mod KeysLaw

@@ -22,6 +22,7 @@ pub mod Noop
 pub mod Close
 pub mod Expunge
 pub mod StoreFlags
+pub mod StoredLines
 pub mod Select
 pub mod Keys
 pub mod Search
