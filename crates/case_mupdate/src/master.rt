@@ -2,7 +2,7 @@
 use case_base::{Fault, bytes_of, number_of, wide_number_of};
 use link_msg::{LinkMsg, Out, Outs};
 use master_core::{Master, Sender};
-use mur_base::{Bytes, Items, Location, Memory, mail_name, node_name};
+use mur_base::{Bytes, Items, Location, MailName, Memory, mail_name, node_name};
 use node_record::{MasterRecord, RecordFault, encode_master};
 use schedule_text::put_text;
 use std::alloc::Global;
@@ -54,42 +54,80 @@ fn entries_of(alloc: Global, field: &str) -> Result<Items<Bytes>, Fault> {
 
 fn put_active(alloc: Global, count: u32, entries: &mut Items<Bytes>) -> Result<(), Fault> {
     for i in 0..count {
-        let text = format!(in alloc; "n{i}")?;
-        let name = mail_name(alloc, text.as_bytes())?;
-        let place = Location {
-            server: node_name(alloc, b"b1")?,
-            partition: Bytes::from_slice(alloc, b"p")?,
-        };
-        let entry = MasterRecord::Active(name, place, Bytes::new(alloc));
+        let entry = active(alloc, i)?;
         entries.push(encode_master(alloc, &entry)?)?;
     }
     Ok(())
+}
+
+/// An active mailbox at b1, by its number.
+fn active(alloc: Global, number: u32) -> Result<MasterRecord, Fault> {
+    let name = numbered_name(alloc, number)?;
+    let place = place(alloc)?;
+    Ok(MasterRecord::Active(name, place, Bytes::new(alloc)))
+}
+
+fn numbered_name(alloc: Global, number: u32) -> Result<MailName, Fault> {
+    let text = format!(in alloc; "n{number}")?;
+    Ok(mail_name(alloc, text.as_bytes())?)
+}
+
+fn place(alloc: Global) -> Result<Location, Fault> {
+    let server = node_name(alloc, b"b1")?;
+    let partition = Bytes::from_slice(alloc, b"p")?;
+    Ok(Location { server, partition })
 }
 
 /// Takes a step: a connection opens, its bytes come, a sender ends, or a node sends a line.
 fn put_step(alloc: Global, master: &mut Master, step: &str, out: &mut Bytes) -> Result<(), Fault> {
     let (word, rest) = step.split_once(' ').unwrap_or((step, ""));
     match word {
-        "open" => {
-            let outs = master.connect(alloc, wide_number_of(rest)?)?;
-            Ok(put_outs(alloc, outs.as_slice(), out)?)
-        }
-        "data" => {
-            let (conn, text) = rest.split_once(' ').unwrap_or((rest, ""));
-            let piece = bytes_of(alloc, text)?;
-            let outs = master.bytes_in(alloc, wide_number_of(conn)?, piece.as_slice())?;
-            Ok(put_outs(alloc, outs.as_slice(), out)?)
-        }
-        "end" => {
-            let (kind, name) = rest.split_once(' ').unwrap_or((rest, ""));
-            master.ended(&sender_of(alloc, kind, name)?);
-            Ok(())
-        }
-        kind => {
-            let (name, text) = rest.split_once(' ').unwrap_or((rest, ""));
-            put_line(alloc, master, &sender_of(alloc, kind, name)?, text, out)
-        }
+        "open" => put_opened(alloc, master, rest, out),
+        "data" => put_answered(alloc, master, rest, out),
+        "end" => end(alloc, master, rest),
+        kind => put_said(alloc, master, kind, rest, out),
     }
+}
+
+fn put_opened(
+    alloc: Global,
+    master: &mut Master,
+    conn: &str,
+    out: &mut Bytes,
+) -> Result<(), Fault> {
+    let outs = master.connect(alloc, wide_number_of(conn)?)?;
+    Ok(put_outs(alloc, outs.as_slice(), out)?)
+}
+
+fn put_answered(
+    alloc: Global,
+    master: &mut Master,
+    rest: &str,
+    out: &mut Bytes,
+) -> Result<(), Fault> {
+    let (conn, text) = rest.split_once(' ').unwrap_or((rest, ""));
+    let conn = wide_number_of(conn)?;
+    let piece = bytes_of(alloc, text)?;
+    let outs = master.bytes_in(alloc, conn, piece.as_slice())?;
+    Ok(put_outs(alloc, outs.as_slice(), out)?)
+}
+
+fn end(alloc: Global, master: &mut Master, rest: &str) -> Result<(), Fault> {
+    let (kind, name) = rest.split_once(' ').unwrap_or((rest, ""));
+    master.ended(&sender_of(alloc, kind, name)?);
+    Ok(())
+}
+
+fn put_said(
+    alloc: Global,
+    master: &mut Master,
+    kind: &str,
+    rest: &str,
+    out: &mut Bytes,
+) -> Result<(), Fault> {
+    let (name, text) = rest.split_once(' ').unwrap_or((rest, ""));
+    let from = sender_of(alloc, kind, name)?;
+    put_line(alloc, master, &from, text, out)
 }
 
 fn sender_of(alloc: Global, kind: &str, name: &str) -> Result<Sender, Fault> {
@@ -112,12 +150,17 @@ fn put_line(
     let line = bytes_of(alloc, text)?;
     let plan = master.plan(alloc, from, line.as_slice())?;
     if let Some(entry) = &plan.entry {
-        out.push(b'[')?;
-        put_text(encode_master(alloc, entry)?.as_slice(), out)?;
-        out.extend_from_slice(b"] ")?;
+        put_entry(alloc, entry, out)?;
     }
     let outs: Outs = master.settle(plan);
     Ok(put_outs(alloc, outs.as_slice(), out)?)
+}
+
+fn put_entry(alloc: Global, entry: &MasterRecord, out: &mut Bytes) -> Result<(), Memory> {
+    let bytes = encode_master(alloc, entry)?;
+    out.push(b'[')?;
+    put_text(bytes.as_slice(), out)?;
+    out.extend_from_slice(b"] ")
 }
 
 fn put_outs(alloc: Global, outs: &[Out], text: &mut Bytes) -> Result<(), Memory> {
