@@ -23,7 +23,9 @@ impl Cases for Kinds {
             ["configuration", text] => configuration::put_configuration(alloc, text, out),
             ["nodes", list] => lists::put_nodes(alloc, list, out),
             ["users", list] => lists::put_users(alloc, list, out),
-            ["call", words, schedule, refused] => call::put_ended(alloc, words, schedule, refused, out),
+            ["call", words, schedule, refused] => call::put_ended(
+                alloc, words, schedule, refused, out,
+            ),
             _ => Err(Fault::Unreadable("no such kind of case")),
         }
     }
