@@ -54,10 +54,11 @@ fn cost_of(rt: &HostRuntime, load: Load, rounds: u32) -> Result<Cost, Fault> {
 fn print(rt: &HostRuntime, name: &str, cost: Cost) -> Result<(), Fault> {
     print_times(rt, name, cost.plain, "bytes", cost)?;
     println!(rt; "serde_json alone")?;
-    if cost.took > cost.plain_took.saturating_mul(2) {
-        return Err(Fault::Slow);
+    if cost.is_within(2) {
+        Ok(())
+    } else {
+        Err(Fault::Slow)
     }
-    Ok(())
 }
 
 pub fn run(rt: &HostRuntime, task: Task) -> Result<(), Fault> {

@@ -24,14 +24,14 @@ pub enum Fault {
     Refused,
     /// An operation touches no message, or rises by a fifth or more when the box doubles.
     Rise,
-    /// A configuration takes more than twice the time of `serde_json` alone.
+    /// Work takes longer than its bound allows.
     Slow,
 }
 
 impl Fault {
     pub fn text(self) -> &'static str {
         match self {
-            Fault::Usage => "bench [frames|commands|replies|boxes|search|configurations [ROUNDS]]",
+            Fault::Usage => "bench [frames|commands|replies|boxes|search|configurations|mupdate [ROUNDS]]",
             Fault::Memory => "out of memory",
             Fault::Io => "a clock, the arguments or the output failed",
             Fault::Date => "no date",
@@ -40,7 +40,7 @@ impl Fault {
             Fault::Refused => "a mailbox refuses a change",
             Fault::Rise =>
                 "an operation touches nothing, or rises by a fifth or more when the box doubles",
-            Fault::Slow => "a configuration takes more than twice the time of serde_json alone",
+            Fault::Slow => "work takes longer than its bound allows",
         }
     }
 }

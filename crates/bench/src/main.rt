@@ -1,6 +1,6 @@
-//! Times libraries of the Murder, each beside plain work on the same bytes: `bench frames|commands|replies|boxes|search|configurations
-//! ROUNDS` does what the bench does so many times, and says how long it took. Without a number each is done once, and only what it came
-//! to is counted; without a word that is done of all six.
+//! Times libraries of the Murder, each beside plain work on the same bytes:
+//! `bench frames|commands|replies|boxes|search|configurations|mupdate ROUNDS` does what the bench does so many times, and says how long it
+//! took. Without a number each is done once, and only what it came to is counted; without a word that is done of all seven.
 #![tactic(auto)]
 
 mod boxes;
@@ -9,6 +9,7 @@ mod configurations;
 mod fault;
 mod frames;
 mod making;
+mod mupdate;
 mod replies;
 mod search;
 mod task;
@@ -28,15 +29,17 @@ enum Bench {
     Boxes,
     Search,
     Configurations,
+    Mupdate,
 }
 
-static BENCHES: [(&str, Bench); 6] = [
+static BENCHES: [(&str, Bench); 7] = [
     ("frames", Bench::Frames),
     ("commands", Bench::Commands),
     ("replies", Bench::Replies),
     ("boxes", Bench::Boxes),
     ("search", Bench::Search),
     ("configurations", Bench::Configurations),
+    ("mupdate", Bench::Mupdate),
 ];
 
 impl Bench {
@@ -57,6 +60,7 @@ impl Bench {
             Bench::Boxes => boxes::run(rt, task),
             Bench::Search => search::run(rt, task),
             Bench::Configurations => configurations::run(rt, task),
+            Bench::Mupdate => mupdate::run(rt, task),
         }
     }
 }

@@ -103,6 +103,11 @@ impl Cost {
         Tenths(self.took.saturating_mul(10) / self.plain_took.max(1))
     }
 
+    /// Whether it took at most so many times as long as the plain work.
+    pub fn is_within(self, most: u128) -> bool {
+        self.took <= self.plain_took.saturating_mul(most)
+    }
+
     /// The same times, in whole microseconds.
     pub fn in_microseconds(self) -> Cost {
         Cost {

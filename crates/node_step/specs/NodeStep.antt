@@ -1,0 +1,75 @@
+-- One step of a node: what an input makes of its state, and what it lets out.
+use Rattle.std.specs.Prelude.{ℕ, List, [], Option, None, Some}
+use Rattle.backend_core.specs.declared.backend.Backend.{Backend}
+use Rattle.backend_core.specs.declared.input.BackInput.{BackInput}
+use Rattle.backend_core.specs.declared.input.BackInput.TheVariants.{Up as up_in, End as end_in, FromFront}
+use Rattle.backend_core.specs.Plan.{Planned, plan_of}
+use Rattle.front_core.specs.declared.front.Front.{Front}
+use Rattle.front_core.specs.Front.{Stepped, connect, bytes_in, hang, deliver}
+use Rattle.link_msg.specs.declared.input.NodeInput.{NodeInput}
+use Rattle.link_msg.specs.declared.input.NodeInput.TheVariants.{Opened, Piece, Hung, From}
+use Rattle.link_msg.specs.declared.message.LinkMsg.{LinkMsg}
+use Rattle.link_msg.specs.declared.message.LinkMsg.TheVariants.{Up, End, Line, Ask, Answer}
+use Rattle.link_msg.specs.declared.out.Out.{Out}
+use Rattle.node_step.specs.declared.node.NodeState.{NodeState}
+use Rattle.node_step.specs.declared.node.NodeState.TheVariants as node
+
+-- the state after a step, and what went out
+pub record Acted : Type 0 where
+  pub state : NodeState
+  pub outs : List Out
+
+-- nothing happens
+abbrev pub idle : NodeState → Acted
+idle state = record { state = state; outs = [] }
+
+abbrev pub front_acted : Stepped → Acted
+front_acted stepped = record { state = node.Front stepped.front; outs = stepped.outs }
+
+-- a frontend serves its clients, and takes the answers of homes
+unfoldable pub front_takes : Front → NodeInput → Acted
+front_takes front (Opened conn) = front_acted (connect front conn)
+front_takes front (Piece conn bytes) = front_acted (bytes_in front conn bytes)
+front_takes front (Hung conn) = idle (node.Front (hang front conn))
+front_takes front (From name message) = front_acted (deliver front message)
+
+-- what a message is to a backend
+unfoldable pub back_input : List ℕ → LinkMsg → Option BackInput
+back_input name Up = Some (up_in name)
+back_input name End = Some (end_in name)
+back_input name (Ask ask) = Some (FromFront name ask)
+back_input name (Line bytes) = None
+back_input name (Answer answer) = None
+
+abbrev pub back_acted : Planned → Acted
+back_acted planned = record { state = node.Back planned.home; outs = planned.outs }
+
+unfoldable pub back_by : Backend → Option BackInput → Acted
+back_by home None = idle (node.Back home)
+back_by home (Some input) = back_acted (plan_of home input)
+
+-- a backend has no clients
+unfoldable pub back_takes : Backend → NodeInput → Acted
+back_takes home (Opened conn) = idle (node.Back home)
+back_takes home (Piece conn bytes) = idle (node.Back home)
+back_takes home (Hung conn) = idle (node.Back home)
+back_takes home (From name message) = back_by home (back_input name message)
+
+-- the master takes everything, and lets nothing out yet
+unfoldable pub takes : NodeState → NodeInput → Acted
+takes (node.Front front) input = front_takes front input
+takes (node.Back home) input = back_takes home input
+takes (node.Master master) input = idle (node.Master master)
+
+-- the frontend, the backend that a node is
+unfoldable pub as_front : Option NodeState → Option Front
+as_front (Some (node.Front front)) = Some front
+as_front (Some (node.Back home)) = None
+as_front (Some (node.Master master)) = None
+as_front None = None
+
+unfoldable pub as_back : Option NodeState → Option Backend
+as_back (Some (node.Front front)) = None
+as_back (Some (node.Back home)) = Some home
+as_back (Some (node.Master master)) = None
+as_back None = None
