@@ -7,7 +7,6 @@ pub mod OpenAt
 pub mod Backends
 pub mod OneNode
 pub mod FlowLaw
-pub mod Carried
 pub mod Closed
 pub mod AtRest
 use Rattle.std.specs.Prelude.{◌≡◌, List}
@@ -28,7 +27,7 @@ use Rattle.cluster_core.specs.World.{start}
 pub record IsOneServer (config : Config) (events : List Event) : Type 0 where
   -- the run is that of its single steps, and those are its events, but of a flow as many deliveries as it may make, or until none is left
   pub by_steps : run (start config) events ≡ run_steps (start config) (unrolled (start config) events)
-  pub its_steps : AreStepsOfAll (links_of config.nodes) 0 (start config) events (unrolled (start config) events)
+  pub its_steps : AreStepsOfAll (links_of config.nodes) (start config) events (unrolled (start config) events)
   pub one_node : OneNodeWorksEach (start config) (unrolled (start config) events)
   pub own_clients : ServesItsOwnEach (start config) (unrolled (start config) events)
   pub one_store : IsToldByOneStore config events

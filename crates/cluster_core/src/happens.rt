@@ -1,15 +1,16 @@
 // What each event does.
-ghost use Rattle.std.specs.Prelude.{◌≡◌, ◌+◌, ◌<◌, ◌^◌, OnOk, IfSome, length};
+ghost use Rattle.std.specs.Prelude.{◌≡◌, ◌+◌, ◌<◌, ◌^◌, OnOk, IfSome};
 ghost use Rattle.schedule_text.specs.declared.event.Event.TheVariants.{Open, Data, Hang};
-ghost use Rattle.front_core.specs.Room.{HasRoomAt};
+ghost use Rattle.node_step.specs.Room.{HasRoomToTake};
 ghost use Rattle.cluster_core.specs.Room.{HasRoom};
-ghost use Rattle.cluster_core.specs.World.{client_at, front_at, with_client, opens, open_at, bytes_from, bytes_at, hangs, hang_at, steps_by};
+ghost use Rattle.cluster_core.specs.World.{client_at, client_does, node_at, steps_by};
 ghost use Rattle.cluster_core.specs.Flow.{happens};
 
-use crate::carry::carry_out;
+use crate::coming::comes;
 use crate::delivery::deliver;
 use crate::flow::flow;
 use crate::world::{Client, World};
+use link_msg::NodeInput;
 use mur_base::{Bytes, Copied, Memory, NodeName};
 use schedule_text::Event;
 use std::alloc::Global;
@@ -23,11 +24,8 @@ pub fn happens(alloc: Global, world: &mut World, event: Event) -> Result<(), Mem
     match event {
         Event::Flow(count) => flow(alloc, world, count),
         Event::Open(node, conn) => open(alloc, world, node, conn),
-        Event::Data(conn, bytes) => data(alloc, world, conn, &bytes),
-        Event::Hang(conn) => {
-            hang(alloc, world, conn);
-            Ok(())
-        }
+        Event::Data(conn, bytes) => data(alloc, world, conn, bytes),
+        Event::Hang(conn) => hang(alloc, world, conn),
         Event::Deliver(from, to) => deliver(alloc, world, &from, &to),
         _ => {
             world.steps += 1;
@@ -37,7 +35,7 @@ pub fn happens(alloc: Global, world: &mut World, event: Event) -> Result<(), Mem
 }
 
 /// A connection is opened at a node, unless there is one of its number.
-#[tactic(auto, unfolding(crate::specs::World::takes, crate::specs::World::opens, crate::specs::World::open_at))]
+#[tactic(auto, unfolding(crate::specs::World::takes, crate::specs::World::opens))]
 fn open(alloc: Global, world: &mut World, node: NodeName, conn: u64) -> Result<(), Memory>
     requires { world.old.steps + 1 < 2 ^ 64 }
     ensures { OnOk result (world.new ≡ steps_by world.old (Open node conn)) }
@@ -51,61 +49,45 @@ fn open(alloc: Global, world: &mut World, node: NodeName, conn: u64) -> Result<(
         given: Bytes::new(alloc),
     };
     world.clients.insert(conn, client)?;
-    match world.fronts.get_mut(&node) {
-        Some(front) => {
-            let outs = front.connect(alloc, conn)?;
-            carry_out(alloc, world, &node, outs)
-        }
-        None => Ok(()),
-    }
+    comes(alloc, world, &node, NodeInput::Opened(conn))
 }
 
 /// Bytes come from the client of a connection.
-#[tactic(auto, unfolding(crate::specs::World::takes, crate::specs::World::bytes_from))]
-fn data(alloc: Global, world: &mut World, conn: u64, bytes: &Bytes) -> Result<(), Memory>
-    requires { HasRoom world.old (Data conn bytes.now) }
-    ensures { OnOk result (world.new ≡ steps_by world.old (Data conn bytes.now)) }
+#[tactic(auto, unfolding(crate::specs::World::takes))]
+fn data(alloc: Global, world: &mut World, conn: u64, bytes: Bytes) -> Result<(), Memory>
+    requires { HasRoom world.old (Data conn bytes) }
+    ensures { OnOk result (world.new ≡ steps_by world.old (Data conn bytes)) }
 {
     world.steps += 1;
-    match world.clients.get(&conn) {
-        Some(client) => {
-            let node = client.at.copy(alloc)?;
-            data_at(alloc, world, conn, bytes, &node)
-        }
-        None => Ok(()),
-    }
-}
-
-#[tactic(auto, unfolding(crate::specs::World::bytes_at))]
-fn data_at(
-    alloc: Global,
-    world: &mut World,
-    conn: u64,
-    bytes: &Bytes,
-    node: &NodeName,
-) -> Result<(), Memory>
-    requires { IfSome (front_at world.old node.now) (λ front. HasRoomAt front conn (length bytes.now)) }
-    ensures { OnOk result (world.new ≡ bytes_at world.old conn bytes.now node.now (front_at world.old node.now)) }
-{
-    match world.fronts.get_mut(node) {
-        Some(front) => {
-            let outs = front.bytes_in(alloc, conn, bytes.as_slice())?;
-            carry_out(alloc, world, node, outs)
-        }
-        None => Ok(()),
-    }
+    client_does(alloc, world, conn, NodeInput::Piece(conn, bytes))
 }
 
 /// The client of a connection closes it.
-#[tactic(auto, unfolding(crate::specs::World::takes, crate::specs::World::hangs, crate::specs::World::hang_at))]
-fn hang(alloc: Global, world: &mut World, conn: u64)
+#[tactic(auto, unfolding(crate::specs::World::takes))]
+fn hang(alloc: Global, world: &mut World, conn: u64) -> Result<(), Memory>
     requires { world.old.steps + 1 < 2 ^ 64 }
-    ensures { world.new ≡ steps_by world.old (Hang conn) }
+    ensures { OnOk result (world.new ≡ steps_by world.old (Hang conn)) }
 {
     world.steps += 1;
-    if let Some(client) = world.clients.get(&conn) {
-        if let Some(front) = world.fronts.get_mut(&client.at) {
-            front.hang(alloc, conn);
+    client_does(alloc, world, conn, NodeInput::Hung(conn))
+}
+
+/// What a client does comes to the node to which it is connected.
+#[tactic(auto, unfolding(crate::specs::World::client_does))]
+fn client_does(
+    alloc: Global,
+    world: &mut World,
+    conn: u64,
+    input: NodeInput,
+) -> Result<(), Memory>
+    requires { IfSome (client_at world.old conn) (λ client. IfSome (node_at world.old client.at) (λ it. HasRoomToTake it input)) }
+    ensures { OnOk result (world.new ≡ client_does world.old input (client_at world.old conn)) }
+{
+    match world.clients.get(&conn) {
+        Some(client) => {
+            let node = client.at.copy(alloc)?;
+            comes(alloc, world, &node, input)
         }
+        None => Ok(()),
     }
 }

@@ -38,7 +38,7 @@ fn names(alloc: Global, world: &World) -> Result<MailNames, Memory>
 {
     let mut names = MailNames::new(alloc);
     for node in world.backends.as_slice() {
-        if let Some(home) = world.homes.get(node) {
+        if let Some(home) = world.home(node) {
             put_names(alloc, home, &mut names)?;
         }
     }
@@ -103,5 +103,5 @@ fn home_row(alloc: Global, name: &MailName, node: &NodeName, held: &Held) -> Res
 fn held_at<'a>(world: &'a World, node: &NodeName, name: &MailName) -> Option<&'a Held>
     ensures { option_copied result ≡ value_at (slice_cmp nat_cmp) (held_at_node world.now node.now) name.now }
 {
-    world.homes.get(node)?.held.get(name)
+    world.home(node)?.held.get(name)
 }

@@ -4,6 +4,7 @@
 
 mod carry;
 mod cluster;
+mod coming;
 mod delivery;
 mod flow;
 mod happens;

@@ -2,14 +2,16 @@
 ghost use Rattle.std.specs.Prelude.{◌≡◌, ◌<◌, length, IfOk, OnOk};
 ghost use Rattle.imap_command.specs.Ruled.{IsDate};
 ghost use Rattle.mur_config.specs.Nodes.{AreNodes};
-ghost use Rattle.cluster_core.specs.World.{start, backends_of, first_name, setting_of, with_node, with_nodes};
+ghost use Rattle.cluster_core.specs.World.{start, backends_of, first_name, setting_of, first_state, with_node, with_nodes};
 
 use crate::world::World;
 use backend_core::Backend;
 use front_core::Front;
+use master_core::Master;
 use mur_base::{Copied, Items, Location, Map, Memory, NodeName};
 use mur_config::{Config, Kind, Node};
 use mur_model::Setting;
+use node_step::NodeState;
 use std::alloc::Global;
 
 /// The date of a configuration is one, which its type keeps. The call does nothing.
@@ -28,8 +30,7 @@ pub fn start(alloc: Global, config: &Config) -> Result<World, Memory>
 {
     let nodes = config.nodes.as_slice();
     let mut world = World {
-        fronts: Map::new(alloc),
-        homes: Map::new(alloc),
+        nodes: Map::new(alloc),
         backends: backends_of(alloc, nodes)?,
         pairs: config.nodes.links(alloc)?,
         clients: Map::new(alloc),
@@ -78,7 +79,6 @@ fn add_nodes(
     Ok(())
 }
 
-#[tactic(auto, unfolding(crate::specs::World::with_node))]
 fn add_node(
     alloc: Global,
     config: &Config,
@@ -86,24 +86,37 @@ fn add_node(
     world: &mut World,
     node: &Node,
 ) -> Result<(), Memory>
-    ensures { OnOk result (world.new ≡ with_node home.now (setting_of config.now) world.old node.now (node.now).kind) }
+    ensures { OnOk result (world.new ≡ with_node home.now (setting_of config.now) world.old node.now) }
+{
+    let first = first_state(alloc, config, home, node)?;
+    world.nodes.insert(node.name.copy(alloc)?, first)?;
+    Ok(())
+}
+
+/// A node as it begins.
+#[tactic(auto, unfolding(crate::specs::World::first_state))]
+fn first_state(
+    alloc: Global,
+    config: &Config,
+    home: &NodeName,
+    node: &Node,
+) -> Result<NodeState, Memory>
+    ensures { IfOk result (λ it. it ≡ first_state home.now (setting_of config.now) node.now (node.now).kind) }
 {
     let name = node.name.copy(alloc)?;
     match node.kind {
-        Kind::Master => Ok(()),
+        Kind::Master => Ok(NodeState::Master(Master::new(alloc, name))),
         Kind::Frontend => {
             let setting = setting_of(alloc, config)?;
-            let front = Front::new(node.name.copy(alloc)?, home.copy(alloc)?, setting, alloc);
-            world.fronts.insert(name, front)?;
-            Ok(())
+            let front = Front::new(name, home.copy(alloc)?, setting, alloc);
+            Ok(NodeState::Front(front))
         }
         Kind::Backend => {
             let me = Location {
-                server: node.name.copy(alloc)?,
+                server: name,
                 partition: Items::from_slice(alloc, node.partition.as_slice())?,
             };
-            world.homes.insert(name, Backend::boot(alloc, me))?;
-            Ok(())
+            Ok(NodeState::Back(Backend::boot(alloc, me)))
         }
     }
 }

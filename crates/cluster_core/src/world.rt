@@ -1,10 +1,14 @@
 // The whole cluster at one moment.
+ghost use Rattle.std.specs.Prelude.{◌≡◌};
+ghost use Rattle.std.specs.Option.{option_copied};
+ghost use Rattle.cluster_core.specs.World.{home_at};
+
 use backend_core::Backend;
-use front_core::Front;
 use link_msg::{Counts, How, LinkMsg};
 use link_queue::Links;
 use mur_base::{AskId, Bytes, Items, Map, NodeName};
 use mur_config::Link;
+use node_step::NodeState;
 
 /// A client: the node that it connected to, and all bytes that it was given.
 #[derive(Drop)]
@@ -34,10 +38,8 @@ pub enum MarkKind {
 /// The cluster: its nodes, what is on its way between them, its clients, and what its steps did.
 #[derive(Drop)]
 pub struct World {
-    /// The frontends, by their names.
-    pub fronts: Map<NodeName, Front>,
-    /// The backends, by their names.
-    pub homes: Map<NodeName, Backend>,
+    /// The nodes, by their names.
+    pub nodes: Map<NodeName, NodeState>,
     /// The backends in the configuration's order.
     pub backends: Items<NodeName>,
     /// The directed pairs of linked nodes in the order in which a flow goes over them.
@@ -50,4 +52,13 @@ pub struct World {
     pub marks: Items<Mark>,
     /// How many steps were taken, and so the number of the last one.
     pub steps: u64,
+}
+
+impl World {
+    /// The backend of a name, if there is one.
+    pub fn home(&self, node: &NodeName) -> Option<&Backend>
+        ensures { option_copied result ≡ home_at self.now node.now }
+    {
+        self.nodes.get(node)?.as_back()
+    }
 }

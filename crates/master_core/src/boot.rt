@@ -1,6 +1,7 @@
 // The master that starts from the entries of its disk.
 ghost use Rattle.std.specs.Prelude.{◌≡◌, ℕ, Err, IfOk};
-ghost use Rattle.master_core.specs.Boot.{IsNoEntry, IsRead, IsBooted};
+ghost use Rattle.node_record.specs.Table.{empty_table};
+ghost use Rattle.master_core.specs.Boot.{IsNoEntry, IsRead, IsBooted, booted};
 
 use crate::master::Master;
 use mur_base::{Bytes, Map, NodeName};
@@ -23,6 +24,20 @@ fn table_of(alloc: Global, entries: &[Bytes]) -> Result<Table, RecordFault>
 }
 
 impl Master {
+    /// The master whose disk is empty: no record, no stream and no connection. It takes no memory.
+    #[tactic(auto, unfolding(crate::specs::Boot::booted))]
+    pub fn new(alloc: Global, me: NodeName) -> Master
+        ensures { result ≡ booted me empty_table }
+    {
+        Master {
+            me,
+            table: Table::new(alloc),
+            streams: Map::new(alloc),
+            watchers: Map::new(alloc),
+            outside: Map::new(alloc),
+        }
+    }
+
     /// The master whose disk has these entries, from the first to the last: their table, no stream and no connection.
     #[tactic(auto, unfolding(crate::specs::Boot::booted))]
     pub fn boot(alloc: Global, me: NodeName, entries: &[Bytes]) -> Result<Master, RecordFault>

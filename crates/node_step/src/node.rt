@@ -1,4 +1,8 @@
 // A node of the Murder.
+ghost use Rattle.std.specs.Prelude.{◌≡◌, Some};
+ghost use Rattle.std.specs.Option.{option_copied};
+ghost use Rattle.node_step.specs.NodeStep.{as_back};
+
 use backend_core::Backend;
 use front_core::Front;
 use master_core::Master;
@@ -12,4 +16,17 @@ pub enum NodeState {
     Back(Backend),
     /// The master, which keeps the table of all mailboxes.
     Master(Master),
+}
+
+impl NodeState {
+    /// The backend that it is, if it is one.
+    #[tactic(auto, unfolding(crate::specs::NodeStep::as_back))]
+    pub fn as_back(&self) -> Option<&Backend>
+        ensures { option_copied result ≡ as_back (Some self.now) }
+    {
+        match self {
+            NodeState::Back(home) => Some(home),
+            NodeState::Front(_) | NodeState::Master(_) => None,
+        }
+    }
 }

@@ -3,60 +3,42 @@ use Rattle.std.proofs.Common.{◌≡◌, ◌≢◌, ℕ, zero, suc, ◌+◌, ◌
 use Rattle.std.proofs.Common.{sym, ◌∙◌, ap, subst, arith, length-append, Option, All, Contains}
 use Rattle.std.proofs.lemmas.Bool.{eqb-true, eq-eqb}
 use Rattle.std.proofs.lemmas.List.Elements.{All-nil, All-cons, All-contains, Contains-append_right}
-use Rattle.backend_core.specs.declared.backend.Backend.{Backend}
-use Rattle.backend_core.specs.declared.input.BackInput.{BackInput}
-use Rattle.backend_core.specs.Plan.{plan_of}
-use Rattle.front_core.specs.declared.front.Front.{Front}
-use Rattle.front_core.specs.Front.{deliver as take_message}
+use Rattle.link_msg.specs.declared.input.NodeInput.{NodeInput}
+use Rattle.link_msg.specs.declared.input.NodeInput.TheVariants.{From}
 use Rattle.link_msg.specs.declared.message.LinkMsg.{LinkMsg}
 use Rattle.mur_config.specs.declared.config.Config.{Config}
 use Rattle.mur_config.specs.declared.node.Link.{Link}
 use Rattle.mur_config.specs.Nodes.{AreNodes, links_of}
+use Rattle.node_step.specs.declared.node.NodeState.{NodeState}
+use Rattle.node_step.specs.NodeStep.{takes as node_takes}
 use Rattle.schedule_text.specs.declared.event.Event.{Event}
 use Rattle.schedule_text.specs.declared.event.Event.TheVariants.{Deliver, Flow}
-use Rattle.schedule_text.specs.Brings.{bytes_brought, bytes_of_all}
 use Rattle.cluster_core.specs.declared.world.World.{World}
 use Rattle.cluster_core.specs.Flow.{Flowing, delivered, turn_by, turn_of_link, round, rounds_by, rounds, flow, steps_of_event, happens, unrolled, run_steps}
 use Rattle.cluster_core.specs.Headline.FlowLaw.{DeliversFirst, IsFlow, AreStepsOf, AreStepsOfAll, AreItsSteps}
 use Rattle.cluster_core.specs.Headline.FlowLaw.AreStepsOfAll.{no_event, an_event}
 use Rattle.link_queue.specs.Links.{on_link}
-use Rattle.cluster_core.specs.World.{front_at, home_at, input_of, home_takes, comes_to_home, comes_to, taken_from_link, deliver_first, takes, stepped, steps_by, start}
+use Rattle.cluster_core.specs.World.{node_at, comes_to, taken_from_link, deliver_first, takes, stepped, steps_by, start}
 use Rattle.cluster_core.proofs.Nodes.LinkedNodes.{AreApart, pairs_apart}
-use Rattle.cluster_core.proofs.Flows.Load.{load}
-use Rattle.cluster_core.proofs.Flows.LoadFalls.{delivery_falls, start_load, step_load, steps_load}
-use Rattle.mur_config.proofs.OncePairs.{times, pairs_once}
 use Rattle.cluster_core.proofs.Nodes.OneNodeLaw.{carry_all_sends}
-use Rattle.cluster_core.proofs.Nodes.NoneQuiet.{NoneQuiet, first_serves, run_keeps as keeps_none_quiet}
-use Rattle.cluster_core.proofs.Nodes.OnPairs.{IsIdle, all_empty, pairs_stay, start_none_quiet}
+use Rattle.cluster_core.proofs.Nodes.OnPairs.{IsIdle, all_empty, pairs_stay}
 use Rattle.cluster_core.proofs.Runs.Unrolled.{event_made, run_steps-append}
 use Rattle.link_queue.proofs.Wires.{same_itself, on_link-taken}
 
 -- a delivery takes the first message of its link, and nothing else changes there
 
-home_leaves : (world : World) (node : List ℕ) (home : Backend) (input : Option BackInput) (from to : List ℕ) → from ≢ node
-    → on_link (home_takes world node home input).links from to ≡ on_link world.links from to
-unfolding home_takes
-home_leaves world node home None from to ne = refl
-home_leaves world node home (Some input) from to ne = (carry_all_sends node _ (plan_of home input).outs).others from to ne
-
-to_home_leaves : (world : World) (f t : List ℕ) (message : LinkMsg) (found : Option Backend) (from to : List ℕ) → from ≢ t
-    → on_link (comes_to_home world f t message found).links from to ≡ on_link world.links from to
-unfolding comes_to_home
-to_home_leaves world f t message None from to ne = refl
-to_home_leaves world f t message (Some home) from to ne = home_leaves world t home (input_of f message) from to ne
-
-comes_leaves : (world : World) (f t : List ℕ) (message : LinkMsg) (found : Option Front) (from to : List ℕ) → from ≢ t
-    → on_link (comes_to world f t message found).links from to ≡ on_link world.links from to
+comes_leaves : (world : World) (node : List ℕ) (input : NodeInput) (found : Option NodeState) (from to : List ℕ) → from ≢ node
+    → on_link (comes_to world node input found).links from to ≡ on_link world.links from to
 unfolding comes_to
-comes_leaves world f t message (Some front) from to ne = (carry_all_sends t _ (take_message front message).outs).others from to ne
-comes_leaves world f t message None from to ne = to_home_leaves world f t message (home_at world t) from to ne
+comes_leaves world node input None from to ne = refl
+comes_leaves world node input (Some it) from to ne = (carry_all_sends node _ (node_takes it input).outs).others from to ne
 
 takes_first : (world : World) (from to : List ℕ) (queue : List LinkMsg) → from ≢ to → on_link world.links from to ≡ queue
     → on_link (deliver_first world from to queue).links from to ≡ drop 1 queue
 unfolding deliver_first
 takes_first world from to [] ne e = e
 takes_first world from to (message ∷ rest) ne e =
-    comes_leaves (taken_from_link world from to) from to message (front_at world to) from to ne
+    comes_leaves (taken_from_link world from to) to (From from message) (node_at world to) from to ne
     ∙ on_link-taken world.links from to from to
     ∙ ap (λ same. cond same (drop 1 (on_link world.links from to)) (on_link world.links from to)) (same_itself from to)
     ∙ ap (λ q. drop 1 q) e
@@ -67,14 +49,13 @@ unfolding takes
 step_takes world from to ne = takes_first (stepped world) from to (on_link world.links from to) ne refl
 
 delivers_first : (links : List Link) (world : World) (link : Link) (message : LinkMsg) (queue : List LinkMsg) → Contains links link → AreApart link
-    → on_link world.links link.from link.to ≡ message ∷ queue → NoneQuiet world.links
+    → on_link world.links link.from link.to ≡ message ∷ queue
     → DeliversFirst links world (Deliver link.from link.to) (steps_by world (Deliver link.from link.to))
-delivers_first links world link message queue among apart e only = record {
+delivers_first links world link message queue among apart e = record {
   link = link;
   among = among;
   delivers = refl;
   message = message;
-  serves = first_serves world.links link.from link.to message queue e only;
   is_taken = e ∙ ap (λ q. message ∷ q) (sym (step_takes world link.from link.to apart ∙ ap (λ q. drop 1 q) e));
 }
 
@@ -110,7 +91,6 @@ record IsFlowing (links : List Link) (world : World) (count : ℕ) (flowing : Fl
   steps : flowing.world ≡ run_steps world flowing.made
   counts : length flowing.made + flowing.left ≡ count
   each : DeliversEach links world flowing.made
-  only : NoneQuiet world.links
 
 delivered_flows : (links : List Link) (world : World) (count : ℕ) (flowing : Flowing) (link : Link) (left : ℕ) (message : LinkMsg) (queue : List LinkMsg)
     → Contains links link → AreApart link → flowing.left ≡ suc left → on_link flowing.world.links link.from link.to ≡ message ∷ queue
@@ -118,16 +98,13 @@ delivered_flows : (links : List Link) (world : World) (count : ℕ) (flowing : F
 unfolding run_steps
 delivered_flows links world count flowing link left message queue among apart l e is =
     let event = Deliver link.from link.to in
-    let only : NoneQuiet flowing.world.links =
-    subst (λ (w : World). NoneQuiet w.links) (sym is.steps) ((keeps_none_quiet world flowing.made).none_quiet is.only) in
     let here : DeliversFirst links (run_steps world flowing.made) event (steps_by (run_steps world flowing.made) event) =
     subst (λ w. DeliversFirst links w event (steps_by w event)) is.steps
-    (delivers_first links flowing.world link message queue among apart e only) in
+    (delivers_first links flowing.world link message queue among apart e) in
     record {
       steps = ap (λ w. steps_by w event) is.steps ∙ sym (run_steps-append world flowing.made (event ∷ []));
       counts = omega (arith, length-append flowing.made (event ∷ []), is.counts, l);
       each = one_more links world flowing.made event is.each here;
-      only = is.only;
     }
 
 turn_flows : (links : List Link) (world : World) (count : ℕ) (flowing : Flowing) (link : Link) (left : ℕ) (queue : List LinkMsg)
@@ -225,11 +202,11 @@ rounds_rest zero links flowing h some = absurd (some (omega (arith, h)))
 rounds_rest (suc n) links flowing h some =
     rest_by n links flowing (rounds n links (round flowing links)) _ refl h some (λ fewer left. rounds_rest n links (round flowing links) fewer left)
 
-flow_flows : (world : World) (count : ℕ) → All AreApart world.pairs → NoneQuiet world.links → IsFlowing world.pairs world count (flow world count)
+flow_flows : (world : World) (count : ℕ) → All AreApart world.pairs → IsFlowing world.pairs world count (flow world count)
 unfolding flow run_steps
-flow_flows world count apart only =
+flow_flows world count apart =
     rounds_flow world.pairs world count apart count (record { world = world; made = []; left = count })
-    (record { steps = refl; counts = omega arith; each = λ before step later e. absurd (not_none before step later e); only = only })
+    (record { steps = refl; counts = omega arith; each = λ before step later e. absurd (not_none before step later e) })
 
 flow_rests : (world : World) (count : ℕ) → (flow world count).left ≢ 0 → All (IsIdle (flow world count).world) world.pairs
 unfolding flow
@@ -239,43 +216,12 @@ flow_is : (config : Config) (steps : List Event) (count : ℕ) (world : World) �
     → IsFlowing (links_of config.nodes) world count (flow world count)
 flow_is config steps count world there =
     let pairs : world.pairs ≡ links_of config.nodes = ap (λ (w : World). w.pairs) there ∙ pairs_stay config steps in
-    let only : NoneQuiet world.links =
-    subst (λ (w : World). NoneQuiet w.links) (sym there) ((keeps_none_quiet (start config) steps).none_quiet (start_none_quiet config)) in
     subst (λ links. IsFlowing links world count (flow world count)) pairs
-    (flow_flows world count (subst (λ links. All AreApart links) (sym pairs) (pairs_apart config.nodes)) only)
+    (flow_flows world count (subst (λ links. All AreApart links) (sym pairs) (pairs_apart config.nodes)))
 
--- deliveries come to an end
-
-delivers_less : (links : List Link) → ((from to : List ℕ) → times from to links ≤ 1) → (world : World) (event : Event)
-    → DeliversFirst links world event (steps_by world event) → load links (steps_by world event) + 1 ≤ load links world
-delivers_less links once world event is =
-    subst (λ e. load links (steps_by world e) + 1 ≤ load links world) (sym is.delivers)
-    (delivery_falls links once world (is.link).from (is.link).to is.message _ is.among is.is_taken)
-
-deliveries_end : (links : List Link) → ((from to : List ℕ) → times from to links ≤ 1) → (world : World) (steps : List Event) → DeliversEach links world steps
-    → load links (run_steps world steps) + length steps ≤ load links world
-unfolding run_steps
-deliveries_end links once world [] each = omega arith
-deliveries_end links once world (event ∷ steps) each =
-    omega (
-      arith,
-      delivers_less links once world event (each [] event steps refl),
-      deliveries_end links once (steps_by world event) steps (λ before step later e. each (event ∷ before) step later (ap (λ l. event ∷ l) e)),
-    )
-
-flow_ends : (config : Config) (steps : List Event) (count : ℕ) (world : World) → AreNodes config.nodes → world ≡ run_steps (start config) steps
-    → load (links_of config.nodes) (flow world count).world + length (flow world count).made ≤ load (links_of config.nodes) world
-flow_ends config steps count world are there =
-    let flows = flow_is config steps count world there in
-    omega (
-      arith,
-      deliveries_end (links_of config.nodes) (pairs_once config.nodes are) world (flow world count).made flows.each,
-      ap (load (links_of config.nodes)) flows.steps,
-    )
-
-is_flow : (config : Config) (steps : List Event) (sent count : ℕ) (world : World) → AreNodes config.nodes → world ≡ run_steps (start config) steps
-    → load (links_of config.nodes) world ≤ 2 * sent → IsFlow (links_of config.nodes) sent count world (flow world count).made
-is_flow config steps sent count world are there few =
+is_flow : (config : Config) (steps : List Event) (count : ℕ) (world : World) → AreNodes config.nodes → world ≡ run_steps (start config) steps
+    → IsFlow (links_of config.nodes) count world (flow world count).made
+is_flow config steps count world are there =
     let pairs : world.pairs ≡ links_of config.nodes = ap (λ (w : World). w.pairs) there ∙ pairs_stay config steps in
     let made = (flow world count).made in
     let flows = flow_is config steps count world there in
@@ -289,48 +235,33 @@ is_flow config steps sent count world are there few =
           let idle = subst (λ links. All (IsIdle (flow world count).world) links) pairs (flow_rests world count some) in
           ap (λ (w : World). on_link w.links from to) (sym flows.steps ∙ ends)
           ∙ all_empty config (steps ++ made) are (subst (λ w. All (IsIdle w) (links_of config.nodes)) ends idle) from to;
-      ends = omega (arith, few, flow_ends config steps count world are there);
     }
 
-are_steps : (config : Config) (steps : List Event) (sent : ℕ) (world : World) (event : Event) → AreNodes config.nodes → world ≡ run_steps (start config) steps
-    → load (links_of config.nodes) world ≤ 2 * sent → AreStepsOf (links_of config.nodes) sent world event (steps_of_event world event)
+are_steps : (config : Config) (steps : List Event) (world : World) (event : Event) → AreNodes config.nodes → world ≡ run_steps (start config) steps
+    → AreStepsOf (links_of config.nodes) world event (steps_of_event world event)
 unfolding steps_of_event
-are_steps config steps sent world (Flow count) are there few = is_flow config steps sent count world are there few
-are_steps config steps sent world event are there few = refl
+are_steps config steps world (Flow count) are there = is_flow config steps count world are there
+are_steps config steps world event are there = refl
 
 -- behind whatever steps
 pub are_its_steps : (world : World) (event : Event) → AreItsSteps world event
-unfolding run_steps
-are_its_steps world event = λ config steps are there.
-    let few : load (links_of config.nodes) (run_steps (start config) steps) ≤ 2 * (0 + bytes_of_all steps) =
-    steps_load config [] steps (start config) 0 are refl (start_load config (links_of config.nodes)) in
-    let here : load (links_of config.nodes) world ≤ 2 * bytes_of_all steps = omega (arith, few, ap (load (links_of config.nodes)) there) in
-    are_steps config steps (bytes_of_all steps) world event are there here
+are_its_steps world event = λ config steps are there. are_steps config steps world event are there
 
-happens_load : (config : Config) (steps : List Event) (world : World) (event : Event) → AreNodes config.nodes → world ≡ run_steps (start config) steps
-    → load (links_of config.nodes) (happens world event) ≤ load (links_of config.nodes) world + 2 * bytes_brought event
-unfolding happens
-happens_load config steps world (Flow count) are there = omega (arith, flow_ends config steps count world are there)
-happens_load config steps world event are there = step_load config steps world event are there
-
-all_from : (config : Config) (steps : List Event) (sent : ℕ) (world : World) (events : List Event) → AreNodes config.nodes
-    → world ≡ run_steps (start config) steps → load (links_of config.nodes) world ≤ 2 * sent
-    → AreStepsOfAll (links_of config.nodes) sent world events (unrolled world events)
+all_from : (config : Config) (steps : List Event) (world : World) (events : List Event) → AreNodes config.nodes → world ≡ run_steps (start config) steps
+    → AreStepsOfAll (links_of config.nodes) world events (unrolled world events)
 unfolding unrolled
-all_from config steps sent world [] are there few = no_event sent world
-all_from config steps sent world (event ∷ events) are there few =
+all_from config steps world [] are there = no_event world
+all_from config steps world (event ∷ events) are there =
     let its = steps_of_event world event in
     let made = event_made world event in
     let later : happens world event ≡ run_steps (start config) (steps ++ its) =
     made ∙ ap (λ w. run_steps w its) there ∙ sym (run_steps-append (start config) steps its) in
-    let next : load (links_of config.nodes) (happens world event) ≤ 2 * (sent + bytes_brought event) =
-    omega (arith, few, happens_load config steps world event are there) in
-    an_event sent world event events its (unrolled (happens world event) events) (are_steps config steps sent world event are there few)
-    (subst (λ w. AreStepsOfAll (links_of config.nodes) (sent + bytes_brought event) w events (unrolled (happens world event) events)) made
-    (all_from config (steps ++ its) (sent + bytes_brought event) (happens world event) events are later next))
+    an_event world event events its (unrolled (happens world event) events) (are_steps config steps world event are there)
+    (subst (λ w. AreStepsOfAll (links_of config.nodes) w events (unrolled (happens world event) events)) made
+    (all_from config (steps ++ its) (happens world event) events are later))
 
 -- the steps of a run are those of its events
 pub are_steps_of_all : (config : Config) (events : List Event) → AreNodes config.nodes
-    → AreStepsOfAll (links_of config.nodes) 0 (start config) events (unrolled (start config) events)
+    → AreStepsOfAll (links_of config.nodes) (start config) events (unrolled (start config) events)
 unfolding run_steps
-are_steps_of_all config events are = all_from config [] 0 (start config) events are refl (start_load config (links_of config.nodes))
+are_steps_of_all config events are = all_from config [] (start config) events are refl

@@ -4,14 +4,13 @@ use Rattle.std.proofs.Common.{◌∙◌, ap, arith, append_assoc}
 use Rattle.std.specs.Prelude.{All}
 use Rattle.std.proofs.lemmas.List.{append-nil}
 use Rattle.std.proofs.lemmas.List.Elements.{All-append, All-nil, All-push, All-weaker}
-use Rattle.front_core.specs.Front.{Stepped}
+use Rattle.link_msg.specs.declared.input.NodeInput.{NodeInput}
+use Rattle.link_msg.specs.declared.input.NodeInput.TheVariants.{Opened, Piece, Hung, From}
 use Rattle.link_msg.specs.declared.message.LinkMsg.{LinkMsg}
 use Rattle.link_msg.specs.declared.out.Out.{Out}
 use Rattle.link_msg.specs.declared.out.Out.TheVariants.{Client as to_client, Close, Link as to_node, Mark as mark_out, Told as tell}
-use Rattle.backend_core.specs.declared.backend.Backend.{Backend}
-use Rattle.backend_core.specs.declared.input.BackInput.{BackInput}
-use Rattle.backend_core.specs.Plan.{plan_of}
-use Rattle.front_core.specs.declared.front.Front.{Front}
+use Rattle.node_step.specs.declared.node.NodeState.{NodeState}
+use Rattle.node_step.specs.NodeStep.{Acted, takes as node_takes}
 use Rattle.schedule_text.specs.declared.event.Event.{Event}
 use Rattle.schedule_text.specs.declared.event.Event.TheVariants.{Open, Data, Hang, Deliver}
 use Rattle.cluster_core.specs.declared.world.Client.{Client}
@@ -22,9 +21,8 @@ use Rattle.cluster_core.specs.declared.world.MarkKind.TheVariants.{Home, Told}
 use Rattle.cluster_core.specs.declared.world.World.{World}
 use Rattle.cluster_core.specs.Flow.{run_steps}
 use Rattle.link_queue.specs.Links.{on_link}
-use Rattle.cluster_core.specs.World.{marked, client_at, front_at, home_at, given_more, carry, carry_all, with_front, with_client, open_at, opens, bytes_at}
-use Rattle.cluster_core.specs.World.{bytes_from, hang_at, hangs, input_of, home_takes, comes_to_home, comes_to, taken_from_link, deliver_first, takes, stepped}
-use Rattle.cluster_core.specs.World.{steps_by}
+use Rattle.cluster_core.specs.World.{marked, client_at, node_at, given_more, carry, carry_all, acts, comes_to, with_client, opens, client_does}
+use Rattle.cluster_core.specs.World.{taken_from_link, deliver_first, takes, stepped, steps_by}
 
 -- marks of one step, put behind others; the step stays
 pub record Adds (before now : World) : Type 0 where
@@ -80,66 +78,38 @@ unfolding carry_all
 carry_all_adds node world [] = adds_none world world refl refl
 carry_all_adds node world (out ∷ outs) = adds_more world (carry node world out) _ (carry_adds node world out) (carry_all_adds node (carry node world out) outs)
 
-front_adds : (world : World) (node : List ℕ) (step : Stepped) → Adds world (with_front world node step)
-front_adds world node step = adds_more world _ _ (adds_none world _ refl refl) (carry_all_adds node _ step.outs)
+acts_add : (world : World) (node : List ℕ) (acted : Acted) → Adds world (acts world node acted)
+acts_add world node acted = adds_more world _ _ (adds_none world _ refl refl) (carry_all_adds node _ acted.outs)
 
-open_adds : (world : World) (node : List ℕ) (conn : ℕ) (found : Option Front) → Adds world (open_at world node conn found)
-unfolding open_at
-open_adds world node conn None = adds_none world _ refl refl
-open_adds world node conn (Some front) =
-    adds_more world (with_client world node conn) _ (adds_none world _ refl refl) (front_adds (with_client world node conn) node _)
+comes_add : (world : World) (node : List ℕ) (input : NodeInput) (found : Option NodeState) → Adds world (comes_to world node input found)
+unfolding comes_to
+comes_add world node input None = adds_none world world refl refl
+comes_add world node input (Some it) = acts_add world node (node_takes it input)
 
 opens_add : (world : World) (node : List ℕ) (conn : ℕ) (found : Option Client) → Adds world (opens world node conn found)
 unfolding opens
 opens_add world node conn (Some there) = adds_none world world refl refl
-opens_add world node conn None = open_adds world node conn (front_at world node)
+opens_add world node conn None =
+    adds_more world (with_client world node conn) _ (adds_none world _ refl refl)
+    (comes_add (with_client world node conn) node (Opened conn) (node_at world node))
 
-bytes_add : (world : World) (conn : ℕ) (bytes node : List ℕ) (found : Option Front) → Adds world (bytes_at world conn bytes node found)
-unfolding bytes_at
-bytes_add world conn bytes node None = adds_none world world refl refl
-bytes_add world conn bytes node (Some front) = front_adds world node _
-
-data_adds : (world : World) (conn : ℕ) (bytes : List ℕ) (found : Option Client) → Adds world (bytes_from world conn bytes found)
-unfolding bytes_from
-data_adds world conn bytes None = adds_none world world refl refl
-data_adds world conn bytes (Some client) = bytes_add world conn bytes client.at (front_at world client.at)
-
-hang_adds : (world : World) (conn : ℕ) (node : List ℕ) (found : Option Front) → Adds world (hang_at world conn node found)
-unfolding hang_at
-hang_adds world conn node None = adds_none world world refl refl
-hang_adds world conn node (Some front) = adds_none world _ refl refl
-
-hangs_add : (world : World) (conn : ℕ) (found : Option Client) → Adds world (hangs world conn found)
-unfolding hangs
-hangs_add world conn None = adds_none world world refl refl
-hangs_add world conn (Some client) = hang_adds world conn client.at (front_at world client.at)
-
-home_adds : (world : World) (node : List ℕ) (home : Backend) (input : Option BackInput) → Adds world (home_takes world node home input)
-unfolding home_takes
-home_adds world node home None = adds_none world world refl refl
-home_adds world node home (Some input) = adds_more world _ _ (adds_none world _ refl refl) (carry_all_adds node _ (plan_of home input).outs)
-
-to_home_adds : (world : World) (from to : List ℕ) (message : LinkMsg) (found : Option Backend) → Adds world (comes_to_home world from to message found)
-unfolding comes_to_home
-to_home_adds world from to message None = adds_none world world refl refl
-to_home_adds world from to message (Some home) = home_adds world to home (input_of from message)
-
-comes_adds : (world : World) (from to : List ℕ) (message : LinkMsg) (found : Option Front) → Adds world (comes_to world from to message found)
-unfolding comes_to
-comes_adds world from to message (Some front) = front_adds world to _
-comes_adds world from to message None = to_home_adds world from to message (home_at world to)
+client_adds : (world : World) (input : NodeInput) (found : Option Client) → Adds world (client_does world input found)
+unfolding client_does
+client_adds world input None = adds_none world world refl refl
+client_adds world input (Some client) = comes_add world client.at input (node_at world client.at)
 
 deliver_adds : (world : World) (from to : List ℕ) (queue : List LinkMsg) → Adds world (deliver_first world from to queue)
 unfolding deliver_first
 deliver_adds world from to [] = adds_none world world refl refl
 deliver_adds world from to (message ∷ rest) =
-    adds_more world (taken_from_link world from to) _ (adds_none world _ refl refl) (comes_adds (taken_from_link world from to) from to message (front_at world to))
+    adds_more world (taken_from_link world from to) _ (adds_none world _ refl refl)
+    (comes_add (taken_from_link world from to) to (From from message) (node_at world to))
 
 pub takes_adds : (world : World) (event : Event) → Adds world (takes world event)
 unfolding takes
 takes_adds world (Open node conn) = opens_add world node conn (client_at world conn)
-takes_adds world (Data conn bytes) = data_adds world conn bytes (client_at world conn)
-takes_adds world (Hang conn) = hangs_add world conn (client_at world conn)
+takes_adds world (Data conn bytes) = client_adds world (Piece conn bytes) (client_at world conn)
+takes_adds world (Hang conn) = client_adds world (Hung conn) (client_at world conn)
 takes_adds world (Deliver from to) = deliver_adds world from to (on_link world.links from to)
 takes_adds world event = adds_none world world refl refl
 

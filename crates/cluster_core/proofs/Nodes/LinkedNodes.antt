@@ -1,5 +1,5 @@
 -- Each frontend is linked with the home in both directions, and no link joins a node with itself.
-use Rattle.std.proofs.Common.{◌≡◌, ◌≢◌, ◌⊎◌, inl, inr, ℕ, zero, suc, ◌<◌, Bool, true, false, not, ◌&&◌, if◌then◌else◌, List, [], ◌∷◌, length, refl, sym}
+use Rattle.std.proofs.Common.{◌≡◌, ◌≢◌, ◌⊎◌, inl, inr, ℕ, zero, suc, ◌<◌, Bool, true, false, Some, None, not, ◌&&◌, if◌then◌else◌, List, [], ◌∷◌, length, refl, sym}
 use Rattle.std.proofs.Common.{◌∙◌, ap, subst, arith, is_some, slice_index_or, All, Contains}
 use Rattle.std.specs.Ordering.{nat_cmp}
 use Rattle.std.specs.Cmp.Lexicographic.{slice_cmp}
@@ -7,8 +7,7 @@ use Rattle.std.specs.Str.{bytes_eq}
 use Rattle.std.proofs.Math.Logic.{⊎_elim}
 use Rattle.std.proofs.lemmas.List.Elements.{All-append, All-nil, All-cons, Contains-append_left, Contains-append_right}
 use Rattle.std.proofs.lemmas.Slice.Eq.{bytes_eq-Decides}
-use Rattle.front_core.specs.Front.{new_front}
-use Rattle.mur_base.proofs.MapLaws.{names_apart, same_or_other, value_at-with_entry-other}
+use Rattle.mur_base.proofs.MapLaws.{names_apart, same_or_other, value_at-with_entry, value_at-with_entry-other}
 use Rattle.mur_config.specs.declared.config.Config.{Config}
 use Rattle.mur_config.specs.declared.node.Kind.{Kind}
 use Rattle.mur_config.specs.declared.node.Kind.TheVariants.{Master, Frontend, Backend}
@@ -16,8 +15,9 @@ use Rattle.mur_config.specs.declared.node.Link.{Link}
 use Rattle.mur_config.specs.declared.node.Node.{Node}
 use Rattle.mur_config.specs.Nodes.{AreNodes, is_node_named, are_kinds_linked, are_linked, link, links_from, links_between, links_of}
 use Rattle.mur_model.specs.declared.setting.Setting.{Setting}
+use Rattle.node_step.specs.NodeStep.{as_front}
 use Rattle.cluster_core.specs.declared.world.World.{World}
-use Rattle.cluster_core.specs.World.{no_world, or_backend, backends_of, home_of, setting_of, with_node, with_nodes, start, front_at}
+use Rattle.cluster_core.specs.World.{no_world, or_backend, backends_of, home_of, setting_of, first_state, with_node, with_nodes, start, front_at}
 use Rattle.cluster_core.proofs.Runs.StartLaw.{first_backend}
 
 -- a node of this kind and name
@@ -40,17 +40,30 @@ has_later first nodes kind name has = record {
 
 -- where a frontend is, a node of the configuration is one
 
-front_by : (home : List ℕ) (setting : Setting) (world : World) (node : Node) (nodes : List Node) (name : List ℕ) (kind : Kind) → node.kind ≡ kind
-    → is_some (front_at (with_node home setting world node kind) name) ≡ true
+front_kind : (home : List ℕ) (setting : Setting) (node : Node) (kind : Kind) → is_some (as_front (Some (first_state home setting node kind))) ≡ true
+    → kind ≡ Frontend
+unfolding first_state as_front
+front_kind home setting node Master is = cc
+front_kind home setting node Frontend is = refl
+front_kind home setting node Backend is = cc
+
+front_by : (home : List ℕ) (setting : Setting) (world : World) (node : Node) (nodes : List Node) (name : List ℕ)
+    → is_some (front_at (with_node home setting world node) name) ≡ true
     → (is_some (front_at world name) ≡ true) ⊎ HasNode (node ∷ nodes) Frontend name
-unfolding with_node
-front_by home setting world node nodes name Master k is = inl is
-front_by home setting world node nodes name Frontend k is = ⊎_elim
-    (λ e. inr (record { node = node; among = at_head node nodes; kind_is = k; named = sym e }))
-    (λ ne. inl (sym (ap is_some
-    (value_at-with_entry-other (slice_cmp nat_cmp) names_apart world.fronts node.name name (new_front node.name home setting) ne)) ∙ is))
+front_by home setting world node nodes name is =
+    let new = first_state home setting node node.kind in
+    ⊎_elim
+    (λ (e : name ≡ node.name). inr (record {
+      node = node;
+      among = at_head node nodes;
+      kind_is = front_kind home setting node node.kind
+          (sym (ap (λ found. is_some (as_front found)) (value_at-with_entry (slice_cmp nat_cmp) names_apart world.nodes node.name new))
+          ∙ subst (λ n. is_some (front_at (with_node home setting world node) n) ≡ true) e is);
+      named = sym e;
+    }))
+    (λ (ne : name ≢ node.name). inl (sym (ap (λ found. is_some (as_front found))
+    (value_at-with_entry-other (slice_cmp nat_cmp) names_apart world.nodes node.name name new ne)) ∙ is))
     (same_or_other (slice_cmp nat_cmp) names_apart name node.name)
-front_by home setting world node nodes name Backend k is = inl is
 
 front_among : (home : List ℕ) (setting : Setting) (world : World) (nodes : List Node) (name : List ℕ)
     → is_some (front_at (with_nodes home setting world nodes) name) ≡ true
@@ -58,14 +71,18 @@ front_among : (home : List ℕ) (setting : Setting) (world : World) (nodes : Lis
 unfolding with_nodes
 front_among home setting world [] name is = inl is
 front_among home setting world (node ∷ nodes) name is = ⊎_elim
-    (λ here. front_by home setting world node nodes name node.kind refl here)
+    (λ here. front_by home setting world node nodes name here)
     (λ later. inr (has_later node nodes Frontend name later))
-    (front_among home setting (with_node home setting world node node.kind) nodes name is)
+    (front_among home setting (with_node home setting world node) nodes name is)
+
+no_front_yet : is_some (as_front None) ≡ true → ⊥
+unfolding as_front
+no_front_yet is = cc
 
 front_node : (config : Config) (name : List ℕ) → is_some (front_at (start config) name) ≡ true → HasNode config.nodes Frontend name
 unfolding start
 front_node config name is = ⊎_elim
-    (λ none. absurd (let no : false ≡ true = none in cc))
+    (λ none. absurd (no_front_yet none))
     (λ has. has)
     (front_among (home_of config) (setting_of config)
     (record no_world { backends = backends_of config.nodes; pairs = links_of config.nodes }) config.nodes name is)

@@ -1,202 +1,202 @@
 -- A message is on its way only between linked nodes.
-use Rattle.std.proofs.Common.{◌≡◌, ◌≢◌, ◌⊎◌, inl, inr, ℕ, true, false, List, [], ◌∷◌, refl, sym, ◌∙◌, ap, subst, is_some, All, Contains}
+use Rattle.std.proofs.Common.{◌≡◌, ◌⊎◌, inl, inr, ℕ, Bool, true, false, cond, List, [], ◌∷◌, ◌++◌, drop, Option, None, Some, refl, sym, ◌∙◌, ap, subst}
+use Rattle.std.proofs.Common.{is_some, All, Contains}
 use Rattle.std.proofs.Math.Logic.{⊎_elim}
 use Rattle.std.proofs.lemmas.List.{append-nil}
 use Rattle.std.proofs.lemmas.List.Elements.{All-contains}
-use Rattle.front_core.specs.declared.connection.Connection.{Connection}
-use Rattle.imap_talk.specs.declared.inputs.Input.{Input}
-use Rattle.link_msg.specs.declared.answer.BackAnswer.{BackAnswer}
-use Rattle.link_msg.specs.declared.ask.FrontAsk.{FrontAsk}
+use Rattle.front_core.specs.declared.front.Front.{Front}
+use Rattle.link_msg.specs.declared.input.NodeInput.{NodeInput}
+use Rattle.link_msg.specs.declared.input.NodeInput.TheVariants.{Opened, Piece, Hung, From}
 use Rattle.link_msg.specs.declared.message.LinkMsg.{LinkMsg}
-use Rattle.link_msg.specs.declared.message.LinkMsg.TheVariants.{Up, End, Line, Ask, Answer}
+use Rattle.link_msg.specs.declared.out.Out.{Out}
+use Rattle.link_msg.specs.declared.out.Out.TheVariants.{Client as to_client, Close, Link as to_node, Mark as mark_out, Told as tell}
 use Rattle.mur_config.specs.declared.config.Config.{Config}
-use Rattle.mur_config.specs.declared.node.Kind.{Kind}
-use Rattle.mur_config.specs.declared.node.Kind.TheVariants.{Master, Frontend, Backend}
 use Rattle.mur_config.specs.declared.node.Link.{Link}
 use Rattle.mur_config.specs.declared.node.Node.{Node}
 use Rattle.mur_config.specs.Nodes.{AreNodes, links_of}
-use Rattle.imap_types.specs.declared.command.Tag.{Tag}
-use Rattle.mur_model.specs.Needed.{Work}
-use Rattle.imap_types.specs.declared.request.Answer.{Answer as AnswerOf}
-use Rattle.imap_types.specs.declared.request.Request.{Request}
-use Rattle.mur_model.specs.declared.session.Sess.{Sess}
 use Rattle.mur_model.specs.declared.setting.Setting.{Setting}
+use Rattle.node_step.specs.declared.node.NodeState.{NodeState}
+use Rattle.node_step.specs.NodeStep.{as_front, takes as node_takes}
+use Rattle.node_step.proofs.OwnOuts.{IsTo, AreTo, sender_of, takes_goes}
 use Rattle.schedule_text.specs.declared.event.Event.{Event}
+use Rattle.schedule_text.specs.declared.event.Event.TheVariants.{Open, Data, Hang, Deliver}
+use Rattle.cluster_core.specs.declared.world.Client.{Client as ClientOf}
 use Rattle.cluster_core.specs.declared.world.World.{World}
 use Rattle.cluster_core.specs.Flow.{run_steps}
 use Rattle.imap_talk.specs.Heard.{Heard, nobody}
-use Rattle.cluster_core.specs.Heard.{heard_from}
-use Rattle.link_queue.specs.Links.{Links, same_link, on_link}
+use Rattle.link_queue.specs.Links.{Links, same_link, on_link, sent, without_first}
+use Rattle.link_queue.proofs.Wires.{same_names, on_link-sent, on_link-taken}
 use Rattle.cluster_core.specs.Headline.OneStore.{AreEmpty}
-use Rattle.cluster_core.specs.World.{start, front_at, home_of, setting_of, with_node, with_nodes}
-use Rattle.cluster_core.proofs.Connections.ConnectionLaw.{Story}
-use Rattle.front_core.proofs.OneConnection.Standing.{OnItsWay, Stands, IsLeft}
-use Rattle.front_core.proofs.OneConnection.Standing.OnItsWay.{there, back}
-use Rattle.front_core.proofs.OneConnection.Standing.Stands.{reads, waits, faulted, finished}
-use Rattle.front_core.proofs.OneConnection.Standing.IsLeft.{nothing, its_ask, its_answer}
-use Rattle.cluster_core.proofs.Connections.Keeps.{run_keeps}
-use Rattle.cluster_core.proofs.Connections.KeepsLaw.{ConnectionIs, KeepsLaw}
-use Rattle.cluster_core.proofs.Connections.KeepsLaw.ConnectionIs.{is_nobody, is_elsewhere, is_open, is_closed}
+use Rattle.cluster_core.specs.World.{start, client_at, node_at, front_at, home_of, given_more, carry, carry_all, with_state, comes_to, with_client, opens}
+use Rattle.cluster_core.specs.World.{client_does, with_node, with_nodes, taken_from_link, deliver_first, takes, stepped, steps_by}
+use Rattle.cluster_core.proofs.Connections.Keeps.{step_keeps}
+use Rattle.cluster_core.proofs.Connections.KeepsLaw.{KeepsLaw}
 use Rattle.cluster_core.proofs.Nodes.LinkedNodes.{to_the_home, from_the_home}
-use Rattle.cluster_core.proofs.Nodes.NoneQuiet.{quiet_in, NoneQuiet, run_keeps as keeps_none_quiet}
-use Rattle.link_queue.proofs.OnWay.{alike, own_first, none_first}
+use Rattle.cluster_core.proofs.Nodes.OneNodeLaw.{pairs_kept}
 use Rattle.cluster_core.proofs.Runs.FrontsOfStart.{frontends_at_start}
-use Rattle.cluster_core.proofs.Runs.StartLaw.{start_keeps, start_links, nothing_picked}
-use Rattle.front_core.proofs.OneConnection.Ways.{AreOnWay, ask_in, answer_in, own_ask, own_answer}
+use Rattle.cluster_core.proofs.Runs.StartLaw.{start_keeps, start_links}
 
--- what is on the way for a connection of this frontend
-record Way (links : Links LinkMsg) (conn : ℕ) (front home : List ℕ) : Type 0 where
-  asks : List FrontAsk
-  answers : List BackAnswer
-  way : AreOnWay links conn front home asks answers
+-- two nodes are linked, in both directions
+abbrev Joined : List Link → List ℕ → List ℕ → Type 0
+Joined pairs one other = Contains pairs (record { from = one; to = other }) × Contains pairs (record { from = other; to = one })
 
-abbrev a_way : (links : Links LinkMsg) (conn : ℕ) (front home : List ℕ) (asks : List FrontAsk) (answers : List BackAnswer)
-    → AreOnWay links conn front home asks answers → Way links conn front home
-a_way links conn front home asks answers way = record { asks = asks; answers = answers; way = way }
+-- nothing is on its way from one node to another, or they are linked
+abbrev AreOn : List Link → Links LinkMsg → Type 0
+AreOn pairs links = (from to : List ℕ) → (on_link links from to ≡ []) ⊎ Joined pairs from to
 
-waiting_way : (links : Links LinkMsg) (conn : ℕ) (front home : List ℕ) (connection : Connection) (tag : Tag) (name : List ℕ) (work : Work)
-    (told said : List AnswerOf) (session : Sess)
-    → OnItsWay links conn front home connection tag name work told said session → Way links conn front home
-waiting_way links conn front home connection tag name work told said session (there a b way) = a_way links conn front home _ _ way
-waiting_way links conn front home connection tag name work told said session (back body turn a b c d way) = a_way links conn front home _ _ way
+sent_by : (pairs : List Link) (links : Links LinkMsg) (node other : List ℕ) (message : LinkMsg) (from to : List ℕ) (same : Bool)
+    → same_link from to node other ≡ same → Joined pairs node other → (on_link links from to ≡ []) ⊎ Joined pairs from to
+    → (on_link (sent links node other message) from to ≡ []) ⊎ Joined pairs from to
+sent_by pairs links node other message from to true h joined was =
+    let is = same_names from to node other h in
+    inr (subst (λ f. Joined pairs f to) (sym is.0) (subst (λ t. Joined pairs node t) (sym is.1) joined))
+sent_by pairs links node other message from to false h joined was = ⊎_elim
+    (λ empty. inl (on_link-sent links node other from to message ∙ ap (λ s. on_link links from to ++ cond s (message ∷ []) []) h
+    ∙ append-nil (on_link links from to) ∙ empty))
+    (λ there. inr there)
+    was
 
-standing_way : (setting : Setting) (front home : List ℕ) (conn : ℕ) (all : List Input) (held : _) (connection : Connection) (links : Links LinkMsg)
-    (told said : List AnswerOf) (session : Sess)
-    → Stands setting front home conn all held connection links told said session → Way links conn front home
-standing_way setting front home conn all held connection links told said session (reads a b c d e f way) = a_way links conn front home _ _ way
-standing_way setting front home conn all held connection links told said session (waits passed request tag it name work a b c d e f g way) =
-    waiting_way links conn front home connection tag name work told said session way
-standing_way setting front home conn all held connection links told said session (faulted a b c d e way) = a_way links conn front home _ _ way
-standing_way setting front home conn all held connection links told said session (finished passed more request before last a b c d e f way) =
-    a_way links conn front home _ _ way
+given_links : (world : World) (conn : ℕ) (bytes : List ℕ) (found : Option ClientOf) → (given_more world conn bytes found).links ≡ world.links
+unfolding given_more
+given_links world conn bytes None = refl
+given_links world conn bytes (Some client) = refl
 
-left_way : (setting : Setting) (front home : List ℕ) (conn : ℕ) (requests : List Request) (connection : Connection) (links : Links LinkMsg)
-    (told said : List AnswerOf) (session : Sess)
-    → IsLeft setting front home conn requests connection links told said session → Way links conn front home
-left_way setting front home conn requests connection links told said session (nothing rest a b way) = a_way links conn front home _ _ way
-left_way setting front home conn requests connection links told said session (its_ask asker tag it name work a b c d way) = a_way links conn front home _ _ way
-left_way setting front home conn requests connection links told said session (its_answer rest answer a b way) = a_way links conn front home _ _ way
+carry_on : (pairs : List Link) (node : List ℕ) (world : World) (out : Out) → IsTo (Joined pairs node) out → AreOn pairs world.links
+    → AreOn pairs (carry node world out).links
+unfolding carry
+carry_on pairs node world (to_client conn bytes) may on = subst (λ l. AreOn pairs l) (sym (given_links world conn bytes (client_at world conn))) on
+carry_on pairs node world (Close conn) may on = on
+carry_on pairs node world (mark_out ask counts) may on = on
+carry_on pairs node world (tell ask how) may on = on
+carry_on pairs node world (to_node other message) may on = λ from to.
+    sent_by pairs world.links node other message from to (same_link from to node other) refl may (on from to)
 
--- and there is such a frontend, where something is on the way
-record WayOf (world : World) (conn : ℕ) (home : List ℕ) : Type 0 where
-  front : List ℕ
-  it : Way world.links conn front home
-  either : (is_some (front_at world front) ≡ true) ⊎ ((it.asks ≡ []) × (it.answers ≡ []))
+carry_all_on : (pairs : List Link) (node : List ℕ) (world : World) (outs : List Out) → AreTo (Joined pairs node) outs → AreOn pairs world.links
+    → AreOn pairs (carry_all node world outs).links
+unfolding carry_all AreTo
+carry_all_on pairs node world [] may on = on
+carry_all_on pairs node world (out ∷ outs) may on =
+    carry_all_on pairs node (carry node world out) outs may.1 (carry_on pairs node world out may.0 on)
 
-way_of : (setting : Setting) (home : List ℕ) (conn : ℕ) (world : World) (story : Story) (heard : Heard)
-    → ConnectionIs setting home conn world story heard → WayOf world conn home
-way_of setting home conn world story heard (is_nobody none fronts untold) =
-    record { front = []; it = a_way world.links conn [] home [] [] (untold.way [] home); either = inr (refl, refl) }
-way_of setting home conn world story heard (is_elsewhere node at none untold) =
-    record { front = []; it = a_way world.links conn [] home [] [] (untold.way [] home); either = inr (refl, refl) }
-way_of setting home conn world story heard (is_open bytes node front connection at reader standing) = record {
-  front = node;
-  it = standing_way setting node home conn _ _ connection world.links _ _ _ standing.stands;
-  either = inl (ap is_some at.at);
-}
-way_of setting home conn world story heard (is_closed bytes node front connection at gone) = record {
-  front = node;
-  it = left_way setting node home conn _ connection world.links _ _ _ gone.left;
-  either = inl (ap is_some at.at);
-}
+-- each frontend is linked with the home that it asks
+abbrev HaveHomes : List Link → World → Type 0
+HaveHomes pairs world = (node : List ℕ) (front : Front) → front_at world node ≡ Some front → Joined pairs node front.home
 
-none_but : {X : Type 0} (x : X) (xs items : List X) → items ≡ x ∷ xs → items ≡ [] → ⊥
-none_but x xs items e none = cc
+comes_on : (pairs : List Link) (world : World) (node : List ℕ) (input : NodeInput) (found : Option NodeState) → node_at world node ≡ found
+    → HaveHomes pairs world → ((name : List ℕ) → sender_of input ≡ Some name → Joined pairs node name) → AreOn pairs world.links
+    → AreOn pairs (comes_to world node input found).links
+unfolding comes_to
+comes_on pairs world node input None there homes sender on = on
+comes_on pairs world node input (Some it) there homes sender on =
+    carry_all_on pairs node (with_state world node (node_takes it input).state) (node_takes it input).outs
+    (takes_goes (Joined pairs node) it input (λ front is. homes node front (ap as_front there ∙ is)) sender) on
 
--- an ask goes from a frontend to the home
-ask_goes : (config : Config) (heard : ℕ → Heard) (world : World) (law : KeepsLaw config heard world) (from to : List ℕ) (ask : FrontAsk)
-    (rest : List LinkMsg) → on_link world.links from to ≡ Ask ask ∷ rest → (is_some (front_at world from) ≡ true) × (to ≡ home_of config)
-ask_goes config heard world law from to ask rest e =
-    let conn = (ask.id).conn in
-    let has = way_of (setting_of config) (home_of config) conn world law.story (heard conn) (law.connections conn) in
-    let first = own_first (ask_in conn) world.links has.front (home_of config) from to (Ask ask) rest ask has.it.asks e (own_ask conn ask refl)
-    has.it.way.asks_are in
-    ⊎_elim
-    (λ is. (subst (λ n. is_some (front_at world n) ≡ true) (sym first.0) is, first.1))
-    (λ none. absurd (none_but ask _ has.it.asks first.2 none.0))
-    has.either
+opens_on : (pairs : List Link) (world : World) (node : List ℕ) (conn : ℕ) (found : Option ClientOf) → HaveHomes pairs world → AreOn pairs world.links
+    → AreOn pairs (opens world node conn found).links
+unfolding opens
+opens_on pairs world node conn (Some client) homes on = on
+opens_on pairs world node conn None homes on =
+    comes_on pairs (with_client world node conn) node (Opened conn) (node_at world node) refl homes (λ name e. cc) on
 
--- an answer goes from the home to a frontend
-answer_goes : (config : Config) (heard : ℕ → Heard) (world : World) (law : KeepsLaw config heard world) (from to : List ℕ) (answer : BackAnswer)
-    (rest : List LinkMsg) → on_link world.links from to ≡ Answer answer ∷ rest → (is_some (front_at world to) ≡ true) × (from ≡ home_of config)
-answer_goes config heard world law from to answer rest e =
-    let conn = (answer.id).conn in
-    let has = way_of (setting_of config) (home_of config) conn world law.story (heard conn) (law.connections conn) in
-    let first = own_first (answer_in conn) world.links (home_of config) has.front from to (Answer answer) rest answer has.it.answers e
-    (own_answer conn answer refl) has.it.way.answers_are in
-    ⊎_elim
-    (λ is. (subst (λ n. is_some (front_at world n) ≡ true) (sym first.1) is, first.0))
-    (λ none. absurd (none_but answer _ has.it.answers first.2 none.1))
-    has.either
+client_on : (pairs : List Link) (world : World) (input : NodeInput) (found : Option ClientOf) → sender_of input ≡ None → HaveHomes pairs world
+    → AreOn pairs world.links → AreOn pairs (client_does world input found).links
+unfolding client_does
+client_on pairs world input None none homes on = on
+client_on pairs world input (Some client) none homes on =
+    comes_on pairs world client.at input (node_at world client.at) refl homes (λ name e. (let no : None ≡ Some name = sym none ∙ e in cc)) on
+
+taken_by : (pairs : List Link) (links : Links LinkMsg) (from to a b : List ℕ) (same : Bool) → same_link a b from to ≡ same
+    → (on_link links a b ≡ []) ⊎ Joined pairs a b → (on_link (without_first links from to) a b ≡ []) ⊎ Joined pairs a b
+taken_by pairs links from to a b true h was = ⊎_elim
+    (λ empty. inl (on_link-taken links from to a b ∙ ap (λ s. cond s (drop 1 (on_link links a b)) (on_link links a b)) h ∙ ap (λ q. drop 1 q) empty))
+    (λ there. inr there)
+    was
+taken_by pairs links from to a b false h was = ⊎_elim
+    (λ empty. inl (on_link-taken links from to a b ∙ ap (λ s. cond s (drop 1 (on_link links a b)) (on_link links a b)) h ∙ empty))
+    (λ there. inr there)
+    was
+
+-- a message that is on its way came from a linked node
+came_from : (pairs : List Link) (links : Links LinkMsg) (from to : List ℕ) (message : LinkMsg) (rest : List LinkMsg) → on_link links from to ≡ message ∷ rest
+    → (on_link links from to ≡ []) ⊎ Joined pairs from to → Joined pairs from to
+came_from pairs links from to message rest first was = ⊎_elim (λ empty. absurd (let no : message ∷ rest ≡ [] = sym first ∙ empty in cc)) (λ there. there) was
+
+deliver_on : (pairs : List Link) (world : World) (from to : List ℕ) (queue : List LinkMsg) → on_link world.links from to ≡ queue → HaveHomes pairs world
+    → AreOn pairs world.links → AreOn pairs (deliver_first world from to queue).links
+unfolding deliver_first
+deliver_on pairs world from to [] first homes on = on
+deliver_on pairs world from to (message ∷ rest) first homes on =
+    let joined = came_from pairs world.links from to message rest first (on from to) in
+    comes_on pairs (taken_from_link world from to) to (From from message) (node_at world to) refl homes
+    (λ name e. (let same : from ≡ name = cc in subst (λ n. Joined pairs to n) same (joined.1, joined.0)))
+    (λ a b. taken_by pairs world.links from to a b (same_link a b from to) refl (on a b))
+
+takes_on : (pairs : List Link) (world : World) (event : Event) → HaveHomes pairs world → AreOn pairs world.links → AreOn pairs (takes world event).links
+unfolding takes
+takes_on pairs world (Open node conn) homes on = opens_on pairs world node conn (client_at world conn) homes on
+takes_on pairs world (Data conn bytes) homes on = client_on pairs world (Piece conn bytes) (client_at world conn) refl homes on
+takes_on pairs world (Hang conn) homes on = client_on pairs world (Hung conn) (client_at world conn) refl homes on
+takes_on pairs world (Deliver from to) homes on = deliver_on pairs world from to (on_link world.links from to) refl homes on
+takes_on pairs world event homes on = on
 
 -- the home is no frontend
 front_apart : (config : Config) (heard : ℕ → Heard) (world : World) (law : KeepsLaw config heard world) (name : List ℕ)
-    → is_some (front_at world name) ≡ true → name ≢ home_of config
-front_apart config heard world law name is = λ same.
+    → is_some (front_at world name) ≡ true → name ≡ home_of config → ⊥
+front_apart config heard world law name is same =
     (let no : false ≡ true = sym (ap is_some (ap (front_at world) same ∙ law.nodes.home_no_front)) ∙ is in cc)
 
-goes_on_pair : (config : Config) (heard : ℕ → Heard) (world : World) (law : KeepsLaw config heard world) → AreNodes config.nodes → NoneQuiet world.links
-    → (from to : List ℕ) (message : LinkMsg) (rest : List LinkMsg) → on_link world.links from to ≡ message ∷ rest
-    → Contains (links_of config.nodes) (record { from = from; to = to })
-unfolding quiet_in
-goes_on_pair config heard world law are only from to (Ask ask) rest e =
-    let goes = ask_goes config heard world law from to ask rest e in
-    subst (λ t. Contains (links_of config.nodes) (record { from = from; to = t })) (sym goes.1)
-    (to_the_home config from are (frontends_at_start config are from ∙ sym (law.nodes.frontends from) ∙ goes.0)
-    (front_apart config heard world law from goes.0))
-goes_on_pair config heard world law are only from to (Answer answer) rest e =
-    let goes = answer_goes config heard world law from to answer rest e in
-    subst (λ f. Contains (links_of config.nodes) (record { from = f; to = to })) (sym goes.1)
-    (from_the_home config to are (frontends_at_start config are to ∙ sym (law.nodes.frontends to) ∙ goes.0)
-    (front_apart config heard world law to goes.0))
-goes_on_pair config heard world law are only from to Up rest e = absurd (none_first quiet_in world.links [] [] from to Up rest Up e refl only)
-goes_on_pair config heard world law are only from to End rest e = absurd (none_first quiet_in world.links [] [] from to End rest End e refl only)
-goes_on_pair config heard world law are only from to (Line bytes) rest e =
-    absurd (none_first quiet_in world.links [] [] from to (Line bytes) rest (Line bytes) e refl only)
+have_homes : (config : Config) (heard : ℕ → Heard) (world : World) → AreNodes config.nodes → KeepsLaw config heard world
+    → HaveHomes (links_of config.nodes) world
+have_homes config heard world are law node front at =
+    let there : is_some (front_at world node) ≡ true = ap is_some at in
+    let at_start = frontends_at_start config are node ∙ sym (law.nodes.frontends node) ∙ there in
+    let apart = front_apart config heard world law node there in
+    subst (λ h. Joined (links_of config.nodes) node h) (sym (law.nodes.fronts node front at).0)
+    (to_the_home config node are at_start apart, from_the_home config node are at_start apart)
+
+run_on : (config : Config) (heard : ℕ → Heard) (world : World) (steps : List Event) → AreNodes config.nodes → KeepsLaw config heard world
+    → AreOn (links_of config.nodes) world.links → AreOn (links_of config.nodes) (run_steps world steps).links
+unfolding run_steps
+run_on config heard world [] are law on = on
+run_on config heard world (event ∷ steps) are law on =
+    run_on config _ (steps_by world event) steps are (step_keeps config heard world event law).law
+    (takes_on (links_of config.nodes) (stepped world) event (have_homes config heard world are law) on)
+
+nothing_on : (pairs : List Link) (links : Links LinkMsg) → links ≡ [] → AreOn pairs links
+unfolding on_link
+nothing_on pairs links none from to = inl (rw none refl)
+
+on_pairs : (config : Config) (steps : List Event) → AreNodes config.nodes → AreOn (links_of config.nodes) (run_steps (start config) steps).links
+on_pairs config steps are =
+    run_on config (λ conn. nobody) (start config) steps are (start_keeps config are) (nothing_on (links_of config.nodes) (start config).links (start_links config))
 
 -- the pairs are those of the configuration
-
-node_pairs : (home : List ℕ) (setting : Setting) (world : World) (node : Node) (kind : Kind) → (with_node home setting world node kind).pairs ≡ world.pairs
-unfolding with_node
-node_pairs home setting world node Master = refl
-node_pairs home setting world node Frontend = refl
-node_pairs home setting world node Backend = refl
 
 nodes_pairs : (home : List ℕ) (setting : Setting) (world : World) (nodes : List Node) → (with_nodes home setting world nodes).pairs ≡ world.pairs
 unfolding with_nodes
 nodes_pairs home setting world [] = refl
-nodes_pairs home setting world (node ∷ nodes) =
-    nodes_pairs home setting (with_node home setting world node node.kind) nodes ∙ node_pairs home setting world node node.kind
+nodes_pairs home setting world (node ∷ nodes) = nodes_pairs home setting (with_node home setting world node) nodes
 
 start_pairs : (config : Config) → (start config).pairs ≡ links_of config.nodes
 unfolding start
 start_pairs config = nodes_pairs _ _ _ config.nodes
 
-pub start_none_quiet : (config : Config) → NoneQuiet (start config).links
-start_none_quiet config = λ a b. nothing_picked quiet_in (start config).links a b (start_links config) ∙ sym (alike (same_link a b [] []) [])
+run_pairs : (world : World) (steps : List Event) → (run_steps world steps).pairs ≡ world.pairs
+unfolding run_steps
+run_pairs world [] = refl
+run_pairs world (event ∷ steps) = run_pairs (steps_by world event) steps ∙ pairs_kept world event
 
 pub pairs_stay : (config : Config) (steps : List Event) → (run_steps (start config) steps).pairs ≡ links_of config.nodes
-pairs_stay config steps = (keeps_none_quiet (start config) steps).pairs ∙ start_pairs config
-
-pub on_pairs : (config : Config) (steps : List Event) → AreNodes config.nodes → (from to : List ℕ) (message : LinkMsg) (rest : List LinkMsg)
-    → on_link (run_steps (start config) steps).links from to ≡ message ∷ rest → Contains (links_of config.nodes) (record { from = from; to = to })
-on_pairs config steps are from to message rest e =
-    goes_on_pair config (λ conn. heard_from config conn nobody steps) (run_steps (start config) steps)
-    ((run_keeps config (λ conn. nobody) (start config) steps (start_keeps config are)).at steps [] (sym (append-nil steps))).law are
-    ((keeps_none_quiet (start config) steps).none_quiet (start_none_quiet config)) from to message rest e
+pairs_stay config steps = run_pairs (start config) steps ∙ start_pairs config
 
 -- nothing is on its way on this link
 abbrev pub IsIdle : World → Link → Type 0
 IsIdle world link = on_link world.links link.from link.to ≡ []
 
--- where nothing is on its way between linked nodes, nothing is on its way
+-- if nothing is on its way between linked nodes, nothing is on its way
 pub all_empty : (config : Config) (steps : List Event) → AreNodes config.nodes → All (IsIdle (run_steps (start config) steps)) (links_of config.nodes)
     → AreEmpty (run_steps (start config) steps)
-all_empty config steps are idle = λ from to. by from to (on_link (run_steps (start config) steps).links from to) refl
-  where
-    by : (from to : List ℕ) (queue : List LinkMsg) → on_link (run_steps (start config) steps).links from to ≡ queue
-        → on_link (run_steps (start config) steps).links from to ≡ []
-    by from to [] e = e
-    by from to (message ∷ rest) e =
-        All-contains (IsIdle (run_steps (start config) steps)) (links_of config.nodes) (record { from = from; to = to }) idle
-        (on_pairs config steps are from to message rest e)
+all_empty config steps are idle = λ from to. ⊎_elim
+    (λ empty. empty)
+    (λ joined. All-contains (IsIdle (run_steps (start config) steps)) (links_of config.nodes) (record { from = from; to = to }) idle joined.0)
+    (on_pairs config steps are from to)

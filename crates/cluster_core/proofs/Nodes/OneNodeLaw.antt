@@ -6,17 +6,16 @@ use Rattle.std.specs.Cmp.Lexicographic.{slice_cmp}
 use Rattle.std.proofs.Math.Logic.{⊎_elim}
 use Rattle.std.proofs.lemmas.Bool.Decides.{nat_tests}
 use Rattle.std.proofs.lemmas.List.{append-nil, append_assoc}
-use Rattle.backend_core.specs.declared.backend.Backend.{Backend}
-use Rattle.backend_core.specs.declared.input.BackInput.{BackInput}
-use Rattle.backend_core.specs.Plan.{plan_of}
-use Rattle.front_core.specs.declared.front.Front.{Front}
-use Rattle.front_core.specs.Front.{Stepped, connect, bytes_in, hang, deliver as take_message}
+use Rattle.link_msg.specs.declared.input.NodeInput.{NodeInput}
+use Rattle.link_msg.specs.declared.input.NodeInput.TheVariants.{Opened, Piece, Hung, From}
 use Rattle.link_msg.specs.declared.message.LinkMsg.{LinkMsg}
 use Rattle.link_msg.specs.declared.out.Out.{Out}
 use Rattle.link_msg.specs.declared.out.Out.TheVariants.{Client as to_client, Close, Link as to_node, Mark as mark_out, Told as tell}
 use Rattle.mur_base.specs.Map.{value_at, with_value}
 use Rattle.mur_base.proofs.MapLaws.{names_apart, numbers_apart, not_equal, same_or_other, value_at-with_entry, value_at-with_entry-other}
 use Rattle.mur_base.proofs.MapLaws.{value_at-with_value, value_at-with_value-other}
+use Rattle.node_step.specs.declared.node.NodeState.{NodeState}
+use Rattle.node_step.specs.NodeStep.{takes as node_takes}
 use Rattle.schedule_text.specs.declared.event.Event.{Event}
 use Rattle.schedule_text.specs.declared.event.Event.TheVariants.{Open, Data, Hang, Deliver}
 use Rattle.cluster_core.specs.declared.world.Client.{Client}
@@ -27,15 +26,14 @@ use Rattle.cluster_core.specs.declared.world.World.{World}
 use Rattle.cluster_core.specs.Flow.{run_steps}
 use Rattle.link_queue.specs.Links.{Links, same_link, on_link, without_first}
 use Rattle.cluster_core.specs.Headline.OneNode.{node_of, worker, connected, leaves_on, WasSent, OnlyWorks, WorksBy, OneNodeWorks, OneNodeWorksEach}
-use Rattle.cluster_core.specs.World.{marked, client_at, front_at, home_at, given_more, carry, carry_all, with_front, with_client, open_at, opens, bytes_at}
-use Rattle.cluster_core.specs.World.{bytes_from, hang_at, hangs, input_of, home_takes, comes_to_home, comes_to, taken_from_link, deliver_first, takes, stepped, steps_by}
+use Rattle.cluster_core.specs.World.{marked, client_at, node_at, given_more, carry, carry_all, with_state, comes_to, with_client, opens, client_does}
+use Rattle.cluster_core.specs.World.{taken_from_link, deliver_first, takes, stepped, steps_by}
 use Rattle.cluster_core.proofs.Histories.InTime.{takes_adds}
 use Rattle.link_queue.proofs.Wires.{same_names, on_link-sent, on_link-taken}
 
 -- what a node's outputs do: messages stand behind those on its links, clients are given bytes, and nothing else of nodes and links changes
 pub record Sends (node : List ℕ) (before after : World) : Type 0 where
-  pub fronts : after.fronts ≡ before.fronts
-  homes : after.homes ≡ before.homes
+  pub nodes : after.nodes ≡ before.nodes
   clients : (conn : ℕ) → node_of (client_at after conn) ≡ node_of (client_at before conn)
   pub others : (from to : List ℕ) → from ≢ node → on_link after.links from to ≡ on_link before.links from to
   goes : (to : List ℕ) → WasSent (on_link before.links node to) (on_link after.links node to)
@@ -53,8 +51,7 @@ sent_on one two three first second = record {
 
 sends_nothing : (node : List ℕ) (world : World) → Sends node world world
 sends_nothing node world = record {
-  fronts = refl;
-  homes = refl;
+  nodes = refl;
   clients = λ conn. refl;
   others = λ from to ne. refl;
   goes = λ to. none_sent (on_link world.links node to) (on_link world.links node to) refl;
@@ -64,8 +61,7 @@ sends_nothing node world = record {
 
 sends_more : (node : List ℕ) (one two three : World) → Sends node one two → Sends node two three → Sends node one three
 sends_more node one two three first second = record {
-  fronts = second.fronts ∙ first.fronts;
-  homes = second.homes ∙ first.homes;
+  nodes = second.nodes ∙ first.nodes;
   clients = λ conn. second.clients conn ∙ first.clients conn;
   others = λ from to ne. second.others from to ne ∙ first.others from to ne;
   goes = λ to. sent_on (on_link one.links node to) (on_link two.links node to) (on_link three.links node to) (first.goes to) (second.goes to);
@@ -91,8 +87,7 @@ given_sends : (node : List ℕ) (world : World) (conn : ℕ) (bytes : List ℕ) 
 unfolding given_more
 given_sends node world conn bytes None there = sends_nothing node world
 given_sends node world conn bytes (Some client) there = record {
-  fronts = refl;
-  homes = refl;
+  nodes = refl;
   clients = stays_there world conn client (record client { given = client.given ++ bytes }) there refl;
   others = λ from to ne. refl;
   goes = λ to. none_sent (on_link world.links node to) (on_link world.links node to) refl;
@@ -102,8 +97,7 @@ given_sends node world conn bytes (Some client) there = record {
 
 marked_sends : (node : List ℕ) (world : World) (ask : AskId) (kind : MarkKind) → Sends node world (marked world ask kind)
 marked_sends node world ask kind = record {
-  fronts = refl;
-  homes = refl;
+  nodes = refl;
   clients = λ conn. refl;
   others = λ from to ne. refl;
   goes = λ to. none_sent (on_link world.links node to) (on_link world.links node to) refl;
@@ -118,8 +112,7 @@ carry_sends node world (Close conn) = sends_nothing node world
 carry_sends node world (mark_out ask counts) = marked_sends node world ask (Home counts)
 carry_sends node world (tell ask how) = marked_sends node world ask (Told how)
 carry_sends node world (to_node other message) = record {
-  fronts = refl;
-  homes = refl;
+  nodes = refl;
   clients = λ conn. refl;
   others = λ from to ne. on_link-sent world.links node other from to message
       ∙ ap (λ m. on_link world.links from to ++ m) (elsewhere_none from node to other message ne) ∙ append-nil (on_link world.links from to);
@@ -138,8 +131,7 @@ carry_all_sends node world (out ∷ outs) =
 works_and_sends : (event : Event) (node : List ℕ) (one two three : World) → OnlyWorks event node one two → Sends node two three
     → OnlyWorks event node one three
 works_and_sends event node one two three works out = record {
-  fronts = λ other ne. ap (λ f. value_at (slice_cmp nat_cmp) f other) out.fronts ∙ works.fronts other ne;
-  homes = λ other ne. ap (λ h. value_at (slice_cmp nat_cmp) h other) out.homes ∙ works.homes other ne;
+  nodes = λ other ne. ap (λ n. value_at (slice_cmp nat_cmp) n other) out.nodes ∙ works.nodes other ne;
   clients = λ conn. out.clients conn ∙ works.clients conn;
   stays = λ from to ne. out.others from to ne ∙ works.stays from to ne;
   sends = λ to. sent_on (leaves_on event node to (on_link one.links node to)) (on_link two.links node to) (on_link three.links node to) (works.sends to)
@@ -157,8 +149,7 @@ idle : (event : Event) (node : List ℕ) (world : World) (clients : List (ℕ ×
     → ((conn : ℕ) → node_of (value_at nat_cmp clients conn) ≡ connected event conn (node_of (client_at world conn)))
     → OnlyWorks event node world (record world { clients = clients })
 idle event node world clients none there = record {
-  fronts = λ other ne. refl;
-  homes = λ other ne. refl;
+  nodes = λ other ne. refl;
   clients = there;
   stays = λ from to ne. sym (none from to (on_link world.links from to));
   sends = λ to. none_sent (leaves_on event node to (on_link world.links node to)) (on_link world.links node to)
@@ -170,8 +161,7 @@ idle event node world clients none there = record {
 -- a message is taken at the node that it goes to
 takes_first : (from to : List ℕ) (world : World) → OnlyWorks (Deliver from to) to world (taken_from_link world from to)
 takes_first from to world = record {
-  fronts = λ other ne. refl;
-  homes = λ other ne. refl;
+  nodes = λ other ne. refl;
   clients = λ conn. refl;
   stays = λ one other ne. on_link-taken world.links from to one other;
   sends = λ other. none_sent (leaves_on (Deliver from to) to other (on_link world.links to other))
@@ -190,8 +180,7 @@ nothing_first links from to one other false h none = refl
 
 takes_nothing : (from to : List ℕ) (world : World) → on_link world.links from to ≡ [] → OnlyWorks (Deliver from to) to world world
 takes_nothing from to world none = record {
-  fronts = λ other ne. refl;
-  homes = λ other ne. refl;
+  nodes = λ other ne. refl;
   clients = λ conn. refl;
   stays = λ one other ne. nothing_first world.links from to one other (same_link one other from to) refl none;
   sends = λ other. none_sent (leaves_on (Deliver from to) to other (on_link world.links to other)) (on_link world.links to other)
@@ -201,11 +190,10 @@ takes_nothing from to world none = record {
 }
 
 -- what a node does itself
-front_changes : (event : Event) (node : List ℕ) (before world : World) (front : Front) → OnlyWorks event node before world
-    → OnlyWorks event node before (record world { fronts = with_value (slice_cmp nat_cmp) world.fronts node front })
-front_changes event node before world front works = record {
-  fronts = λ other ne. value_at-with_value-other (slice_cmp nat_cmp) names_apart world.fronts node other front ne ∙ works.fronts other ne;
-  homes = works.homes;
+state_changes : (event : Event) (node : List ℕ) (before world : World) (it : NodeState) → OnlyWorks event node before world
+    → OnlyWorks event node before (with_state world node it)
+state_changes event node before world it works = record {
+  nodes = λ other ne. value_at-with_value-other (slice_cmp nat_cmp) names_apart world.nodes node other it ne ∙ works.nodes other ne;
   clients = works.clients;
   stays = works.stays;
   sends = works.sends;
@@ -213,22 +201,13 @@ front_changes event node before world front works = record {
   pairs = works.pairs;
 }
 
-home_changes : (event : Event) (node : List ℕ) (before world : World) (home : Backend) → OnlyWorks event node before world
-    → OnlyWorks event node before (record world { homes = with_value (slice_cmp nat_cmp) world.homes node home })
-home_changes event node before world home works = record {
-  fronts = works.fronts;
-  homes = λ other ne. value_at-with_value-other (slice_cmp nat_cmp) names_apart world.homes node other home ne ∙ works.homes other ne;
-  clients = works.clients;
-  stays = works.stays;
-  sends = works.sends;
-  backends = works.backends;
-  pairs = works.pairs;
-}
-
-front_works : (event : Event) (node : List ℕ) (before world : World) (step : Stepped) → OnlyWorks event node before world
-    → OnlyWorks event node before (with_front world node step)
-front_works event node before world step works =
-    works_and_sends event node before _ _ (front_changes event node before world step.front works) (carry_all_sends node _ step.outs)
+comes_works : (event : Event) (node : List ℕ) (before world : World) (input : NodeInput) (found : Option NodeState) → OnlyWorks event node before world
+    → OnlyWorks event node before (comes_to world node input found)
+unfolding comes_to
+comes_works event node before world input None works = works
+comes_works event node before world input (Some it) works =
+    works_and_sends event node before _ _ (state_changes event node before world (node_takes it input).state works)
+    (carry_all_sends node _ (node_takes it input).outs)
 
 -- a client that is connected stays where it is
 joined_before : (node : List ℕ) (conn other : ℕ) (at : Option (List ℕ)) → (at ≡ None → other ≢ conn) → at ≡ connected (Open node conn) other at
@@ -253,15 +232,6 @@ joins world node conn none other = ⊎_elim
     ∙ joined_before node conn other (node_of (client_at world other)) (λ _. ne))
     (same_or_other nat_cmp numbers_apart other conn)
 
-open_works : (world : World) (node : List ℕ) (conn : ℕ) (found : Option Front) → client_at world conn ≡ None
-    → OnlyWorks (Open node conn) node world (open_at world node conn found)
-unfolding open_at
-open_works world node conn None none =
-    idle (Open node conn) node world (with_client world node conn).clients (λ from to queue. refl) (joins world node conn none)
-open_works world node conn (Some front) none =
-    front_works (Open node conn) node world (with_client world node conn) (connect front conn)
-    (idle (Open node conn) node world (with_client world node conn).clients (λ from to queue. refl) (joins world node conn none))
-
 is_there : (world : World) (conn other : ℕ) (client : Client) → client_at world conn ≡ Some client → node_of (client_at world other) ≡ None → other ≢ conn
 is_there world conn other client there none e =
     let no : Some client.at ≡ None = sym (ap node_of there) ∙ ap (λ c. node_of (client_at world c)) (sym e) ∙ none in
@@ -273,66 +243,33 @@ unfolding opens
 opens_work world node conn (Some client) there =
     idle (Open node conn) node world world.clients (λ from to queue. refl)
     (λ other. joined_before node conn other (node_of (client_at world other)) (is_there world conn other client there))
-opens_work world node conn None there = open_works world node conn (front_at world node) there
+opens_work world node conn None there =
+    comes_works (Open node conn) node world (with_client world node conn) (Opened conn) (node_at world node)
+    (idle (Open node conn) node world (with_client world node conn).clients (λ from to queue. refl) (joins world node conn there))
 
-bytes_work : (world : World) (conn : ℕ) (bytes node : List ℕ) (found : Option Front)
-    → OnlyWorks (Data conn bytes) node world (bytes_at world conn bytes node found)
-unfolding bytes_at
-bytes_work world conn bytes node None = idle (Data conn bytes) node world world.clients (λ from to queue. refl) (λ other. refl)
-bytes_work world conn bytes node (Some front) =
-    front_works (Data conn bytes) node world world (bytes_in front conn bytes)
-    (idle (Data conn bytes) node world world.clients (λ from to queue. refl) (λ other. refl))
-
-data_works : (world : World) (conn : ℕ) (bytes : List ℕ) (found : Option Client)
-    → WorksBy (Data conn bytes) (node_of found) world (bytes_from world conn bytes found)
-unfolding bytes_from
-data_works world conn bytes None = refl
-data_works world conn bytes (Some client) = bytes_work world conn bytes client.at (front_at world client.at)
-
-hang_works : (world : World) (conn : ℕ) (node : List ℕ) (found : Option Front) → OnlyWorks (Hang conn) node world (hang_at world conn node found)
-unfolding hang_at
-hang_works world conn node None = idle (Hang conn) node world world.clients (λ from to queue. refl) (λ other. refl)
-hang_works world conn node (Some front) =
-    front_changes (Hang conn) node world world (hang front conn)
-    (idle (Hang conn) node world world.clients (λ from to queue. refl) (λ other. refl))
-
-hangs_work : (world : World) (conn : ℕ) (found : Option Client) → WorksBy (Hang conn) (node_of found) world (hangs world conn found)
-unfolding hangs
-hangs_work world conn None = refl
-hangs_work world conn (Some client) = hang_works world conn client.at (front_at world client.at)
-
-home_works : (event : Event) (node : List ℕ) (before world : World) (home : Backend) (input : Option BackInput) → OnlyWorks event node before world
-    → OnlyWorks event node before (home_takes world node home input)
-unfolding home_takes
-home_works event node before world home None works = works
-home_works event node before world home (Some input) works =
-    works_and_sends event node before _ _ (home_changes event node before world (plan_of home input).home works)
-    (carry_all_sends node _ (plan_of home input).outs)
-
-to_home_works : (event : Event) (before world : World) (from to : List ℕ) (message : LinkMsg) (found : Option Backend) → OnlyWorks event to before world
-    → OnlyWorks event to before (comes_to_home world from to message found)
-unfolding comes_to_home
-to_home_works event before world from to message None works = works
-to_home_works event before world from to message (Some home) works = home_works event to before world home (input_of from message) works
-
-comes_works : (event : Event) (before world : World) (from to : List ℕ) (message : LinkMsg) (found : Option Front) → OnlyWorks event to before world
-    → OnlyWorks event to before (comes_to world from to message found)
-unfolding comes_to
-comes_works event before world from to message (Some front) works = front_works event to before world (take_message front message) works
-comes_works event before world from to message None works = to_home_works event before world from to message (home_at world to) works
+-- bytes come, or a client closes its connection
+client_works : (event : Event) (world : World) (input : NodeInput) (found : Option Client) → TakesNone event
+    → ((conn : ℕ) → connected event conn (node_of (client_at world conn)) ≡ node_of (client_at world conn))
+    → WorksBy event (node_of found) world (client_does world input found)
+unfolding client_does
+client_works event world input None none stays = refl
+client_works event world input (Some client) none stays =
+    comes_works event client.at world world input (node_at world client.at)
+    (idle event client.at world world.clients none (λ conn. sym (stays conn)))
 
 deliver_works : (world : World) (from to : List ℕ) (queue : List LinkMsg) → on_link world.links from to ≡ queue
     → OnlyWorks (Deliver from to) to world (deliver_first world from to queue)
 unfolding deliver_first
 deliver_works world from to [] first = takes_nothing from to world first
 deliver_works world from to (message ∷ rest) first =
-    comes_works (Deliver from to) world (taken_from_link world from to) from to message (front_at world to) (takes_first from to world)
+    comes_works (Deliver from to) to world (taken_from_link world from to) (From from message) (node_at world to) (takes_first from to world)
 
 takes_works : (world : World) (event : Event) → WorksBy event (worker world event) world (takes world event)
 unfolding takes
 takes_works world (Open node conn) = opens_work world node conn (client_at world conn) refl
-takes_works world (Data conn bytes) = data_works world conn bytes (client_at world conn)
-takes_works world (Hang conn) = hangs_work world conn (client_at world conn)
+takes_works world (Data conn bytes) =
+    client_works (Data conn bytes) world (Piece conn bytes) (client_at world conn) (λ from to queue. refl) (λ other. refl)
+takes_works world (Hang conn) = client_works (Hang conn) world (Hung conn) (client_at world conn) (λ from to queue. refl) (λ other. refl)
 takes_works world (Deliver from to) = deliver_works world from to (on_link world.links from to) refl
 takes_works world event = refl
 
@@ -347,8 +284,7 @@ same_worker world event = refl
 before_counting : (event : Event) (at : Option (List ℕ)) (world after : World) → WorksBy event at (stepped world) after → WorksBy event at world after
 before_counting event None world after works = works
 before_counting event (Some node) world after works = record {
-  fronts = works.fronts;
-  homes = works.homes;
+  nodes = works.nodes;
   clients = works.clients;
   stays = works.stays;
   sends = works.sends;
@@ -362,6 +298,14 @@ one_node_works world event = record {
   works = before_counting event (worker world event) world (steps_by world event)
       (subst (λ at. WorksBy event at (stepped world) (steps_by world event)) (same_worker world event) (takes_works (stepped world) event));
 }
+
+pairs_by : (event : Event) (at : Option (List ℕ)) (before after : World) → WorksBy event at before after → after.pairs ≡ before.pairs
+pairs_by event None before after works = ap (λ (w : World). w.pairs) works
+pairs_by event (Some node) before after works = works.pairs
+
+-- which links there are stays
+pub pairs_kept : (world : World) (event : Event) → (steps_by world event).pairs ≡ world.pairs
+pairs_kept world event = pairs_by event (worker world event) world (steps_by world event) (one_node_works world event).works
 
 pub one_more_step : (world : World) (before : List Event) (event : Event) → run_steps world (before ++ event ∷ []) ≡ steps_by (run_steps world before) event
 unfolding run_steps

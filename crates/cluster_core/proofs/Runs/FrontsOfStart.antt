@@ -6,7 +6,6 @@ use Rattle.std.specs.Cmp.Lexicographic.{slice_cmp}
 use Rattle.std.specs.Str.{bytes_eq}
 use Rattle.std.proofs.lemmas.List.Elements.{All-head, All-tail}
 use Rattle.std.proofs.lemmas.Slice.Eq.{bytes_eq-Decides}
-use Rattle.front_core.specs.Front.{new_front}
 use Rattle.mur_base.proofs.MapLaws.{names_apart, value_at-with_entry, value_at-with_entry-other}
 use Rattle.mur_config.specs.declared.config.Config.{Config}
 use Rattle.mur_config.specs.declared.node.Kind.{Kind}
@@ -15,60 +14,63 @@ use Rattle.mur_config.specs.declared.node.Node.{Node}
 use Rattle.mur_config.proofs.NodesApart.{head_apart, tail_apart}
 use Rattle.mur_config.specs.Nodes.{AreNodes, is_node_named, is_node_of_kind, is_of_kind, node_named, links_of, count_of_kind}
 use Rattle.mur_model.specs.declared.setting.Setting.{Setting}
+use Rattle.node_step.specs.NodeStep.{as_front}
 use Rattle.cluster_core.specs.declared.world.World.{World}
 use Rattle.cluster_core.specs.Heard.{is_frontend_node, is_frontend}
-use Rattle.cluster_core.specs.World.{no_world, backends_of, home_of, setting_of, with_node, with_nodes, start, front_at, or_backend}
+use Rattle.cluster_core.specs.World.{no_world, backends_of, home_of, setting_of, first_state, with_node, with_nodes, start, node_at, front_at, or_backend}
 
-abbrev pub NoFrontend : List ℕ → Node → Type 0
-NoFrontend name node = node.kind ≡ Frontend → node.name ≢ name
+-- a node of another name
+abbrev IsOther : List ℕ → Node → Type 0
+IsOther name node = node.name ≢ name
 
-pub apart_here : (name : List ℕ) (nodes : List Node) → All (λ (other : Node). name ≢ other.name) nodes → All (NoFrontend name) nodes
-apart_here name nodes all = λ k d h. λ kind. λ e. all k d h (sym e)
+others_here : (name : List ℕ) (nodes : List Node) → All (λ (other : Node). name ≢ other.name) nodes → All (IsOther name) nodes
+others_here name nodes all = λ k d h. λ e. all k d h (sym e)
 
-front_stays : (home : List ℕ) (setting : Setting) (world : World) (node : Node) (kind : Kind) (name : List ℕ) → node.kind ≡ kind → NoFrontend name node
-    → front_at (with_node home setting world node kind) name ≡ front_at world name
-unfolding with_node
-front_stays home setting world node Master name k free = refl
-front_stays home setting world node Frontend name k free =
-    value_at-with_entry-other (slice_cmp nat_cmp) names_apart world.fronts node.name name (new_front node.name home setting) (λ e. free k (sym e))
-front_stays home setting world node backend_kind name k free = refl
+node_stays : (home : List ℕ) (setting : Setting) (world : World) (node : Node) (name : List ℕ) → IsOther name node
+    → node_at (with_node home setting world node) name ≡ node_at world name
+node_stays home setting world node name other =
+    value_at-with_entry-other (slice_cmp nat_cmp) names_apart world.nodes node.name name (first_state home setting node node.kind) (λ e. other (sym e))
 
--- what stands at a name stays, where no frontend of this name comes
-pub fronts_stay : (home : List ℕ) (setting : Setting) (world : World) (nodes : List Node) (name : List ℕ) → All (NoFrontend name) nodes
-    → front_at (with_nodes home setting world nodes) name ≡ front_at world name
+-- what there is at a name stays, if no node of this name comes
+nodes_stay : (home : List ℕ) (setting : Setting) (world : World) (nodes : List Node) (name : List ℕ) → All (IsOther name) nodes
+    → node_at (with_nodes home setting world nodes) name ≡ node_at world name
 unfolding with_nodes
-fronts_stay home setting world [] name free = refl
-fronts_stay home setting world (node ∷ nodes) name free =
-    fronts_stay home setting (with_node home setting world node node.kind) nodes name (All-tail (NoFrontend name) node nodes free)
-    ∙ front_stays home setting world node node.kind name refl (All-head (NoFrontend name) node nodes free)
+nodes_stay home setting world [] name others = refl
+nodes_stay home setting world (node ∷ nodes) name others =
+    nodes_stay home setting (with_node home setting world node) nodes name (All-tail (IsOther name) node nodes others)
+    ∙ node_stays home setting world node name (All-head (IsOther name) node nodes others)
 
-front_comes : (home : List ℕ) (setting : Setting) (world : World) (node : Node) (kind : Kind) → front_at world node.name ≡ None
-    → is_some (front_at (with_node home setting world node kind) node.name) ≡ is_of_kind Frontend kind
-unfolding with_node is_of_kind
-front_comes home setting world node Master none = ap is_some none
-front_comes home setting world node Frontend none =
-    ap is_some (value_at-with_entry (slice_cmp nat_cmp) names_apart world.fronts node.name (new_front node.name home setting))
-front_comes home setting world node backend_kind none = ap is_some none
+first_is : (home : List ℕ) (setting : Setting) (node : Node) (kind : Kind)
+    → is_some (as_front (Some (first_state home setting node kind))) ≡ is_of_kind Frontend kind
+unfolding first_state is_of_kind as_front
+first_is home setting node Master = refl
+first_is home setting node Frontend = refl
+first_is home setting node backend_kind = refl
+
+front_comes : (home : List ℕ) (setting : Setting) (world : World) (node : Node)
+    → is_some (front_at (with_node home setting world node) node.name) ≡ is_of_kind Frontend node.kind
+front_comes home setting world node =
+    ap (λ found. is_some (as_front found)) (value_at-with_entry (slice_cmp nat_cmp) names_apart world.nodes node.name (first_state home setting node node.kind))
+    ∙ first_is home setting node node.kind
 
 -- the first node has this name, or one behind it may
 front_by : (home : List ℕ) (setting : Setting) (world : World) (node : Node) (nodes : List Node) (name : List ℕ) (same : Bool)
     → is_node_named name node ≡ same → front_at world name ≡ None → AllPairs (λ (one other : Node). one.name ≢ other.name) (node ∷ nodes)
     → ((next : World) → front_at next name ≡ None → is_some (front_at (with_nodes home setting next nodes) name) ≡ is_frontend_node (node_named name nodes))
-    → is_some (front_at (with_nodes home setting (with_node home setting world node node.kind) nodes) name)
+    → is_some (front_at (with_nodes home setting (with_node home setting world node) nodes) name)
     ≡ is_frontend_node (cond same (Some node) (node_named name nodes))
 unfolding is_node_named is_node_of_kind
 front_by home setting world node nodes name true h none pairs later =
-    let next : World = with_node home setting world node node.kind in
+    let next : World = with_node home setting world node in
     let is : node.name ≡ name = (bytes_eq-Decides node.name name).0 h in
-    let apart : All (NoFrontend name) nodes = apart_here name nodes (subst (λ n. All (λ (other : Node). n ≢ other.name) nodes) is
+    let others : All (IsOther name) nodes = others_here name nodes (subst (λ n. All (λ (other : Node). n ≢ other.name) nodes) is
     (head_apart node nodes pairs)) in
-    ap is_some (fronts_stay home setting next nodes name apart)
-    ∙ subst (λ n. is_some (front_at next n) ≡ is_of_kind Frontend node.kind) is
-    (front_comes home setting world node node.kind (ap (front_at world) is ∙ none))
+    ap (λ found. is_some (as_front found)) (nodes_stay home setting next nodes name others)
+    ∙ subst (λ n. is_some (front_at next n) ≡ is_of_kind Frontend node.kind) is (front_comes home setting world node)
 front_by home setting world node nodes name false h none pairs later =
     let differ : bytes_eq node.name name ≡ false = h in
-    later (with_node home setting world node node.kind)
-    (front_stays home setting world node node.kind name refl (λ f. λ e. (let same = (bytes_eq-Decides node.name name).1 e in cc)) ∙ none)
+    later (with_node home setting world node)
+    (ap as_front (node_stays home setting world node name (λ e. (let same = (bytes_eq-Decides node.name name).1 e in cc))) ∙ none)
 
 frontends_come : (home : List ℕ) (setting : Setting) (nodes : List Node) (world : World) (name : List ℕ)
     → AllPairs (λ (one other : Node). one.name ≢ other.name) nodes
@@ -79,12 +81,17 @@ frontends_come home setting (node ∷ nodes) world name pairs none =
     front_by home setting world node nodes name (is_node_named name node) refl none pairs
     (λ next n. frontends_come home setting nodes next name (tail_apart node nodes pairs) n)
 
+no_front_yet : (name : List ℕ) (home : List (List ℕ)) (pairs : _) → front_at (record no_world { backends = home; pairs = pairs }) name ≡ None
+unfolding as_front
+no_front_yet name home pairs = refl
+
 -- at first there is a frontend of a name where the configuration has one
 pub frontends_at_start : (config : Config) → AreNodes config.nodes → (name : List ℕ) → is_some (front_at (start config) name) ≡ is_frontend config name
 unfolding start
 frontends_at_start config are name =
     frontends_come (home_of config) (setting_of config) config.nodes
-    (record no_world { backends = backends_of config.nodes; pairs = links_of config.nodes }) name are.names refl
+    (record no_world { backends = backends_of config.nodes; pairs = links_of config.nodes }) name are.names
+    (no_front_yet name (backends_of config.nodes) (links_of config.nodes))
 
 -- ---- the first backend
 

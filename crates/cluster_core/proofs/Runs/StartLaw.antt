@@ -1,5 +1,5 @@
 -- The law holds before the first step.
-use Rattle.std.proofs.Common.{◌≡◌, ◌≢◌, ℕ, suc, ◌≤◌, List, [], ◌∷◌, length, None}
+use Rattle.std.proofs.Common.{◌≡◌, ◌≢◌, ℕ, suc, ◌≤◌, List, [], ◌∷◌, length, Option, None, ⊤}
 use Rattle.std.proofs.Common.{Some, refl, sym, ◌∙◌, ap, subst, arith}
 use Rattle.std.specs.Prelude.{All, AllPairs}
 use Rattle.std.specs.Ordering.{nat_cmp}
@@ -22,13 +22,17 @@ use Rattle.mur_config.specs.Nodes.{AreNodes, count_of_kind, is_node_of_kind, is_
 use Rattle.mur_model.specs.declared.setting.Setting.{Setting}
 use Rattle.mur_model.specs.Store.{empty_store, is_spent}
 use Rattle.mur_model.proofs.HistoryGrows.{one_up_to}
+use Rattle.node_step.specs.declared.node.NodeState.{NodeState}
+use Rattle.node_step.specs.declared.node.NodeState.TheVariants as state
+use Rattle.node_step.specs.NodeStep.{as_back}
+use Rattle.node_step.proofs.Kinds.{front_is, back_is, back_no_front, a_back}
 use Rattle.cluster_core.specs.declared.world.World.{World}
 use Rattle.imap_talk.specs.Heard.{nobody, frames_heard}
 use Rattle.link_queue.specs.Links.{same_link, on_link}
 use Rattle.cluster_core.specs.Headline.OneStore.{first_course}
-use Rattle.cluster_core.specs.World.{no_world, first_name, or_backend, backends_of, home_of, setting_of, with_node, with_nodes, start, front_at}
-use Rattle.cluster_core.specs.World.{home_at}
-use Rattle.cluster_core.proofs.Runs.FrontsOfStart.{NoFrontend, apart_here, fronts_stay, frontends_at_start}
+use Rattle.cluster_core.specs.World.{no_world, first_name, or_backend, backends_of, home_of, setting_of, first_state, with_node, with_nodes, start}
+use Rattle.cluster_core.specs.World.{node_at, front_at, home_at}
+use Rattle.cluster_core.proofs.Runs.FrontsOfStart.{frontends_at_start}
 use Rattle.mur_config.proofs.NodesApart.{head_apart, tail_apart}
 use Rattle.cluster_core.proofs.Connections.KeepsLaw.{KeepsLaw}
 use Rattle.cluster_core.proofs.Connections.KeepsLaw.ConnectionIs.{is_nobody}
@@ -42,10 +46,15 @@ use Rattle.serve_law.proofs.HomeStore.{IsStoreOf}
 use Rattle.link_queue.proofs.OnWay.{picked, alike}
 use Rattle.front_core.proofs.OneConnection.Ways.{ask_in, answer_in}
 
+-- a node that has done nothing
+abbrev IsFirst : List ℕ → Setting → List ℕ → NodeState → Type 0
+IsFirst home setting name (state.Front front) = front ≡ new_front name home setting
+IsFirst home setting name (state.Back backend) = (backend.held ≡ []) × (backend.last_serial ≡ 0)
+IsFirst home setting name (state.Master master) = ⊤
+
 -- nodes that have done nothing
 record IsFresh (home : List ℕ) (setting : Setting) (world : World) : Type 0 where
-  fronts : (node : List ℕ) (front : Front) → front_at world node ≡ Some front → front ≡ new_front node home setting
-  homes : (node : List ℕ) (backend : Backend) → home_at world node ≡ Some backend → (backend.held ≡ []) × (backend.last_serial ≡ 0)
+  nodes : (name : List ℕ) (it : NodeState) → node_at world name ≡ Some it → IsFirst home setting name it
   clients : world.clients ≡ []
   links : world.links ≡ []
   marks : world.marks ≡ []
@@ -54,34 +63,23 @@ record IsFresh (home : List ℕ) (setting : Setting) (world : World) : Type 0 wh
 just : {T : Type 0} {one other : T} → Some one ≡ Some other → one ≡ other
 just h = cc
 
-fresh_node : (home : List ℕ) (setting : Setting) (world : World) (node : Node) (kind : Kind) → IsFresh home setting world
-    → IsFresh home setting (with_node home setting world node kind)
-unfolding with_node
-fresh_node home setting world node Master fresh = fresh
-fresh_node home setting world node Frontend fresh = record {
-  fronts = λ any front at. ⊎_elim
-      (λ (e : any ≡ node.name). sym (just (sym (value_at-with_entry (slice_cmp nat_cmp) names_apart world.fronts node.name (new_front node.name home setting))
-      ∙ ap (λ n. value_at (slice_cmp nat_cmp) (with_entry (slice_cmp nat_cmp) world.fronts node.name (new_front node.name home setting)) n) (sym e) ∙ at))
-      ∙ ap (λ n. new_front n home setting) (sym e))
-      (λ (ne : any ≢ node.name). fresh.fronts any front
-      (sym (value_at-with_entry-other (slice_cmp nat_cmp) names_apart world.fronts node.name any (new_front node.name home setting) ne) ∙ at))
-      (same_or_other (slice_cmp nat_cmp) names_apart any node.name);
-  homes = fresh.homes;
-  clients = fresh.clients;
-  links = fresh.links;
-  marks = fresh.marks;
-  steps = fresh.steps;
-}
-fresh_node home setting world node backend_kind fresh =
-    let new : Backend = booted (record { server = node.name; partition = node.partition }) in
+first_of : (home : List ℕ) (setting : Setting) (node : Node) (kind : Kind) → IsFirst home setting node.name (first_state home setting node kind)
+unfolding first_state
+first_of home setting node Master = tt
+first_of home setting node Frontend = refl
+first_of home setting node backend_kind = (refl, refl)
+
+fresh_node : (home : List ℕ) (setting : Setting) (world : World) (node : Node) → IsFresh home setting world
+    → IsFresh home setting (with_node home setting world node)
+fresh_node home setting world node fresh =
+    let new : NodeState = first_state home setting node node.kind in
     record {
-      fronts = fresh.fronts;
-      homes = λ any backend at. ⊎_elim
-          (λ (e : any ≡ node.name). let is : new ≡ backend = just (sym (value_at-with_entry (slice_cmp nat_cmp) names_apart world.homes node.name new)
-          ∙ ap (λ n. value_at (slice_cmp nat_cmp) (with_entry (slice_cmp nat_cmp) world.homes node.name new) n) (sym e) ∙ at) in
-          (ap (λ (b : Backend). b.held) (sym is), ap (λ (b : Backend). b.last_serial) (sym is)))
-          (λ (ne : any ≢ node.name). fresh.homes any backend
-          (sym (value_at-with_entry-other (slice_cmp nat_cmp) names_apart world.homes node.name any new ne) ∙ at))
+      nodes = λ any it at. ⊎_elim
+          (λ (e : any ≡ node.name). let is : new ≡ it = just (sym (value_at-with_entry (slice_cmp nat_cmp) names_apart world.nodes node.name new)
+          ∙ ap (λ n. value_at (slice_cmp nat_cmp) (with_entry (slice_cmp nat_cmp) world.nodes node.name new) n) (sym e) ∙ at) in
+          subst (λ n. IsFirst home setting n it) (sym e) (subst (λ i. IsFirst home setting node.name i) is (first_of home setting node node.kind)))
+          (λ (ne : any ≢ node.name). fresh.nodes any it
+          (sym (value_at-with_entry-other (slice_cmp nat_cmp) names_apart world.nodes node.name any new ne) ∙ at))
           (same_or_other (slice_cmp nat_cmp) names_apart any node.name);
       clients = fresh.clients;
       links = fresh.links;
@@ -94,114 +92,74 @@ fresh_nodes : (home : List ℕ) (setting : Setting) (world : World) (nodes : Lis
 unfolding with_nodes
 fresh_nodes home setting world [] fresh = fresh
 fresh_nodes home setting world (node ∷ nodes) fresh =
-    fresh_nodes home setting (with_node home setting world node node.kind) nodes (fresh_node home setting world node node.kind fresh)
-
-backends_node : (home : List ℕ) (setting : Setting) (world : World) (node : Node) (kind : Kind)
-    → (with_node home setting world node kind).backends ≡ world.backends
-unfolding with_node
-backends_node home setting world node Master = refl
-backends_node home setting world node Frontend = refl
-backends_node home setting world node backend_kind = refl
+    fresh_nodes home setting (with_node home setting world node) nodes (fresh_node home setting world node fresh)
 
 pub backends_stay : (home : List ℕ) (setting : Setting) (world : World) (nodes : List Node) → (with_nodes home setting world nodes).backends ≡ world.backends
 unfolding with_nodes
 backends_stay home setting world [] = refl
-backends_stay home setting world (node ∷ nodes) = backends_stay home setting (with_node home setting world node node.kind) nodes
-    ∙ backends_node home setting world node node.kind
-
--- what holds of all names holds of the first backend's
-named_by : (P : List ℕ → Type 0) (node : Node) (kind : Kind) (names rest : List (List ℕ)) (home : List ℕ) → or_backend kind node.name names ≡ home ∷ rest
-    → P node.name
-    → ((r : List (List ℕ)) → names ≡ home ∷ r → P home) → P home
-unfolding or_backend
-named_by P node Master names rest home e p later = later rest e
-named_by P node Frontend names rest home e p later = later rest e
-named_by P node backend_kind names rest home e p later = let same : node.name ≡ home = cc in subst P same p
-
-named : (P : List ℕ → Type 0) (nodes : List Node) (rest : List (List ℕ)) (home : List ℕ) → backends_of nodes ≡ home ∷ rest
-    → All (λ (node : Node). P node.name) nodes → P home
-unfolding backends_of
-named P [] rest home e all = cc
-named P (node ∷ nodes) rest home e all =
-    named_by P node node.kind (backends_of nodes) rest home e (All-head (λ (n : Node). P n.name) node nodes all)
-    (λ r h. named P nodes r home h (All-tail (λ (n : Node). P n.name) node nodes all))
-
-apart_by : (node : Node) (nodes : List Node) (kind : Kind) (rest : List (List ℕ)) (home : List ℕ) → node.kind ≡ kind
-    → or_backend kind node.name (backends_of nodes) ≡ home ∷ rest
-    → AllPairs (λ (one other : Node). one.name ≢ other.name) (node ∷ nodes)
-    → ((r : List (List ℕ)) → backends_of nodes ≡ home ∷ r → All (NoFrontend home) nodes) → All (NoFrontend home) (node ∷ nodes)
-unfolding or_backend
-apart_by node nodes Master rest home k e pairs later =
-    All-cons (NoFrontend home) node nodes (λ f. λ same. (let no : Master ≡ Frontend = sym k ∙ f in cc)) (later rest e)
-apart_by node nodes Frontend rest home k e pairs later =
-    All-cons (NoFrontend home) node nodes (λ f. named (λ name. node.name ≢ name) nodes rest home e (head_apart node nodes pairs)) (later rest e)
-apart_by node nodes backend_kind rest home k e pairs later =
-    let same : node.name ≡ home = cc in
-    All-cons (NoFrontend home) node nodes (λ f. λ s. (let no : backend_kind ≡ Frontend = sym k ∙ f in cc))
-    (apart_here home nodes (subst (λ n. All (λ (other : Node). n ≢ other.name) nodes) same (head_apart node nodes pairs)))
-
-no_frontends : (nodes : List Node) (rest : List (List ℕ)) (home : List ℕ) → AllPairs (λ (one other : Node). one.name ≢ other.name) nodes
-    → backends_of nodes ≡ home ∷ rest → All (NoFrontend home) nodes
-unfolding backends_of
-no_frontends [] rest home pairs e = cc
-no_frontends (node ∷ nodes) rest home pairs e =
-    apart_by node nodes node.kind rest home refl e pairs (λ r h. no_frontends nodes r home (tail_apart node nodes pairs) h)
+backends_stay home setting world (node ∷ nodes) = backends_stay home setting (with_node home setting world node) nodes
 
 -- a backend that is there
+record HasBack (found : Option NodeState) : Type 0 where
+  backend : Backend
+  is : as_back found ≡ Some backend
+
 record HasHome (world : World) (name : List ℕ) : Type 0 where
   backend : Backend
   at : home_at world name ≡ Some backend
 
-home_by : (home : List ℕ) (setting : Setting) (world : World) (node : Node) (kind : Kind) (name : List ℕ) → HasHome world name
-    → HasHome (with_node home setting world node kind) name
-unfolding with_node
-home_by home setting world node Master name has = has
-home_by home setting world node Frontend name has = record { backend = has.backend; at = has.at }
-home_by home setting world node backend_kind name has =
-    let new : Backend = booted (record { server = node.name; partition = node.partition }) in
-    ⊎_elim
-    (λ (e : name ≡ node.name). record {
-      backend = new;
-      at =
-          ap (λ n. value_at (slice_cmp nat_cmp) (with_entry (slice_cmp nat_cmp) world.homes node.name new) n) e
-          ∙ value_at-with_entry (slice_cmp nat_cmp) names_apart world.homes node.name new;
-    })
-    (λ (ne : name ≢ node.name). record {
-      backend = has.backend;
-      at =
-          value_at-with_entry-other (slice_cmp nat_cmp) names_apart world.homes node.name name new ne ∙ has.at;
-    })
-    (same_or_other (slice_cmp nat_cmp) names_apart name node.name)
+home_by : (home : List ℕ) (setting : Setting) (world : World) (node : Node) (name : List ℕ) → node.name ≢ name → HasHome world name
+    → HasHome (with_node home setting world node) name
+home_by home setting world node name ne has = record {
+  backend = has.backend;
+  at = ap as_back (value_at-with_entry-other (slice_cmp nat_cmp) names_apart world.nodes node.name name (first_state home setting node node.kind)
+      (λ e. ne (sym e)))
+      ∙ has.at;
+}
 
-home_stays : (home : List ℕ) (setting : Setting) (world : World) (nodes : List Node) (name : List ℕ) → HasHome world name
-    → HasHome (with_nodes home setting world nodes) name
+home_stays : (home : List ℕ) (setting : Setting) (world : World) (nodes : List Node) (name : List ℕ) → All (λ (node : Node). name ≢ node.name) nodes
+    → HasHome world name → HasHome (with_nodes home setting world nodes) name
 unfolding with_nodes
-home_stays home setting world [] name has = has
-home_stays home setting world (node ∷ nodes) name has =
-    home_stays home setting (with_node home setting world node node.kind) nodes name (home_by home setting world node node.kind name has)
+home_stays home setting world [] name others has = has
+home_stays home setting world (node ∷ nodes) name others has =
+    home_stays home setting (with_node home setting world node) nodes name (All-tail (λ (n : Node). name ≢ n.name) node nodes others)
+    (home_by home setting world node name (λ e. All-head (λ (n : Node). name ≢ n.name) node nodes others (sym e)) has)
+
+home_there : (home : List ℕ) (setting : Setting) (world : World) (node : Node) (kind : Kind) → kind ≡ backend_kind
+    → HasBack (Some (first_state home setting node kind))
+unfolding first_state
+home_there home setting world node Master k = cc
+home_there home setting world node Frontend k = cc
+home_there home setting world node backend_kind k =
+    let new : Backend = booted (record { server = node.name; partition = node.partition }) in record { backend = new; is = a_back new }
 
 home_new : (home : List ℕ) (setting : Setting) (world : World) (node : Node) (nodes : List Node) (kind : Kind) (rest : List (List ℕ)) (name : List ℕ)
+    → node.kind ≡ kind → AllPairs (λ (one other : Node). one.name ≢ other.name) (node ∷ nodes)
     → or_backend kind node.name (backends_of nodes) ≡ name ∷ rest
     → ((world : World) (r : List (List ℕ)) → backends_of nodes ≡ name ∷ r → HasHome (with_nodes home setting world nodes) name)
-    → HasHome (with_nodes home setting (with_node home setting world node kind) nodes) name
-unfolding or_backend with_node
-home_new home setting world node nodes Master rest name e later = later world rest e
-home_new home setting world node nodes Frontend rest name e later = later _ rest e
-home_new home setting world node nodes backend_kind rest name e later =
+    → HasHome (with_nodes home setting (with_node home setting world node) nodes) name
+unfolding or_backend
+home_new home setting world node nodes Master rest name k pairs e later = later (with_node home setting world node) rest e
+home_new home setting world node nodes Frontend rest name k pairs e later = later (with_node home setting world node) rest e
+home_new home setting world node nodes backend_kind rest name k pairs e later =
     let same : node.name ≡ name = cc in
-    home_stays home setting _ nodes name (record {
-      backend = booted (record { server = node.name; partition = node.partition });
-      at = ap (λ n. value_at (slice_cmp nat_cmp)
-          (with_entry (slice_cmp nat_cmp) world.homes node.name (booted (record { server = node.name; partition = node.partition }))) n) (sym same)
-          ∙ value_at-with_entry (slice_cmp nat_cmp) names_apart world.homes node.name (booted (record { server = node.name; partition = node.partition }));
+    let there : HasBack (Some (first_state home setting node node.kind)) = home_there home setting world node node.kind k in
+    let others : All (λ (other : Node). name ≢ other.name) nodes =
+    subst (λ n. All (λ (other : Node). n ≢ other.name) nodes) same (head_apart node nodes pairs) in
+    home_stays home setting (with_node home setting world node) nodes name others (record {
+      backend = there.backend;
+      at = subst (λ n. home_at (with_node home setting world node) n ≡ Some there.backend) same
+          (ap as_back (value_at-with_entry (slice_cmp nat_cmp) names_apart world.nodes node.name (first_state home setting node node.kind)) ∙ there.is);
     })
 
-home_comes : (home : List ℕ) (setting : Setting) (nodes : List Node) (world : World) (rest : List (List ℕ)) (name : List ℕ) → backends_of nodes ≡ name ∷ rest
+home_comes : (home : List ℕ) (setting : Setting) (nodes : List Node) (world : World) (rest : List (List ℕ)) (name : List ℕ)
+    → AllPairs (λ (one other : Node). one.name ≢ other.name) nodes → backends_of nodes ≡ name ∷ rest
     → HasHome (with_nodes home setting world nodes) name
 unfolding with_nodes backends_of
-home_comes home setting [] world rest name e = cc
-home_comes home setting (node ∷ nodes) world rest name e =
-    home_new home setting world node nodes node.kind rest name e (λ w r h. home_comes home setting nodes w r name h)
+home_comes home setting [] world rest name pairs e = cc
+home_comes home setting (node ∷ nodes) world rest name pairs e =
+    home_new home setting world node nodes node.kind rest name refl pairs e
+    (λ w r h. home_comes home setting nodes w r name (tail_apart node nodes pairs) h)
 
 count_by_kind : (node : Node) (nodes : List Node) (kind : Kind) → node.kind ≡ kind → length (backends_of nodes) ≡ count_of_kind backend_kind nodes
     → length (or_backend kind node.name (backends_of nodes)) ≡ count_of_kind backend_kind (node ∷ nodes)
@@ -230,7 +188,15 @@ fresh_start : (config : Config) → IsFresh (home_of config) (setting_of config)
 unfolding start
 fresh_start config = fresh_nodes (home_of config) (setting_of config)
     (record no_world { backends = backends_of config.nodes; pairs = links_of config.nodes }) config.nodes
-    (record { fronts = λ node front at. cc; homes = λ node backend at. cc; clients = refl; links = refl; marks = refl; steps = refl })
+    (record { nodes = λ name it at. cc; clients = refl; links = refl; marks = refl; steps = refl })
+
+fresh_front : (home : List ℕ) (setting : Setting) (world : World) (name : List ℕ) (front : Front) → IsFresh home setting world
+    → front_at world name ≡ Some front → front ≡ new_front name home setting
+fresh_front home setting world name front fresh at = fresh.nodes name (state.Front front) (front_is (node_at world name) front at)
+
+fresh_home : (home : List ℕ) (setting : Setting) (world : World) (name : List ℕ) (backend : Backend) → IsFresh home setting world
+    → home_at world name ≡ Some backend → (backend.held ≡ []) × (backend.last_serial ≡ 0)
+fresh_home home setting world name backend fresh at = fresh.nodes name (state.Back backend) (back_is (node_at world name) backend at)
 
 pub no_steps : (config : Config) → (start config).steps ≡ 0
 no_steps config = (fresh_start config).steps
@@ -282,21 +248,21 @@ unfolding start
 start_keeps config are =
     let first = first_backend config.nodes are in
     let origin : World = record no_world { backends = backends_of config.nodes; pairs = links_of config.nodes } in
-    let has = home_comes (home_of config) (setting_of config) config.nodes origin first.rest (home_of config) first.is in
+    let has = home_comes (home_of config) (setting_of config) config.nodes origin first.rest (home_of config) are.names first.is in
     let fresh = fresh_start config in
-    let free = fresh.homes (home_of config) has.backend has.at in
+    let fresh_one = fresh_front (home_of config) (setting_of config) (start config) in
+    let free = fresh_home (home_of config) (setting_of config) (start config) (home_of config) has.backend fresh has.at in
     record {
       backend = has.backend;
       nodes = record {
-        home_no_front = fronts_stay (home_of config) (setting_of config) origin config.nodes (home_of config)
-            (no_frontends config.nodes first.rest (home_of config) are.names first.is);
+        home_no_front = back_no_front (node_at (start config) (home_of config)) has.backend has.at;
         home_is = has.at;
         fronts = λ node front at. (
-          ap (λ (f : Front). f.home) (fresh.fronts node front at) ∙ home_new_front node (home_of config) (setting_of config),
-          ap (λ (f : Front). f.setting) (fresh.fronts node front at) ∙ setting_new_front node (home_of config) (setting_of config),
+          ap (λ (f : Front). f.home) (fresh_one node front fresh at) ∙ home_new_front node (home_of config) (setting_of config),
+          ap (λ (f : Front). f.setting) (fresh_one node front fresh at) ∙ setting_new_front node (home_of config) (setting_of config),
         );
         frontends = frontends_at_start config are;
-        other_homes = λ node other ne at. (fresh.homes node other at).0;
+        other_homes = λ node other ne at. (fresh_home (home_of config) (setting_of config) (start config) node other fresh at).0;
         backends = refl;
       };
       below_next = λ name there at. (let none : value_at (slice_cmp nat_cmp) has.backend.held name ≡ None = (rw free.0 refl) in cc);
@@ -316,7 +282,7 @@ start_keeps config are =
       };
       requests = λ conn. no_requests (setting_of config);
       connections = λ conn. is_nobody (ap (λ c. value_at nat_cmp c conn) fresh.clients)
-          (λ node front at. no_connection (home_of config) (setting_of config) node front conn (fresh.fronts node front at))
+          (λ node front at. no_connection (home_of config) (setting_of config) node front conn (fresh_one node front fresh at))
           (record {
             told = refl;
             said = refl;

@@ -9,7 +9,7 @@ use Rattle.cluster_core.specs.declared.world.Client.{Client}
 use Rattle.cluster_core.specs.declared.world.World.{World}
 use Rattle.cluster_core.specs.Flow.{run_steps, steps_of_event}
 use Rattle.link_queue.specs.Links.{same_link, on_link}
-use Rattle.cluster_core.specs.World.{start, client_at, front_at, home_at}
+use Rattle.cluster_core.specs.World.{start, client_at, node_at}
 
 -- the node at which a client is connected
 abbrev pub node_of : Option Client → Option (List ℕ)
@@ -42,8 +42,7 @@ pub record WasSent (before after : List LinkMsg) : Type 0 where
 -- every other node is as it was, and each client where it was; on each link stands what the event left there, and behind it, on a
 -- link that begins at this node, what it sent; and which backends and links there are stays
 pub record OnlyWorks (event : Event) (node : List ℕ) (before after : World) : Type 0 where
-  pub fronts : (other : List ℕ) → other ≢ node → front_at after other ≡ front_at before other
-  pub homes : (other : List ℕ) → other ≢ node → home_at after other ≡ home_at before other
+  pub nodes : (other : List ℕ) → other ≢ node → node_at after other ≡ node_at before other
   pub clients : (conn : ℕ) → node_of (client_at after conn) ≡ connected event conn (node_of (client_at before conn))
   pub stays : (from to : List ℕ) → from ≢ node → on_link after.links from to ≡ leaves_on event from to (on_link before.links from to)
   pub sends : (to : List ℕ) → WasSent (leaves_on event node to (on_link before.links node to)) (on_link after.links node to)

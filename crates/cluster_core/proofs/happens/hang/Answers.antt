@@ -1,0 +1,5 @@
+use Rattle.cluster_core.proofs.Runs.RoomLaw.{hang_fits}
+use Rattle.cluster_core.proofs.happens.hang.Goals as goal
+
+pub client_does-requires : goal.client_does-requires
+client_does-requires c = hang_fits _ _ _

@@ -1,0 +1,189 @@
+-- A node gives bytes to no client but the one that its input is about.
+use Rattle.std.proofs.Common.{◌≡◌, ◌≢◌, ℕ, List, [], ◌∷◌, Option, Some, None, refl, sym, subst, ⊤}
+use Rattle.backend_core.specs.declared.backend.Backend.{Backend}
+use Rattle.backend_core.specs.declared.input.BackInput.{BackInput}
+use Rattle.backend_core.specs.declared.input.BackInput.TheVariants.{Up as up_in, End as end_in, FromFront}
+use Rattle.backend_core.specs.Plan.{plan_of, answer_outs}
+use Rattle.backend_core.specs.Step.{home_step}
+use Rattle.front_core.specs.declared.front.Front.{Front}
+use Rattle.front_core.specs.Front.{connect, connection_at, bytes_in, deliver}
+use Rattle.front_core.proofs.OneConnection.OwnOuts.{IsFor, AreFor, answered_for, connect_for, bytes_for}
+use Rattle.link_msg.specs.declared.answer.AnswerBody.{AnswerBody}
+use Rattle.link_msg.specs.declared.counts.Counts.{Counts}
+use Rattle.link_msg.specs.declared.input.NodeInput.{NodeInput}
+use Rattle.link_msg.specs.declared.input.NodeInput.TheVariants.{Opened, Piece, Hung, From}
+use Rattle.link_msg.specs.declared.message.LinkMsg.{LinkMsg}
+use Rattle.link_msg.specs.declared.message.LinkMsg.TheVariants.{Up, End, Line, Ask, Answer}
+use Rattle.link_msg.specs.declared.out.Out.{Out}
+use Rattle.link_msg.specs.declared.out.Out.TheVariants.{Client, Close, Link, Mark, Told}
+use Rattle.mur_base.specs.declared.point.AskId.{AskId}
+use Rattle.node_step.specs.declared.node.NodeState.{NodeState}
+use Rattle.node_step.specs.declared.node.NodeState.TheVariants as node
+use Rattle.node_step.specs.NodeStep.{as_front, front_takes, back_takes, back_by, back_input, takes}
+
+-- the connection that an input is about, if it is about one
+abbrev pub conn_of_message : LinkMsg → Option ℕ
+conn_of_message (Answer answer) = Some (answer.id).conn
+conn_of_message message = None
+
+abbrev pub conn_of : NodeInput → Option ℕ
+conn_of (Opened conn) = Some conn
+conn_of (Piece conn bytes) = Some conn
+conn_of (Hung conn) = Some conn
+conn_of (From name message) = conn_of_message message
+
+-- an output that gives no bytes to this client
+abbrev pub IsNotFor : ℕ → Out → Type 0
+IsNotFor other (Client conn bytes) = other ≢ conn
+IsNotFor other out = ⊤
+
+unfoldable pub AreNotFor : ℕ → List Out → Type 0
+AreNotFor other [] = ⊤
+AreNotFor other (out ∷ outs) = IsNotFor other out × AreNotFor other outs
+
+not_for : (home : List ℕ) (conn other : ℕ) (out : Out) → other ≢ conn → IsFor home conn out → IsNotFor other out
+not_for home conn other (Client own bytes) ne is = λ e. ne (cc)
+not_for home conn other (Close own) ne is = tt
+not_for home conn other (Link name message) ne is = tt
+not_for home conn other (Mark ask counts) ne is = tt
+not_for home conn other (Told ask how) ne is = tt
+
+none_for : (home : List ℕ) (conn other : ℕ) (outs : List Out) → other ≢ conn → AreFor home conn outs → AreNotFor other outs
+unfolding AreFor AreNotFor
+none_for home conn other [] ne are = tt
+none_for home conn other (out ∷ outs) ne are = (not_for home conn other out ne are.0, none_for home conn other outs ne are.1)
+
+not_it : (conn other : ℕ) → Some conn ≢ Some other → other ≢ conn
+not_it conn other ne e = ne (cc)
+
+nothing_for : (other : ℕ) → AreNotFor other []
+unfolding AreNotFor
+nothing_for other = tt
+
+message_for : (front : Front) (message : LinkMsg) (other : ℕ) → conn_of_message message ≢ Some other → AreNotFor other (deliver front message).outs
+unfolding deliver
+message_for front (Answer answer) other ne =
+    none_for front.home (answer.id).conn other (deliver front (Answer answer)).outs (not_it (answer.id).conn other ne)
+    (answered_for front answer (connection_at front (answer.id).conn))
+message_for front Up other ne = nothing_for other
+message_for front End other ne = nothing_for other
+message_for front (Line line) other ne = nothing_for other
+message_for front (Ask ask) other ne = nothing_for other
+
+front_own : (front : Front) (input : NodeInput) (other : ℕ) → conn_of input ≢ Some other → AreNotFor other (front_takes front input).outs
+unfolding front_takes
+front_own front (Opened conn) other ne = none_for front.home conn other (connect front conn).outs (not_it conn other ne) (connect_for front conn)
+front_own front (Piece conn bytes) other ne = none_for front.home conn other (bytes_in front conn bytes).outs (not_it conn other ne) (bytes_for front conn bytes)
+front_own front (Hung conn) other ne = nothing_for other
+front_own front (From name message) other ne = message_for front message other ne
+
+-- a backend has no clients
+
+answered_own : (other : ℕ) (from : List ℕ) (id : AskId) (counts : Counts) (body : Option AnswerBody) → AreNotFor other (answer_outs from id counts body)
+unfolding AreNotFor answer_outs
+answered_own other from id counts None = tt
+answered_own other from id counts (Some body) = (tt, (tt, tt))
+
+plan_own : (other : ℕ) (home : Backend) (input : BackInput) → AreNotFor other (plan_of home input).outs
+unfolding plan_of
+plan_own other home (FromFront from ask) = answered_own other from ask.id (home_step home ask).counts (home_step home ask).body
+plan_own other home (up_in name) = nothing_for other
+plan_own other home (end_in name) = nothing_for other
+
+back_by_own : (other : ℕ) (home : Backend) (input : Option BackInput) → AreNotFor other (back_by home input).outs
+unfolding back_by
+back_by_own other home None = nothing_for other
+back_by_own other home (Some input) = plan_own other home input
+
+back_own : (other : ℕ) (home : Backend) (input : NodeInput) → AreNotFor other (back_takes home input).outs
+unfolding back_takes
+back_own other home (Opened conn) = nothing_for other
+back_own other home (Piece conn bytes) = nothing_for other
+back_own other home (Hung conn) = nothing_for other
+back_own other home (From name message) = back_by_own other home (back_input name message)
+
+pub takes_own : (it : NodeState) (input : NodeInput) (other : ℕ) → conn_of input ≢ Some other → AreNotFor other (takes it input).outs
+unfolding takes
+takes_own (node.Front front) input other ne = front_own front input other ne
+takes_own (node.Back home) input other ne = back_own other home input
+takes_own (node.Master master) input other ne = nothing_for other
+
+-- where outputs may go
+abbrev pub IsTo : (List ℕ → Type 0) → Out → Type 0
+IsTo may (Link other message) = may other
+IsTo may out = ⊤
+
+unfoldable pub AreTo : (List ℕ → Type 0) → List Out → Type 0
+AreTo may [] = ⊤
+AreTo may (out ∷ outs) = IsTo may out × AreTo may outs
+
+nowhere : (may : List ℕ → Type 0) → AreTo may []
+unfolding AreTo
+nowhere may = tt
+
+to_home : (may : List ℕ → Type 0) (home : List ℕ) (conn : ℕ) (out : Out) → may home → IsFor home conn out → IsTo may out
+to_home may home conn (Client own bytes) there is = tt
+to_home may home conn (Close own) there is = tt
+to_home may home conn (Link name message) there is = subst may (sym is) there
+to_home may home conn (Mark ask counts) there is = tt
+to_home may home conn (Told ask how) there is = tt
+
+all_home : (may : List ℕ → Type 0) (home : List ℕ) (conn : ℕ) (outs : List Out) → may home → AreFor home conn outs → AreTo may outs
+unfolding AreFor AreTo
+all_home may home conn [] there are = tt
+all_home may home conn (out ∷ outs) there are = (to_home may home conn out there are.0, all_home may home conn outs there are.1)
+
+message_goes : (may : List ℕ → Type 0) (front : Front) (message : LinkMsg) → may front.home → AreTo may (deliver front message).outs
+unfolding deliver
+message_goes may front (Answer answer) there =
+    all_home may front.home (answer.id).conn (deliver front (Answer answer)).outs there (answered_for front answer (connection_at front (answer.id).conn))
+message_goes may front Up there = nowhere may
+message_goes may front End there = nowhere may
+message_goes may front (Line line) there = nowhere may
+message_goes may front (Ask ask) there = nowhere may
+
+front_goes : (may : List ℕ → Type 0) (front : Front) (input : NodeInput) → may front.home → AreTo may (front_takes front input).outs
+unfolding front_takes
+front_goes may front (Opened conn) there = all_home may front.home conn (connect front conn).outs there (connect_for front conn)
+front_goes may front (Piece conn bytes) there = all_home may front.home conn (bytes_in front conn bytes).outs there (bytes_for front conn bytes)
+front_goes may front (Hung conn) there = nowhere may
+front_goes may front (From name message) there = message_goes may front message there
+
+answered_goes : (may : List ℕ → Type 0) (from : List ℕ) (id : AskId) (counts : Counts) (body : Option AnswerBody) → may from
+    → AreTo may (answer_outs from id counts body)
+unfolding AreTo answer_outs
+answered_goes may from id counts None there = tt
+answered_goes may from id counts (Some body) there = (there, (tt, tt))
+
+-- a backend answers who asked
+
+back_goes_by : (may : List ℕ → Type 0) (home : Backend) (from : List ℕ) (message : LinkMsg) → may from
+    → AreTo may (back_by home (back_input from message)).outs
+unfolding back_by back_input plan_of
+back_goes_by may home from Up there = nowhere may
+back_goes_by may home from End there = nowhere may
+back_goes_by may home from (Ask ask) there =
+    answered_goes may from ask.id (home_step home ask).counts (home_step home ask).body there
+back_goes_by may home from (Line line) there = nowhere may
+back_goes_by may home from (Answer answer) there = nowhere may
+
+-- who sent an input
+abbrev pub sender_of : NodeInput → Option (List ℕ)
+sender_of (From name message) = Some name
+sender_of input = None
+
+back_goes : (may : List ℕ → Type 0) (home : Backend) (input : NodeInput) → ((name : List ℕ) → sender_of input ≡ Some name → may name)
+    → AreTo may (back_takes home input).outs
+unfolding back_takes
+back_goes may home (Opened conn) there = nowhere may
+back_goes may home (Piece conn bytes) there = nowhere may
+back_goes may home (Hung conn) there = nowhere may
+back_goes may home (From name message) there = back_goes_by may home name message (there name refl)
+
+-- a frontend sends to its home, a backend to who sent to it, and the master to nobody
+pub takes_goes : (may : List ℕ → Type 0) (it : NodeState) (input : NodeInput) → ((front : Front) → as_front (Some it) ≡ Some front → may front.home)
+    → ((name : List ℕ) → sender_of input ≡ Some name → may name) → AreTo may (takes it input).outs
+unfolding takes as_front
+takes_goes may (node.Front front) input home sender = front_goes may front input (home front refl)
+takes_goes may (node.Back home_state) input home sender = back_goes may home_state input sender
+takes_goes may (node.Master master) input home sender = nowhere may
