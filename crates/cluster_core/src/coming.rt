@@ -5,8 +5,8 @@ ghost use Rattle.cluster_core.specs.World.{comes, node_at};
 
 use crate::carry::carry_out;
 use crate::world::World;
-use link_msg::NodeInput;
 use mur_base::{Memory, NodeName};
+use node_step::NodeInput;
 use std::alloc::Global;
 
 /// A node takes what comes to it, if it is there, and what it lets out is carried out. For want of memory the world is spent.

@@ -6,9 +6,9 @@ ghost use Rattle.schedule_text.specs.declared.event.Event.TheVariants.{Deliver};
 
 use crate::coming::comes;
 use crate::world::World;
-use link_msg::NodeInput;
 use link_queue::take_first;
 use mur_base::{Copied, Memory, NodeName};
+use node_step::NodeInput;
 use std::alloc::Global;
 
 /// The first message from one node to another is taken, if there is one. For want of memory the world is spent.

@@ -10,9 +10,9 @@ use crate::coming::comes;
 use crate::delivery::deliver;
 use crate::flow::flow;
 use crate::world::{Client, World};
-use link_msg::NodeInput;
 use mur_base::{Bytes, Copied, Memory, NodeName};
 use schedule_text::Event;
+use node_step::NodeInput;
 use std::alloc::Global;
 
 /// Carries an event out; one of links that break or of disks is a step that changes nothing else. For want of memory the world is spent.

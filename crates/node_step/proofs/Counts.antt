@@ -6,8 +6,8 @@ use Rattle.front_core.specs.declared.front.Front.{Front}
 use Rattle.front_core.specs.Front.{connect, bytes_in, hang, deliver}
 use Rattle.front_core.specs.Room.{HasCommands}
 use Rattle.front_core.proofs.Counts.{bytes_in_counts, deliver_counts, hang_counts, connect_counts, has_room_at, has_room_for}
-use Rattle.link_msg.specs.declared.input.NodeInput.{NodeInput}
-use Rattle.link_msg.specs.declared.input.NodeInput.TheVariants.{Opened, Piece, Hung, From}
+use Rattle.node_step.specs.declared.input.NodeInput.{NodeInput}
+use Rattle.node_step.specs.declared.input.NodeInput.TheVariants.{Opened, Piece, Hung, From}
 use Rattle.node_step.specs.declared.node.NodeState.{NodeState}
 use Rattle.node_step.specs.declared.node.NodeState.TheVariants as node
 use Rattle.node_step.specs.NodeStep.{as_front, front_takes, back_takes, back_by, back_input, takes}

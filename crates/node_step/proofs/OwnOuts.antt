@@ -10,8 +10,8 @@ use Rattle.front_core.specs.Front.{connect, connection_at, bytes_in, deliver}
 use Rattle.front_core.proofs.OneConnection.OwnOuts.{IsFor, AreFor, answered_for, connect_for, bytes_for}
 use Rattle.link_msg.specs.declared.answer.AnswerBody.{AnswerBody}
 use Rattle.link_msg.specs.declared.counts.Counts.{Counts}
-use Rattle.link_msg.specs.declared.input.NodeInput.{NodeInput}
-use Rattle.link_msg.specs.declared.input.NodeInput.TheVariants.{Opened, Piece, Hung, From}
+use Rattle.node_step.specs.declared.input.NodeInput.{NodeInput}
+use Rattle.node_step.specs.declared.input.NodeInput.TheVariants.{Opened, Piece, Hung, From}
 use Rattle.link_msg.specs.declared.message.LinkMsg.{LinkMsg}
 use Rattle.link_msg.specs.declared.message.LinkMsg.TheVariants.{Up, End, Line, Ask, Answer}
 use Rattle.link_msg.specs.declared.out.Out.{Out}

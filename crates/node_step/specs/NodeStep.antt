@@ -6,8 +6,8 @@ use Rattle.backend_core.specs.declared.input.BackInput.TheVariants.{Up as up_in,
 use Rattle.backend_core.specs.Plan.{Planned, plan_of}
 use Rattle.front_core.specs.declared.front.Front.{Front}
 use Rattle.front_core.specs.Front.{Stepped, connect, bytes_in, hang, deliver}
-use Rattle.link_msg.specs.declared.input.NodeInput.{NodeInput}
-use Rattle.link_msg.specs.declared.input.NodeInput.TheVariants.{Opened, Piece, Hung, From}
+use Rattle.node_step.specs.declared.input.NodeInput.{NodeInput}
+use Rattle.node_step.specs.declared.input.NodeInput.TheVariants.{Opened, Piece, Hung, From}
 use Rattle.link_msg.specs.declared.message.LinkMsg.{LinkMsg}
 use Rattle.link_msg.specs.declared.message.LinkMsg.TheVariants.{Up, End, Line, Ask, Answer}
 use Rattle.link_msg.specs.declared.out.Out.{Out}

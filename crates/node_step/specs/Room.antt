@@ -2,8 +2,8 @@
 use Rattle.std.specs.Prelude.{⊤, length}
 use Rattle.front_core.specs.declared.front.Front.{Front}
 use Rattle.front_core.specs.Room.{HasRoomAt, HasRoomFor}
-use Rattle.link_msg.specs.declared.input.NodeInput.{NodeInput}
-use Rattle.link_msg.specs.declared.input.NodeInput.TheVariants.{Opened, Piece, Hung, From}
+use Rattle.node_step.specs.declared.input.NodeInput.{NodeInput}
+use Rattle.node_step.specs.declared.input.NodeInput.TheVariants.{Opened, Piece, Hung, From}
 use Rattle.node_step.specs.declared.node.NodeState.{NodeState}
 use Rattle.node_step.specs.declared.node.NodeState.TheVariants as node
 

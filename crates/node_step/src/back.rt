@@ -3,8 +3,9 @@ ghost use Rattle.std.specs.Prelude.{◌≡◌, IfOk};
 ghost use Rattle.node_step.specs.NodeStep.{back_by, back_input, back_takes};
 ghost use Rattle.node_step.specs.declared.node.NodeState.TheVariants as node;
 
+use crate::input::NodeInput;
 use backend_core::{BackInput, Backend};
-use link_msg::{LinkMsg, NodeInput, Outs};
+use link_msg::{LinkMsg, Outs};
 use mur_base::{Memory, NodeName};
 use std::alloc::Global;
 

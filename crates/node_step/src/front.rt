@@ -4,8 +4,9 @@ ghost use Rattle.node_step.specs.NodeStep.{front_acted, front_takes};
 ghost use Rattle.node_step.specs.Room.{FrontHasRoom};
 ghost use Rattle.node_step.specs.declared.node.NodeState.TheVariants as node;
 
+use crate::input::NodeInput;
 use front_core::Front;
-use link_msg::{NodeInput, Outs};
+use link_msg::Outs;
 use mur_base::Memory;
 use std::alloc::Global;
 

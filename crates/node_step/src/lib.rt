@@ -4,7 +4,9 @@
 
 mod back;
 mod front;
+mod input;
 mod node;
 mod takes;
 
+pub use input::NodeInput;
 pub use node::NodeState;

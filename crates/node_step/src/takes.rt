@@ -5,8 +5,9 @@ ghost use Rattle.node_step.specs.Room.{HasRoomToTake};
 
 use crate::back::back_takes;
 use crate::front::front_takes;
+use crate::input::NodeInput;
 use crate::node::NodeState;
-use link_msg::{NodeInput, Outs};
+use link_msg::Outs;
 use mur_base::Memory;
 use std::alloc::Global;
 

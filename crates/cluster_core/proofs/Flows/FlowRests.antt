@@ -3,8 +3,8 @@ use Rattle.std.proofs.Common.{◌≡◌, ◌≢◌, ℕ, zero, suc, ◌+◌, ◌
 use Rattle.std.proofs.Common.{sym, ◌∙◌, ap, subst, arith, length-append, Option, All, Contains}
 use Rattle.std.proofs.lemmas.Bool.{eqb-true, eq-eqb}
 use Rattle.std.proofs.lemmas.List.Elements.{All-nil, All-cons, All-contains, Contains-append_right}
-use Rattle.link_msg.specs.declared.input.NodeInput.{NodeInput}
-use Rattle.link_msg.specs.declared.input.NodeInput.TheVariants.{From}
+use Rattle.node_step.specs.declared.input.NodeInput.{NodeInput}
+use Rattle.node_step.specs.declared.input.NodeInput.TheVariants.{From}
 use Rattle.link_msg.specs.declared.message.LinkMsg.{LinkMsg}
 use Rattle.mur_config.specs.declared.config.Config.{Config}
 use Rattle.mur_config.specs.declared.node.Link.{Link}

@@ -8,8 +8,8 @@ use Rattle.std.specs.Cmp.Lexicographic.{slice_cmp}
 use Rattle.front_core.specs.declared.front.Front.{Front}
 use Rattle.front_core.specs.Front.{new_front}
 use Rattle.front_core.specs.Room.{HasCommands}
-use Rattle.link_msg.specs.declared.input.NodeInput.{NodeInput}
-use Rattle.link_msg.specs.declared.input.NodeInput.TheVariants.{Opened, Piece, Hung, From}
+use Rattle.node_step.specs.declared.input.NodeInput.{NodeInput}
+use Rattle.node_step.specs.declared.input.NodeInput.TheVariants.{Opened, Piece, Hung, From}
 use Rattle.link_msg.specs.declared.message.LinkMsg.{LinkMsg}
 use Rattle.mur_base.specs.Map.{value_at}
 use Rattle.mur_base.proofs.MapLaws.{names_apart, same_or_other, value_at-with_entry, value_at-with_entry-other, value_at-with_value, value_at-with_value-other}

@@ -1,5 +1,5 @@
 // What comes to a node.
-use crate::message::LinkMsg;
+use link_msg::LinkMsg;
 use mur_base::{Bytes, NodeName};
 
 /// An input of a node's step.
