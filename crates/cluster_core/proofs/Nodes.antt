@@ -3,4 +3,3 @@ pub mod OneNodeLaw
 pub mod OwnClientsLaw
 pub mod LinkedNodes
 pub mod OnPairs
-pub mod NoneQuiet

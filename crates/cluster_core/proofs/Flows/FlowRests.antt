@@ -26,8 +26,7 @@ use Rattle.cluster_core.proofs.Flows.Load.{load}
 use Rattle.cluster_core.proofs.Flows.LoadFalls.{delivery_falls, start_load, step_load, steps_load}
 use Rattle.mur_config.proofs.OncePairs.{times, pairs_once}
 use Rattle.cluster_core.proofs.Nodes.OneNodeLaw.{carry_all_sends}
-use Rattle.cluster_core.proofs.Nodes.NoneQuiet.{NoneQuiet, first_serves, run_keeps as keeps_none_quiet}
-use Rattle.cluster_core.proofs.Nodes.OnPairs.{IsIdle, all_empty, pairs_stay, start_none_quiet}
+use Rattle.cluster_core.proofs.Nodes.OnPairs.{AreServed, IsIdle, all_empty, first_serves, pairs_stay}
 use Rattle.cluster_core.proofs.Runs.Unrolled.{event_made, run_steps-append}
 use Rattle.link_queue.proofs.Wires.{same_itself, on_link-taken}
 
@@ -67,14 +66,14 @@ unfolding takes
 step_takes world from to ne = takes_first (stepped world) from to (on_link world.links from to) ne refl
 
 delivers_first : (links : List Link) (world : World) (link : Link) (message : LinkMsg) (queue : List LinkMsg) → Contains links link → AreApart link
-    → on_link world.links link.from link.to ≡ message ∷ queue → NoneQuiet world.links
+    → on_link world.links link.from link.to ≡ message ∷ queue → AreServed world
     → DeliversFirst links world (Deliver link.from link.to) (steps_by world (Deliver link.from link.to))
 delivers_first links world link message queue among apart e only = record {
   link = link;
   among = among;
   delivers = refl;
   message = message;
-  serves = first_serves world.links link.from link.to message queue e only;
+  serves = only link.from link.to message queue e;
   is_taken = e ∙ ap (λ q. message ∷ q) (sym (step_takes world link.from link.to apart ∙ ap (λ q. drop 1 q) e));
 }
 
@@ -110,7 +109,7 @@ record IsFlowing (links : List Link) (world : World) (count : ℕ) (flowing : Fl
   steps : flowing.world ≡ run_steps world flowing.made
   counts : length flowing.made + flowing.left ≡ count
   each : DeliversEach links world flowing.made
-  only : NoneQuiet world.links
+  only : (steps : List Event) → AreServed (run_steps world steps)
 
 delivered_flows : (links : List Link) (world : World) (count : ℕ) (flowing : Flowing) (link : Link) (left : ℕ) (message : LinkMsg) (queue : List LinkMsg)
     → Contains links link → AreApart link → flowing.left ≡ suc left → on_link flowing.world.links link.from link.to ≡ message ∷ queue
@@ -118,8 +117,7 @@ delivered_flows : (links : List Link) (world : World) (count : ℕ) (flowing : F
 unfolding run_steps
 delivered_flows links world count flowing link left message queue among apart l e is =
     let event = Deliver link.from link.to in
-    let only : NoneQuiet flowing.world.links =
-    subst (λ (w : World). NoneQuiet w.links) (sym is.steps) ((keeps_none_quiet world flowing.made).none_quiet is.only) in
+    let only : AreServed flowing.world = subst AreServed (sym is.steps) (is.only flowing.made) in
     let here : DeliversFirst links (run_steps world flowing.made) event (steps_by (run_steps world flowing.made) event) =
     subst (λ w. DeliversFirst links w event (steps_by w event)) is.steps
     (delivers_first links flowing.world link message queue among apart e only) in
@@ -225,7 +223,8 @@ rounds_rest zero links flowing h some = absurd (some (omega (arith, h)))
 rounds_rest (suc n) links flowing h some =
     rest_by n links flowing (rounds n links (round flowing links)) _ refl h some (λ fewer left. rounds_rest n links (round flowing links) fewer left)
 
-flow_flows : (world : World) (count : ℕ) → All AreApart world.pairs → NoneQuiet world.links → IsFlowing world.pairs world count (flow world count)
+flow_flows : (world : World) (count : ℕ) → All AreApart world.pairs → ((steps : List Event) → AreServed (run_steps world steps))
+    → IsFlowing world.pairs world count (flow world count)
 unfolding flow run_steps
 flow_flows world count apart only =
     rounds_flow world.pairs world count apart count (record { world = world; made = []; left = count })
@@ -235,12 +234,12 @@ flow_rests : (world : World) (count : ℕ) → (flow world count).left ≢ 0 →
 unfolding flow
 flow_rests world count some = rounds_rest count world.pairs (record { world = world; made = []; left = count }) (omega arith) some
 
-flow_is : (config : Config) (steps : List Event) (count : ℕ) (world : World) → world ≡ run_steps (start config) steps
+flow_is : (config : Config) (steps : List Event) (count : ℕ) (world : World) → AreNodes config.nodes → world ≡ run_steps (start config) steps
     → IsFlowing (links_of config.nodes) world count (flow world count)
-flow_is config steps count world there =
-    let pairs : world.pairs ≡ links_of config.nodes = ap (λ (w : World). w.pairs) there ∙ pairs_stay config steps in
-    let only : NoneQuiet world.links =
-    subst (λ (w : World). NoneQuiet w.links) (sym there) ((keeps_none_quiet (start config) steps).none_quiet (start_none_quiet config)) in
+flow_is config steps count world are there =
+    let pairs : world.pairs ≡ links_of config.nodes = ap (λ (w : World). w.pairs) there ∙ pairs_stay config steps are in
+    let only : (more : List Event) → AreServed (run_steps world more) = λ more.
+    subst AreServed (run_steps-append (start config) steps more ∙ ap (λ w. run_steps w more) (sym there)) (first_serves config (steps ++ more) are) in
     subst (λ links. IsFlowing links world count (flow world count)) pairs
     (flow_flows world count (subst (λ links. All AreApart links) (sym pairs) (pairs_apart config.nodes)) only)
 
@@ -266,7 +265,7 @@ deliveries_end links once world (event ∷ steps) each =
 flow_ends : (config : Config) (steps : List Event) (count : ℕ) (world : World) → AreNodes config.nodes → world ≡ run_steps (start config) steps
     → load (links_of config.nodes) (flow world count).world + length (flow world count).made ≤ load (links_of config.nodes) world
 flow_ends config steps count world are there =
-    let flows = flow_is config steps count world there in
+    let flows = flow_is config steps count world are there in
     omega (
       arith,
       deliveries_end (links_of config.nodes) (pairs_once config.nodes are) world (flow world count).made flows.each,
@@ -276,9 +275,9 @@ flow_ends config steps count world are there =
 is_flow : (config : Config) (steps : List Event) (sent count : ℕ) (world : World) → AreNodes config.nodes → world ≡ run_steps (start config) steps
     → load (links_of config.nodes) world ≤ 2 * sent → IsFlow (links_of config.nodes) sent count world (flow world count).made
 is_flow config steps sent count world are there few =
-    let pairs : world.pairs ≡ links_of config.nodes = ap (λ (w : World). w.pairs) there ∙ pairs_stay config steps in
+    let pairs : world.pairs ≡ links_of config.nodes = ap (λ (w : World). w.pairs) there ∙ pairs_stay config steps are in
     let made = (flow world count).made in
-    let flows = flow_is config steps count world there in
+    let flows = flow_is config steps count world are there in
     let ends : (flow world count).world ≡ run_steps (start config) (steps ++ made) =
     flows.steps ∙ ap (λ w. run_steps w made) there ∙ sym (run_steps-append (start config) steps made) in
     record {

@@ -104,18 +104,28 @@ nowhere_on_empty links whom here empty placed = none_on_empty (is_about whom) li
 
 -- a command that is in an ask, or in an answer, by its message
 
+just : {one other : Carried LinkMsg} → Some one ≡ Some other → one ≡ other
+just e = cc
+
 pub in_an_ask : (front f t : List ℕ) (ask : FrontAsk) (place : Place) → its_message front place ≡ Some (record { from = f; to = t; message = Ask ask })
     → (front ≡ f) × (place ≡ is_asked t ask)
 in_an_ask front f t ask nowhere e = cc
-in_an_ask front f t ask (is_asked home own) e = (cc, let one : home ≡ t = cc in let two : own ≡ ask = cc in ap (λ h. is_asked h own) one ∙ ap (is_asked t) two)
-in_an_ask front f t ask (is_answered home answer) e = cc
+in_an_ask front f t ask (is_asked home own) e =
+    let same : Ask own ≡ Ask ask = ap (λ (c : Carried LinkMsg). c.message) (just e) in
+    let own_is : own ≡ ask = cc in
+    (ap (λ (c : Carried LinkMsg). c.from) (just e), ap (λ h. is_asked h own) (ap (λ (c : Carried LinkMsg). c.to) (just e)) ∙ ap (is_asked t) own_is)
+in_an_ask front f t ask (is_answered home answer) e =
+    absurd (let no : Answer answer ≡ Ask ask = ap (λ (c : Carried LinkMsg). c.message) (just e) in cc)
 
 pub in_an_answer : (front f t : List ℕ) (answer : BackAnswer) (place : Place)
     → its_message front place ≡ Some (record { from = f; to = t; message = Answer answer }) → (front ≡ t) × (place ≡ is_answered f answer)
 in_an_answer front f t answer nowhere e = cc
-in_an_answer front f t answer (is_asked home ask) e = cc
+in_an_answer front f t answer (is_asked home ask) e =
+    absurd (let no : Ask ask ≡ Answer answer = ap (λ (c : Carried LinkMsg). c.message) (just e) in cc)
 in_an_answer front f t answer (is_answered home own) e =
-    (cc, let one : home ≡ f = cc in let two : own ≡ answer = cc in ap (λ h. is_answered h own) one ∙ ap (is_answered f) two)
+    let same : Answer own ≡ Answer answer = ap (λ (c : Carried LinkMsg). c.message) (just e) in
+    let own_is : own ≡ answer = cc in
+    (ap (λ (c : Carried LinkMsg). c.to) (just e), ap (λ h. is_answered h own) (ap (λ (c : Carried LinkMsg). c.from) (just e)) ∙ ap (is_answered f) own_is)
 
 -- one that is in a message is not nowhere
 pub somewhere : (front : List ℕ) (place : Place) (it : Carried LinkMsg) → its_message front place ≡ Some it → place ≡ nowhere → ⊥
