@@ -7,9 +7,10 @@ pub mod KeepsFront
 pub mod KeepsOpen
 pub mod KeepsData
 pub mod KeepsHang
+pub mod FirstTells
 pub mod KeepsAsk
 pub mod KeepsAnswer
-pub mod KeepsDeliver
 pub mod KeepsReply
+pub mod KeepsDeliver
 pub mod Keeps
 pub mod ClientsInOrder

@@ -2,7 +2,8 @@
 pub mod FrontAnswers
 pub mod OwnOuts
 pub mod Readings
-pub mod Ways
+pub mod Places
 pub mod Standing
+pub mod Waits
 pub mod Released
 pub mod LastAnswer

@@ -1,4 +1,4 @@
 pub mod Wires
-pub mod OnWay
+pub mod Placed
 mod Entries
 mod FirstTaken

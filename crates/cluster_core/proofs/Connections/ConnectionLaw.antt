@@ -1,5 +1,5 @@
 -- What holds of a connection: what its client was told is a front of what the one store replied, and at most one command waits,
--- whose ask or answer is on the way.
+-- in one place.
 use Rattle.std.proofs.Common.{◌≡◌, ◌≢◌, ℕ, true, false, nat_eq, List, [], ◌++◌, length, Option, Some, refl, ◌∙◌}
 use Rattle.std.proofs.Common.{arith}
 use Rattle.std.proofs.lemmas.Bool.Decides.{nat_tests}
@@ -11,8 +11,6 @@ use Rattle.imap_talk.specs.SessionEnds.{has_ended}
 use Rattle.imap_talk.specs.Transcript.{replies_to}
 use Rattle.imap_talk.proofs.TranscriptGrows.{AreAnswered}
 use Rattle.imap_talk.specs.declared.inputs.Input.{Input}
-use Rattle.link_msg.specs.declared.answer.BackAnswer.{BackAnswer}
-use Rattle.link_msg.specs.declared.ask.FrontAsk.{FrontAsk}
 use Rattle.imap_types.specs.declared.request.Answer.{Answer}
 use Rattle.mur_model.specs.declared.session.Sess.{Sess}
 use Rattle.mur_model.specs.declared.setting.Setting.{Setting}
@@ -25,7 +23,7 @@ use Rattle.cluster_core.specs.declared.world.Client.{Client}
 use Rattle.cluster_core.specs.declared.world.World.{World}
 use Rattle.cluster_core.specs.World.{client_at}
 use Rattle.cluster_core.proofs.Histories.Told.{IsTold}
-use Rattle.front_core.proofs.OneConnection.Ways.{AreOnWay}
+use Rattle.front_core.proofs.OneConnection.Places.{About, of_connection, IsPlaced, PlacesStay, Place, its_message}
 
 -- what was asked, what the one store replied, how much of it the clients were told, and the store with its sessions
 pub record Story : Type 0 where
@@ -41,8 +39,7 @@ pub record KeepsOthers (conn : ℕ) (world next : World) : Type 0 where
   pub pairs : next.pairs ≡ world.pairs
   pub steps : next.steps ≡ world.steps
   pub clients : (other : ℕ) → other ≢ conn → client_at next other ≡ client_at world other
-  pub ways : (other : ℕ) → other ≢ conn → (front home : List ℕ) (asks : List FrontAsk) (answers : List BackAnswer)
-      → AreOnWay world.links other front home asks answers → AreOnWay next.links other front home asks answers
+  pub places : (whom : About) → whom ≢ of_connection conn → PlacesStay whom world.links next.links
 
 pub keeps_all : (conn : ℕ) (world : World) → KeepsOthers conn world world
 keeps_all conn world = record {
@@ -52,7 +49,7 @@ keeps_all conn world = record {
   pairs = refl;
   steps = refl;
   clients = λ other ne. refl;
-  ways = λ other ne front home asks answers way. way;
+  places = λ whom ne here placed. placed;
 }
 
 pub keeps_on : (conn : ℕ) (one two three : World) → KeepsOthers conn one two → KeepsOthers conn two three → KeepsOthers conn one three
@@ -63,7 +60,7 @@ keeps_on conn one two three first second = record {
   pairs = second.pairs ∙ first.pairs;
   steps = second.steps ∙ first.steps;
   clients = λ other ne. second.clients other ne ∙ first.clients other ne;
-  ways = λ other ne front home asks answers way. second.ways other ne front home asks answers (first.ways other ne front home asks answers way);
+  places = λ whom ne here placed. second.places whom ne here (first.places whom ne here placed);
 }
 
 abbrev pub told_of : Story → Talk
@@ -99,7 +96,7 @@ abbrev pub client_with : List ℕ → List Input → List Answer → Client
 client_with front inputs told = record { at = front; given = greeting ++ replies_to inputs told }
 
 -- a connection in the middle of a step, in which it reads
-pub record IsReading (front home : List ℕ) (conn : ℕ) (inputs : List Input) (connection : Connection) (world : World) (story : Story) : Type 0 where
+pub record IsReading (front : List ℕ) (conn : ℕ) (inputs : List Input) (connection : Connection) (world : World) (story : Story) : Type 0 where
   pub stage_is : connection.stage ≡ Reading
   pub waiting_is : connection.waiting ≡ []
   pub session_is : connection.session ≡ story.course.sessions conn
@@ -108,14 +105,16 @@ pub record IsReading (front home : List ℕ) (conn : ℕ) (inputs : List Input) 
   pub answered : AreAnswered inputs (story.told conn)
   pub said : story.talk.answers conn ≡ story.told conn
   pub client : client_at world conn ≡ Some (client_with front inputs (story.told conn))
-  pub way : AreOnWay world.links conn front home [] []
+  pub nothing : IsPlaced (of_connection conn) world.links None
 
 -- and whatever it is at
 pub record IsStanding (setting : Setting) (front home : List ℕ) (conn : ℕ) (inputs : List Input) (held : Option (List ℕ)) (connection : Connection)
     (world : World) (story : Story) : Type 0 where
   pub count : connection.answered ≡ length (story.told conn)
   pub client : client_at world conn ≡ Some (client_with front inputs (story.told conn))
-  pub stands : Stands setting front home conn inputs held connection world.links (story.told conn) (story.talk.answers conn) (story.course.sessions conn)
+  pub place : Place
+  pub placed : IsPlaced (of_connection conn) world.links (its_message front place)
+  pub stands : Stands setting home conn inputs held connection (story.told conn) (story.talk.answers conn) (story.course.sessions conn) place
 
 -- a world and a story that a step of one connection made of another
 pub record IsMade (setting : Setting) (backend : Backend) (conn : ℕ) (before : World) (told : Story) (world : World) (story : Story) : Type 0 where
@@ -127,7 +126,7 @@ pub record ReadsOn (setting : Setting) (front home : List ℕ) (backend : Backen
     (told : Story) (world : World) : Type 0 where
   pub story : Story
   pub made : IsMade setting backend conn before told world story
-  pub reading : IsReading front home conn inputs connection world story
+  pub reading : IsReading front conn inputs connection world story
 
 pub record StandsOn (setting : Setting) (front home : List ℕ) (backend : Backend) (conn : ℕ) (inputs : List Input) (held : Option (List ℕ))
     (connection : Connection) (before : World) (told : Story) (world : World) : Type 0 where
@@ -150,6 +149,8 @@ pub standing_released : (setting : Setting) (front home : List ℕ) (conn : ℕ)
 standing_released setting front home conn all held connection world story is = record {
   count = released_count connection ∙ is.count;
   client = is.client;
-  stands = stands_released setting front home conn all held connection world.links (story.told conn) (story.talk.answers conn) (story.course.sessions conn)
+  place = is.place;
+  placed = is.placed;
+  stands = stands_released setting home conn all held connection (story.told conn) (story.talk.answers conn) (story.course.sessions conn) is.place
       is.stands;
 }

@@ -56,7 +56,7 @@ use Rattle.link_queue.specs.Links.{sent}
 use Rattle.cluster_core.specs.World.{client_at, given_more, marked, carry, carry_all}
 use Rattle.cluster_core.proofs.Connections.ConnectionLaw.{Story, KeepsOthers, keeps_on, GoesOnAt, stories_follow, client_with}
 use Rattle.cluster_core.proofs.Connections.ConnectionLaw.{IsMade, ReadsOn, StandsOn, session_at, session_of_other}
-use Rattle.front_core.proofs.OneConnection.Standing.OnItsWay.{there}
+use Rattle.front_core.proofs.OneConnection.Standing.Knows.{asked_so}
 use Rattle.front_core.proofs.OneConnection.Standing.Stands.{reads, waits, faulted, finished}
 use Rattle.front_core.proofs.OneConnection.FrontAnswers.{IsTaken, request_taken}
 use Rattle.front_core.proofs.OneConnection.FrontAnswers.IsTaken.{here, finishes, asked}
@@ -67,7 +67,7 @@ use Rattle.cluster_core.specs.declared.world.MarkKind.TheVariants.{Home, Told}
 use Rattle.link_msg.specs.declared.counts.Counts.{Counts}
 use Rattle.cluster_core.proofs.Histories.Tally.{acts}
 use Rattle.cluster_core.proofs.Histories.Told.{IsTold, having_said, next_course, told_push, tells_here}
-use Rattle.front_core.proofs.OneConnection.Ways.{ask_sent, sent_for_another, ask_of_another}
+use Rattle.front_core.proofs.OneConnection.Places.{of_connection, nowhere, is_asked, others_sent, sent_alone}
 
 pub carry_all-append : (node : List ℕ) (world : World) (one two : List Out) → carry_all node world (one ++ two) ≡ carry_all node (carry_all node world one) two
 unfolding carry_all
@@ -115,7 +115,7 @@ given_keeps world conn client text = record {
   pairs = refl;
   steps = refl;
   clients = λ other ne. value_at-with_value-other nat_cmp numbers_apart world.clients conn other (record client { given = client.given ++ text }) ne;
-  ways = λ other ne front home asked answered way. way;
+  places = λ whom ne here placed. placed;
 }
 
 pub marked_keeps : (conn : ℕ) (world : World) (ask : AskId) (how : How) → KeepsOthers conn world (marked_world world ask how)
@@ -126,7 +126,7 @@ marked_keeps conn world ask how = record {
   pairs = refl;
   steps = refl;
   clients = λ other ne. refl;
-  ways = λ other ne front home asked answered way. way;
+  places = λ whom ne here placed. placed;
 }
 
 abbrev said_story : Setting → Story → ℕ → Request → Answer → Story
@@ -237,7 +237,7 @@ answered_here setting front home backend conn inputs next connection before told
             ∙ ap (λ g. Some (record { at = front; given = g }))
             (append_assoc greeting (replies_to inputs (story.told conn)) text ∙ ap (λ t. greeting ++ t) (sym grown.text_is)
             ∙ ap (λ a. greeting ++ replies_to next a) (sym (with_item-same story.told conn answer)));
-        way = was.reading.way;
+        nothing = was.reading.nothing;
       };
     })
 
@@ -280,10 +280,12 @@ last_here setting front home backend conn inputs more held connection before tol
             (append_assoc greeting (replies_to inputs (story.told conn)) text
             ∙ ap (λ t. greeting ++ t) (sym (end_told silent inputs (story.told conn) request more answer [] was.reading.answered is_end))
             ∙ ap (λ a. greeting ++ replies_to next a) (sym (with_item-same story.told conn answer)));
+        place = nowhere;
+        placed = was.reading.nothing;
         stands = finished inputs more request (story.told conn) answer refl refl was.reading.answered (with_item-same story.told conn answer) is_end
             (with_item-same story.talk.answers conn _ ∙ ap (λ l. l ++ (carried_out setting course conn request 0).answer ∷ []) was.reading.said
             ∙ ap (λ a. story.told conn ++ a ∷ []) same_answer ∙ sym (with_item-same story.told conn answer))
-            was.reading.way;
+            refl;
       };
     })
 
@@ -319,7 +321,7 @@ awaited_here setting front home backend conn inputs connection before told world
             (record client { given = client.given ++ continuation_line why }) client was.reading.client
             ∙ ap (λ g. Some (record { at = front; given = g }))
             (append_assoc greeting (replies_to inputs (story.told conn)) (continuation_line why) ∙ ap (λ t. greeting ++ t) (sym grown.text_is));
-        way = was.reading.way;
+        nothing = was.reading.nothing;
       };
     })
 
@@ -348,10 +350,12 @@ faulted_here setting front home backend conn inputs held connection before told 
         client = value_at-with_value nat_cmp numbers_apart world.clients conn (record client { given = client.given ++ text }) client was.reading.client
             ∙ ap (λ g. Some (record { at = front; given = g })) (append_assoc greeting (replies_to inputs (story.told conn)) text
             ∙ ap (λ t. greeting ++ t) (sym (fault_told inputs (story.told conn) fault was.reading.answered)));
+        place = nowhere;
+        placed = was.reading.nothing;
         stands = faulted refl none
             (ap length (requests-append inputs (Faults fault ∷ []) ∙ append-nil (requests_in inputs))
             ∙ answered_lengths inputs (story.told conn) was.reading.answered)
-            was.reading.said (all_go_on inputs (story.told conn) was.reading.answered) was.reading.way;
+            was.reading.said (all_go_on inputs (story.told conn) was.reading.answered) refl;
       };
     })
 
@@ -379,8 +383,7 @@ asked_here setting front home backend conn inputs waiting held connection before
           pairs = refl;
           steps = refl;
           clients = λ other ne. refl;
-          ways = λ other ne f h asked answered way. sent_for_another world.links other f h front home (Ask ask) asked answered
-              (ask_of_another other ask (λ e. ne (sym e))) way;
+          places = λ whom ne. others_sent world.links front home (Ask ask) whom (λ e. ne (sym e));
         });
         goes_on = was.made.goes_on;
         is_told = was.made.is_told;
@@ -389,9 +392,25 @@ asked_here setting front home backend conn inputs waiting held connection before
         count = was.reading.count;
         client = was.reading.client ∙ ap (λ t. Some (record { at = front; given = greeting ++ t }))
             (replies_stop inputs (story.told conn) request waiting was.reading.answered);
-        stands = waits inputs request tag it name work refl refl (ap has_ended was.reading.session_is ∙ was.reading.goes_on) was.reading.answered is
-            (ap (λ s. need_of setting s it) was.reading.session_is ∙ need) last
-            (there was.reading.said was.reading.session_is (ask_sent world.links conn front home ask refl was.reading.way));
+        place = is_asked home ask;
+        placed = sent_alone world.links front home (Ask ask) (of_connection conn) refl was.reading.nothing;
+        stands = waits (record {
+          passed = inputs;
+          request = request;
+          tag = tag;
+          it = it;
+          name = name;
+          work = work;
+          stage = refl;
+          parts = refl;
+          lasts = ap has_ended was.reading.session_is ∙ was.reading.goes_on;
+          answered = was.reading.answered;
+          is = is;
+          need = ap (λ s. need_of setting s it) was.reading.session_is ∙ need;
+          last = last;
+          knows = asked_so was.reading.said was.reading.session_is
+              (ap (λ n. is_asked home (record ask { id = record { conn = conn; command = n + 1 } })) was.reading.count);
+        });
       };
     }
 
@@ -489,8 +508,9 @@ reads_stands setting front home backend conn inputs held connection before told 
   standing = record {
     count = was.reading.count;
     client = was.reading.client;
-    stands = reads was.reading.stage_is was.reading.waiting_is was.reading.session_is was.reading.goes_on was.reading.answered was.reading.said
-        was.reading.way;
+    place = nowhere;
+    placed = was.reading.nothing;
+    stands = reads was.reading.stage_is was.reading.waiting_is was.reading.session_is was.reading.goes_on was.reading.answered was.reading.said refl;
   };
 }
 

@@ -15,7 +15,7 @@ use Rattle.cluster_core.proofs.Connections.KeepsData.{data_keeps}
 use Rattle.cluster_core.proofs.Connections.KeepsHang.{hang_keeps}
 use Rattle.cluster_core.proofs.Connections.KeepsLaw.{KeepsLaw, KeepsOn, looks_same}
 use Rattle.cluster_core.proofs.Connections.KeepsOpen.{open_keeps}
-use Rattle.cluster_core.proofs.Connections.KeepsReply.{deliver_keeps}
+use Rattle.cluster_core.proofs.Connections.KeepsDeliver.{deliver_keeps}
 use Rattle.cluster_core.proofs.Connections.KeepsStill.{still_kept}
 
 -- an event that says nothing of a connection
@@ -60,8 +60,9 @@ step_keeps config heard world event law =
       fronts = λ any. refl;
       homes = λ any. refl;
       clients = λ any. refl;
-      ways = λ c front home asks answers way. way;
+      places = λ whom here placed. placed;
       backends = refl;
+      pairs = refl;
       marks =
           refl;
       steps = omega arith;

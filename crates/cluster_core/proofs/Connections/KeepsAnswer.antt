@@ -20,7 +20,6 @@ use Rattle.imap_talk.specs.declared.inputs.Input.TheVariants.{Asks}
 use Rattle.imap_types.specs.declared.request.Request.{Request}
 use Rattle.imap_talk.specs.Inputs.{requests_in}
 use Rattle.front_core.proofs.OneConnection.Readings.{FaultsLast}
-use Rattle.link_msg.specs.declared.answer.AnswerBody.{AnswerBody}
 use Rattle.link_msg.specs.declared.answer.BackAnswer.{BackAnswer}
 use Rattle.link_msg.specs.declared.how.How.TheVariants.{Behind}
 use Rattle.cluster_core.specs.declared.world.MarkKind.TheVariants.{Told}
@@ -48,7 +47,7 @@ use Rattle.front_core.proofs.OneConnection.Standing.Stands.{finished}
 use Rattle.cluster_core.proofs.Connections.FrameLaw.{carry_all-append, answer_carried, last_carried, given_world, given_keeps, marked_world, marked_keeps, inputs_kept}
 use Rattle.imap_talk.proofs.RequestsOf.{replies_stop}
 use Rattle.cluster_core.proofs.Histories.Told.{IsTold, told_behind_push}
-use Rattle.front_core.proofs.OneConnection.Ways.{AreOnWay}
+use Rattle.front_core.proofs.OneConnection.Places.{of_connection, nowhere, IsPlaced}
 
 abbrev told_more : Story → ℕ → AnswerOf → Story
 told_more story conn answer = record { talk = story.talk; told = with_item story.told conn answer; course = story.course }
@@ -93,12 +92,12 @@ replied_reads : (setting : Setting) (front home : List ℕ) (backend : Backend) 
     → story.course.sessions conn ≡ session_after connection.session later → has_ended (story.course.sessions conn) ≡ false
     → AreAnswered passed (story.told conn)
     → story.talk.answers conn ≡ story.told conn ++ (record { tag = tag; reply = reply }) ∷ []
-    → ends reply ≡ false → AreOnWay world.links conn front home [] [] → IsTold setting world.steps world.marks backend story.talk story.told story.course
+    → ends reply ≡ false → IsPlaced (of_connection conn) world.links None → IsTold setting world.steps world.marks backend story.talk story.told story.course
     → ReadsOn setting front home backend conn (passed ++ Asks request ∷ [])
     (reading_again (record connection { session = session_after connection.session later })) world story
     (carry_all front world (told_behind conn connection (reply_text tag reply)))
 replied_reads setting front home backend conn all passed request connection tag reply later world story parts count at session lasts answered said stays
-    way told =
+    none told =
     let answer : AnswerOf = record { tag = tag; reply = reply } in
     let client : Client = client_with front all (story.told conn) in
     let text : List ℕ = reply_text tag reply in
@@ -129,7 +128,7 @@ replied_reads setting front home backend conn all passed request connection tag 
             (append_assoc greeting (replies_to all (story.told conn)) text ∙ ap (λ t. greeting ++ (t ++ text)) stops
             ∙ ap (λ t. greeting ++ t) (sym grown.text_is)
             ∙ ap (λ a. greeting ++ replies_to (passed ++ Asks request ∷ []) a) (sym (with_item-same story.told conn answer)));
-        way = way;
+        nothing = none;
       };
     })
 
@@ -144,11 +143,11 @@ read_stands : (setting : Setting) (front home : List ℕ) (backend : Backend) (c
     → story.course.sessions conn ≡ session_after connection.session later → has_ended (story.course.sessions conn) ≡ false
     → AreAnswered passed (story.told conn)
     → story.talk.answers conn ≡ story.told conn ++ (record { tag = tag; reply = reply }) ∷ []
-    → ends reply ≡ false → AreOnWay world.links conn front home [] [] → IsTold setting world.steps world.marks backend story.talk story.told story.course
+    → ends reply ≡ false → IsPlaced (of_connection conn) world.links None → IsTold setting world.steps world.marks backend story.talk story.told story.course
     → FaultsLast connection.waiting held → story.talk.requests conn ≡ requests_in all
     → StandsOn setting front home backend conn all held (read_turn setting home conn connection (reply_text tag reply) later).connection world story
     (carry_all front world (read_turn setting home conn connection (reply_text tag reply) later).outs)
-read_stands setting front home backend conn all passed held request connection tag reply later world story parts count at session lasts answered said stays way
+read_stands setting front home backend conn all passed held request connection tag reply later world story parts count at session lasts answered said stays none
     told last asked =
     let behind : Turned =
     inputs_come setting home conn (reading_again (record connection { session = session_after connection.session later })) connection.waiting in
@@ -162,7 +161,7 @@ read_stands setting front home backend conn all passed held request connection t
     (carry_all front world (told_behind conn connection (reply_text tag reply)))
     (asked ∙ ap requests_in whole)
     (replied_reads setting front home backend conn all passed request connection tag reply later world story parts count at session lasts answered said stays
-    way told)))
+    none told)))
 
 -- nothing follows the reply of a session that has ended
 ended_stands : (setting : Setting) (front home : List ℕ) (backend : Backend) (conn : ℕ) (all passed : List Input) (held : Option (List ℕ))
@@ -170,10 +169,10 @@ ended_stands : (setting : Setting) (front home : List ℕ) (backend : Backend) (
     → all ≡ passed ++ Asks request ∷ connection.waiting → connection.answered ≡ length (story.told conn)
     → client_at world conn ≡ Some (client_with front all (story.told conn)) → AreAnswered passed (story.told conn)
     → story.talk.answers conn ≡ story.told conn ++ (record { tag = tag; reply = reply }) ∷ []
-    → ends reply ≡ true → AreOnWay world.links conn front home [] [] → IsTold setting world.steps world.marks backend story.talk story.told story.course
+    → ends reply ≡ true → IsPlaced (of_connection conn) world.links None → IsTold setting world.steps world.marks backend story.talk story.told story.course
     → StandsOn setting front home backend conn all held (ends_with conn connection (reply_text tag reply)).connection world story
     (carry_all front world (ends_with conn connection (reply_text tag reply)).outs)
-ended_stands setting front home backend conn all passed held request connection tag reply world story parts count at answered said is_end way told =
+ended_stands setting front home backend conn all passed held request connection tag reply world story parts count at answered said is_end none told =
     let answer : AnswerOf = record { tag = tag; reply = reply } in
     let client : Client = client_with front all (story.told conn) in
     let text : List ℕ = reply_text tag reply in
@@ -197,8 +196,10 @@ ended_stands setting front home backend conn all passed held request connection 
             ∙ ap (λ g. Some (record { at = front; given = g }))
             (append_assoc greeting (replies_to all (story.told conn)) text ∙ ap (λ t. greeting ++ (t ++ text)) stops
             ∙ ap (λ t. greeting ++ t) (sym ended) ∙ ap (λ a. greeting ++ replies_to all a) (sym (with_item-same story.told conn answer)));
+        place = nowhere;
+        placed = none;
         stands = finished passed connection.waiting request (story.told conn) answer refl parts answered (with_item-same story.told conn answer) is_end
-            (said ∙ sym (with_item-same story.told conn answer)) way;
+            (said ∙ sym (with_item-same story.told conn answer)) refl;
       };
     })
 
@@ -239,23 +240,23 @@ replied_by : (setting : Setting) (front home : List ℕ) (backend : Backend) (co
     → has_ended connection.session ≡ false → story.course.sessions conn ≡ session_after connection.session turn.session → TurnEnds turn
     → AreAnswered passed (story.told conn)
     → story.talk.answers conn ≡ story.told conn ++ (record { tag = tag; reply = turn.reply }) ∷ []
-    → AreOnWay world.links conn front home [] [] → IsTold setting world.steps world.marks backend story.talk story.told story.course
+    → IsPlaced (of_connection conn) world.links None → IsTold setting world.steps world.marks backend story.talk story.told story.course
     → FaultsLast connection.waiting held → story.talk.requests conn ≡ requests_in all
     → (ended : Bool) → ends_session turn.session ≡ ended
     → StandsOn setting front home backend conn all held (replied_turn setting home conn connection tag turn).connection world story
     (carry_all front world (replied_turn setting home conn connection tag turn).outs)
-replied_by setting front home backend conn all passed held request connection tag turn world story parts count at lasts session both answered said way told last
+replied_by setting front home backend conn all passed held request connection tag turn world story parts count at lasts session both answered said none told last
     asked true ended =
     subst (λ (t : Turned). StandsOn setting front home backend conn all held t.connection world story (carry_all front world t.outs))
     (sym (ended_turned setting home conn connection tag turn.reply turn.session ended))
     (ended_stands setting front home backend conn all passed held request (record connection { session = session_ended }) tag turn.reply world story parts count
-    at answered said (both ∙ ended) way told)
-replied_by setting front home backend conn all passed held request connection tag turn world story parts count at lasts session both answered said way told last
+    at answered said (both ∙ ended) none told)
+replied_by setting front home backend conn all passed held request connection tag turn world story parts count at lasts session both answered said none told last
     asked false ended =
     subst (λ (t : Turned). StandsOn setting front home backend conn all held t.connection world story (carry_all front world t.outs))
     (sym (read_turned setting home conn connection tag turn.reply turn.session ended))
     (read_stands setting front home backend conn all passed held request connection tag turn.reply turn.session world story parts count at session
-    (ap has_ended session ∙ ended_by connection.session turn.session lasts ∙ ended) answered said (both ∙ ended) way told last asked)
+    (ap has_ended session ∙ ended_by connection.session turn.session lasts ∙ ended) answered said (both ∙ ended) none told last asked)
 
 -- the connection behind the reply
 pub replied_stands : (setting : Setting) (front home : List ℕ) (backend : Backend) (conn : ℕ) (all passed : List Input) (held : Option (List ℕ))
@@ -265,27 +266,25 @@ pub replied_stands : (setting : Setting) (front home : List ℕ) (backend : Back
     → has_ended connection.session ≡ false → story.course.sessions conn ≡ session_after connection.session turn.session → TurnEnds turn
     → AreAnswered passed (story.told conn)
     → story.talk.answers conn ≡ story.told conn ++ (record { tag = tag; reply = turn.reply }) ∷ []
-    → AreOnWay world.links conn front home [] [] → IsTold setting world.steps world.marks backend story.talk story.told story.course
+    → IsPlaced (of_connection conn) world.links None → IsTold setting world.steps world.marks backend story.talk story.told story.course
     → FaultsLast connection.waiting held → story.talk.requests conn ≡ requests_in all
     → StandsOn setting front home backend conn all held (replied_turn setting home conn connection tag turn).connection world story
     (carry_all front world (replied_turn setting home conn connection tag turn).outs)
-replied_stands setting front home backend conn all passed held request connection tag turn world story parts count at lasts session both answered said way told
+replied_stands setting front home backend conn all passed held request connection tag turn world story parts count at lasts session both answered said none told
     last asked =
-    replied_by setting front home backend conn all passed held request connection tag turn world story parts count at lasts session both answered said way told
+    replied_by setting front home backend conn all passed held request connection tag turn world story parts count at lasts session both answered said none told
     last asked (ends_session turn.session) refl
 
 -- the answer that fits is replied to
-pub fits : (setting : Setting) (home : List ℕ) (conn : ℕ) (connection : Connection) (tag : Tag) (name : List ℕ) (work : Work) (body : AnswerBody) (turn : Turn)
-    → connection.stage ≡ Asked tag (asked_for name work).awaited
-    → turn_of connection.session (asked_for name work).awaited body ≡ Some turn
-    → answer_comes setting home conn connection
-    (record { id = record { conn = conn; command = connection.answered + 1 }; body = body }) ≡ replied_turn setting home conn connection tag turn
+pub fits : (setting : Setting) (home : List ℕ) (conn : ℕ) (connection : Connection) (tag : Tag) (name : List ℕ) (work : Work) (answer : BackAnswer) (turn : Turn)
+    → (answer.id).command ≡ connection.answered + 1 → connection.stage ≡ Asked tag (asked_for name work).awaited
+    → turn_of connection.session (asked_for name work).awaited answer.body ≡ Some turn
+    → answer_comes setting home conn connection answer ≡ replied_turn setting home conn connection tag turn
 unfolding answer_comes answer_by
-fits setting home conn connection tag name work body turn stage shown =
-    let same : nat_eq (connection.answered + 1) (connection.answered + 1) ≡ true = grind (arith, nat_tests) in
-    ap (λ b. answer_by setting home conn connection
-    (record { id = record { conn = conn; command = connection.answered + 1 }; body = body }) b connection.stage) same
-    ∙ ap (answer_by setting home conn connection (record { id = record { conn = conn; command = connection.answered + 1 }; body = body }) true) stage
+fits setting home conn connection tag name work answer turn number stage shown =
+    let same : nat_eq (answer.id).command (connection.answered + 1) ≡ true = grind (arith, nat_tests) in
+    ap (λ b. answer_by setting home conn connection answer b connection.stage) same
+    ∙ ap (answer_by setting home conn connection answer true) stage
     ∙ ap (λ t. finished_in setting home conn connection tag (finished_by connection.session t)) shown
 
 stage_ended_by : (setting : Setting) (home : List ℕ) (conn : ℕ) (connection : Connection) (answer : BackAnswer) (fits : Bool)

@@ -1,5 +1,5 @@
--- An ask that comes to the home keeps the law: its command is carried out there, and the answer is on its way.
-use Rattle.std.proofs.Common.{◌≡◌, ◌≢◌, ℕ, ◌+◌, true, List, [], ◌∷◌, ◌++◌, length, Some, refl, sym, ◌∙◌, ap, subst}
+-- An ask that comes keeps the law: its command is carried out at the home, and is then in the answer.
+use Rattle.std.proofs.Common.{◌≡◌, ◌≢◌, ℕ, ◌+◌, true, List, [], ◌∷◌, ◌++◌, length, None, Some, refl, sym, ◌∙◌, ap, subst}
 use Rattle.std.specs.Prelude.{is_some}
 use Rattle.std.specs.Ordering.{nat_cmp}
 use Rattle.std.specs.Cmp.Lexicographic.{slice_cmp}
@@ -11,12 +11,11 @@ use Rattle.backend_core.specs.HomeLaws.{HasUidsBelowNext}
 use Rattle.backend_core.specs.Plan.{plan_of, answer_outs}
 use Rattle.backend_core.specs.Step.{home_step}
 use Rattle.backend_core.proofs.BelowNext.{step_stays_below}
-use Rattle.front_core.specs.declared.connection.Connection.{Connection}
-use Rattle.front_core.specs.Taken.{ask_with}
 use Rattle.session_core.specs.Begin.{user_of}
 use Rattle.imap_talk.specs.SessionEnds.{TurnEnds}
 use Rattle.imap_talk.proofs.AnswersEnd.{worked_ends}
 use Rattle.link_msg.specs.declared.answer.AnswerBody.{AnswerBody}
+use Rattle.link_msg.specs.declared.answer.BackAnswer.{BackAnswer}
 use Rattle.link_msg.specs.declared.ask.FrontAsk.{FrontAsk}
 use Rattle.link_msg.specs.declared.counts.Counts.{Counts}
 use Rattle.link_msg.specs.declared.message.LinkMsg.{LinkMsg}
@@ -37,34 +36,39 @@ use Rattle.mur_model.specs.Answer.{Answered, answer_of, MayTake}
 use Rattle.mur_model.specs.History.{Course, numbered, carried_out, course_after}
 use Rattle.mur_model.specs.Left.{store_after, kept}
 use Rattle.mur_model.proofs.HistoryGrows.{same_lists, item_more}
-use Rattle.mur_model.proofs.Numbered.{with_item-other}
+use Rattle.mur_model.proofs.Numbered.{with_item, with_item-same, with_item-other}
 use Rattle.mur_model.specs.Asking.{asked_for}
 use Rattle.mur_model.proofs.OwnView.{IsOfNeeded, work_own}
 use Rattle.session_core.specs.Finish.{turn_of}
 use Rattle.cluster_core.specs.declared.world.World.{World}
 use Rattle.imap_talk.specs.Heard.{Heard, frames_heard}
 use Rattle.link_queue.specs.Links.{on_link, sent, without_first}
-use Rattle.cluster_core.specs.World.{front_at, home_of, setting_of, with_home, taken_from_link, carry, carry_all}
+use Rattle.cluster_core.specs.World.{front_at, home_at, home_of, setting_of, with_home, taken_from_link, carry, carry_all, input_of, home_takes, comes_to_home}
+use Rattle.cluster_core.specs.World.{comes_to}
 use Rattle.cluster_core.proofs.Connections.ConnectionLaw.{Story, told_of, session_at, session_of_other}
+use Rattle.cluster_core.proofs.Connections.FirstTells.{first_tells, command_waits}
 use Rattle.cluster_core.proofs.Connections.KeepsLaw.{ConnectionIs, AreNodesOf, KeepsLaw, KeepsOn, connection_stays, same_front}
 use Rattle.imap_talk.proofs.RequestsOf.{requests_of}
 use Rattle.serve_law.proofs.HomeStore.{IsStoreOf}
 use Rattle.serve_law.proofs.ServedAlike.{ServesAlike}
-use Rattle.serve_law.proofs.ServeLaw.{plain_ask, serves_alike}
+use Rattle.serve_law.proofs.ServeLaw.{serves_alike}
 use Rattle.cluster_core.specs.declared.world.MarkKind.TheVariants.{Home}
 use Rattle.cluster_core.proofs.Histories.Tally.{acts}
 use Rattle.cluster_core.proofs.Histories.Told.{still_told, IsTold, having_said, next_course, told_push}
-use Rattle.front_core.proofs.OneConnection.Ways.{answer_of_another, ask_of_another, taken_for_another, sent_for_another}
+use Rattle.front_core.proofs.OneConnection.Places.{About, of_connection, of_nobody, is_answered, in_an_ask, nobody_whom, other_whom, IsPlaced, PlacesStay, others_sent, others_taken, sent_alone}
+use Rattle.front_core.proofs.OneConnection.Standing.{next_ask, next_id}
+use Rattle.front_core.proofs.OneConnection.Standing.Knows.{answered_so}
+use Rattle.front_core.proofs.OneConnection.Waits.{in_ask}
 
 -- the world behind the home's answer
-abbrev pub answered_world : World → List ℕ → List ℕ → Backend → FrontAsk → AnswerBody → Counts → World
+abbrev answered_world : World → List ℕ → List ℕ → Backend → FrontAsk → AnswerBody → Counts → World
 answered_world world front home backend ask body counts = record world {
   homes = with_value (slice_cmp nat_cmp) world.homes home backend;
   links = sent (without_first world.links front home) home front (Answer (record { id = ask.id; body = body }));
   marks = world.marks ++ (record { step = world.steps; ask = ask.id; kind = Home counts }) ∷ [];
 }
 
-pub answers_so : (world : World) (front home : List ℕ) (backend : Backend) (ask : FrontAsk) (body : AnswerBody) → (home_step backend ask).body ≡ Some body
+answers_so : (world : World) (front home : List ℕ) (backend : Backend) (ask : FrontAsk) (body : AnswerBody) → (home_step backend ask).body ≡ Some body
     → with_home (taken_from_link world front home) home (plan_of backend (FromFront front ask)) ≡ answered_world world front home (home_step backend ask).home ask body
     (home_step backend ask).counts
 unfolding plan_of answer_outs carry_all carry
@@ -107,45 +111,42 @@ counts_same : {one other : Counts} → Home one ≡ Home other → one ≡ other
 counts_same h = cc
 
 -- what the home answers to the ask of a connection, and what is then told of it
-pub record IsAnswered (config : Config) (heard : ℕ → Heard) (world : World) (law : KeepsLaw config heard world) (conn : ℕ) (front : List ℕ)
-    (connection : Connection) (tag : Tag) (name : List ℕ) (work : Work) (ask : FrontAsk) : Type 0 where
-  pub body : AnswerBody
-  pub turn : Turn
-  pub reply : AnswerOf
-  pub serial : ℕ
-  pub backend : Backend
-  pub below_next : HasUidsBelowNext backend
-  pub counts : Counts
-  pub course : Course
-  pub world_is : with_home (taken_from_link world front (home_of config)) (home_of config) (plan_of law.backend (FromFront front ask)) ≡ answered_world world front
-      (home_of config) backend ask body counts
-  pub is_told : IsTold (setting_of config) world.steps (world.marks ++ (record { step = world.steps; ask = ask.id; kind = Home counts }) ∷ []) backend
+record IsAnswered (config : Config) (heard : ℕ → Heard) (world : World) (law : KeepsLaw config heard world) (conn : ℕ)
+    (from to : List ℕ) (tag : Tag) (name : List ℕ) (work : Work) (ask : FrontAsk) : Type 0 where
+  body : AnswerBody
+  turn : Turn
+  reply : AnswerOf
+  serial : ℕ
+  backend : Backend
+  below_next : HasUidsBelowNext backend
+  counts : Counts
+  course : Course
+  world_is : with_home (taken_from_link world from to) to (plan_of law.backend (FromFront from ask)) ≡ answered_world world from to backend ask body counts
+  is_told : IsTold (setting_of config) world.steps (world.marks ++ (record { step = world.steps; ask = ask.id; kind = Home counts }) ∷ []) backend
       (having_said law.story.talk conn reply serial) law.story.told course
-  pub others : (other : ℕ) → other ≢ conn → course.sessions other ≡ law.story.course.sessions other
-  pub mine : course.sessions conn ≡ session_after (law.story.course.sessions conn) turn.session
-  pub shown : turn_of (law.story.course.sessions conn) (asked_for name work).awaited body ≡ Some turn
-  pub ends : TurnEnds turn
-  pub tagged : reply.tag ≡ tag
-  pub replied : reply.reply ≡ turn.reply
+  others : (other : ℕ) → other ≢ conn → course.sessions other ≡ law.story.course.sessions other
+  mine : course.sessions conn ≡ session_after (law.story.course.sessions conn) turn.session
+  shown : turn_of (law.story.course.sessions conn) (asked_for name work).awaited body ≡ Some turn
+  ends : TurnEnds turn
+  tagged : reply.tag ≡ tag
+  replied : reply.reply ≡ turn.reply
 
-pub answers_ask : (config : Config) (heard : ℕ → Heard) (world : World) (law : KeepsLaw config heard world) (conn : ℕ) (front : List ℕ)
-    (connection : Connection) (tag : Tag) (it : Command) (name : List ℕ) (work : Work) (ask : FrontAsk)
-    → ask ≡ ask_with conn connection name (asked_for name work) → connection.answered ≡ length (law.story.talk.answers conn)
-    → numbered (law.story.talk.requests conn) (length (law.story.talk.answers conn) + 1) ≡ Some (a_command tag it)
+answers_ask : (config : Config) (heard : ℕ → Heard) (world : World) (law : KeepsLaw config heard world) (conn : ℕ) (from to : List ℕ)
+    (tag : Tag) (it : Command) (name : List ℕ) (work : Work) (ask : FrontAsk)
+    → next_ask conn (law.story.told conn) (law.story.course.sessions conn) name work ≡ ask → law.story.talk.answers conn ≡ law.story.told conn
+    → numbered (law.story.talk.requests conn) (length (law.story.told conn) + 1) ≡ Some (a_command tag it)
     → need_of (setting_of config) (law.story.course.sessions conn) it ≡ Mailbox name work
-    → IsAnswered config heard world law conn front connection tag name work ask
+    → IsAnswered config heard world law conn from to tag name work ask
 unfolding MayAct IsOfNeeded
-answers_ask config heard world law conn front connection tag it name work ask is count asked need =
+answers_ask config heard world law conn from to tag it name work ask is said asked need =
     let backend = law.backend in
     let course = law.story.course in
     let serial : ℕ = backend.last_serial + 1 in
-    let id : AskId = record { conn = conn; command = connection.answered + 1 } in
-    let same_ask : ask ≡ plain_ask id (user_of connection.session) name work = is in
-    let serves = subst (λ a. ServesAlike course.store backend name work (worked_at course.store name work serial) (home_step backend a)) (sym same_ask)
-    (serves_alike course.store backend id (user_of connection.session) name work law.is_told.same) in
+    let user : List ℕ = user_of (course.sessions conn) in
+    let serves = subst (λ a. ServesAlike course.store backend name work (worked_at course.store name work serial) (home_step backend a)) is
+    (serves_alike course.store backend (next_id conn (law.story.told conn)) user name work law.is_told.same) in
     let out = carried_as (setting_of config) course conn tag it name work serial need in
-    let mark_is : record { conn = conn; command = length (law.story.talk.answers conn) + 1 } ≡ ask.id =
-    ap (λ n. record { conn = conn; command = n + 1 }) (sym count) ∙ sym (ap (λ (a : FrontAsk). a.id) is) in
+    let mark_is : next_id conn (law.story.talk.answers conn) ≡ ask.id = ap (next_id conn) said ∙ ap (λ (a : FrontAsk). a.id) is in
     record {
       body = serves.body;
       turn = (worked_at course.store name work serial).turn;
@@ -155,7 +156,7 @@ answers_ask config heard world law conn front connection tag it name work ask is
       below_next = step_stays_below backend ask law.below_next;
       counts = (home_step backend ask).counts;
       course = next_course (setting_of config) course conn (a_command tag it) serial;
-      world_is = answers_so world front (home_of config) backend ask serves.body serves.is_body;
+      world_is = answers_so world from to backend ask serves.body serves.is_body;
       is_told = subst (λ a. IsTold (setting_of config) world.steps
           (world.marks ++ (record { step = world.steps; ask = a; kind = Home (home_step backend ask).counts }) ∷ []) (home_step backend ask).home
           (having_said law.story.talk conn (carried_out (setting_of config) course conn (a_command tag it) serial).answer serial) law.story.told
@@ -163,7 +164,8 @@ answers_ask config heard world law conn front connection tag it name work ask is
           (told_push (setting_of config) world.steps world.marks backend (home_step backend ask).home law.story.talk law.story.told law.story.told course conn (a_command tag it) serial
           (Home (home_step backend ask).counts) (acting_home (home_step backend ask).counts)
           (still_told (setting_of config) law.story.talk conn (home_step backend ask).counts law.story.told (law.is_told.ahead conn))
-          asked (may_take (setting_of config) course conn tag it name work serial need serves.free)
+          (ap (λ l. numbered (law.story.talk.requests conn) (length l + 1)) said ∙ asked)
+          (may_take (setting_of config) course conn tag it name work serial need serves.free)
           (λ h. same_store (setting_of config) course conn tag it name work serial need (serves.unless (counts_same h)))
           (subst (λ s. IsStoreOf s (home_step backend ask).home) (sym (ap (λ (a : Answered). a.store) out)) serves.still) law.is_told);
       others = λ other ne. session_of_other course.sessions conn _ other ne;
@@ -176,9 +178,9 @@ answers_ask config heard world law conn front connection tag it name work ask is
 
 -- the nodes with another state of the home
 nodes_with_home : (config : Config) (world next : World) (backend later : Backend) → next.fronts ≡ world.fronts
-    → next.homes ≡ with_value (slice_cmp nat_cmp) world.homes (home_of config) later → next.backends ≡ world.backends
+    → next.homes ≡ with_value (slice_cmp nat_cmp) world.homes (home_of config) later → next.backends ≡ world.backends → next.pairs ≡ world.pairs
     → AreNodesOf config world backend → AreNodesOf config next later
-nodes_with_home config world next backend later fronts homes backends nodes =
+nodes_with_home config world next backend later fronts homes backends pairs nodes =
     let here : (any : List ℕ) → front_at next any ≡ front_at world any = λ any. ap (λ f. value_at (slice_cmp nat_cmp) f any) fronts in
     record {
       home_no_front = here (home_of config) ∙ nodes.home_no_front;
@@ -190,45 +192,56 @@ nodes_with_home config world next backend later fronts homes backends nodes =
           (sym (value_at-with_value-other (slice_cmp nat_cmp) names_apart world.homes (home_of config) node later ne)
           ∙ sym (ap (λ h. value_at (slice_cmp nat_cmp) h node) homes) ∙ at);
       backends = backends ∙ nodes.backends;
+      pairs = pairs ∙ nodes.pairs;
     }
 
+-- what was on its way for others is where it was when an ask is taken and answered
+others_stay : (world : World) (from to : List ℕ) (ask : FrontAsk) (rest : List LinkMsg) (body : AnswerBody) (whom : About)
+    → on_link world.links from to ≡ Ask ask ∷ rest → whom ≢ of_connection (ask.id).conn
+    → PlacesStay whom world.links (sent (without_first world.links from to) to from (Answer (record { id = ask.id; body = body })))
+others_stay world from to ask rest body whom first ne = λ here placed.
+    others_sent (without_first world.links from to) to from (Answer (record { id = ask.id; body = body })) whom (λ e. ne (sym e)) here
+    (others_taken world.links from to (Ask ask) rest whom first (λ e. ne (sym e)) here placed)
+
+abbrev story_after : {config : Config} {heard : ℕ → Heard} {world : World} (law : KeepsLaw config heard world)
+    (conn : ℕ) {from to : List ℕ} {tag : Tag} {name : List ℕ} {work : Work} {ask : FrontAsk}
+    → IsAnswered config heard world law conn from to tag name work ask → Story
+story_after law conn done = record { talk = having_said law.story.talk conn done.reply done.serial; told = law.story.told; course = done.course }
+
 -- the home answers the ask of a connection, which is then so
-pub ask_kept : (config : Config) (heard later : ℕ → Heard) (world : World) (law : KeepsLaw config heard world) (conn : ℕ) (front : List ℕ)
-    (connection : Connection) (tag : Tag) (name : List ℕ) (work : Work) (ask : FrontAsk) (rest : List LinkMsg)
-    (answered : IsAnswered config heard world law conn front connection tag name work ask)
-    → (ask.id).conn ≡ conn → on_link world.links front (home_of config) ≡ Ask ask ∷ rest → ((other : ℕ) → later other ≡ heard other)
-    → ConnectionIs (setting_of config) (home_of config) conn (answered_world world front (home_of config) answered.backend ask answered.body answered.counts)
-    (record { talk = having_said law.story.talk conn answered.reply answered.serial; told = law.story.told; course = answered.course }) (later conn)
-    → KeepsOn config (told_of law.story) later (answered_world world front (home_of config) answered.backend ask answered.body answered.counts)
-ask_kept config heard later world law conn front connection tag name work ask rest answered own first same mine =
-    let story : Story = record { talk = having_said law.story.talk conn answered.reply answered.serial; told = law.story.told; course = answered.course } in
-    let next : World = answered_world world front (home_of config) answered.backend ask answered.body answered.counts in
+ask_kept : (config : Config) (heard later : ℕ → Heard) (world : World) (law : KeepsLaw config heard world) (from to : List ℕ)
+    (tag : Tag) (name : List ℕ) (work : Work) (ask : FrontAsk) (rest : List LinkMsg)
+    (answered : IsAnswered config heard world law (ask.id).conn from to tag name work ask)
+    → to ≡ home_of config → on_link world.links from to ≡ Ask ask ∷ rest → ((other : ℕ) → later other ≡ heard other)
+    → ConnectionIs (setting_of config) (home_of config) (ask.id).conn (answered_world world from to answered.backend ask answered.body answered.counts)
+    (story_after law (ask.id).conn answered) (heard (ask.id).conn)
+    → KeepsOn config (told_of law.story) later (answered_world world from to answered.backend ask answered.body answered.counts)
+ask_kept config heard later world law from to tag name work ask rest answered its_home first same mine =
+    let conn : ℕ = (ask.id).conn in
+    let story : Story = story_after law conn answered in
+    let next : World = answered_world world from to answered.backend ask answered.body answered.counts in
     record {
       law = record {
         backend = answered.backend;
-        nodes = nodes_with_home config world next law.backend answered.backend refl refl refl law.nodes;
+        nodes = nodes_with_home config world next law.backend answered.backend refl
+            (ap (λ h. with_value (slice_cmp nat_cmp) world.homes h answered.backend) its_home) refl refl law.nodes;
         below_next = answered.below_next;
         story = story;
         is_told = answered.is_told;
         requests = λ other. law.requests other ∙ ap (λ h. requests_of (setting_of config) (frames_heard h)) (sym (same other));
-        connections = λ other. ⊎_elim
-            (λ (e : other ≡ conn). subst (λ c. ConnectionIs (setting_of config) (home_of config) c next story (later c)) (sym e) mine)
-            (λ (ne : other ≢ conn). subst (λ h. ConnectionIs (setting_of config) (home_of config) other next story h) (sym (same other))
-            (connection_stays (setting_of config) (home_of config) other world next law.story story (heard other)
+        no_others = others_stay world from to ask rest answered.body of_nobody first (nobody_whom conn) None law.no_others;
+        connections = λ other. subst (λ h. ConnectionIs (setting_of config) (home_of config) other next story h) (sym (same other)) (⊎_elim
+            (λ (e : other ≡ conn). subst (λ c. ConnectionIs (setting_of config) (home_of config) c next story (heard c)) (sym e) mine)
+            (λ (ne : other ≢ conn). connection_stays (setting_of config) (home_of config) other world next law.story story (heard other)
             (record {
               fronts = λ node. same_front other (front_at world node) (front_at next node) refl;
               client = refl;
-              ways = λ f h asks answers way.
-                  sent_for_another (without_first world.links front (home_of config)) other f h (home_of config) front
-                  (Answer (record { id = ask.id; body = answered.body })) asks answers
-                  (answer_of_another other (record { id = ask.id; body = answered.body }) (λ e. ne (sym e ∙ own)))
-                  (taken_for_another world.links other f h front (home_of config) (Ask ask) rest asks answers first
-                  (ask_of_another other ask (λ e. ne (sym e ∙ own))) way);
+              places = others_stay world from to ask rest answered.body (of_connection other) first (other_whom other conn ne);
               told = refl;
               said = with_item-other law.story.talk.answers conn answered.reply other ne;
               session = answered.others other ne;
-            }) (law.connections other)))
-            (cases_eq other conn);
+            }) (law.connections other))
+            (cases_eq other conn));
       };
       more = record {
         requests = same_lists law.story.talk.requests;
@@ -237,3 +250,54 @@ ask_kept config heard later world law conn front connection tag name work ask re
       };
       closed = λ other shut. refl;
     }
+
+-- an ask comes to its home
+to_home : (world : World) (from home : List ℕ) (ask : FrontAsk) (backend : Backend) → front_at world home ≡ None → home_at world home ≡ Some backend
+    → comes_to (taken_from_link world from home) from home (Ask ask) (front_at world home) ≡ with_home (taken_from_link world from home) home (plan_of backend (FromFront from ask))
+unfolding comes_to comes_to_home home_takes input_of
+to_home world from home ask backend none at =
+    ap (comes_to (taken_from_link world from home) from home (Ask ask)) none ∙ ap (comes_to_home (taken_from_link world from home) from home (Ask ask)) at
+
+said_after : (config : Config) (heard : ℕ → Heard) (world : World) (law : KeepsLaw config heard world) (conn : ℕ) (from to : List ℕ)
+    (tag : Tag) (name : List ℕ) (work : Work) (ask : FrontAsk)
+    (done : IsAnswered config heard world law conn from to tag name work ask) → law.story.talk.answers conn ≡ law.story.told conn
+    → with_item law.story.talk.answers conn done.reply conn ≡ law.story.told conn ++ (record { tag = tag; reply = done.turn.reply }) ∷ []
+said_after config heard world law conn from to tag name work ask done said =
+    with_item-same law.story.talk.answers conn done.reply ∙ ap (λ l. l ++ done.reply ∷ []) said
+    ∙ ap (λ t. law.story.told conn ++ (record { tag = t; reply = done.reply.reply }) ∷ []) done.tagged
+    ∙ ap (λ r. law.story.told conn ++ (record { tag = tag; reply = r }) ∷ []) done.replied
+
+-- the ask that comes is that of a command which waits for it, and is then in the answer
+pub ask_keeps : (config : Config) (heard after : ℕ → Heard) (world : World) (law : KeepsLaw config heard world) (from to : List ℕ) (ask : FrontAsk)
+    (rest : List LinkMsg) → on_link world.links from to ≡ Ask ask ∷ rest → ((c : ℕ) → after c ≡ heard c)
+    → KeepsOn config (told_of law.story) after (comes_to (taken_from_link world from to) from to (Ask ask) (front_at world to))
+ask_keeps config heard after world law from to ask rest first same =
+    let conn : ℕ = (ask.id).conn in
+    let home : List ℕ = home_of config in
+    let story = law.story in
+    let tells = first_tells (setting_of config) home conn world story (heard conn) (heard conn) from to (Ask ask) rest refl first refl (law.connections conn) in
+    let there = in_an_ask tells.node from to ask tells.place tells.is_found in
+    let waits = command_waits (setting_of config) home conn tells.node tells.front tells.connection world story (heard conn) tells.place tells.at tells.who in
+    let it = waits.command in
+    let knows = in_ask home conn it.was it.tag it.name it.work (story.told conn) (story.talk.answers conn) (story.course.sessions conn) tells.place to ask
+    it.knows there.1 in
+    let its_home : to ≡ home = sym knows.home_is in
+    let done : IsAnswered config heard world law conn from to it.tag it.name it.work ask =
+    answers_ask config heard world law conn from to it.tag it.it it.name it.work ask
+    (ap (λ s. next_ask conn (story.told conn) s it.name it.work) (sym knows.session_is) ∙ knows.ask_is) knows.said_is
+    (ap (λ r. numbered r (length (story.told conn) + 1)) (law.requests conn) ∙ it.next)
+    (ap (λ s. need_of (setting_of config) s it.it) (sym knows.session_is) ∙ it.need) in
+    let answer : BackAnswer = record { id = ask.id; body = done.body } in
+    let next : World = answered_world world from to done.backend ask done.body done.counts in
+    subst (λ w. KeepsOn config (told_of law.story) after w)
+    (sym (to_home world from to ask law.backend (ap (front_at world) its_home ∙ law.nodes.home_no_front)
+    (ap (home_at world) its_home ∙ law.nodes.home_is) ∙ done.world_is))
+    (ask_kept config heard after world law from to it.tag it.name it.work ask rest done its_home first same
+    (waits.moves next (having_said story.talk conn done.reply done.serial) done.course (is_answered to answer) refl refl
+    (subst (λ n. IsPlaced (of_connection conn) next.links (Some (record { from = to; to = n; message = Answer answer }))) (sym there.0)
+    (sent_alone (without_first world.links from to) to from (Answer answer) (of_connection conn) refl tells.without))
+    (answered_so done.body done.turn (said_after config heard world law conn from to it.tag it.name it.work ask done knows.said_is)
+    (ap (λ s. turn_of s (asked_for it.name it.work).awaited done.body) knows.session_is ∙ done.shown)
+    (done.mine ∙ ap (λ s. session_after s done.turn.session) (sym knows.session_is)) done.ends
+    (ap (λ h. is_answered h answer) its_home
+    ∙ ap (λ i. is_answered home (record { id = i; body = done.body })) (sym (ap (λ (a : FrontAsk). a.id) knows.ask_is))))))

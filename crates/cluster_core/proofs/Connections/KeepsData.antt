@@ -27,12 +27,8 @@ use Rattle.imap_wire.specs.Frames.{begun}
 use Rattle.imap_wire.proofs.FeedLaws.{frames-ended, begun-ended}
 use Rattle.mur_base.proofs.MapLaws.{names_apart}
 use Rattle.mur_config.specs.declared.config.Config.{Config}
-use Rattle.imap_types.specs.declared.command.Command.{Command}
 use Rattle.imap_types.specs.declared.command.Tag.{Tag}
-use Rattle.mur_model.specs.Needed.{Mailbox, Work}
 use Rattle.imap_types.specs.declared.request.Answer.{Answer}
-use Rattle.imap_types.specs.declared.request.Request.TheVariants.{Command as a_command}
-use Rattle.mur_model.specs.Act.{need_of}
 use Rattle.imap_types.specs.declared.request.Request.{Request}
 use Rattle.mur_model.specs.declared.setting.Setting.{Setting}
 use Rattle.mur_model.specs.History.{GoesOn}
@@ -49,10 +45,9 @@ use Rattle.cluster_core.specs.declared.world.World.{World}
 use Rattle.imap_talk.specs.Heard.{Heard, nobody, elsewhere, client, frames_heard}
 use Rattle.cluster_core.specs.Heard.{hears}
 use Rattle.cluster_core.specs.World.{client_at, front_at, home_of, setting_of, with_front, bytes_at, bytes_from, carry_all}
-use Rattle.cluster_core.proofs.Connections.ConnectionLaw.{Story, told_of, client_with, keeps_all, same_story, IsReading, IsStanding}
-use Rattle.front_core.proofs.OneConnection.Standing.{HasBegunSo, OnItsWay, Stands}
+use Rattle.cluster_core.proofs.Connections.ConnectionLaw.{Story, told_of, keeps_all, same_story, IsReading, IsStanding}
+use Rattle.front_core.proofs.OneConnection.Standing.{HasBegunSo, Stands, Waiting}
 use Rattle.cluster_core.proofs.Connections.ConnectionLaw.{StandsOn}
-use Rattle.front_core.proofs.OneConnection.Standing.OnItsWay.{there, back}
 use Rattle.front_core.proofs.OneConnection.Standing.Stands.{reads, waits, faulted, finished}
 use Rattle.cluster_core.proofs.Connections.FrameLaw.{inputs_kept, asked_waits}
 use Rattle.cluster_core.proofs.Connections.KeepsLaw.{ConnectionIs, IsAt, KeepsLaw, KeepsOn, LooksAlike, is_not_closed, looks_same, same_put, same_front, connection_stays}
@@ -63,7 +58,7 @@ use Rattle.front_core.proofs.OneConnection.Released.{begun_released}
 use Rattle.cluster_core.proofs.Connections.ConnectionLaw.{standing_released}
 use Rattle.imap_talk.proofs.RequestsOf.{requests_of, replies_stop}
 use Rattle.cluster_core.proofs.Histories.Told.{IsTold, told_asked}
-use Rattle.front_core.proofs.OneConnection.Ways.{AreOnWay}
+use Rattle.front_core.proofs.OneConnection.Places.{of_connection, nowhere, IsPlaced, its_message}
 
 -- a frontend put in its own place
 pub looks_put : (world : World) (node : List ℕ) (front : Front) → front_at world node ≡ Some front → LooksAlike world (with_front world node (still front))
@@ -72,8 +67,9 @@ looks_put world node front at = record {
   fronts = same_put (slice_cmp nat_cmp) names_apart world.fronts node front at;
   homes = λ any. refl;
   clients = λ any. refl;
-  ways = λ c f home asks answers way. way;
+  places = λ whom here placed. placed;
   backends = refl;
+  pairs = refl;
   marks = refl;
   steps = omega arith;
 }
@@ -202,7 +198,7 @@ all_inputs config heard conn bytes more held e is =
 
 reading_behind : (config : Config) (heard : ℕ → Heard) (world : World) (law : KeepsLaw config heard world) (conn : ℕ) (bytes more node : List ℕ)
     (connection : Connection) → heard conn ≡ client bytes false
-    → connection.reader ≡ reading_of (setting_of config) bytes → IsReading node (home_of config) conn (inputs_in
+    → connection.reader ≡ reading_of (setting_of config) bytes → IsReading node conn (inputs_in
     (setting_of config) bytes) connection world law.story
     → Behind config heard world law conn bytes more node connection
 reading_behind config heard world law conn bytes more node connection e reader reading =
@@ -234,39 +230,34 @@ reading_behind config heard world law conn bytes more node connection e reader r
         answered = reading.answered;
         said = reading.said;
         client = reading.client;
-        way = reading.way;
+        nothing = reading.nothing;
       };
     })))
 
 -- the inputs of more bytes wait behind a command that waits
 waiting_behind : (config : Config) (heard : ℕ → Heard) (world : World) (law : KeepsLaw config heard world) (conn : ℕ) (bytes more node : List ℕ)
-    (connection : Connection) (passed : List Input) (asking : Request)
-    (tag : Tag) (it : Command) (name : List ℕ) (work : Work) → heard conn ≡ client bytes false → connection.reader ≡ reading_of (setting_of config) bytes
-    → connection.answered ≡ length (law.story.told conn)
-    → client_at world conn ≡ Some (client_with node (inputs_in (setting_of config) bytes) (law.story.told conn))
-    → connection.stage ≡ Asked tag (asked_for name work).awaited → inputs_in (setting_of config) bytes ≡ passed ++ Asks asking ∷ connection.waiting
-    → has_ended connection.session ≡ false → AreAnswered passed (law.story.told conn)
-    → asking ≡ a_command tag it → need_of (setting_of config) connection.session it ≡ Mailbox name work
-    → FaultsLast connection.waiting (begun bytes)
-    → OnItsWay world.links conn node (home_of config) connection tag name work (law.story.told conn) (law.story.talk.answers conn)
-    (law.story.course.sessions conn)
+    (connection : Connection) → heard conn ≡ client bytes false → connection.reader ≡ reading_of (setting_of config) bytes
+    → (standing : IsStanding (setting_of config) node (home_of config) conn (inputs_in (setting_of config) bytes) (begun bytes) connection world law.story)
+    → Waiting (setting_of config) (home_of config) conn (inputs_in (setting_of config) bytes) (begun bytes) connection (law.story.told conn)
+    (law.story.talk.answers conn) (law.story.course.sessions conn) standing.place
     → Behind config heard world law conn bytes more node connection
 unfolding carry_all
-waiting_behind config heard world law conn bytes more node connection passed asking tag it name work e reader count at stage parts lasts all is need last way
-    =
+waiting_behind config heard world law conn bytes more node connection e reader standing waiting =
     let held : reading_of (setting_of config) bytes ≡ connection.reader = sym reader in
     let told : Story = asked_talk config heard conn more law.story in
     let new : List Input = inputs_of_more (setting_of config) connection.reader more in
+    let passed : List Input = waiting.passed in
     let waits_all : inputs_come (setting_of config) (home_of config) conn
     (having_read (setting_of config) connection more) new ≡ record {
       connection = record (having_read
           (setting_of config) connection more) { waiting = connection.waiting ++ new };
       outs = [];
     } =
-    asked_waits (setting_of config) (home_of config) conn (having_read (setting_of config) connection more) new tag (asked_for name work).awaited stage in
-    let now : inputs_in (setting_of config) (bytes ++ more) ≡ passed ++ Asks asking ∷ (connection.waiting ++ new) =
-    inputs_with_more (setting_of config) bytes more connection.reader held ∙ ap (λ f. f ++ new) parts
-    ∙ append_assoc passed (Asks asking ∷ connection.waiting) new in
+    asked_waits (setting_of config) (home_of config) conn (having_read (setting_of config) connection more) new waiting.tag
+    (asked_for waiting.name waiting.work).awaited waiting.stage in
+    let now : inputs_in (setting_of config) (bytes ++ more) ≡ passed ++ Asks waiting.request ∷ (connection.waiting ++ new) =
+    inputs_with_more (setting_of config) bytes more connection.reader held ∙ ap (λ f. f ++ new) waiting.parts
+    ∙ append_assoc passed (Asks waiting.request ∷ connection.waiting) new in
     subst (λ (t : Turned). StandsOn (setting_of config) node (home_of config) law.backend conn (inputs_in (setting_of config) (bytes ++ more))
     (begun (bytes ++ more)) t.connection world told (carry_all node world t.outs)) (sym waits_all)
     (record {
@@ -277,33 +268,39 @@ waiting_behind config heard world law conn bytes more node connection passed ask
         is_told = now_told config heard world law conn bytes more connection.reader e held;
       };
       standing = record {
-        count = count;
-        client = at ∙ ap (λ t. Some (record { at = node; given = greeting ++ t }))
-            (ap (λ f. replies_to f (law.story.told conn)) parts ∙ sym (replies_stop passed (law.story.told conn) asking connection.waiting all)
-            ∙ replies_stop passed (law.story.told conn) asking (connection.waiting ++ new) all ∙ ap (λ f. replies_to f (law.story.told conn)) (sym now));
-        stands = waits passed asking tag it name work stage now lasts all is need
-            (subst (λ h. FaultsLast (connection.waiting ++ new) h)
-            (sym (ap (λ (r : Read). r.held) (reading_with_more (setting_of config) bytes more connection.reader held)))
-            (faults_behind connection.waiting new (begun bytes) (read_more (setting_of config) connection.reader more).held last
-            (faults_after (setting_of config) bytes more connection.reader held)
-            (λ none. let over = ap (λ (r : Read). is_none r.held) reader ∙ ap is_none none in (
-              ended_inputs (setting_of config) connection.reader more over,
-              ap (λ (r : Read). r.held) (ended_reader (setting_of config) connection.reader more over ∙ reader) ∙ none,
-            ))))
-            (way_behind way);
+        count = standing.count;
+        client = standing.client ∙ ap (λ t. Some (record { at = node; given = greeting ++ t }))
+            (ap (λ f. replies_to f (law.story.told conn)) waiting.parts
+            ∙ sym (replies_stop passed (law.story.told conn) waiting.request connection.waiting waiting.answered)
+            ∙ replies_stop passed (law.story.told conn) waiting.request (connection.waiting ++ new) waiting.answered
+            ∙ ap (λ f. replies_to f (law.story.told conn)) (sym now));
+        place = standing.place;
+        placed = standing.placed;
+        stands = waits (record {
+          passed = passed;
+          request = waiting.request;
+          tag = waiting.tag;
+          it = waiting.it;
+          name = waiting.name;
+          work = waiting.work;
+          stage = waiting.stage;
+          parts = now;
+          lasts = waiting.lasts;
+          answered = waiting.answered;
+          is = waiting.is;
+          need = waiting.need;
+          last = subst (λ h. FaultsLast (connection.waiting ++ new) h)
+              (sym (ap (λ (r : Read). r.held) (reading_with_more (setting_of config) bytes more connection.reader held)))
+              (faults_behind connection.waiting new (begun bytes) (read_more (setting_of config) connection.reader more).held waiting.last
+              (faults_after (setting_of config) bytes more connection.reader held)
+              (λ none. let over = ap (λ (r : Read). is_none r.held) reader ∙ ap is_none none in (
+                ended_inputs (setting_of config) connection.reader more over,
+                ap (λ (r : Read). r.held) (ended_reader (setting_of config) connection.reader more over ∙ reader) ∙ none,
+              )));
+          knows = waiting.knows;
+        });
       };
     })
-  where
-    way_behind : OnItsWay world.links conn node (home_of config) connection tag name work (law.story.told conn) (law.story.talk.answers conn)
-        (law.story.course.sessions conn)
-        → OnItsWay world.links conn node (home_of config)
-        (record (having_read (setting_of config) connection more) {
-          waiting = connection.waiting ++ inputs_of_more
-              (setting_of config) connection.reader more;
-        }) tag name work
-        (law.story.told conn) (law.story.talk.answers conn) (law.story.course.sessions conn)
-    way_behind (there a b w) = there a b w
-    way_behind (back body turn a b c d w) = back body turn a b c d w
 
 -- a connection that hasn't ended takes more bytes
 taken_more : (config : Config) (heard : ℕ → Heard) (world : World) (law : KeepsLaw config heard world) (conn : ℕ) (bytes more node : List ℕ) (front : Front)
@@ -330,7 +327,7 @@ taken_more config heard world law conn bytes more node front connection e at rea
     subst (λ (t : Turned). KeepsOn config (told_of law.story) (after_data config heard conn more) (with_front world node (with_turned front conn t))) (sym same)
     (front_keeps config heard (after_data config heard conn more) world law world.links conn node front connection kept turned.outs
     (asked_talk config heard conn more law.story) behind.story
-    (λ other ne f h asks answers way. way) at.at at.has
+    (λ whom ne here placed. placed) at.at at.has
     (record {
       requests = asked_more config heard conn bytes more connection.reader e (sym reader) law.story.talk.requests law.requests;
       answers = same_lists law.story.told;
@@ -365,6 +362,7 @@ heard_on config heard world law conn bytes more node front connection e at stage
         story = told;
         is_told = now_told config heard world law conn bytes more (reading_of (setting_of config) bytes) e refl;
         requests = λ other. refl;
+        no_others = law.no_others;
         connections = λ other. ⊎_elim
             (λ (same : other ≡ conn). subst (λ c. ConnectionIs (setting_of config) (home_of config) c world told (after_data config heard conn more c))
             (sym same)
@@ -376,7 +374,7 @@ heard_on config heard world law conn bytes more node front connection e at stage
             (record {
               fronts = λ any. same_front other (front_at world any) (front_at world any) refl;
               client = refl;
-              ways = λ f h asks answers way. way;
+              places = λ here placed. placed;
               told = refl;
               said = refl;
               session = refl;
@@ -403,18 +401,24 @@ faulted_on config heard world law conn bytes more node connection standing none 
     (asked_talk config heard conn more law.story)) (sym (ap (inputs_from (setting_of config)) (frames-ended bytes more none)))
     (subst (λ h. IsStanding (setting_of config) node (home_of config) conn (inputs_in (setting_of config) bytes) h connection world
     (asked_talk config heard conn more law.story))
-    (none ∙ sym (begun-ended bytes more none)) (record { count = standing.count; client = standing.client; stands = standing.stands }))
+    (none ∙ sym (begun-ended bytes more none)) (record {
+      count = standing.count;
+      client = standing.client;
+      place = standing.place;
+      placed = standing.placed;
+      stands = standing.stands;
+    }))
 
 -- the frames that are sent behind the answer that ended a session are answered by nothing
 finished_on : (config : Config) (heard : ℕ → Heard) (world : World) (law : KeepsLaw config heard world) (conn : ℕ) (bytes more node : List ℕ)
     (connection : Connection) (passed rest : List Input) (asking : Request) (before : List Answer) (final : Answer)
-    → IsStanding (setting_of config) node (home_of config) conn (inputs_in (setting_of config) bytes) (begun bytes) connection world law.story
+    → (standing : IsStanding (setting_of config) node (home_of config) conn (inputs_in (setting_of config) bytes) (begun bytes) connection world law.story)
     → connection.stage ≡ Ended → inputs_in (setting_of config) bytes ≡ passed ++ Asks asking ∷ rest → AreAnswered passed before → law.story.told conn
     ≡ before ++ final ∷ []
-    → ends final.reply ≡ true → law.story.talk.answers conn ≡ law.story.told conn → AreOnWay world.links conn node (home_of config) [] []
+    → ends final.reply ≡ true → law.story.talk.answers conn ≡ law.story.told conn → standing.place ≡ nowhere
     → IsStanding (setting_of config) node (home_of config) conn (inputs_in (setting_of config) (bytes ++ more)) (begun (bytes ++ more)) connection world
     (asked_talk config heard conn more law.story)
-finished_on config heard world law conn bytes more node connection passed rest asking before final standing stage parts answered told is_end said way =
+finished_on config heard world law conn bytes more node connection passed rest asking before final standing stage parts answered told is_end said none =
     let reader : Read = reading_of (setting_of config) bytes in
     let new : List Input = inputs_of_more (setting_of config) reader more in
     let now : inputs_in (setting_of config) (bytes ++ more) ≡ passed ++ Asks asking ∷ (rest ++ new) =
@@ -426,7 +430,9 @@ finished_on config heard world law conn bytes more node connection passed rest a
           ∙ end_told silent passed before asking rest final [] answered is_end
           ∙ sym (end_told silent passed before asking (rest ++ new) final [] answered is_end)
           ∙ ap (λ t. replies_to (passed ++ Asks asking ∷ (rest ++ new)) t) (sym told) ∙ ap (λ f. replies_to f (law.story.told conn)) (sym now));
-      stands = finished passed (rest ++ new) asking before final stage now answered told is_end said way;
+      place = standing.place;
+      placed = standing.placed;
+      stands = finished passed (rest ++ new) asking before final stage now answered told is_end said none;
     }
 
 at_ended : (front : Front) (conn : ℕ) (bytes : List ℕ) (connection : Connection) → connection_at front conn ≡ Some connection → connection.stage ≡ Ended
@@ -480,11 +486,11 @@ ended_more config heard world law conn bytes more node front connection e at sta
 stands_more : (config : Config) (heard : ℕ → Heard) (world : World) (law : KeepsLaw config heard world) (conn : ℕ) (bytes more node : List ℕ) (front : Front)
     (connection : Connection) → heard conn ≡ client bytes false
     → IsAt world conn node front connection → HasBegunSo connection (reading_of (setting_of config) bytes)
-    → IsStanding (setting_of config) node (home_of config) conn (inputs_in (setting_of config) bytes) (begun bytes) connection world law.story
-    → Stands (setting_of config) node (home_of config) conn (inputs_in (setting_of config) bytes) (begun bytes) connection world.links (law.story.told conn)
-    (law.story.talk.answers conn) (law.story.course.sessions conn)
+    → (standing : IsStanding (setting_of config) node (home_of config) conn (inputs_in (setting_of config) bytes) (begun bytes) connection world law.story)
+    → Stands (setting_of config) (home_of config) conn (inputs_in (setting_of config) bytes) (begun bytes) connection (law.story.told conn)
+    (law.story.talk.answers conn) (law.story.course.sessions conn) standing.place
     → KeepsOn config (told_of law.story) (after_data config heard conn more) (with_front world node (bytes_in front conn more))
-stands_more config heard world law conn bytes more node front connection e at reader standing (reads stage waiting session lasts all said way) =
+stands_more config heard world law conn bytes more node front connection e at reader standing (reads stage waiting session lasts all said none) =
     let has_reader = reading_reader connection (reading_of (setting_of config) bytes) stage reader in
     subst (λ s. KeepsOn config (told_of law.story) (after_data config heard conn more) (with_front world node s))
     (sym (at_reading front conn more connection at.has stage))
@@ -498,23 +504,22 @@ stands_more config heard world law conn bytes more node front connection e at re
       answered = all;
       said = said;
       client = standing.client;
-      way = way;
+      nothing = subst (λ p. IsPlaced (of_connection conn) world.links (its_message node p)) none standing.placed;
     })))
-stands_more config heard world law conn bytes more node front connection e at reader standing
-    (waits passed asking tag it name work stage parts lasts all is need last way) =
-    let has_reader = asked_reader connection (reading_of (setting_of config) bytes) tag (asked_for name work).awaited stage reader in
+stands_more config heard world law conn bytes more node front connection e at reader standing (waits waiting) =
+    let has_reader = asked_reader connection (reading_of (setting_of config) bytes) waiting.tag (asked_for waiting.name waiting.work).awaited waiting.stage
+    reader in
     subst (λ s. KeepsOn config (told_of law.story) (after_data config heard conn more) (with_front world node s))
-    (sym (at_asked front conn more connection tag (asked_for name work).awaited at.has stage))
+    (sym (at_asked front conn more connection waiting.tag (asked_for waiting.name waiting.work).awaited at.has waiting.stage))
     (taken_more config heard world law conn bytes more node front connection e at has_reader
-    (waiting_behind config heard world law conn bytes more node connection passed asking tag it name work e has_reader standing.count standing.client stage
-    parts lasts all is need last way))
-stands_more config heard world law conn bytes more node front connection e at reader standing (faulted stage none lengths said lasts way) =
+    (waiting_behind config heard world law conn bytes more node connection e has_reader standing waiting))
+stands_more config heard world law conn bytes more node front connection e at reader standing (faulted stage none lengths said lasts at_none) =
     ended_more config heard world law conn bytes more node front connection e at stage
     (faulted_on config heard world law conn bytes more node connection standing none)
 stands_more config heard world law conn bytes more node front connection e at reader standing
-    (finished passed rest asking before final stage parts answered told is_end said way) =
+    (finished passed rest asking before final stage parts answered told is_end said none) =
     ended_more config heard world law conn bytes more node front connection e at stage
-    (finished_on config heard world law conn bytes more node connection passed rest asking before final standing stage parts answered told is_end said way)
+    (finished_on config heard world law conn bytes more node connection passed rest asking before final standing stage parts answered told is_end said none)
 
 nothing_heard : (config : Config) (conn : ℕ) (bytes : List ℕ) → hears config conn nobody (Data conn bytes) ≡ nobody
 unfolding hears

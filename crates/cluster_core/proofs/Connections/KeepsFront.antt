@@ -23,8 +23,9 @@ use Rattle.link_msg.specs.declared.message.LinkMsg.{LinkMsg}
 use Rattle.link_queue.specs.Links.{Links}
 use Rattle.cluster_core.specs.World.{front_at, home_of, setting_of, carry_all}
 use Rattle.cluster_core.proofs.Connections.ConnectionLaw.{Story, told_of, IsMade, IsStanding}
-use Rattle.cluster_core.proofs.Connections.KeepsLaw.{ConnectionIs, IsAt, IsGone, KeepsLaw, KeepsOn, WaysOn, connection_stays}
+use Rattle.cluster_core.proofs.Connections.KeepsLaw.{ConnectionIs, IsAt, IsGone, KeepsLaw, KeepsOn, connection_stays}
 use Rattle.cluster_core.proofs.Connections.KeepsStill.{fronts_at_other, nodes_with_front, with_fronts, carry_all_fronts}
+use Rattle.front_core.proofs.OneConnection.Places.{About, of_connection, of_nobody, nobody_whom, other_whom, PlacesStay}
 use Rattle.imap_talk.proofs.RequestsOf.{requests_of}
 
 -- a frontend with another state of one connection
@@ -38,7 +39,7 @@ world_after world node front conn connection outs =
 -- the outputs of a connection's step were carried out and made this story; the connection is so behind it
 pub front_keeps : (config : Config) (heard after : ℕ → Heard) (origin : World) (law : KeepsLaw config heard origin) (links : Links LinkMsg) (conn : ℕ) (node : List ℕ)
     (front : Front) (was connection : Connection) (outs : List Out) (told story : Story)
-    → ((other : ℕ) → other ≢ conn → WaysOn origin.links links other)
+    → ((whom : About) → whom ≢ of_connection conn → PlacesStay whom origin.links links)
     → front_at origin node ≡ Some front → connection_at front conn ≡ Some was
     → TalkGoesOn (told_of law.story) (told_of told) → told.told ≡ law.story.told → told.talk.answers ≡ law.story.talk.answers → told.course ≡ law.story.course
     → ((other : ℕ) → told.talk.requests other ≡ requests_of (setting_of config) (frames_heard (after other)))
@@ -47,7 +48,7 @@ pub front_keeps : (config : Config) (heard after : ℕ → Heard) (origin : Worl
     → IsMade (setting_of config) law.backend conn (record origin { links = links }) told (carry_all node (record origin { links = links }) outs) story
     → ConnectionIs (setting_of config) (home_of config) conn (world_after (record origin { links = links }) node front conn connection outs) story (after conn)
     → KeepsOn config (told_of law.story) after (world_after (record origin { links = links }) node front conn connection outs)
-front_keeps config heard after origin law links conn node front was connection outs told story ways at has more same_told same_said same_course requests others
+front_keeps config heard after origin law links conn node front was connection outs told story places at has more same_told same_said same_course requests others
     no_more made mine =
     let world : World = record origin { links = links } in
     let later : Front = with_connection front conn connection in
@@ -59,11 +60,12 @@ front_keeps config heard after origin law links conn node front was connection o
     (record {
       law = record {
         backend = law.backend;
-        nodes = nodes_with_front config origin next law.backend node front later at refl made.others.homes made.others.backends refl refl law.nodes;
+        nodes = nodes_with_front config origin next law.backend node front later at refl made.others.homes made.others.backends made.others.pairs refl refl law.nodes;
         below_next = law.below_next;
         story = story;
         is_told = made.is_told;
         requests = λ other. ap (λ (r : ℕ → List Request). r other) made.goes_on.requests ∙ requests other;
+        no_others = made.others.places of_nobody (nobody_whom conn) None (places of_nobody (nobody_whom conn) None law.no_others);
         connections = λ other. ⊎_elim
             (λ (same : other ≡ conn). subst (λ c. ConnectionIs (setting_of config) (home_of config) c next story (after c)) (sym same)
             (subst (λ w. ConnectionIs (setting_of config) (home_of config) conn w story (after conn)) e mine))
@@ -73,7 +75,8 @@ front_keeps config heard after origin law links conn node front was connection o
               fronts = fronts_at_other origin node front later other at
                   (value_at-with_value-other nat_cmp numbers_apart front.connections conn other connection ne);
               client = made.others.clients other ne;
-              ways = λ f h asks answers way. made.others.ways other ne f h asks answers (ways other ne f h asks answers way);
+              places = λ here placed. made.others.places (of_connection other) (other_whom other conn ne) here
+                  (places (of_connection other) (other_whom other conn ne) here placed);
               told = made.goes_on.told other ne ∙ ap (λ (t : ℕ → List Answer). t other) same_told;
               said = made.goes_on.said other ne ∙ ap (λ (t : ℕ → List Answer). t other) same_said;
               session = made.goes_on.sessions other ne ∙ ap (λ (c : Course). c.sessions other) same_course;
@@ -105,7 +108,7 @@ pub standing_after : (world : World) (node : List ℕ) (front : Front) (conn : �
 standing_after world node front conn connection outs setting home all held story is =
     subst (λ w. IsStanding setting node home conn all held connection w story)
     (sym (carry_all_fronts node world (with_value (slice_cmp nat_cmp) world.fronts node (with_connection front conn connection)) outs))
-    (record { count = is.count; client = is.client; stands = is.stands })
+    (record { count = is.count; client = is.client; place = is.place; placed = is.placed; stands = is.stands })
 
 pub gone_after : (world : World) (node : List ℕ) (front : Front) (conn : ℕ) (connection : Connection) (setting : Setting) (home : List ℕ) (all : List Input)
     (story : Story)
@@ -117,5 +120,7 @@ gone_after world node front conn connection setting home all story is = record {
   count = is.count;
   lasts = is.lasts;
   client = is.client;
+  place = is.place;
+  placed = is.placed;
   left = is.left;
 }

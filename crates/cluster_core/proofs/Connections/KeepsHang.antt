@@ -11,38 +11,32 @@ use Rattle.front_core.specs.declared.connection.Connection.{Connection}
 use Rattle.front_core.specs.declared.front.Front.{Front}
 use Rattle.front_core.specs.Front.{hang, front_hang_at, hung_up}
 use Rattle.imap_talk.specs.declared.inputs.Input.{Input}
-use Rattle.imap_talk.specs.declared.inputs.Input.TheVariants.{Asks}
 use Rattle.imap_wire.specs.Frames.{begun}
 use Rattle.mur_base.specs.Map.{with_value}
 use Rattle.mur_config.specs.declared.config.Config.{Config}
 use Rattle.imap_types.specs.declared.request.Answer.{Answer}
-use Rattle.imap_types.specs.declared.request.Request.TheVariants.{Command as a_command}
 use Rattle.mur_model.specs.declared.session.Sess.{Sess}
 use Rattle.mur_model.specs.declared.setting.Setting.{Setting}
-use Rattle.mur_model.specs.Act.{need_of}
-use Rattle.mur_model.specs.History.{numbered}
 use Rattle.mur_model.proofs.HistoryGrows.{same_talk}
 use Rattle.schedule_text.specs.declared.event.Event.TheVariants.{Hang}
 use Rattle.imap_talk.specs.Inputs.{requests_in}
-use Rattle.imap_talk.proofs.InputLaws.{requests-append}
 use Rattle.front_core.proofs.OneConnection.Readings.{inputs_in}
 use Rattle.cluster_core.specs.declared.world.World.{World}
 use Rattle.imap_talk.specs.Heard.{Heard, nobody, elsewhere, client, frames_heard}
 use Rattle.cluster_core.specs.Heard.{hears}
-use Rattle.link_msg.specs.declared.message.LinkMsg.{LinkMsg}
-use Rattle.link_queue.specs.Links.{Links}
 use Rattle.cluster_core.specs.World.{client_at, home_of, setting_of, hang_at, hangs, carry_all}
 use Rattle.cluster_core.proofs.Connections.ConnectionLaw.{told_of, keeps_all, same_story}
 use Rattle.front_core.proofs.OneConnection.Standing.{Stands, IsLeft}
-use Rattle.front_core.proofs.OneConnection.Standing.OnItsWay.{there, back}
 use Rattle.front_core.proofs.OneConnection.Standing.Stands.{reads, waits, faulted, finished}
-use Rattle.front_core.proofs.OneConnection.Standing.IsLeft.{nothing, its_ask, its_answer}
+use Rattle.front_core.proofs.OneConnection.Standing.IsLeft.{nothing, left_waiting}
+use Rattle.front_core.proofs.OneConnection.Places.{Place}
+use Rattle.front_core.proofs.OneConnection.Waits.{left_behind}
 use Rattle.cluster_core.proofs.Connections.KeepsFront.{world_after, with_connection, front_keeps, is_at_after, gone_after}
 use Rattle.front_core.proofs.OneConnection.LastAnswer.{stands_last}
 use Rattle.cluster_core.proofs.Connections.KeepsLaw.{ConnectionIs, IsAt, IsGone, KeepsLaw, KeepsOn, looks_same}
 use Rattle.cluster_core.proofs.Connections.KeepsLaw.ConnectionIs.{is_nobody, is_elsewhere, is_open, is_closed}
 use Rattle.cluster_core.proofs.Connections.KeepsStill.{still_kept}
-use Rattle.imap_talk.proofs.RequestsOf.{requests_of, answered_lengths, next_request}
+use Rattle.imap_talk.proofs.RequestsOf.{requests_of}
 
 abbrev pub after_hang : Config → (ℕ → Heard) → ℕ → ℕ → Heard
 after_hang config heard conn other = hears config other (heard other) (Hang conn)
@@ -60,39 +54,18 @@ unfolding hears
 heard_closed config conn bytes heard e = let same : nat_eq conn conn ≡ true = grind (arith, nat_tests) in rw (e, same) refl
 
 -- what is left of a connection, whatever it was at
-left_by : (setting : Setting) (node home : List ℕ) (conn : ℕ) (all : List Input) (held : Option (List ℕ)) (connection : Connection) (links : Links LinkMsg)
-    (told said : List Answer) (session : Sess)
-    → Stands setting node home conn all held connection links told said session
-    → IsLeft setting node home conn (requests_in all) (hung_up connection) links told said session
-unfolding requests_in
-left_by setting node home conn all held connection links told said session (reads stage waiting s lasts answered same way) =
-    nothing [] (same ∙ sym (append-nil told)) (omega arith) way
-left_by setting node home conn all held connection links told said session
-    (waits passed request tag it name work stage parts lasts answered is need last (there same s way)) =
-    its_ask connection tag it name work refl same
-    (subst (λ r. numbered r (length told + 1) ≡ Some (a_command tag it))
-    (sym (ap requests_in parts ∙ requests-append passed (Asks request ∷ connection.waiting)
-    ∙ ap (λ r. requests_in passed ++ r ∷ requests_in connection.waiting) is))
-    (next_request (requests_in passed) (requests_in connection.waiting) (a_command tag it) (length told) (answered_lengths passed told answered)))
-    (ap (λ x. need_of setting x it) (sym s) ∙ need) way
-left_by setting node home conn all held connection links told said session
-    (waits passed request tag it name work stage parts lasts answered is need last (back body turn same shown later turned way)) =
-    its_answer _ _ same (omega arith) way
-left_by setting node home conn all held connection links told said session (faulted stage none lengths same lasts way) =
-    nothing [] (same ∙ sym (append-nil told)) (omega arith) way
-left_by setting node home conn all held connection links told said session
-    (finished passed more request before final stage parts answered is_told is_end same way) =
-    nothing [] (same ∙ sym (append-nil told)) (omega arith) way
-
--- closing again changes nothing of what is left
-left_again : (setting : Setting) (node home : List ℕ) (conn : ℕ) (requests : _) (connection : Connection) (links : Links LinkMsg) (told said : List Answer)
-    (session : Sess)
-    → IsLeft setting node home conn requests connection links told said session
-    → IsLeft setting node home conn requests (hung_up connection) links told said session
-left_again setting node home conn requests connection links told said session (nothing rest a b way) = nothing rest a b way
-left_again setting node home conn requests connection links told said session (its_ask asker tag it name work a b c d way) =
-    its_ask asker tag it name work a b c d way
-left_again setting node home conn requests connection links told said session (its_answer rest answer a b way) = its_answer rest answer a b way
+left_by : (setting : Setting) (home : List ℕ) (conn : ℕ) (all : List Input) (held : Option (List ℕ)) (connection : Connection)
+    (told said : List Answer) (session : Sess) (place : Place) → Stands setting home conn all held connection told said session place
+    → IsLeft setting home conn (requests_in all) told said session place
+left_by setting home conn all held connection told said session place (reads stage waiting s lasts answered same at) =
+    nothing [] (same ∙ sym (append-nil told)) (omega arith) at
+left_by setting home conn all held connection told said session place (waits waiting) =
+    left_waiting (left_behind setting home conn all held connection told said session place waiting)
+left_by setting home conn all held connection told said session place (faulted stage none lengths same lasts at) =
+    nothing [] (same ∙ sym (append-nil told)) (omega arith) at
+left_by setting home conn all held connection told said session place (finished passed more request before final stage parts answered is_told is_end same at)
+    =
+    nothing [] (same ∙ sym (append-nil told)) (omega arith) at
 
 hangs_at : (world : World) (conn : ℕ) (node : List ℕ) (front : Front) (connection : Connection) (given : List ℕ)
     → client_at world conn ≡ Some (record { at = node; given = given })
@@ -110,7 +83,7 @@ closes : (config : Config) (heard : ℕ → Heard) (world : World) (conn : ℕ) 
 unfolding carry_all frames_heard
 closes config heard world conn law bytes node front connection at asked now gone =
     front_keeps config heard (after_hang config heard conn) world law world.links conn node front connection (hung_up connection) [] law.story law.story
-    (λ other ne f h asks answers way. way) at.at at.has (same_talk (told_of law.story)) refl refl refl
+    (λ whom ne here placed. placed) at.at at.has (same_talk (told_of law.story)) refl refl refl
     (λ other. ⊎_elim
     (λ (same : other ≡ conn). subst (λ c. law.story.talk.requests c ≡ requests_of (setting_of config) (frames_heard (after_hang config heard conn c)))
     (sym same)
@@ -166,11 +139,12 @@ hang_by config heard world conn law was e (is_open bytes node front connection a
       stage_is = refl;
       count = standing.count;
       client = standing.client;
-      lasts = stands_last (setting_of config) node (home_of config) conn (inputs_in (setting_of config) bytes) (begun bytes) connection world.links
-          (law.story.told conn) (law.story.talk.answers conn) (law.story.course.sessions conn) standing.stands;
-      left = left_by (setting_of config) node (home_of config) conn (inputs_in (setting_of config) bytes) (begun bytes) connection world.links
-          (law.story.told conn)
-          (law.story.talk.answers conn) (law.story.course.sessions conn) standing.stands;
+      lasts = stands_last (setting_of config) (home_of config) conn (inputs_in (setting_of config) bytes) (begun bytes) connection
+          (law.story.told conn) (law.story.talk.answers conn) (law.story.course.sessions conn) standing.place standing.stands;
+      place = standing.place;
+      placed = standing.placed;
+      left = left_by (setting_of config) (home_of config) conn (inputs_in (setting_of config) bytes) (begun bytes) connection
+          (law.story.told conn) (law.story.talk.answers conn) (law.story.course.sessions conn) standing.place standing.stands;
     }))
 hang_by config heard world conn law was e (is_closed bytes node front connection at gone) =
     subst (λ w. KeepsOn config (told_of law.story) (after_hang config heard conn) w) (sym (hangs_at world conn node front connection _ gone.client at))
@@ -181,9 +155,9 @@ hang_by config heard world conn law was e (is_closed bytes node front connection
       count = gone.count;
       lasts = gone.lasts;
       client = gone.client;
-      left = left_again (setting_of config) node (home_of config) conn (requests_in (inputs_in (setting_of config) bytes)) connection world.links
-          (law.story.told conn)
-          (law.story.talk.answers conn) (law.story.course.sessions conn) gone.left;
+      place = gone.place;
+      placed = gone.placed;
+      left = gone.left;
     }))
 
 pub hang_keeps : (config : Config) (heard : ℕ → Heard) (world : World) (conn : ℕ) (law : KeepsLaw config heard world)

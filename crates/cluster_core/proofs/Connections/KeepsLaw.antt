@@ -12,8 +12,6 @@ use Rattle.front_core.specs.declared.front.Front.{Front}
 use Rattle.front_core.specs.Front.{connection_at}
 use Rattle.imap_talk.specs.declared.inputs.Input.{Input}
 use Rattle.imap_wire.specs.Frames.{begun}
-use Rattle.link_msg.specs.declared.answer.BackAnswer.{BackAnswer}
-use Rattle.link_msg.specs.declared.ask.FrontAsk.{FrontAsk}
 use Rattle.mur_base.specs.Map.{value_at, with_value}
 use Rattle.mur_base.proofs.MapLaws.{TellsApart, same_or_other, value_at-with_value, value_at-with_value-other}
 use Rattle.mur_config.specs.declared.config.Config.{Config}
@@ -33,20 +31,17 @@ use Rattle.link_msg.specs.declared.message.LinkMsg.{LinkMsg}
 use Rattle.link_queue.specs.Links.{Links}
 use Rattle.cluster_core.specs.World.{start, client_at, front_at, home_at, home_of, setting_of}
 use Rattle.cluster_core.proofs.Connections.ConnectionLaw.{Story, told_of, client_with, IsStanding}
-use Rattle.front_core.proofs.OneConnection.Standing.{HasBegunSo, OnItsWay, Stands, IsLeft}
-use Rattle.front_core.proofs.OneConnection.Standing.OnItsWay.{there, back}
-use Rattle.front_core.proofs.OneConnection.Standing.Stands.{reads, waits, faulted, finished}
-use Rattle.front_core.proofs.OneConnection.Standing.IsLeft.{nothing, its_ask, its_answer}
+use Rattle.front_core.proofs.OneConnection.Standing.{HasBegunSo, Stands, IsLeft}
 use Rattle.imap_talk.proofs.RequestsOf.{requests_of}
 use Rattle.cluster_core.proofs.Histories.Told.{IsTold}
-use Rattle.front_core.proofs.OneConnection.Ways.{AreOnWay}
+use Rattle.front_core.proofs.OneConnection.Places.{About, of_connection, of_nobody, IsPlaced, PlacesStay, Place, its_message}
 
 -- a connection that no frontend has
 pub record IsUntold (conn : ℕ) (links : Links LinkMsg) (story : Story) : Type 0 where
   pub told : story.told conn ≡ []
   pub said : story.talk.answers conn ≡ []
   pub session : story.course.sessions conn ≡ Off
-  pub way : (front home : List ℕ) → AreOnWay links conn front home [] []
+  pub nothing : IsPlaced (of_connection conn) links None
 
 -- a connection at its frontend
 pub record IsAt (world : World) (conn : ℕ) (node : List ℕ) (front : Front) (connection : Connection) : Type 0 where
@@ -59,7 +54,9 @@ pub record IsGone (setting : Setting) (node home : List ℕ) (conn : ℕ) (input
   pub count : connection.answered ≡ length (story.told conn)
   pub lasts : EndsOnlyLast (story.told conn)
   pub client : client_at world conn ≡ Some (client_with node inputs (story.told conn))
-  pub left : IsLeft setting node home conn (requests_in inputs) connection world.links (story.told conn) (story.talk.answers conn) (story.course.sessions conn)
+  pub place : Place
+  pub placed : IsPlaced (of_connection conn) world.links (its_message node place)
+  pub left : IsLeft setting home conn (requests_in inputs) (story.told conn) (story.talk.answers conn) (story.course.sessions conn) place
 
 pub data ConnectionIs (setting : Setting) (home : List ℕ) (conn : ℕ) (world : World) (story : Story) : Heard → Type 0 where
   is_nobody : client_at world conn ≡ None → ((node : List ℕ) (front : Front) → front_at world node ≡ Some front → connection_at front conn ≡ None)
@@ -81,6 +78,7 @@ pub record AreNodesOf (config : Config) (world : World) (backend : Backend) : Ty
   pub frontends : (node : List ℕ) → is_some (front_at world node) ≡ is_frontend config node
   pub other_homes : (node : List ℕ) (other : Backend) → node ≢ home_of config → home_at world node ≡ Some other → other.held ≡ []
   pub backends : world.backends ≡ (start config).backends
+  pub pairs : world.pairs ≡ (start config).pairs
 
 pub record KeepsLaw (config : Config) (heard : ℕ → Heard) (world : World) : Type 0 where
   pub backend : Backend
@@ -89,6 +87,8 @@ pub record KeepsLaw (config : Config) (heard : ℕ → Heard) (world : World) : 
   pub story : Story
   pub is_told : IsTold (setting_of config) world.steps world.marks backend story.talk story.told story.course
   pub requests : (conn : ℕ) → story.talk.requests conn ≡ requests_of (setting_of config) (frames_heard (heard conn))
+  -- each message on its way is about a connection
+  pub no_others : IsPlaced of_nobody world.links None
   pub connections : (conn : ℕ) → ConnectionIs (setting_of config) (home_of config) conn world story (heard conn)
 
 -- so it does behind a world in which so much was said; a client that has closed its connection was told no more
@@ -111,38 +111,6 @@ same_put cmp apart entries key value at other = ⊎_elim
     (λ (ne : other ≢ key). value_at-with_value-other cmp apart entries key other value ne)
     (same_or_other cmp apart other key)
 
--- what is on the way for a connection on other links
-abbrev pub WaysOn : Links LinkMsg → Links LinkMsg → ℕ → Type 0
-WaysOn links next conn = (front home : List ℕ) (asks : List FrontAsk) (answers : List BackAnswer) → AreOnWay links conn front home asks answers
-    → AreOnWay next conn front home asks answers
-
-way_on : (links next : Links LinkMsg) (conn : ℕ) (front home : List ℕ) (connection : Connection) (tag : _) (name : List ℕ) (work : _) (told said : List Answer)
-    (session : Sess) → WaysOn links next conn
-    → OnItsWay links conn front home connection tag name work told said session → OnItsWay next conn front home connection tag name work told said session
-way_on links next conn front home connection tag name work told said session on (there a b way) = there a b (on front home _ _ way)
-way_on links next conn front home connection tag name work told said session on (back body turn a b c d way) = back body turn a b c d (on front home _ _ way)
-
-pub stands_on : (setting : Setting) (front home : List ℕ) (conn : ℕ) (all : List Input) (held : Option (List ℕ)) (connection : Connection) (links next : Links LinkMsg)
-    (told said : List Answer) (session : Sess)
-    → WaysOn links next conn → Stands setting front home conn all held connection links told said session
-    → Stands setting front home conn all held connection next told said session
-stands_on setting front home conn all held connection links next told said session on (reads a b c d e f way) = reads a b c d e f (on front home _ _ way)
-stands_on setting front home conn all held connection links next told said session on (waits passed bytes tag it name work a b c d e f g way) =
-    waits passed bytes tag it name work a b c d e f g (way_on links next conn front home connection tag name work told said session on way)
-stands_on setting front home conn all held connection links next told said session on (faulted a b c d e way) = faulted a b c d e (on front home _ _ way)
-stands_on setting front home conn all held connection links next told said session on (finished passed more bytes before last a b c d e f way) =
-    finished passed more bytes before last a b c d e f (on front home _ _ way)
-
-pub left_on : (setting : Setting) (front home : List ℕ) (conn : ℕ) (requests : List Request) (connection : Connection) (links next : Links LinkMsg)
-    (told said : List Answer) (session : Sess)
-    → WaysOn links next conn → IsLeft setting front home conn requests connection links told said session
-    → IsLeft setting front home conn requests connection next told said session
-left_on setting front home conn requests connection links next told said session on (nothing rest a b way) = nothing rest a b (on front home _ _ way)
-left_on setting front home conn requests connection links next told said session on (its_ask asker tag it name work a b c d way) =
-    its_ask asker tag it name work a b c d (on front home _ _ way)
-left_on setting front home conn requests connection links next told said session on (its_answer rest answer a b way) =
-    its_answer rest answer a b (on front home _ _ way)
-
 -- a frontend, as far as one connection goes
 pub data SameFront (conn : ℕ) : Option Front → Option Front → Type 0 where
   both_none : SameFront conn None None
@@ -152,7 +120,7 @@ pub data SameFront (conn : ℕ) : Option Front → Option Front → Type 0 where
 pub record StaysAt (conn : ℕ) (world next : World) (story later : Story) : Type 0 where
   pub fronts : (node : List ℕ) → SameFront conn (front_at world node) (front_at next node)
   pub client : client_at next conn ≡ client_at world conn
-  pub ways : WaysOn world.links next.links conn
+  pub places : PlacesStay (of_connection conn) world.links next.links
   pub told : later.told conn ≡ story.told conn
   pub said : later.talk.answers conn ≡ story.talk.answers conn
   pub session : later.course.sessions conn ≡ story.course.sessions conn
@@ -182,7 +150,7 @@ untold_stays conn world next story later stays untold = record {
   told = stays.told ∙ untold.told;
   said = stays.said ∙ untold.said;
   session = stays.session ∙ untold.session;
-  way = λ front home. stays.ways front home [] [] (untold.way front home);
+  nothing = stays.places None untold.nothing;
 }
 
 pub connection_stays : (setting : Setting) (home : List ℕ) (conn : ℕ) (world next : World) (story later : Story) (heard : Heard)
@@ -202,17 +170,14 @@ connection_stays setting home conn world next story later heard stays (is_open b
     (record {
       count = standing.count ∙ ap length (sym stays.told);
       client = stays.client ∙ standing.client ∙ ap (λ t. Some (client_with node (inputs_in setting bytes) t)) (sym stays.told);
-      stands = subst (λ t. Stands setting node home conn (inputs_in setting bytes) (begun bytes) connection next.links t (later.talk.answers conn)
-          (later.course.sessions conn)) (sym stays.told)
-          (subst (λ s. Stands setting node home conn (inputs_in setting bytes) (begun bytes) connection next.links (story.told conn) s
-          (later.course.sessions conn))
-          (sym stays.said)
-          (subst (λ s. Stands setting node home conn (inputs_in setting bytes) (begun bytes) connection next.links (story.told conn)
-          (story.talk.answers conn) s)
-          (sym stays.session)
-          (stands_on setting node home conn (inputs_in setting bytes) (begun bytes) connection world.links next.links (story.told conn)
-          (story.talk.answers conn)
-          (story.course.sessions conn) stays.ways standing.stands)));
+      place = standing.place;
+      placed = stays.places (its_message node standing.place) standing.placed;
+      stands = subst (λ t. Stands setting home conn (inputs_in setting bytes) (begun bytes) connection t (later.talk.answers conn)
+          (later.course.sessions conn) standing.place) (sym stays.told)
+          (subst (λ s. Stands setting home conn (inputs_in setting bytes) (begun bytes) connection (story.told conn) s (later.course.sessions conn)
+          standing.place) (sym stays.said)
+          (subst (λ s. Stands setting home conn (inputs_in setting bytes) (begun bytes) connection (story.told conn) (story.talk.answers conn) s
+          standing.place) (sym stays.session) standing.stands));
     })
 connection_stays setting home conn world next story later heard stays (is_closed bytes node front connection at gone) =
     let now = front_now conn (front_at world node) (front_at next node) front (stays.fronts node) at.at in
@@ -222,16 +187,14 @@ connection_stays setting home conn world next story later heard stays (is_closed
       count = gone.count ∙ ap length (sym stays.told);
       lasts = subst EndsOnlyLast (sym stays.told) gone.lasts;
       client = stays.client ∙ gone.client ∙ ap (λ t. Some (client_with node (inputs_in setting bytes) t)) (sym stays.told);
-      left = subst (λ t. IsLeft setting node home conn (requests_in (inputs_in setting bytes)) connection next.links t (later.talk.answers conn)
-          (later.course.sessions conn)) (sym stays.told)
-          (subst (λ s. IsLeft setting node home conn (requests_in (inputs_in setting bytes)) connection next.links (story.told conn) s
-          (later.course.sessions conn))
+      place = gone.place;
+      placed = stays.places (its_message node gone.place) gone.placed;
+      left = subst (λ t. IsLeft setting home conn (requests_in (inputs_in setting bytes)) t (later.talk.answers conn) (later.course.sessions conn)
+          gone.place) (sym stays.told)
+          (subst (λ s. IsLeft setting home conn (requests_in (inputs_in setting bytes)) (story.told conn) s (later.course.sessions conn) gone.place)
           (sym stays.said)
-          (subst (λ s. IsLeft setting node home conn (requests_in (inputs_in setting bytes)) connection next.links (story.told conn)
-          (story.talk.answers conn) s)
-          (sym stays.session)
-          (left_on setting node home conn (requests_in (inputs_in setting bytes)) connection world.links next.links (story.told conn) (story.talk.answers conn)
-          (story.course.sessions conn) stays.ways gone.left)));
+          (subst (λ s. IsLeft setting home conn (requests_in (inputs_in setting bytes)) (story.told conn) (story.talk.answers conn) s gone.place)
+          (sym stays.session) gone.left));
     })
 
 pub same_front : (conn : ℕ) (one now : Option Front) → now ≡ one → SameFront conn one now
@@ -243,8 +206,9 @@ pub record LooksAlike (world next : World) : Type 0 where
   pub fronts : (node : List ℕ) → front_at next node ≡ front_at world node
   pub homes : (node : List ℕ) → home_at next node ≡ home_at world node
   pub clients : (conn : ℕ) → client_at next conn ≡ client_at world conn
-  pub ways : (conn : ℕ) → WaysOn world.links next.links conn
+  pub places : (whom : About) → PlacesStay whom world.links next.links
   pub backends : next.backends ≡ world.backends
+  pub pairs : next.pairs ≡ world.pairs
   pub marks : next.marks ≡ world.marks
   pub steps : world.steps ≤ next.steps
 
@@ -254,8 +218,9 @@ looks_same world = record {
   fronts = λ any. refl;
   homes = λ any. refl;
   clients = λ any. refl;
-  ways = λ c front home asks answers way. way;
+  places = λ whom here placed. placed;
   backends = refl;
+  pairs = refl;
   marks = refl;
   steps = omega arith;
 }

@@ -32,6 +32,7 @@ use Rattle.imap_talk.specs.Heard.{Heard, nobody, elsewhere, client, frames_heard
 use Rattle.cluster_core.specs.Heard.{hears, opened_at, is_frontend}
 use Rattle.cluster_core.specs.World.{client_at, front_at, home_of, setting_of, with_client, with_front, open_at, opens, given_more, carry, carry_all}
 use Rattle.cluster_core.proofs.Connections.ConnectionLaw.{Story, told_of}
+use Rattle.front_core.proofs.OneConnection.Places.{nowhere}
 use Rattle.front_core.proofs.OneConnection.Standing.Stands.{reads}
 use Rattle.cluster_core.proofs.Connections.KeepsLaw.{ConnectionIs, IsUntold, KeepsLaw, KeepsOn, connection_stays}
 use Rattle.cluster_core.proofs.Connections.KeepsLaw.{looks_same, same_front}
@@ -116,11 +117,12 @@ elsewhere_keeps config heard world node conn law none new =
     record {
       law = record {
         backend = law.backend;
-        nodes = nodes_alike config world next law.backend (λ any. refl) (λ any. refl) refl law.nodes;
+        nodes = nodes_alike config world next law.backend (λ any. refl) (λ any. refl) refl refl law.nodes;
         below_next = law.below_next;
         story = law.story;
         is_told = law.is_told;
         requests = requests_first config law.story heard conn node new.nobody_is law.requests;
+        no_others = law.no_others;
         connections = λ other. ⊎_elim
             (λ (same : other ≡ conn). subst (λ c. ConnectionIs (setting_of config) (home_of config) c next law.story (after_open config heard node conn c))
             (sym same)
@@ -133,7 +135,7 @@ elsewhere_keeps config heard world node conn law none new =
             (record {
               fronts = λ any. same_front other (front_at world any) (front_at next any) refl;
               client = clients_other world node conn other ne;
-              ways = λ front home asks answers way. way;
+              places = λ here placed. placed;
               told = refl;
               said = refl;
               session = refl;
@@ -189,11 +191,12 @@ front_keeps_open config heard world node conn front law at new =
     (record {
       law = record {
         backend = law.backend;
-        nodes = nodes_with_front config world next law.backend node front later at refl refl refl refl refl law.nodes;
+        nodes = nodes_with_front config world next law.backend node front later at refl refl refl refl refl refl law.nodes;
         below_next = law.below_next;
         story = law.story;
         is_told = law.is_told;
         requests = requests_first config law.story heard conn node new.nobody_is law.requests;
+        no_others = law.no_others;
         connections = λ other. ⊎_elim
             (λ (same : other ≡ conn). subst (λ c. ConnectionIs (setting_of config) (home_of config) c next law.story (after_open config heard node conn c))
             (sym same)
@@ -210,10 +213,11 @@ front_keeps_open config heard world node conn front law at new =
                   (record { at = node; given = [] ++ greeting }) first
                   (value_at-with_entry nat_cmp numbers_apart world.clients conn first)
                   ∙ ap (λ g. Some (record { at = node; given = g })) (greeting_alone (setting_of config) (law.story.told conn) new.untold.told);
+              place = nowhere;
+              placed = new.untold.nothing;
               stands = reads refl refl (sym new.untold.session) (ap has_ended new.untold.session) (all_answered (setting_of config)
                   (law.story.told conn) new.untold.told)
-                  (new.untold.said ∙ sym new.untold.told)
-                  (new.untold.way node (home_of config));
+                  (new.untold.said ∙ sym new.untold.told) refl;
             }))))
             (λ (ne : other ≢ conn). subst (λ h. ConnectionIs (setting_of config) (home_of config) other next law.story h)
             (sym (other_after config heard node conn other ne))
@@ -224,7 +228,7 @@ front_keeps_open config heard world node conn front law at new =
               client = value_at-with_value-other nat_cmp numbers_apart (with_entry nat_cmp world.clients conn first) conn other
                   (record { at = node; given = [] ++ greeting }) ne
                   ∙ clients_other world node conn other ne;
-              ways = λ f home asks answers way. way;
+              places = λ here placed. placed;
               told = refl;
               said = refl;
               session = refl;

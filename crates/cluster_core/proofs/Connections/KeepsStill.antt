@@ -20,19 +20,21 @@ use Rattle.cluster_core.specs.World.{client_at, front_at, home_at, home_of, sett
 use Rattle.cluster_core.proofs.Connections.ConnectionLaw.{told_of}
 use Rattle.cluster_core.proofs.Connections.KeepsLaw.{ConnectionIs, AreNodesOf, KeepsLaw, KeepsOn, LooksAlike, SameFront, same_front, connection_stays}
 use Rattle.cluster_core.proofs.Connections.KeepsLaw.SameFront.{both}
+use Rattle.front_core.proofs.OneConnection.Places.{of_connection, of_nobody}
 use Rattle.imap_talk.proofs.RequestsOf.{requests_of}
 use Rattle.cluster_core.proofs.Histories.Told.{IsTold, told_later}
 
 pub nodes_alike : (config : Config) (world next : World) (backend : Backend) → ((node : List ℕ) → front_at next node ≡ front_at world node)
     → ((node : List ℕ) → home_at next node ≡ home_at world node)
-    → next.backends ≡ world.backends → AreNodesOf config world backend → AreNodesOf config next backend
-nodes_alike config world next backend fronts homes backends nodes = record {
+    → next.backends ≡ world.backends → next.pairs ≡ world.pairs → AreNodesOf config world backend → AreNodesOf config next backend
+nodes_alike config world next backend fronts homes backends pairs nodes = record {
   home_no_front = fronts (home_of config) ∙ nodes.home_no_front;
   home_is = homes (home_of config) ∙ nodes.home_is;
   fronts = λ node front at. nodes.fronts node front (sym (fronts node) ∙ at);
   frontends = λ node. ap is_some (fronts node) ∙ nodes.frontends node;
   other_homes = λ node other ne at. nodes.other_homes node other ne (sym (homes node) ∙ at);
   backends = backends ∙ nodes.backends;
+  pairs = pairs ∙ nodes.pairs;
 }
 
 unfoldable pub still_kept : (config : Config) (heard after : ℕ → Heard) (world next : World) → LooksAlike world next → ((conn : ℕ) → after conn ≡ heard conn)
@@ -40,18 +42,19 @@ unfoldable pub still_kept : (config : Config) (heard after : ℕ → Heard) (wor
 still_kept config heard after world next alike same law = record {
   law = record {
     backend = law.backend;
-    nodes = nodes_alike config world next law.backend alike.fronts alike.homes alike.backends law.nodes;
+    nodes = nodes_alike config world next law.backend alike.fronts alike.homes alike.backends alike.pairs law.nodes;
     below_next = law.below_next;
     story = law.story;
     is_told = subst (λ m. IsTold (setting_of config) next.steps m law.backend law.story.talk law.story.told law.story.course) (sym alike.marks)
         (told_later (setting_of config) world.steps next.steps world.marks law.backend law.story.talk law.story.told law.story.course alike.steps law.is_told);
     requests = λ conn. law.requests conn ∙ ap (λ h. requests_of (setting_of config) (frames_heard h)) (sym (same conn));
+    no_others = alike.places of_nobody None law.no_others;
     connections = λ conn. subst (λ h. ConnectionIs (setting_of config) (home_of config) conn next law.story h) (sym (same conn))
         (connection_stays (setting_of config) (home_of config) conn world next law.story law.story (heard conn)
         (record {
           fronts = λ node. same_front conn (front_at world node) (front_at next node) (alike.fronts node);
           client = alike.clients conn;
-          ways = alike.ways conn;
+          places = alike.places (of_connection conn);
           told = refl;
           said = refl;
           session = refl;
@@ -78,8 +81,8 @@ fronts_at_other world node front next other at same any = ⊎_elim
 -- the nodes with another state of one frontend
 pub nodes_with_front : (config : Config) (world next : World) (backend : Backend) (node : List ℕ) (front later : Front) → front_at world node ≡ Some front
     → next.fronts ≡ with_value (slice_cmp nat_cmp) world.fronts node later → next.homes ≡ world.homes → next.backends ≡ world.backends
-    → later.home ≡ front.home → later.setting ≡ front.setting → AreNodesOf config world backend → AreNodesOf config next backend
-nodes_with_front config world next backend node front later at fronts homes backends home setting nodes =
+    → next.pairs ≡ world.pairs → later.home ≡ front.home → later.setting ≡ front.setting → AreNodesOf config world backend → AreNodesOf config next backend
+nodes_with_front config world next backend node front later at fronts homes backends pairs home setting nodes =
     let here : (any : List ℕ) → front_at next any ≡ value_at (slice_cmp nat_cmp) (with_value (slice_cmp nat_cmp) world.fronts node later) any =
     λ any. ap (λ f. value_at (slice_cmp nat_cmp) f any) fronts in
     record {
@@ -102,6 +105,7 @@ nodes_with_front config world next backend node front later at fronts homes back
           (same_or_other (slice_cmp nat_cmp) names_apart any node) ∙ nodes.frontends any;
       other_homes = λ any other ne is. nodes.other_homes any other ne (sym (ap (λ h. value_at (slice_cmp nat_cmp) h any) homes) ∙ is);
       backends = backends ∙ nodes.backends;
+      pairs = pairs ∙ nodes.pairs;
     }
   where
     some_none : (f : Front) → Some f ≡ None → ⊥

@@ -29,20 +29,15 @@ use Rattle.link_queue.specs.Links.{Links, on_link}
 use Rattle.cluster_core.specs.Headline.OneNode.{node_of, ServesItsOwn, ServesItsOwnEach, ServesItsOwnBehind}
 use Rattle.cluster_core.specs.World.{start, home_of, setting_of, client_at, node_at, given_more, carry, carry_all, with_state, comes_to, with_client, opens}
 use Rattle.cluster_core.specs.World.{client_does, taken_from_link, deliver_first, takes, stepped, steps_by}
-use Rattle.cluster_core.proofs.Connections.ConnectionLaw.{Story}
-use Rattle.front_core.proofs.OneConnection.Standing.{OnItsWay, Stands, IsLeft}
-use Rattle.front_core.proofs.OneConnection.Standing.OnItsWay.{there, back}
-use Rattle.front_core.proofs.OneConnection.Standing.Stands.{reads, waits, faulted, finished}
-use Rattle.front_core.proofs.OneConnection.Standing.IsLeft.{nothing, its_ask, its_answer}
 use Rattle.cluster_core.proofs.Connections.Keeps.{run_keeps}
-use Rattle.cluster_core.proofs.Connections.KeepsLaw.{ConnectionIs, KeepsLaw}
-use Rattle.cluster_core.proofs.Connections.KeepsLaw.ConnectionIs.{is_nobody, is_elsewhere, is_open, is_closed}
+use Rattle.cluster_core.proofs.Connections.FirstTells.{first_tells}
+use Rattle.cluster_core.proofs.Connections.KeepsLaw.{KeepsLaw}
 use Rattle.cluster_core.proofs.Nodes.OneNodeLaw.{one_more_step}
 use Rattle.node_step.specs.declared.node.NodeState.{NodeState}
 use Rattle.node_step.specs.NodeStep.{takes as node_takes}
 use Rattle.node_step.proofs.OwnOuts.{conn_of, conn_of_message, IsNotFor, AreNotFor, takes_own}
 use Rattle.cluster_core.proofs.Runs.StartLaw.{start_keeps}
-use Rattle.front_core.proofs.OneConnection.Ways.{answer_taken, no_answer_first}
+use Rattle.front_core.proofs.OneConnection.Places.{in_an_answer}
 
 -- the client of this connection is as it was
 abbrev IsSame : ℕ → World → World → Type 0
@@ -142,62 +137,18 @@ takes_own_of world (Deliver from to) own = λ other client at ne.
     deliver_own world from to (on_link world.links from to) refl (own from to) other client at ne
 takes_own_of world event own = λ other client at ne. at
 
--- in a run an answer comes to the frontend of its connection
-on_way_own : (links : Links LinkMsg) (conn : ℕ) (node home from to : List ℕ) (answer : BackAnswer) (rest : List LinkMsg) (connection : _) (tag : _) (name : List ℕ)
-    (work : _) (told said : List AnswerOf) (session : Sess) → on_link links from to ≡ Answer answer ∷ rest → (answer.id).conn ≡ conn
-    → OnItsWay links conn node home connection tag name work told said session → node ≡ to
-on_way_own links conn node home from to answer rest connection tag name work told said session first own (there a b way) =
-    absurd (no_answer_first links conn node home from to answer rest _ first own way)
-on_way_own links conn node home from to answer rest connection tag name work told said session first own (back body turn a b c d way) =
-    sym (answer_taken links conn node home from to answer rest _ _ first own way).1
-
-stands_own : (setting : Setting) (links : Links LinkMsg) (conn : ℕ) (node home from to : List ℕ) (answer : BackAnswer) (rest : List LinkMsg) (all : List Input)
-    (held : Option (List ℕ)) (connection : _) (told said : List AnswerOf) (session : Sess) → on_link links from to ≡ Answer answer ∷ rest
-    → (answer.id).conn ≡ conn → Stands setting node home conn all held connection links told said session → node ≡ to
-stands_own setting links conn node home from to answer rest all held connection told said session first own (reads a b c d e f way) =
-    absurd (no_answer_first links conn node home from to answer rest _ first own way)
-stands_own setting links conn node home from to answer rest all held connection told said session first own
-    (waits passed request tag it name work a b c d e f g way) =
-    on_way_own links conn node home from to answer rest connection tag name work told said session first own way
-stands_own setting links conn node home from to answer rest all held connection told said session first own (faulted a b c d e way) =
-    absurd (no_answer_first links conn node home from to answer rest _ first own way)
-stands_own setting links conn node home from to answer rest all held connection told said session first own
-    (finished passed more asking before last a b c d e f way) =
-    absurd (no_answer_first links conn node home from to answer rest _ first own way)
-
-left_own : (setting : Setting) (links : Links LinkMsg) (conn : ℕ) (node home from to : List ℕ) (answer : BackAnswer) (rest : List LinkMsg) (requests : List Request)
-    (connection : _) (told said : List AnswerOf) (session : Sess) → on_link links from to ≡ Answer answer ∷ rest
-    → (answer.id).conn ≡ conn → IsLeft setting node home conn requests connection links told said session → node ≡ to
-left_own setting links conn node home from to answer rest requests connection told said session first own (nothing more a b way) =
-    absurd (no_answer_first links conn node home from to answer rest _ first own way)
-left_own setting links conn node home from to answer rest requests connection told said session first own (its_ask asker tag it name work a b c d way) =
-    absurd (no_answer_first links conn node home from to answer rest _ first own way)
-left_own setting links conn node home from to answer rest requests connection told said session first own (its_answer more sent a b way) =
-    sym (answer_taken links conn node home from to answer rest _ _ first own way).1
-
 -- a client of which this is known
 is_at : (found : Option Client) (client known : Client) → found ≡ Some client → found ≡ Some known → client.at ≡ known.at
 is_at None client known a b = cc
 is_at (Some it) client known a b = (let same : Some client ≡ Some known = sym a ∙ b in cc)
 
-connection_own : (setting : Setting) (home : List ℕ) (conn : ℕ) (world : World) (story : Story) (heard : Heard) (from to : List ℕ) (answer : BackAnswer)
-    (rest : List LinkMsg) (client : Client) → on_link world.links from to ≡ Answer answer ∷ rest → (answer.id).conn ≡ conn
-    → client_at world conn ≡ Some client → ConnectionIs setting home conn world story heard → client.at ≡ to
-connection_own setting home conn world story heard from to answer rest client first own at (is_nobody none fronts untold) =
-    absurd (no_answer_first world.links conn [] [] from to answer rest _ first own (untold.way [] []))
-connection_own setting home conn world story heard from to answer rest client first own at (is_elsewhere node is none untold) =
-    absurd (no_answer_first world.links conn [] [] from to answer rest _ first own (untold.way [] []))
-connection_own setting home conn world story heard from to answer rest client first own at (is_open bytes node front connection is reader standing) =
-    is_at (client_at world conn) client _ at standing.client
-    ∙ stands_own setting world.links conn node home from to answer rest _ _ connection _ _ _ first own standing.stands
-connection_own setting home conn world story heard from to answer rest client first own at (is_closed bytes node front connection is gone) =
-    is_at (client_at world conn) client _ at gone.client
-    ∙ left_own setting world.links conn node home from to answer rest _ connection _ _ _ first own gone.left
-
+-- in a run an answer comes to the frontend of its connection
 own_by_law : (config : Config) (heard : ℕ → Heard) (world : World) → KeepsLaw config heard world → (from to : List ℕ) → ComesToItsOwn world from to
 own_by_law config heard world law from to = λ answer rest client first at.
-    connection_own (setting_of config) (home_of config) (answer.id).conn world law.story (heard (answer.id).conn) from to answer rest client first refl at
-    (law.connections (answer.id).conn)
+    let conn : ℕ = (answer.id).conn in
+    let tells = first_tells (setting_of config) (home_of config) conn world law.story (heard conn) (heard conn) from to (Answer answer) rest refl first refl
+    (law.connections conn) in
+    is_at (client_at world conn) client _ at tells.client_is ∙ (in_an_answer tells.node from to answer tells.place tells.is_found).0
 
 same_worker : (world after : World) (event : Event) → ServesItsOwn event (stepped world) after → ServesItsOwn event world after
 same_worker world after (Open node conn) own = own

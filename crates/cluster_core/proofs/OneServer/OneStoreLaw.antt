@@ -32,10 +32,10 @@ use Rattle.cluster_core.specs.Headline.Points.{AreMadeBy, LosesTheNext}
 use Rattle.cluster_core.specs.Shown.{given_by, given_to}
 use Rattle.cluster_core.specs.World.{client_at, front_at}
 use Rattle.cluster_core.proofs.Connections.ConnectionLaw.{Story, told_of, client_with}
-use Rattle.front_core.proofs.OneConnection.Standing.{Stands, IsLeft}
-use Rattle.front_core.proofs.OneConnection.Standing.OnItsWay.{there, back}
+use Rattle.front_core.proofs.OneConnection.Standing.{Knows, Stands, IsLeft, next_ask, next_id}
+use Rattle.front_core.proofs.OneConnection.Standing.Knows.{asked_so, answered_so}
 use Rattle.front_core.proofs.OneConnection.Standing.Stands.{reads as it_reads, waits, faulted, finished}
-use Rattle.front_core.proofs.OneConnection.Standing.IsLeft.{nothing, its_ask, its_answer}
+use Rattle.front_core.proofs.OneConnection.Standing.IsLeft.{nothing, left_waiting}
 use Rattle.cluster_core.proofs.Connections.KeepsLaw.{ConnectionIs, IsAt}
 use Rattle.cluster_core.proofs.Connections.KeepsLaw.ConnectionIs.{is_nobody, is_elsewhere, is_open, is_closed}
 use Rattle.cluster_core.proofs.Histories.Tally.{conn_of, command_of}
@@ -43,7 +43,7 @@ use Rattle.cluster_core.proofs.Histories.Marks.{IsOf, Later, NoMore, Replied, al
 use Rattle.front_core.proofs.OneConnection.LastAnswer.{none_given, stands_last}
 use Rattle.imap_talk.proofs.RequestsOf.{requests_of, answered_lengths}
 use Rattle.cluster_core.proofs.Histories.Told.{IsTold}
-use Rattle.front_core.proofs.OneConnection.Ways.{none_on_empty}
+use Rattle.front_core.proofs.OneConnection.Places.{of_connection, Place, is_asked, is_answered, its_message, nowhere_on_empty}
 
 -- what was replied is what was told and at most one more
 pub record IsToldSo (told said : List Answer) : Type 0 where
@@ -54,23 +54,25 @@ pub record IsToldSo (told said : List Answer) : Type 0 where
 all_told : (told said : List Answer) → said ≡ told → IsToldSo told said
 all_told told said e = record { rest = []; parts = e ∙ sym (append-nil told); few = omega arith }
 
-told_standing : (setting : Setting) (front home : List ℕ) (conn : ℕ) (all : _) (held : _) (connection : Connection) (links : _) (told said : List Answer)
-    (session : _)
-    → Stands setting front home conn all held connection links told said session → IsToldSo told said
-told_standing setting front home conn all held connection links told said session (it_reads a b c d e f way) = all_told told said f
-told_standing setting front home conn all held connection links told said session (waits passed bytes tag it name work a b c d e f g (there s t way)) =
-    all_told told said s
-told_standing setting front home conn all held connection links told said session
-    (waits passed bytes tag it name work a b c d e f g (back body turn s shown behind last way)) = record { rest = _; parts = s; few = omega arith }
-told_standing setting front home conn all held connection links told said session (faulted a b c d e way) = all_told told said d
-told_standing setting front home conn all held connection links told said session (finished passed more bytes before last a b c d e f way) =
-    all_told told said f
+told_knows : (home : List ℕ) (conn : ℕ) (was : _) (tag : _) (name : List ℕ) (work : _) (told said : List Answer) (session : _) (place : Place)
+    → Knows home conn was tag name work told said session place → IsToldSo told said
+told_knows home conn was tag name work told said session place (asked_so same s at) = all_told told said same
+told_knows home conn was tag name work told said session place (answered_so body turn same shown behind last at) =
+    record { rest = _; parts = same; few = omega arith }
 
-told_left : (setting : Setting) (front home : List ℕ) (conn : ℕ) (requests : _) (connection : Connection) (links : _) (told said : List Answer) (session : _)
-    → IsLeft setting front home conn requests connection links told said session → IsToldSo told said
-told_left setting front home conn requests connection links told said session (nothing rest a b way) = record { rest = rest; parts = a; few = b }
-told_left setting front home conn requests connection links told said session (its_ask asker tag it name work a b c d way) = all_told told said b
-told_left setting front home conn requests connection links told said session (its_answer rest answer a b way) = record { rest = rest; parts = a; few = b }
+told_standing : (setting : Setting) (home : List ℕ) (conn : ℕ) (all : _) (held : _) (connection : Connection) (told said : List Answer) (session : _)
+    (place : Place) → Stands setting home conn all held connection told said session place → IsToldSo told said
+told_standing setting home conn all held connection told said session place (it_reads a b c d e f at) = all_told told said f
+told_standing setting home conn all held connection told said session place (waits waiting) =
+    told_knows home conn connection.session waiting.tag waiting.name waiting.work told said session place waiting.knows
+told_standing setting home conn all held connection told said session place (faulted a b c d e at) = all_told told said d
+told_standing setting home conn all held connection told said session place (finished passed more bytes before last a b c d e f at) = all_told told said f
+
+told_left : (setting : Setting) (home : List ℕ) (conn : ℕ) (requests : _) (told said : List Answer) (session : _) (place : Place)
+    → IsLeft setting home conn requests told said session place → IsToldSo told said
+told_left setting home conn requests told said session place (nothing rest a b at) = record { rest = rest; parts = a; few = b }
+told_left setting home conn requests told said session place (left_waiting waiting) =
+    told_knows home conn waiting.was waiting.tag waiting.name waiting.work told said session place waiting.knows
 
 -- what can be said of a connection, whatever was heard of it
 pub record SaysOf (setting : Setting) (world : World) (conn : ℕ) (heard : Heard) (told said : List Answer) : Type 0 where
@@ -93,19 +95,23 @@ last_ends [] last e = ap (λ t. t || false) e
 last_ends (answer ∷ before) last e = or_true (ends answer.reply) _ (last_ends before last e)
 
 -- where nothing is on the way, a client that hasn't closed its connection was answered in all, or its session has ended
-none_waits : (setting : Setting) (front home : List ℕ) (conn : ℕ) (bytes : List ℕ) (connection : Connection) (world : World) (told said : List Answer)
-    (session : _) → AreEmpty world
-    → Stands setting front home conn (inputs_in setting bytes) (begun bytes) connection world.links told said session
+none_knows : (front home : List ℕ) (conn : ℕ) (was : _) (tag : _) (name : List ℕ) (work : _) (told said : List Answer) (session : _) (place : Place)
+    → its_message front place ≡ None → Knows home conn was tag name work told said session place → ⊥
+none_knows front home conn was tag name work told said session place none (asked_so same s at) =
+    (let no : its_message front (is_asked home (next_ask conn told was name work)) ≡ None = ap (its_message front) (sym at) ∙ none in cc)
+none_knows front home conn was tag name work told said session place none (answered_so body turn same shown behind last at) =
+    (let no : its_message front (is_answered home (record { id = next_id conn told; body = body })) ≡ None = ap (its_message front) (sym at) ∙ none in cc)
+
+none_waits : (setting : Setting) (front home : List ℕ) (conn : ℕ) (bytes : List ℕ) (connection : Connection) (told said : List Answer)
+    (session : _) (place : Place) → its_message front place ≡ None
+    → Stands setting home conn (inputs_in setting bytes) (begun bytes) connection told said session place
     → IsAnsweredThrough (requests_in (inputs_in setting bytes)) told
-none_waits setting front home conn bytes connection world told said session empty (it_reads a b c d e f way) =
+none_waits setting front home conn bytes connection told said session place none (it_reads a b c d e f at) =
     inl (sym (answered_lengths (inputs_in setting bytes) told e))
-none_waits setting front home conn bytes connection world told said session empty (waits passed asking tag it name work a b c d e f g (there s t way)) =
-    (let none = (none_on_empty world.links conn front home _ _ empty way).0 in cc)
-none_waits setting front home conn bytes connection world told said session empty
-    (waits passed asking tag it name work a b c d e f g (back body turn s shown behind last way)) =
-    (let none = (none_on_empty world.links conn front home _ _ empty way).1 in cc)
-none_waits setting front home conn bytes connection world told said session empty (faulted a b c d e way) = inl (sym c)
-none_waits setting front home conn bytes connection world told said session empty (finished passed more asking before last a b c d e f way) =
+none_waits setting front home conn bytes connection told said session place none (waits waiting) =
+    absurd (none_knows front home conn connection.session waiting.tag waiting.name waiting.work told said session place none waiting.knows)
+none_waits setting front home conn bytes connection told said session place none (faulted a b c d e at) = inl (sym c)
+none_waits setting front home conn bytes connection told said session place none (finished passed more asking before last a b c d e f at) =
     inr (subst (λ t. list_any (λ (answer : Answer). ends answer.reply) t ≡ true) (sym d) (last_ends before last e))
 
 pub says_of : (setting : Setting) (home : List ℕ) (conn : ℕ) (world : World) (story : Story) (heard : Heard) → ConnectionIs setting home conn world story heard
@@ -125,17 +131,18 @@ says_of setting home conn world story heard (is_elsewhere node at none untold) =
 }
 says_of setting home conn world story heard (is_open bytes node front connection at reader standing) = record {
   given = given_at world conn (Some (client_with node (inputs_in setting bytes) (story.told conn))) standing.client;
-  so = told_standing setting node home conn (inputs_in setting bytes) (begun bytes) connection world.links (story.told conn) (story.talk.answers conn)
-      (story.course.sessions conn) standing.stands;
-  lasts = stands_last setting node home conn (inputs_in setting bytes) (begun bytes) connection world.links (story.told conn) (story.talk.answers conn)
-      (story.course.sessions conn) standing.stands;
-  waits_not = λ empty stays. none_waits setting node home conn bytes connection world (story.told conn) (story.talk.answers conn)
-      (story.course.sessions conn) empty standing.stands;
+  so = told_standing setting home conn (inputs_in setting bytes) (begun bytes) connection (story.told conn) (story.talk.answers conn)
+      (story.course.sessions conn) standing.place standing.stands;
+  lasts = stands_last setting home conn (inputs_in setting bytes) (begun bytes) connection (story.told conn) (story.talk.answers conn)
+      (story.course.sessions conn) standing.place standing.stands;
+  waits_not = λ empty stays. none_waits setting node home conn bytes connection (story.told conn) (story.talk.answers conn)
+      (story.course.sessions conn) standing.place
+      (nowhere_on_empty world.links (of_connection conn) (its_message node standing.place) empty standing.placed) standing.stands;
 }
 says_of setting home conn world story heard (is_closed bytes node front connection at gone) = record {
   given = given_at world conn (Some (client_with node (inputs_in setting bytes) (story.told conn))) gone.client;
-  so = told_left setting node home conn (requests_in (inputs_in setting bytes)) connection world.links (story.told conn) (story.talk.answers conn)
-      (story.course.sessions conn) gone.left;
+  so = told_left setting home conn (requests_in (inputs_in setting bytes)) (story.told conn) (story.talk.answers conn) (story.course.sessions conn)
+      gone.place gone.left;
   lasts = gone.lasts;
   waits_not = λ empty stays. cc;
 }

@@ -28,7 +28,7 @@ use Rattle.node_step.specs.NodeStep.{as_back}
 use Rattle.node_step.proofs.Kinds.{front_is, back_is, back_no_front, a_back}
 use Rattle.cluster_core.specs.declared.world.World.{World}
 use Rattle.imap_talk.specs.Heard.{nobody, frames_heard}
-use Rattle.link_queue.specs.Links.{same_link, on_link}
+use Rattle.link_queue.specs.Links.{Links, on_link}
 use Rattle.cluster_core.specs.Headline.OneStore.{first_course}
 use Rattle.cluster_core.specs.World.{no_world, first_name, or_backend, backends_of, home_of, setting_of, first_state, with_node, with_nodes, start}
 use Rattle.cluster_core.specs.World.{node_at, front_at, home_at}
@@ -43,8 +43,7 @@ use Rattle.cluster_core.specs.declared.world.Mark.{Mark}
 use Rattle.imap_talk.specs.Inputs.{inputs_of, requests_in}
 use Rattle.imap_talk.proofs.RequestsOf.{requests_of}
 use Rattle.serve_law.proofs.HomeStore.{IsStoreOf}
-use Rattle.link_queue.proofs.OnWay.{picked, alike}
-use Rattle.front_core.proofs.OneConnection.Ways.{ask_in, answer_in}
+use Rattle.front_core.proofs.OneConnection.Places.{About, of_connection, of_nobody, IsPlaced}
 
 -- a node that has done nothing
 abbrev IsFirst : List ℕ → Setting → List ℕ → NodeState → Type 0
@@ -231,9 +230,10 @@ no_connection : (home : List ℕ) (setting : Setting) (node : List ℕ) (front :
 unfolding new_front
 no_connection home setting node front conn e = rw e refl
 
-pub nothing_picked : {T : Type 0} (pick : LinkMsg → List T) (links : _) (a b : List ℕ) → links ≡ [] → picked pick (on_link links a b) ≡ []
-unfolding on_link picked
-nothing_picked pick links a b e = rw e refl
+-- nothing is on its way
+nothing_placed : (whom : About) (links : Links LinkMsg) → links ≡ [] → IsPlaced whom links None
+unfolding on_link
+nothing_placed whom links e a b = rw e refl
 
 no_requests : (setting : Setting) → [] ≡ requests_of setting (frames_heard nobody)
 unfolding requests_in inputs_of frames_heard
@@ -264,6 +264,7 @@ start_keeps config are =
         frontends = frontends_at_start config are;
         other_homes = λ node other ne at. (fresh_home (home_of config) (setting_of config) (start config) node other fresh at).0;
         backends = refl;
+        pairs = refl;
       };
       below_next = λ name there at. (let none : value_at (slice_cmp nat_cmp) has.backend.held name ≡ None = (rw free.0 refl) in cc);
       story = record { talk = record { requests = λ conn. []; answers = λ conn. []; serials = λ conn. [] }; told = λ conn. []; course = first_course };
@@ -281,15 +282,13 @@ start_keeps config are =
         fit = subst (λ m. Fit (λ conn. 0) m) (sym fresh.marks) fits_none;
       };
       requests = λ conn. no_requests (setting_of config);
+      no_others = nothing_placed of_nobody (start config).links fresh.links;
       connections = λ conn. is_nobody (ap (λ c. value_at nat_cmp c conn) fresh.clients)
           (λ node front at. no_connection (home_of config) (setting_of config) node front conn (fresh_one node front fresh at))
           (record {
             told = refl;
             said = refl;
             session = refl;
-            way = λ f h. record {
-              asks_are = λ a b. nothing_picked (ask_in conn) (start config).links a b fresh.links ∙ sym (alike (same_link a b f h) []);
-              answers_are = λ a b. nothing_picked (answer_in conn) (start config).links a b fresh.links ∙ sym (alike (same_link a b h f) []);
-            };
+            nothing = nothing_placed (of_connection conn) (start config).links fresh.links;
           });
     }

@@ -12,8 +12,7 @@ use Rattle.imap_types.specs.declared.request.Answer.{Answer}
 use Rattle.mur_model.specs.declared.session.Sess.{Sess}
 use Rattle.mur_model.specs.declared.setting.Setting.{Setting}
 use Rattle.front_core.specs.Ending.{EndsOnlyLast}
-use Rattle.link_msg.specs.declared.message.LinkMsg.{LinkMsg}
-use Rattle.link_queue.specs.Links.{Links}
+use Rattle.front_core.proofs.OneConnection.Places.{Place}
 use Rattle.front_core.proofs.OneConnection.Standing.{Stands}
 use Rattle.front_core.proofs.OneConnection.Standing.Stands.{reads, waits, faulted, finished}
 
@@ -43,11 +42,10 @@ ends_last (answer ∷ before) last all =
 pub none_given : (answers : List Answer) → answers ≡ [] → EndsOnlyLast answers
 none_given answers e = subst EndsOnlyLast (sym e) (λ i j d h k. absurd (omega arith))
 
-pub stands_last : (setting : Setting) (front home : List ℕ) (conn : ℕ) (all : List Input) (held : Option (List ℕ)) (connection : Connection) (links : Links LinkMsg)
-    (told said : List Answer) (session : Sess) → Stands setting front home conn all held connection links told said session → EndsOnlyLast told
-stands_last setting front home conn all held connection links told said session (reads a b c d e f way) = all_go_on all told e
-stands_last setting front home conn all held connection links told said session (waits passed request tag it name work a b c d e f g way) =
-    all_go_on passed told d
-stands_last setting front home conn all held connection links told said session (faulted a b c d e way) = e
-stands_last setting front home conn all held connection links told said session (finished passed more request before last a b c d e f way) =
+pub stands_last : (setting : Setting) (home : List ℕ) (conn : ℕ) (all : List Input) (held : Option (List ℕ)) (connection : Connection)
+    (told said : List Answer) (session : Sess) (place : Place) → Stands setting home conn all held connection told said session place → EndsOnlyLast told
+stands_last setting home conn all held connection told said session place (reads a b c d e f none) = all_go_on all told e
+stands_last setting home conn all held connection told said session place (waits waiting) = all_go_on waiting.passed told waiting.answered
+stands_last setting home conn all held connection told said session place (faulted a b c d e none) = e
+stands_last setting home conn all held connection told said session place (finished passed more request before last a b c d e f none) =
     subst EndsOnlyLast (sym d) (ends_last before last (none_ends passed before c))

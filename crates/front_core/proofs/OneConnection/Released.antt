@@ -9,8 +9,7 @@ use Rattle.imap_talk.specs.declared.inputs.Input.{Input}
 use Rattle.imap_types.specs.declared.request.Answer.{Answer}
 use Rattle.mur_model.specs.declared.session.Sess.{Sess}
 use Rattle.mur_model.specs.declared.setting.Setting.{Setting}
-use Rattle.link_msg.specs.declared.message.LinkMsg.{LinkMsg}
-use Rattle.link_queue.specs.Links.{Links}
+use Rattle.front_core.proofs.OneConnection.Places.{Place}
 use Rattle.front_core.proofs.OneConnection.Standing.{HasBegunSo, Stands}
 use Rattle.front_core.proofs.OneConnection.Standing.Stands.{reads, waits, faulted, finished}
 
@@ -36,21 +35,19 @@ begun_by connection reading Ended is = inl refl
 pub begun_released : (connection : Connection) (reading : Read) → HasBegunSo connection reading → HasBegunSo (released connection) reading
 begun_released connection reading is = begun_by connection reading connection.stage is
 
-pub stands_released : (setting : Setting) (front home : List ℕ) (conn : ℕ) (all : List Input) (held : Option (List ℕ)) (connection : Connection) (links : Links LinkMsg)
-    (told said : List Answer) (session : Sess) → Stands setting front home conn all held connection links told said session
-    → Stands setting front home conn all held (released connection) links told said session
+pub stands_released : (setting : Setting) (home : List ℕ) (conn : ℕ) (all : List Input) (held : Option (List ℕ)) (connection : Connection)
+    (told said : List Answer) (session : Sess) (place : Place) → Stands setting home conn all held connection told said session place
+    → Stands setting home conn all held (released connection) told said session place
 unfolding released_at
-stands_released setting front home conn all held connection links told said session (reads stage waiting s lasts answered same way) =
-    subst (λ c. Stands setting front home conn all held c links told said session) (sym (ap (released_at connection) stage))
-    (reads stage waiting s lasts answered same way)
-stands_released setting front home conn all held connection links told said session
-    (waits passed request tag it name work stage parts lasts answered is need last way) =
-    subst (λ c. Stands setting front home conn all held c links told said session) (sym (ap (released_at connection) stage))
-    (waits passed request tag it name work stage parts lasts answered is need last way)
-stands_released setting front home conn all held connection links told said session (faulted stage none lengths same lasts way) =
-    subst (λ c. Stands setting front home conn all held c links told said session) (sym (ap (released_at connection) stage))
-    (faulted refl none lengths same lasts way)
-stands_released setting front home conn all held connection links told said session
-    (finished passed more request before final stage parts answered is_told is_end same way) =
-    subst (λ c. Stands setting front home conn all held c links told said session) (sym (ap (released_at connection) stage))
-    (finished passed more request before final refl parts answered is_told is_end same way)
+stands_released setting home conn all held connection told said session place (reads stage waiting s lasts answered same none) =
+    subst (λ c. Stands setting home conn all held c told said session place) (sym (ap (released_at connection) stage))
+    (reads stage waiting s lasts answered same none)
+stands_released setting home conn all held connection told said session place (waits waiting) =
+    subst (λ c. Stands setting home conn all held c told said session place) (sym (ap (released_at connection) waiting.stage)) (waits waiting)
+stands_released setting home conn all held connection told said session place (faulted stage none lengths same lasts at) =
+    subst (λ c. Stands setting home conn all held c told said session place) (sym (ap (released_at connection) stage))
+    (faulted refl none lengths same lasts at)
+stands_released setting home conn all held connection told said session place
+    (finished passed more request before final stage parts answered is_told is_end same at) =
+    subst (λ c. Stands setting home conn all held c told said session place) (sym (ap (released_at connection) stage))
+    (finished passed more request before final refl parts answered is_told is_end same at)
