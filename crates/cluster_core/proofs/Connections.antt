@@ -2,6 +2,7 @@
 pub mod ConnectionLaw
 pub mod FrameLaw
 pub mod KeepsLaw
+pub mod Comes
 pub mod KeepsStill
 pub mod KeepsFront
 pub mod KeepsOpen

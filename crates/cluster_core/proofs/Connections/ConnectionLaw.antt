@@ -33,8 +33,7 @@ pub record Story : Type 0 where
 
 -- what a step of one connection keeps of a world
 pub record KeepsOthers (conn : ℕ) (world next : World) : Type 0 where
-  pub fronts : next.fronts ≡ world.fronts
-  pub homes : next.homes ≡ world.homes
+  pub nodes : next.nodes ≡ world.nodes
   pub backends : next.backends ≡ world.backends
   pub pairs : next.pairs ≡ world.pairs
   pub steps : next.steps ≡ world.steps
@@ -43,8 +42,7 @@ pub record KeepsOthers (conn : ℕ) (world next : World) : Type 0 where
 
 pub keeps_all : (conn : ℕ) (world : World) → KeepsOthers conn world world
 keeps_all conn world = record {
-  fronts = refl;
-  homes = refl;
+  nodes = refl;
   backends = refl;
   pairs = refl;
   steps = refl;
@@ -54,8 +52,7 @@ keeps_all conn world = record {
 
 pub keeps_on : (conn : ℕ) (one two three : World) → KeepsOthers conn one two → KeepsOthers conn two three → KeepsOthers conn one three
 keeps_on conn one two three first second = record {
-  fronts = second.fronts ∙ first.fronts;
-  homes = second.homes ∙ first.homes;
+  nodes = second.nodes ∙ first.nodes;
   backends = second.backends ∙ first.backends;
   pairs = second.pairs ∙ first.pairs;
   steps = second.steps ∙ first.steps;

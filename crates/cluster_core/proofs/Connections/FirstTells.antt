@@ -1,7 +1,6 @@
 -- The first message of a link tells where the command of its connection is, and what the connection is at.
 use Rattle.std.proofs.Common.{◌≡◌, ℕ, true, false, List, [], ◌∷◌, Option, None, Some, refl, sym, ◌∙◌, ap, subst}
 use Rattle.std.specs.Ordering.{nat_cmp}
-use Rattle.std.specs.Cmp.Lexicographic.{slice_cmp}
 use Rattle.front_core.specs.declared.connection.Connection.{Connection}
 use Rattle.front_core.specs.declared.front.Front.{Front}
 use Rattle.front_core.proofs.OneConnection.Places.{of_connection, about, IsPlaced, Place, its_message, first_of, somewhere}
@@ -21,7 +20,7 @@ use Rattle.mur_base.specs.Map.{value_at}
 use Rattle.mur_model.specs.History.{Course, Talk}
 use Rattle.mur_model.specs.declared.setting.Setting.{Setting}
 use Rattle.cluster_core.specs.declared.world.World.{World}
-use Rattle.cluster_core.specs.World.{client_at}
+use Rattle.cluster_core.specs.World.{client_at, front_at}
 use Rattle.cluster_core.proofs.Connections.ConnectionLaw.{Story, IsStanding}
 use Rattle.cluster_core.proofs.Connections.KeepsLaw.{ConnectionIs, IsAt, IsGone}
 use Rattle.cluster_core.proofs.Connections.KeepsLaw.ConnectionIs.{is_nobody, is_elsewhere, is_open, is_closed}
@@ -121,15 +120,15 @@ pub record CommandWaits (setting : Setting) (home : List ℕ) (conn : ℕ) (node
     : Type 0 where
   pub command : LeftWaiting setting home conn (requests_of setting (frames_heard heard)) (story.told conn) (story.talk.answers conn)
       (story.course.sessions conn) place
-  pub moves : (next : World) (talk : Talk) (course : Course) (other : Place) → next.fronts ≡ world.fronts → next.clients ≡ world.clients
+  pub moves : (next : World) (talk : Talk) (course : Course) (other : Place) → ((any : List ℕ) → front_at next any ≡ front_at world any) → next.clients ≡ world.clients
       → IsPlaced (of_connection conn) next.links (its_message node other)
       → Knows home conn command.was command.tag command.name command.work (story.told conn) (talk.answers conn) (course.sessions conn) other
       → ConnectionIs setting home conn next (record { talk = talk; told = story.told; course = course }) heard
 
-at_next : (world next : World) (conn : ℕ) (node : List ℕ) (front : Front) (connection : Connection) → next.fronts ≡ world.fronts
+at_next : (world next : World) (conn : ℕ) (node : List ℕ) (front : Front) (connection : Connection) → ((any : List ℕ) → front_at next any ≡ front_at world any)
     → IsAt world conn node front connection → IsAt next conn node front connection
 at_next world next conn node front connection fronts at =
-    record { at = ap (λ f. value_at (slice_cmp nat_cmp) f node) fronts ∙ at.at; has = at.has }
+    record { at = fronts node ∙ at.at; has = at.has }
 
 pub command_waits : (setting : Setting) (home : List ℕ) (conn : ℕ) (node : List ℕ) (front : Front) (connection : Connection) (world : World) (story : Story)
     (heard : Heard) (place : Place) → IsAt world conn node front connection → WhoWaits setting home conn node connection world story heard place

@@ -109,8 +109,7 @@ end_carried node world conn client text at = given_there world conn client text 
 
 pub given_keeps : (world : World) (conn : ℕ) (client : Client) (text : List ℕ) → KeepsOthers conn world (given_world world conn client text)
 given_keeps world conn client text = record {
-  fronts = refl;
-  homes = refl;
+  nodes = refl;
   backends = refl;
   pairs = refl;
   steps = refl;
@@ -120,8 +119,7 @@ given_keeps world conn client text = record {
 
 pub marked_keeps : (conn : ℕ) (world : World) (ask : AskId) (how : How) → KeepsOthers conn world (marked_world world ask how)
 marked_keeps conn world ask how = record {
-  fronts = refl;
-  homes = refl;
+  nodes = refl;
   backends = refl;
   pairs = refl;
   steps = refl;
@@ -377,8 +375,7 @@ asked_here setting front home backend conn inputs waiting held connection before
       story = story;
       made = record {
         others = keeps_on conn before world next was.made.others (record {
-          fronts = refl;
-          homes = refl;
+          nodes = refl;
           backends = refl;
           pairs = refl;
           steps = refl;

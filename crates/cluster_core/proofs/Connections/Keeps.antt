@@ -57,8 +57,7 @@ unfolding still_kept
 step_keeps config heard world event law =
     let begun = still_kept config heard heard world (stepped world)
     (record {
-      fronts = λ any. refl;
-      homes = λ any. refl;
+      nodes = λ any. refl;
       clients = λ any. refl;
       places = λ whom here placed. placed;
       backends = refl;

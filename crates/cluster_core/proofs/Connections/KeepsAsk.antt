@@ -40,11 +40,14 @@ use Rattle.mur_model.proofs.Numbered.{with_item, with_item-same, with_item-other
 use Rattle.mur_model.specs.Asking.{asked_for}
 use Rattle.mur_model.proofs.OwnView.{IsOfNeeded, work_own}
 use Rattle.session_core.specs.Finish.{turn_of}
+use Rattle.node_step.specs.declared.input.NodeInput.TheVariants.{From}
+use Rattle.node_step.specs.declared.node.NodeState.TheVariants as state
+use Rattle.node_step.specs.NodeStep.{as_front, as_back}
 use Rattle.cluster_core.specs.declared.world.World.{World}
 use Rattle.imap_talk.specs.Heard.{Heard, frames_heard}
 use Rattle.link_queue.specs.Links.{on_link, sent, without_first}
-use Rattle.cluster_core.specs.World.{front_at, home_at, home_of, setting_of, with_home, taken_from_link, carry, carry_all, input_of, home_takes, comes_to_home}
-use Rattle.cluster_core.specs.World.{comes_to}
+use Rattle.cluster_core.specs.World.{front_at, home_at, home_of, setting_of, with_state, comes, taken_from_link, carry, carry_all}
+use Rattle.cluster_core.proofs.Connections.Comes.{with_home, ask_comes, home_here, home_other, fronts_beside}
 use Rattle.cluster_core.proofs.Connections.ConnectionLaw.{Story, told_of, session_at, session_of_other}
 use Rattle.cluster_core.proofs.Connections.FirstTells.{first_tells, command_waits}
 use Rattle.cluster_core.proofs.Connections.KeepsLaw.{ConnectionIs, AreNodesOf, KeepsLaw, KeepsOn, connection_stays, same_front}
@@ -63,7 +66,7 @@ use Rattle.front_core.proofs.OneConnection.Waits.{in_ask}
 -- the world behind the home's answer
 abbrev answered_world : World → List ℕ → List ℕ → Backend → FrontAsk → AnswerBody → Counts → World
 answered_world world front home backend ask body counts = record world {
-  homes = with_value (slice_cmp nat_cmp) world.homes home backend;
+  nodes = with_value (slice_cmp nat_cmp) world.nodes home (state.Back backend);
   links = sent (without_first world.links front home) home front (Answer (record { id = ask.id; body = body }));
   marks = world.marks ++ (record { step = world.steps; ask = ask.id; kind = Home counts }) ∷ [];
 }
@@ -73,7 +76,7 @@ answers_so : (world : World) (front home : List ℕ) (backend : Backend) (ask : 
     (home_step backend ask).counts
 unfolding plan_of answer_outs carry_all carry
 answers_so world front home backend ask body e =
-    ap (λ b. carry_all home (record (taken_from_link world front home) { homes = with_value (slice_cmp nat_cmp) world.homes home (home_step backend ask).home })
+    ap (λ b. carry_all home (with_state (taken_from_link world front home) home (state.Back (home_step backend ask).home))
     (answer_outs front ask.id (home_step backend ask).counts b)) e
 
 -- a command that asks for work at a mailbox, as the store carries it out
@@ -177,20 +180,21 @@ answers_ask config heard world law conn from to tag it name work ask is said ask
     }
 
 -- the nodes with another state of the home
-nodes_with_home : (config : Config) (world next : World) (backend later : Backend) → next.fronts ≡ world.fronts
-    → next.homes ≡ with_value (slice_cmp nat_cmp) world.homes (home_of config) later → next.backends ≡ world.backends → next.pairs ≡ world.pairs
+nodes_with_home : (config : Config) (world next : World) (backend later : Backend)
+    → next.nodes ≡ with_value (slice_cmp nat_cmp) world.nodes (home_of config) (state.Back later) → next.backends ≡ world.backends → next.pairs ≡ world.pairs
     → AreNodesOf config world backend → AreNodesOf config next later
-nodes_with_home config world next backend later fronts homes backends pairs nodes =
-    let here : (any : List ℕ) → front_at next any ≡ front_at world any = λ any. ap (λ f. value_at (slice_cmp nat_cmp) f any) fronts in
+nodes_with_home config world next backend later changed backends pairs nodes =
+    let home : List ℕ = home_of config in
+    let put : World = with_state world home (state.Back later) in
+    let here : (any : List ℕ) → front_at next any ≡ front_at world any =
+    λ any. ap (λ n. as_front (value_at (slice_cmp nat_cmp) n any)) changed ∙ fronts_beside world home backend later nodes.home_is any in
+    let homes : (any : List ℕ) → home_at next any ≡ home_at put any = λ any. ap (λ n. as_back (value_at (slice_cmp nat_cmp) n any)) changed in
     record {
-      home_no_front = here (home_of config) ∙ nodes.home_no_front;
-      home_is = ap (λ h. value_at (slice_cmp nat_cmp) h (home_of config)) homes
-          ∙ value_at-with_value (slice_cmp nat_cmp) names_apart world.homes (home_of config) later backend nodes.home_is;
+      home_no_front = here home ∙ nodes.home_no_front;
+      home_is = homes home ∙ home_here world home backend later nodes.home_is;
       fronts = λ node front at. nodes.fronts node front (sym (here node) ∙ at);
       frontends = λ node. ap is_some (here node) ∙ nodes.frontends node;
-      other_homes = λ node other ne at. nodes.other_homes node other ne
-          (sym (value_at-with_value-other (slice_cmp nat_cmp) names_apart world.homes (home_of config) node later ne)
-          ∙ sym (ap (λ h. value_at (slice_cmp nat_cmp) h node) homes) ∙ at);
+      other_homes = λ node other ne at. nodes.other_homes node other ne (sym (home_other world home node (state.Back later) ne) ∙ sym (homes node) ∙ at);
       backends = backends ∙ nodes.backends;
       pairs = pairs ∙ nodes.pairs;
     }
@@ -220,11 +224,12 @@ ask_kept config heard later world law from to tag name work ask rest answered it
     let conn : ℕ = (ask.id).conn in
     let story : Story = story_after law conn answered in
     let next : World = answered_world world from to answered.backend ask answered.body answered.counts in
+    let same_fronts = fronts_beside world to law.backend answered.backend (ap (home_at world) its_home ∙ law.nodes.home_is) in
     record {
       law = record {
         backend = answered.backend;
-        nodes = nodes_with_home config world next law.backend answered.backend refl
-            (ap (λ h. with_value (slice_cmp nat_cmp) world.homes h answered.backend) its_home) refl refl law.nodes;
+        nodes = nodes_with_home config world next law.backend answered.backend
+            (ap (λ h. with_value (slice_cmp nat_cmp) world.nodes h (state.Back answered.backend)) its_home) refl refl law.nodes;
         below_next = answered.below_next;
         story = story;
         is_told = answered.is_told;
@@ -234,7 +239,7 @@ ask_kept config heard later world law from to tag name work ask rest answered it
             (λ (e : other ≡ conn). subst (λ c. ConnectionIs (setting_of config) (home_of config) c next story (heard c)) (sym e) mine)
             (λ (ne : other ≢ conn). connection_stays (setting_of config) (home_of config) other world next law.story story (heard other)
             (record {
-              fronts = λ node. same_front other (front_at world node) (front_at next node) refl;
+              fronts = λ node. same_front other (front_at world node) (front_at next node) (same_fronts node);
               client = refl;
               places = others_stay world from to ask rest answered.body (of_connection other) first (other_whom other conn ne);
               told = refl;
@@ -251,13 +256,6 @@ ask_kept config heard later world law from to tag name work ask rest answered it
       closed = λ other shut. refl;
     }
 
--- an ask comes to its home
-to_home : (world : World) (from home : List ℕ) (ask : FrontAsk) (backend : Backend) → front_at world home ≡ None → home_at world home ≡ Some backend
-    → comes_to (taken_from_link world from home) from home (Ask ask) (front_at world home) ≡ with_home (taken_from_link world from home) home (plan_of backend (FromFront from ask))
-unfolding comes_to comes_to_home home_takes input_of
-to_home world from home ask backend none at =
-    ap (comes_to (taken_from_link world from home) from home (Ask ask)) none ∙ ap (comes_to_home (taken_from_link world from home) from home (Ask ask)) at
-
 said_after : (config : Config) (heard : ℕ → Heard) (world : World) (law : KeepsLaw config heard world) (conn : ℕ) (from to : List ℕ)
     (tag : Tag) (name : List ℕ) (work : Work) (ask : FrontAsk)
     (done : IsAnswered config heard world law conn from to tag name work ask) → law.story.talk.answers conn ≡ law.story.told conn
@@ -270,7 +268,7 @@ said_after config heard world law conn from to tag name work ask done said =
 -- the ask that comes is that of a command which waits for it, and is then in the answer
 pub ask_keeps : (config : Config) (heard after : ℕ → Heard) (world : World) (law : KeepsLaw config heard world) (from to : List ℕ) (ask : FrontAsk)
     (rest : List LinkMsg) → on_link world.links from to ≡ Ask ask ∷ rest → ((c : ℕ) → after c ≡ heard c)
-    → KeepsOn config (told_of law.story) after (comes_to (taken_from_link world from to) from to (Ask ask) (front_at world to))
+    → KeepsOn config (told_of law.story) after (comes (taken_from_link world from to) to (From from (Ask ask)))
 ask_keeps config heard after world law from to ask rest first same =
     let conn : ℕ = (ask.id).conn in
     let home : List ℕ = home_of config in
@@ -282,6 +280,7 @@ ask_keeps config heard after world law from to ask rest first same =
     let knows = in_ask home conn it.was it.tag it.name it.work (story.told conn) (story.talk.answers conn) (story.course.sessions conn) tells.place to ask
     it.knows there.1 in
     let its_home : to ≡ home = sym knows.home_is in
+    let here : home_at world to ≡ Some law.backend = ap (home_at world) its_home ∙ law.nodes.home_is in
     let done : IsAnswered config heard world law conn from to it.tag it.name it.work ask =
     answers_ask config heard world law conn from to it.tag it.it it.name it.work ask
     (ap (λ s. next_ask conn (story.told conn) s it.name it.work) (sym knows.session_is) ∙ knows.ask_is) knows.said_is
@@ -290,10 +289,9 @@ ask_keeps config heard after world law from to ask rest first same =
     let answer : BackAnswer = record { id = ask.id; body = done.body } in
     let next : World = answered_world world from to done.backend ask done.body done.counts in
     subst (λ w. KeepsOn config (told_of law.story) after w)
-    (sym (to_home world from to ask law.backend (ap (front_at world) its_home ∙ law.nodes.home_no_front)
-    (ap (home_at world) its_home ∙ law.nodes.home_is) ∙ done.world_is))
+    (sym (ask_comes (taken_from_link world from to) from to ask law.backend here ∙ done.world_is))
     (ask_kept config heard after world law from to it.tag it.name it.work ask rest done its_home first same
-    (waits.moves next (having_said story.talk conn done.reply done.serial) done.course (is_answered to answer) refl refl
+    (waits.moves next (having_said story.talk conn done.reply done.serial) done.course (is_answered to answer) (fronts_beside world to law.backend done.backend here) refl
     (subst (λ n. IsPlaced (of_connection conn) next.links (Some (record { from = to; to = n; message = Answer answer }))) (sym there.0)
     (sent_alone (without_first world.links from to) to from (Answer answer) (of_connection conn) refl tells.without))
     (answered_so done.body done.turn (said_after config heard world law conn from to it.tag it.name it.work ask done knows.said_is)

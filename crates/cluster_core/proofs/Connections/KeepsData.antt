@@ -25,7 +25,6 @@ use Rattle.imap_talk.specs.declared.inputs.Input.{Input}
 use Rattle.imap_talk.specs.declared.inputs.Input.TheVariants.{GoesOn as goes_on, Asks, Faults}
 use Rattle.imap_wire.specs.Frames.{begun}
 use Rattle.imap_wire.proofs.FeedLaws.{frames-ended, begun-ended}
-use Rattle.mur_base.proofs.MapLaws.{names_apart}
 use Rattle.mur_config.specs.declared.config.Config.{Config}
 use Rattle.imap_types.specs.declared.command.Tag.{Tag}
 use Rattle.imap_types.specs.declared.request.Answer.{Answer}
@@ -41,17 +40,21 @@ use Rattle.front_core.proofs.ReadingLaws.{ended_inputs, ended_reader}
 use Rattle.imap_talk.specs.Inputs.{inputs_from, requests_in}
 use Rattle.imap_talk.proofs.InputLaws.{requests-append}
 use Rattle.front_core.proofs.OneConnection.Readings.{FaultsLast, faults_after, inputs_in, inputs_with_more, reading_of, reading_with_more}
+use Rattle.node_step.specs.declared.input.NodeInput.TheVariants.{Piece}
+use Rattle.node_step.specs.declared.node.NodeState.TheVariants as state
+use Rattle.node_step.proofs.Kinds.{front_is}
 use Rattle.cluster_core.specs.declared.world.World.{World}
 use Rattle.imap_talk.specs.Heard.{Heard, nobody, elsewhere, client, frames_heard}
 use Rattle.cluster_core.specs.Heard.{hears}
-use Rattle.cluster_core.specs.World.{client_at, front_at, home_of, setting_of, with_front, bytes_at, bytes_from, carry_all}
+use Rattle.cluster_core.specs.World.{client_at, node_at, front_at, home_of, setting_of, carry_all, comes, client_does}
 use Rattle.cluster_core.proofs.Connections.ConnectionLaw.{Story, told_of, keeps_all, same_story, IsReading, IsStanding}
 use Rattle.front_core.proofs.OneConnection.Standing.{HasBegunSo, Stands, Waiting}
 use Rattle.cluster_core.proofs.Connections.ConnectionLaw.{StandsOn}
 use Rattle.front_core.proofs.OneConnection.Standing.Stands.{reads, waits, faulted, finished}
 use Rattle.cluster_core.proofs.Connections.FrameLaw.{inputs_kept, asked_waits}
-use Rattle.cluster_core.proofs.Connections.KeepsLaw.{ConnectionIs, IsAt, KeepsLaw, KeepsOn, LooksAlike, is_not_closed, looks_same, same_put, same_front, connection_stays}
+use Rattle.cluster_core.proofs.Connections.KeepsLaw.{ConnectionIs, IsAt, KeepsLaw, KeepsOn, LooksAlike, is_not_closed, looks_same, same_front, connection_stays}
 use Rattle.cluster_core.proofs.Connections.KeepsLaw.ConnectionIs.{is_nobody, is_elsewhere, is_open, is_closed}
+use Rattle.cluster_core.proofs.Connections.Comes.{with_front, piece_comes, piece_elsewhere, looks_put}
 use Rattle.cluster_core.proofs.Connections.KeepsFront.{world_after, with_connection, front_keeps, is_at_after, standing_after}
 use Rattle.cluster_core.proofs.Connections.KeepsStill.{still_kept}
 use Rattle.front_core.proofs.OneConnection.Released.{begun_released}
@@ -61,18 +64,9 @@ use Rattle.cluster_core.proofs.Histories.Told.{IsTold, told_asked}
 use Rattle.front_core.proofs.OneConnection.Places.{of_connection, nowhere, IsPlaced, its_message}
 
 -- a frontend put in its own place
-pub looks_put : (world : World) (node : List ℕ) (front : Front) → front_at world node ≡ Some front → LooksAlike world (with_front world node (still front))
+front_put : (world : World) (node : List ℕ) (front : Front) → front_at world node ≡ Some front → LooksAlike world (with_front world node (still front))
 unfolding carry_all
-looks_put world node front at = record {
-  fronts = same_put (slice_cmp nat_cmp) names_apart world.fronts node front at;
-  homes = λ any. refl;
-  clients = λ any. refl;
-  places = λ whom here placed. placed;
-  backends = refl;
-  pairs = refl;
-  marks = refl;
-  steps = omega arith;
-}
+front_put world node front at = looks_put world node (state.Front front) (front_is (node_at world node) front at)
 
 pub inputs_keep_reader : (setting : Setting) (home : List ℕ) (conn : ℕ) (connection : Connection) (new : List Input)
     → (inputs_come setting home conn connection new).connection.reader ≡ connection.reader
@@ -474,7 +468,7 @@ ended_more : (config : Config) (heard : ℕ → Heard) (world : World) (law : Ke
 ended_more config heard world law conn bytes more node front connection e at stage standing =
     let on = heard_on config heard world law conn bytes more node front connection e at stage standing in
     let put = still_kept config (after_data config heard conn more) (after_data config heard conn more) world (with_front world node (still front))
-    (looks_put world node front at.at) (λ other. refl) on.law in
+    (front_put world node front at.at) (λ other. refl) on.law in
     subst (λ s. KeepsOn config (told_of law.story) (after_data config heard conn more) (with_front world node s))
     (sym (at_ended front conn more connection at.has stage))
     (record {
@@ -535,23 +529,23 @@ closed_heard config conn b bytes = refl
 
 at_front : (world : World) (conn : ℕ) (bytes node : List ℕ) (front : Front) (given : List ℕ)
     → client_at world conn ≡ Some (record { at = node; given = given }) → front_at world node ≡ Some front
-    → bytes_from world conn bytes (client_at world conn) ≡ with_front world node (bytes_in front conn bytes)
-unfolding bytes_from bytes_at
-at_front world conn bytes node front given at is = ap (bytes_from world conn bytes) at ∙ ap (bytes_at world conn bytes node) is
+    → client_does world (Piece conn bytes) (client_at world conn) ≡ with_front world node (bytes_in front conn bytes)
+unfolding client_does
+at_front world conn bytes node front given at is = ap (client_does world (Piece conn bytes)) at ∙ piece_comes world node conn bytes front is
 
 data_by : (config : Config) (heard : ℕ → Heard) (world : World) (conn : ℕ) (bytes : List ℕ) (law : KeepsLaw config heard world) (was : Heard) → heard conn ≡ was
     → ConnectionIs (setting_of config) (home_of config) conn world law.story was
-    → KeepsOn config (told_of law.story) (after_data config heard conn bytes) (bytes_from world conn bytes (client_at world conn))
-unfolding bytes_from bytes_at
+    → KeepsOn config (told_of law.story) (after_data config heard conn bytes) (client_does world (Piece conn bytes) (client_at world conn))
+unfolding client_does
 data_by config heard world conn bytes law was e (is_nobody none fronts untold) =
-    subst (λ c. KeepsOn config (told_of law.story) (after_data config heard conn bytes) (bytes_from world conn bytes c)) (sym none)
+    subst (λ c. KeepsOn config (told_of law.story) (after_data config heard conn bytes) (client_does world (Piece conn bytes) c)) (sym none)
     (quiet_kept config heard world world conn bytes law (looks_same world)
     (ap (λ h. hears config conn h (Data conn bytes)) e ∙ nothing_heard config conn bytes ∙ sym e))
 data_by config heard world conn bytes law was e (is_elsewhere node at none untold) =
-    subst (λ c. KeepsOn config (told_of law.story) (after_data config heard conn bytes) (bytes_from world conn bytes c)) (sym at)
-    (subst (λ f. KeepsOn config (told_of law.story) (after_data config heard conn bytes) (bytes_at world conn bytes node f)) (sym none)
-    (quiet_kept config heard world world conn bytes law (looks_same world)
-    (ap (λ h. hears config conn h (Data conn bytes)) e ∙ elsewhere_heard config conn bytes ∙ sym e)))
+    subst (λ c. KeepsOn config (told_of law.story) (after_data config heard conn bytes) (client_does world (Piece conn bytes) c)) (sym at)
+    (quiet_kept config heard world (comes world node (Piece conn bytes)) conn bytes law
+    (piece_elsewhere world node conn bytes (node_at world node) refl none)
+    (ap (λ h. hears config conn h (Data conn bytes)) e ∙ elsewhere_heard config conn bytes ∙ sym e))
 data_by config heard world conn bytes law was e (is_open b node front connection at reader standing) =
     subst (λ w. KeepsOn config (told_of law.story) (after_data config heard conn bytes) w) (sym (at_front world conn bytes node front _ standing.client at.at))
     (stands_more config heard world law conn b bytes node front connection e at reader standing standing.stands)
@@ -559,9 +553,9 @@ data_by config heard world conn bytes law was e (is_closed b node front connecti
     subst (λ w. KeepsOn config (told_of law.story) (after_data config heard conn bytes) w)
     (sym (at_front world conn bytes node front _ gone.client at.at
     ∙ ap (with_front world node) (at_ended front conn bytes connection at.has gone.stage_is)))
-    (quiet_kept config heard world (with_front world node (still front)) conn bytes law (looks_put world node front at.at)
+    (quiet_kept config heard world (with_front world node (still front)) conn bytes law (front_put world node front at.at)
     (ap (λ h. hears config conn h (Data conn bytes)) e ∙ closed_heard config conn b bytes ∙ sym e))
 
 pub data_keeps : (config : Config) (heard : ℕ → Heard) (world : World) (conn : ℕ) (bytes : List ℕ) (law : KeepsLaw config heard world)
-    → KeepsOn config (told_of law.story) (after_data config heard conn bytes) (bytes_from world conn bytes (client_at world conn))
+    → KeepsOn config (told_of law.story) (after_data config heard conn bytes) (client_does world (Piece conn bytes) (client_at world conn))
 data_keeps config heard world conn bytes law = data_by config heard world conn bytes law (heard conn) refl (law.connections conn)

@@ -6,8 +6,9 @@ use Rattle.link_msg.specs.declared.message.LinkMsg.{LinkMsg}
 use Rattle.link_msg.specs.declared.message.LinkMsg.TheVariants.{Up, End, Line, Ask, Answer}
 use Rattle.link_queue.proofs.Placed.{Carried}
 use Rattle.link_queue.specs.Links.{Links, on_link}
+use Rattle.node_step.specs.declared.input.NodeInput.TheVariants.{From}
 use Rattle.cluster_core.specs.declared.world.World.{World}
-use Rattle.cluster_core.specs.World.{front_at, taken_from_link, comes_to, deliver_first, delivers}
+use Rattle.cluster_core.specs.World.{comes, taken_from_link, deliver_first}
 use Rattle.cluster_core.proofs.Connections.ConnectionLaw.{told_of}
 use Rattle.cluster_core.proofs.Connections.KeepsAsk.{ask_keeps}
 use Rattle.cluster_core.proofs.Connections.KeepsLaw.{KeepsLaw, KeepsOn, looks_same}
@@ -23,7 +24,7 @@ none_of_nobody links from to message rest first none own =
 
 message_keeps : (config : Config) (heard after : ℕ → Heard) (world : World) (law : KeepsLaw config heard world) (from to : List ℕ) (message : LinkMsg)
     (rest : List LinkMsg) → on_link world.links from to ≡ message ∷ rest
-    → ((c : ℕ) → after c ≡ heard c) → KeepsOn config (told_of law.story) after (comes_to (taken_from_link world from to) from to message (front_at world to))
+    → ((c : ℕ) → after c ≡ heard c) → KeepsOn config (told_of law.story) after (comes (taken_from_link world from to) to (From from message))
 message_keeps config heard after world law from to (Ask ask) rest first same = ask_keeps config heard after world law from to ask rest first same
 message_keeps config heard after world law from to (Answer answer) rest first same = answer_keeps config heard after world law from to answer rest first same
 message_keeps config heard after world law from to Up rest first same = absurd (none_of_nobody world.links from to Up rest first law.no_others refl)
@@ -40,5 +41,5 @@ deliver_by config heard after world law from to (message ∷ rest) first same = 
 
 pub deliver_keeps : (config : Config) (heard after : ℕ → Heard) (world : World) (law : KeepsLaw config heard world) (from to : List ℕ)
     → ((c : ℕ) → after c ≡ heard c)
-    → KeepsOn config (told_of law.story) after (delivers world from to)
+    → KeepsOn config (told_of law.story) after (deliver_first world from to (on_link world.links from to))
 deliver_keeps config heard after world law from to same = deliver_by config heard after world law from to (on_link world.links from to) refl same

@@ -9,7 +9,7 @@ use Rattle.front_core.specs.declared.front.Front.{Front}
 use Rattle.front_core.specs.Front.{connection_at}
 use Rattle.link_msg.specs.declared.out.Out.{Out}
 use Rattle.mur_base.specs.Map.{with_value}
-use Rattle.mur_base.proofs.MapLaws.{names_apart, numbers_apart, value_at-with_value, value_at-with_value-other}
+use Rattle.mur_base.proofs.MapLaws.{numbers_apart, value_at-with_value, value_at-with_value-other}
 use Rattle.mur_config.specs.declared.config.Config.{Config}
 use Rattle.imap_talk.specs.declared.inputs.Input.{Input}
 use Rattle.imap_types.specs.declared.request.Answer.{Answer}
@@ -17,14 +17,16 @@ use Rattle.imap_types.specs.declared.request.Request.{Request}
 use Rattle.mur_model.specs.declared.setting.Setting.{Setting}
 use Rattle.mur_model.specs.History.{Course, TalkGoesOn}
 use Rattle.mur_model.proofs.HistoryGrows.{talks_follow}
+use Rattle.node_step.specs.declared.node.NodeState.TheVariants as state
 use Rattle.cluster_core.specs.declared.world.World.{World}
 use Rattle.imap_talk.specs.Heard.{Heard, frames_heard, has_closed}
 use Rattle.link_msg.specs.declared.message.LinkMsg.{LinkMsg}
 use Rattle.link_queue.specs.Links.{Links}
-use Rattle.cluster_core.specs.World.{front_at, home_of, setting_of, carry_all}
+use Rattle.cluster_core.specs.World.{front_at, home_of, setting_of, carry_all, with_state}
 use Rattle.cluster_core.proofs.Connections.ConnectionLaw.{Story, told_of, IsMade, IsStanding}
+use Rattle.cluster_core.proofs.Connections.Comes.{front_here}
 use Rattle.cluster_core.proofs.Connections.KeepsLaw.{ConnectionIs, IsAt, IsGone, KeepsLaw, KeepsOn, connection_stays}
-use Rattle.cluster_core.proofs.Connections.KeepsStill.{fronts_at_other, nodes_with_front, with_fronts, carry_all_fronts}
+use Rattle.cluster_core.proofs.Connections.KeepsStill.{fronts_at_other, nodes_with_front, having_nodes, carry_all_nodes}
 use Rattle.front_core.proofs.OneConnection.Places.{About, of_connection, of_nobody, nobody_whom, other_whom, PlacesStay}
 use Rattle.imap_talk.proofs.RequestsOf.{requests_of}
 
@@ -34,7 +36,7 @@ with_connection front conn connection = record front { connections = with_value 
 
 abbrev pub world_after : World → List ℕ → Front → ℕ → Connection → List Out → World
 world_after world node front conn connection outs =
-    carry_all node (with_fronts world (with_value (slice_cmp nat_cmp) world.fronts node (with_connection front conn connection))) outs
+    carry_all node (with_state world node (state.Front (with_connection front conn connection))) outs
 
 -- the outputs of a connection's step were carried out and made this story; the connection is so behind it
 pub front_keeps : (config : Config) (heard after : ℕ → Heard) (origin : World) (law : KeepsLaw config heard origin) (links : Links LinkMsg) (conn : ℕ) (node : List ℕ)
@@ -52,15 +54,15 @@ front_keeps config heard after origin law links conn node front was connection o
     no_more made mine =
     let world : World = record origin { links = links } in
     let later : Front = with_connection front conn connection in
-    let fronts = with_value (slice_cmp nat_cmp) world.fronts node later in
+    let nodes = with_value (slice_cmp nat_cmp) world.nodes node (state.Front later) in
     let carried : World = carry_all node world outs in
-    let next : World = with_fronts carried fronts in
-    let e : world_after world node front conn connection outs ≡ next = carry_all_fronts node world fronts outs in
+    let next : World = having_nodes carried nodes in
+    let e : world_after world node front conn connection outs ≡ next = carry_all_nodes node world nodes outs in
     subst (λ w. KeepsOn config (told_of law.story) after w) (sym e)
     (record {
       law = record {
         backend = law.backend;
-        nodes = nodes_with_front config origin next law.backend node front later at refl made.others.homes made.others.backends made.others.pairs refl refl law.nodes;
+        nodes = nodes_with_front config origin next law.backend node front later at refl made.others.backends made.others.pairs refl refl law.nodes;
         below_next = law.below_next;
         story = story;
         is_told = made.is_told;
@@ -95,8 +97,9 @@ pub is_at_after : (world : World) (node : List ℕ) (front : Front) (conn : ℕ)
     → connection_at front conn ≡ Some was
     → IsAt (world_after world node front conn connection outs) conn node (with_connection front conn connection) connection
 is_at_after world node front conn was connection outs at has = record {
-  at = ap (λ w. front_at w node) (carry_all_fronts node world (with_value (slice_cmp nat_cmp) world.fronts node (with_connection front conn connection)) outs)
-      ∙ value_at-with_value (slice_cmp nat_cmp) names_apart world.fronts node (with_connection front conn connection) front at;
+  at = ap (λ w. front_at w node) (carry_all_nodes node world (with_value (slice_cmp nat_cmp) world.nodes node
+      (state.Front (with_connection front conn connection))) outs)
+      ∙ front_here world node front (with_connection front conn connection) at;
   has = value_at-with_value nat_cmp numbers_apart front.connections conn connection was has;
 }
 
@@ -107,7 +110,7 @@ pub standing_after : (world : World) (node : List ℕ) (front : Front) (conn : �
     → IsStanding setting node home conn all held connection (world_after world node front conn connection outs) story
 standing_after world node front conn connection outs setting home all held story is =
     subst (λ w. IsStanding setting node home conn all held connection w story)
-    (sym (carry_all_fronts node world (with_value (slice_cmp nat_cmp) world.fronts node (with_connection front conn connection)) outs))
+    (sym (carry_all_nodes node world (with_value (slice_cmp nat_cmp) world.nodes node (state.Front (with_connection front conn connection))) outs))
     (record { count = is.count; client = is.client; place = is.place; placed = is.placed; stands = is.stands })
 
 pub gone_after : (world : World) (node : List ℕ) (front : Front) (conn : ℕ) (connection : Connection) (setting : Setting) (home : List ℕ) (all : List Input)

@@ -1,8 +1,6 @@
 -- A client that closes its connection keeps the law.
 use Rattle.std.proofs.Common.{◌≡◌, ◌≢◌, ℕ, ◌+◌, true, false, nat_eq, List, [], ◌∷◌, ◌++◌, length, Option, Some, refl, sym, ◌∙◌, ap, subst}
 use Rattle.std.proofs.Common.{arith}
-use Rattle.std.specs.Ordering.{nat_cmp}
-use Rattle.std.specs.Cmp.Lexicographic.{slice_cmp}
 use Rattle.std.proofs.Math.Logic.{⊎_elim}
 use Rattle.std.proofs.lemmas.Bool.{cases_eq}
 use Rattle.std.proofs.lemmas.Bool.Decides.{nat_tests}
@@ -12,7 +10,6 @@ use Rattle.front_core.specs.declared.front.Front.{Front}
 use Rattle.front_core.specs.Front.{hang, front_hang_at, hung_up}
 use Rattle.imap_talk.specs.declared.inputs.Input.{Input}
 use Rattle.imap_wire.specs.Frames.{begun}
-use Rattle.mur_base.specs.Map.{with_value}
 use Rattle.mur_config.specs.declared.config.Config.{Config}
 use Rattle.imap_types.specs.declared.request.Answer.{Answer}
 use Rattle.mur_model.specs.declared.session.Sess.{Sess}
@@ -21,19 +18,22 @@ use Rattle.mur_model.proofs.HistoryGrows.{same_talk}
 use Rattle.schedule_text.specs.declared.event.Event.TheVariants.{Hang}
 use Rattle.imap_talk.specs.Inputs.{requests_in}
 use Rattle.front_core.proofs.OneConnection.Readings.{inputs_in}
+use Rattle.node_step.specs.declared.input.NodeInput.TheVariants.{Hung}
+use Rattle.node_step.specs.declared.node.NodeState.TheVariants as state
 use Rattle.cluster_core.specs.declared.world.World.{World}
 use Rattle.imap_talk.specs.Heard.{Heard, nobody, elsewhere, client, frames_heard}
 use Rattle.cluster_core.specs.Heard.{hears}
-use Rattle.cluster_core.specs.World.{client_at, home_of, setting_of, hang_at, hangs, carry_all}
+use Rattle.cluster_core.specs.World.{client_at, node_at, home_of, setting_of, carry_all, with_state, comes, client_does}
 use Rattle.cluster_core.proofs.Connections.ConnectionLaw.{told_of, keeps_all, same_story}
 use Rattle.front_core.proofs.OneConnection.Standing.{Stands, IsLeft}
 use Rattle.front_core.proofs.OneConnection.Standing.Stands.{reads, waits, faulted, finished}
 use Rattle.front_core.proofs.OneConnection.Standing.IsLeft.{nothing, left_waiting}
 use Rattle.front_core.proofs.OneConnection.Places.{Place}
 use Rattle.front_core.proofs.OneConnection.Waits.{left_behind}
+use Rattle.cluster_core.proofs.Connections.Comes.{hung_comes, hung_elsewhere}
 use Rattle.cluster_core.proofs.Connections.KeepsFront.{world_after, with_connection, front_keeps, is_at_after, gone_after}
 use Rattle.front_core.proofs.OneConnection.LastAnswer.{stands_last}
-use Rattle.cluster_core.proofs.Connections.KeepsLaw.{ConnectionIs, IsAt, IsGone, KeepsLaw, KeepsOn, looks_same}
+use Rattle.cluster_core.proofs.Connections.KeepsLaw.{ConnectionIs, IsAt, IsGone, KeepsLaw, KeepsOn, LooksAlike, looks_same}
 use Rattle.cluster_core.proofs.Connections.KeepsLaw.ConnectionIs.{is_nobody, is_elsewhere, is_open, is_closed}
 use Rattle.cluster_core.proofs.Connections.KeepsStill.{still_kept}
 use Rattle.imap_talk.proofs.RequestsOf.{requests_of}
@@ -69,10 +69,11 @@ left_by setting home conn all held connection told said session place (finished 
 
 hangs_at : (world : World) (conn : ℕ) (node : List ℕ) (front : Front) (connection : Connection) (given : List ℕ)
     → client_at world conn ≡ Some (record { at = node; given = given })
-    → IsAt world conn node front connection → hangs world conn (client_at world conn) ≡ world_after world node front conn (hung_up connection) []
-unfolding hangs hang_at hang front_hang_at carry_all
-hangs_at world conn node front connection given at is = ap (hangs world conn) at ∙ ap (hang_at world conn node) is.at
-    ∙ ap (λ f. record world { fronts = with_value (slice_cmp nat_cmp) world.fronts node (front_hang_at front conn f) }) is.has
+    → IsAt world conn node front connection
+    → client_does world (Hung conn) (client_at world conn) ≡ world_after world node front conn (hung_up connection) []
+unfolding client_does hang front_hang_at carry_all
+hangs_at world conn node front connection given at is = ap (client_does world (Hung conn)) at ∙ hung_comes world node conn front is.at
+    ∙ ap (λ f. with_state world node (state.Front (front_hang_at front conn f))) is.has
 
 -- a connection at its frontend is closed
 closes : (config : Config) (heard : ℕ → Heard) (world : World) (conn : ℕ) (law : KeepsLaw config heard world) (bytes node : List ℕ) (front : Front)
@@ -98,15 +99,20 @@ closes config heard world conn law bytes node front connection at asked now gone
     (is_at_after world node front conn connection (hung_up connection) [] at.at at.has)
     (gone_after world node front conn (hung_up connection) (setting_of config) (home_of config) (inputs_in (setting_of config) bytes) law.story gone)))
 
-still_heard : (config : Config) (heard : ℕ → Heard) (world : World) (conn : ℕ) (law : KeepsLaw config heard world)
+alike_heard : (config : Config) (heard : ℕ → Heard) (world next : World) (conn : ℕ) (law : KeepsLaw config heard world) → LooksAlike world next
     → after_hang config heard conn conn ≡ heard conn
-    → KeepsOn config (told_of law.story) (after_hang config heard conn) world
-still_heard config heard world conn law same =
-    still_kept config heard (after_hang config heard conn) world world (looks_same world)
+    → KeepsOn config (told_of law.story) (after_hang config heard conn) next
+alike_heard config heard world next conn law alike same =
+    still_kept config heard (after_hang config heard conn) world next alike
     (λ other. ⊎_elim
     (λ (e : other ≡ conn). subst (λ c. after_hang config heard conn c ≡ heard c) (sym e) same)
     (λ (ne : other ≢ conn). other_heard config conn other (heard other) ne)
     (cases_eq other conn)) law
+
+still_heard : (config : Config) (heard : ℕ → Heard) (world : World) (conn : ℕ) (law : KeepsLaw config heard world)
+    → after_hang config heard conn conn ≡ heard conn
+    → KeepsOn config (told_of law.story) (after_hang config heard conn) world
+still_heard config heard world conn law same = alike_heard config heard world world conn law (looks_same world) same
 
 nothing_heard : (config : Config) (conn : ℕ) → hears config conn nobody (Hang conn) ≡ nobody
 unfolding hears
@@ -122,15 +128,16 @@ closed_heard config conn bytes = refl
 
 hang_by : (config : Config) (heard : ℕ → Heard) (world : World) (conn : ℕ) (law : KeepsLaw config heard world) (was : Heard) → heard conn ≡ was
     → ConnectionIs (setting_of config) (home_of config) conn world law.story was
-    → KeepsOn config (told_of law.story) (after_hang config heard conn) (hangs world conn (client_at world conn))
-unfolding hangs hang_at frames_heard
+    → KeepsOn config (told_of law.story) (after_hang config heard conn) (client_does world (Hung conn) (client_at world conn))
+unfolding client_does frames_heard
 hang_by config heard world conn law was e (is_nobody none fronts untold) =
-    subst (λ c. KeepsOn config (told_of law.story) (after_hang config heard conn) (hangs world conn c)) (sym none)
+    subst (λ c. KeepsOn config (told_of law.story) (after_hang config heard conn) (client_does world (Hung conn) c)) (sym none)
     (still_heard config heard world conn law (ap (λ h. hears config conn h (Hang conn)) e ∙ nothing_heard config conn ∙ sym e))
 hang_by config heard world conn law was e (is_elsewhere node at none untold) =
-    subst (λ c. KeepsOn config (told_of law.story) (after_hang config heard conn) (hangs world conn c)) (sym at)
-    (subst (λ f. KeepsOn config (told_of law.story) (after_hang config heard conn) (hang_at world conn node f)) (sym none)
-    (still_heard config heard world conn law (ap (λ h. hears config conn h (Hang conn)) e ∙ elsewhere_heard config conn ∙ sym e)))
+    subst (λ c. KeepsOn config (told_of law.story) (after_hang config heard conn) (client_does world (Hung conn) c)) (sym at)
+    (alike_heard config heard world (comes world node (Hung conn)) conn law
+    (hung_elsewhere world node conn (node_at world node) refl none)
+    (ap (λ h. hears config conn h (Hang conn)) e ∙ elsewhere_heard config conn ∙ sym e))
 hang_by config heard world conn law was e (is_open bytes node front connection at reader standing) =
     subst (λ w. KeepsOn config (told_of law.story) (after_hang config heard conn) w) (sym (hangs_at world conn node front connection _ standing.client at))
     (closes config heard world conn law bytes node front connection at (law.requests conn ∙ ap (λ h. requests_of (setting_of config) (frames_heard h)) e)
@@ -161,5 +168,5 @@ hang_by config heard world conn law was e (is_closed bytes node front connection
     }))
 
 pub hang_keeps : (config : Config) (heard : ℕ → Heard) (world : World) (conn : ℕ) (law : KeepsLaw config heard world)
-    → KeepsOn config (told_of law.story) (after_hang config heard conn) (hangs world conn (client_at world conn))
+    → KeepsOn config (told_of law.story) (after_hang config heard conn) (client_does world (Hung conn) (client_at world conn))
 hang_keeps config heard world conn law = hang_by config heard world conn law (heard conn) refl (law.connections conn)

@@ -29,7 +29,7 @@ use Rattle.imap_talk.specs.Heard.{Heard, nobody, elsewhere, client, frames_heard
 use Rattle.cluster_core.specs.Heard.{is_frontend}
 use Rattle.link_msg.specs.declared.message.LinkMsg.{LinkMsg}
 use Rattle.link_queue.specs.Links.{Links}
-use Rattle.cluster_core.specs.World.{start, client_at, front_at, home_at, home_of, setting_of}
+use Rattle.cluster_core.specs.World.{start, client_at, node_at, front_at, home_at, home_of, setting_of}
 use Rattle.cluster_core.proofs.Connections.ConnectionLaw.{Story, told_of, client_with, IsStanding}
 use Rattle.front_core.proofs.OneConnection.Standing.{HasBegunSo, Stands, IsLeft}
 use Rattle.imap_talk.proofs.RequestsOf.{requests_of}
@@ -203,8 +203,7 @@ same_front conn (Some front) now e = subst (λ f. SameFront conn (Some front) f)
 
 -- a world in which every look-up finds what it found
 pub record LooksAlike (world next : World) : Type 0 where
-  pub fronts : (node : List ℕ) → front_at next node ≡ front_at world node
-  pub homes : (node : List ℕ) → home_at next node ≡ home_at world node
+  pub nodes : (node : List ℕ) → node_at next node ≡ node_at world node
   pub clients : (conn : ℕ) → client_at next conn ≡ client_at world conn
   pub places : (whom : About) → PlacesStay whom world.links next.links
   pub backends : next.backends ≡ world.backends
@@ -215,8 +214,7 @@ pub record LooksAlike (world next : World) : Type 0 where
 -- every look-up finds what it found in the same world
 pub looks_same : (world : World) → LooksAlike world world
 looks_same world = record {
-  fronts = λ any. refl;
-  homes = λ any. refl;
+  nodes = λ any. refl;
   clients = λ any. refl;
   places = λ whom here placed. placed;
   backends = refl;

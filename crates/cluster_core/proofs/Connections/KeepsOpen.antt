@@ -18,20 +18,23 @@ use Rattle.imap_talk.proofs.TranscriptGrows.{AreAnswered, none_answered}
 use Rattle.imap_wire.specs.Frames.{begun}
 use Rattle.imap_wire.proofs.FeedLaws.{frames-nil}
 use Rattle.mur_base.specs.Map.{with_value, with_entry}
-use Rattle.mur_base.proofs.MapLaws.{names_apart, numbers_apart, value_at-with_value, value_at-with_value-other, value_at-with_entry, value_at-with_entry-other}
+use Rattle.mur_base.proofs.MapLaws.{numbers_apart, value_at-with_value, value_at-with_value-other, value_at-with_entry, value_at-with_entry-other}
 use Rattle.mur_config.specs.declared.config.Config.{Config}
 use Rattle.imap_types.specs.declared.request.Answer.{Answer}
 use Rattle.mur_model.specs.declared.setting.Setting.{Setting}
-use Rattle.mur_model.proofs.HistoryGrows.{same_talk}
+use Rattle.mur_model.proofs.HistoryGrows.{same_talk, talks_follow}
 use Rattle.schedule_text.specs.declared.event.Event.TheVariants.{Open}
 use Rattle.front_core.specs.Reading.{first_reading}
 use Rattle.imap_talk.specs.Inputs.{at_first, before_next, inputs_of}
 use Rattle.cluster_core.specs.declared.world.Client.{Client}
+use Rattle.node_step.specs.declared.input.NodeInput.TheVariants.{Opened}
+use Rattle.node_step.specs.declared.node.NodeState.TheVariants as state
 use Rattle.cluster_core.specs.declared.world.World.{World}
 use Rattle.imap_talk.specs.Heard.{Heard, nobody, elsewhere, client, frames_heard}
 use Rattle.cluster_core.specs.Heard.{hears, opened_at, is_frontend}
-use Rattle.cluster_core.specs.World.{client_at, front_at, home_of, setting_of, with_client, with_front, open_at, opens, given_more, carry, carry_all}
+use Rattle.cluster_core.specs.World.{client_at, node_at, front_at, home_of, setting_of, with_client, with_state, comes, opens, given_more, carry, carry_all}
 use Rattle.cluster_core.proofs.Connections.ConnectionLaw.{Story, told_of}
+use Rattle.cluster_core.proofs.Connections.Comes.{with_front, opened_comes, opened_elsewhere, front_here}
 use Rattle.front_core.proofs.OneConnection.Places.{nowhere}
 use Rattle.front_core.proofs.OneConnection.Standing.Stands.{reads}
 use Rattle.cluster_core.proofs.Connections.KeepsLaw.{ConnectionIs, IsUntold, KeepsLaw, KeepsOn, connection_stays}
@@ -108,16 +111,16 @@ requests_first config story heard conn node e all other = ⊎_elim
     (cases_eq other conn)
 
 -- a connection at a node that is no frontend is given nothing
-elsewhere_keeps : (config : Config) (heard : ℕ → Heard) (world : World) (node : List ℕ) (conn : ℕ) (law : KeepsLaw config heard world)
+joined_keeps : (config : Config) (heard : ℕ → Heard) (world : World) (node : List ℕ) (conn : ℕ) (law : KeepsLaw config heard world)
     → front_at world node ≡ None
     → IsNew conn world law.story (heard conn) → KeepsOn config (told_of law.story) (after_open config heard node conn) (with_client world node conn)
-elsewhere_keeps config heard world node conn law none new =
+joined_keeps config heard world node conn law none new =
     let next : World = with_client world node conn in
     let off : is_frontend config node ≡ false = sym (law.nodes.frontends node) ∙ ap is_some none in
     record {
       law = record {
         backend = law.backend;
-        nodes = nodes_alike config world next law.backend (λ any. refl) (λ any. refl) refl refl law.nodes;
+        nodes = nodes_alike config world next law.backend (λ any. refl) refl refl law.nodes;
         below_next = law.below_next;
         story = law.story;
         is_told = law.is_told;
@@ -146,9 +149,24 @@ elsewhere_keeps config heard world node conn law none new =
       closed = λ other shut. refl;
     }
 
+elsewhere_keeps : (config : Config) (heard : ℕ → Heard) (world : World) (node : List ℕ) (conn : ℕ) (law : KeepsLaw config heard world)
+    → front_at world node ≡ None → IsNew conn world law.story (heard conn)
+    → KeepsOn config (told_of law.story) (after_open config heard node conn) (comes (with_client world node conn) node (Opened conn))
+elsewhere_keeps config heard world node conn law none new =
+    let joined = joined_keeps config heard world node conn law none new in
+    let after = after_open config heard node conn in
+    let put = still_kept config after after (with_client world node conn) (comes (with_client world node conn) node (Opened conn))
+    (opened_elsewhere (with_client world node conn) node conn (node_at world node) refl none) (λ other. refl) joined.law in
+    record {
+      law = put.law;
+      more = talks_follow (told_of law.story) (told_of joined.law.story) (told_of put.law.story) joined.more put.more;
+      closed = λ other shut. put.closed other shut ∙ joined.closed other shut;
+    }
+
 abbrev greeted : World → List ℕ → ℕ → Front → World
 greeted world node conn front = record world {
-  fronts = with_value (slice_cmp nat_cmp) world.fronts node (record front { connections = with_entry nat_cmp front.connections conn new_connection });
+  nodes = with_value (slice_cmp nat_cmp) world.nodes node
+      (state.Front (record front { connections = with_entry nat_cmp front.connections conn new_connection }));
   clients = with_value nat_cmp (with_entry nat_cmp world.clients conn (record { at = node; given = [] })) conn (record { at = node; given = [] ++ greeting });
 }
 
@@ -157,11 +175,8 @@ greets : (world : World) (node : List ℕ) (conn : ℕ) (front : Front) → conn
 unfolding connect connect_at carry_all carry given_more
 greets world node conn front none =
     ap (λ f. with_front (with_client world node conn) node (connect_at front conn f)) none
-    ∙ ap (given_more (record (with_client world node conn) {
-      fronts =
-          with_value (slice_cmp nat_cmp) world.fronts node (record front { connections = with_entry nat_cmp front.connections conn new_connection });
-    }) conn
-    greeting)
+    ∙ ap (given_more (with_state (with_client world node conn) node
+    (state.Front (record front { connections = with_entry nat_cmp front.connections conn new_connection }))) conn greeting)
     (value_at-with_entry nat_cmp numbers_apart world.clients conn (record { at = node; given = [] }))
 
 greeting_alone : (setting : Setting) (told : List Answer) → told ≡ [] → greeting ≡ greeting ++ replies_to (inputs_in setting []) told
@@ -191,7 +206,7 @@ front_keeps_open config heard world node conn front law at new =
     (record {
       law = record {
         backend = law.backend;
-        nodes = nodes_with_front config world next law.backend node front later at refl refl refl refl refl refl law.nodes;
+        nodes = nodes_with_front config world next law.backend node front later at refl refl refl refl refl law.nodes;
         below_next = law.below_next;
         story = law.story;
         is_told = law.is_told;
@@ -204,7 +219,7 @@ front_keeps_open config heard world node conn front law at new =
             (sym (hears_first config conn (heard conn) node true new.nobody_is on))
             (is_open [] node later new_connection
             (record {
-              at = value_at-with_value (slice_cmp nat_cmp) names_apart world.fronts node later front at;
+              at = front_here world node front later at;
               has = value_at-with_entry nat_cmp numbers_apart front.connections conn new_connection;
             }) (inr (first_reader (setting_of config)))
             (record {
@@ -240,11 +255,13 @@ front_keeps_open config heard world node conn front law at new =
     })
 
 open_by : (config : Config) (heard : ℕ → Heard) (world : World) (node : List ℕ) (conn : ℕ) (found : Option Front) → front_at world node ≡ found
-    → (law : KeepsLaw config heard world)
-    → IsNew conn world law.story (heard conn) → KeepsOn config (told_of law.story) (after_open config heard node conn) (open_at world node conn found)
-unfolding open_at
+    → (law : KeepsLaw config heard world) → IsNew conn world law.story (heard conn)
+    → KeepsOn config (told_of law.story) (after_open config heard node conn) (comes (with_client world node conn) node (Opened conn))
 open_by config heard world node conn None at law new = elsewhere_keeps config heard world node conn law at new
-open_by config heard world node conn (Some front) at law new = front_keeps_open config heard world node conn front law at new
+open_by config heard world node conn (Some front) at law new =
+    subst (λ w. KeepsOn config (told_of law.story) (after_open config heard node conn) w)
+    (sym (opened_comes (with_client world node conn) node conn front at))
+    (front_keeps_open config heard world node conn front law at new)
 
 pub open_keeps : (config : Config) (heard : ℕ → Heard) (world : World) (node : List ℕ) (conn : ℕ) (there : Option Client) → client_at world conn ≡ there
     → (law : KeepsLaw config heard world)

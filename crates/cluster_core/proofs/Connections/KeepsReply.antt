@@ -25,10 +25,12 @@ use Rattle.mur_model.specs.declared.need.Awaited.{Awaited}
 use Rattle.imap_talk.specs.Inputs.{requests_in}
 use Rattle.front_core.specs.Reading.{Reading as Read}
 use Rattle.front_core.proofs.OneConnection.Readings.{inputs_in, reading_of}
+use Rattle.node_step.specs.declared.input.NodeInput.TheVariants.{From}
 use Rattle.cluster_core.specs.declared.world.World.{World}
 use Rattle.imap_talk.specs.Heard.{Heard, client, frames_heard}
 use Rattle.link_queue.specs.Links.{on_link, without_first}
-use Rattle.cluster_core.specs.World.{front_at, home_of, setting_of, with_front, taken_from_link, comes_to, carry_all}
+use Rattle.cluster_core.specs.World.{front_at, home_of, setting_of, taken_from_link, carry_all, comes}
+use Rattle.cluster_core.proofs.Connections.Comes.{with_front, answer_comes_to}
 use Rattle.cluster_core.proofs.Connections.ConnectionLaw.{told_of, keeps_all, same_story, IsStanding}
 use Rattle.cluster_core.proofs.Connections.ConnectionLaw.{StandsOn}
 use Rattle.cluster_core.proofs.Connections.KeepsAnswer.{replied_turn, replied_stands, ended_turned, read_turned, fits, ended_drops_answer}
@@ -50,11 +52,11 @@ use Rattle.front_core.proofs.OneConnection.Waits.{in_answer}
 to_front : (world : World) (from node : List ℕ) (answer : BackAnswer) (front : Front) (connection : Connection) (turned : Turned)
     → front_at world node ≡ Some front → connection_at front (answer.id).conn ≡ Some connection
     → answer_comes front.setting front.home (answer.id).conn connection answer ≡ turned
-    → comes_to (taken_from_link world from node) from node (Answer answer) (front_at world node) ≡ world_after (taken_from_link world from node) node front
+    → comes (taken_from_link world from node) node (From from (Answer answer)) ≡ world_after (taken_from_link world from node) node front
     (answer.id).conn (released turned.connection) turned.outs
-unfolding comes_to take_message answer_at
+unfolding take_message answer_at
 to_front world from node answer front connection turned at has comes =
-    ap (comes_to (taken_from_link world from node) from node (Answer answer)) at
+    answer_comes_to (taken_from_link world from node) from node answer front at
     ∙ ap (λ f. with_front (taken_from_link world from node) node (answer_at front answer f)) has
     ∙ ap (λ t. with_front (taken_from_link world from node) node (with_turned front (answer.id).conn t)) comes
 
@@ -95,7 +97,7 @@ replied_kept : (config : Config) (heard after : ℕ → Heard) (world : World) (
     (replied_turn (setting_of config) (home_of config) conn connection tag turn).connection
     (taken_from_link world from node) law.story (carry_all node (taken_from_link world from node)
     (replied_turn (setting_of config) (home_of config) conn connection tag turn).outs)
-    → KeepsOn config (told_of law.story) after (comes_to (taken_from_link world from node) from node (Answer answer) (front_at world node))
+    → KeepsOn config (told_of law.story) after (comes (taken_from_link world from node) node (From from (Answer answer)))
 replied_kept config heard after world law from answer rest conn bytes node front connection tag awaited turn first same own e at reader stage comes stands =
     let turned : Turned = replied_turn (setting_of config) (home_of config) conn connection tag turn in
     let kept : Connection = released turned.connection in
@@ -127,7 +129,7 @@ dropped : (config : Config) (heard after : ℕ → Heard) (world : World) (law :
     → IsGone (setting_of config) node (home_of config) conn (inputs_in (setting_of config) bytes) connection world law.story
     → law.story.talk.answers conn ≡ law.story.told conn ++ more → length more ≤ 1
     → IsPlaced (of_connection conn) (without_first world.links from node) None
-    → KeepsOn config (told_of law.story) after (comes_to (taken_from_link world from node) from node (Answer answer) (front_at world node))
+    → KeepsOn config (told_of law.story) after (comes (taken_from_link world from node) node (From from (Answer answer)))
 unfolding carry_all
 dropped config heard after world law from answer rest conn bytes node front connection more first same own e at gone said few without =
     let kept : Connection = released connection in
@@ -163,7 +165,7 @@ waiting_replied : (config : Config) (heard after : ℕ → Heard) (world : World
     → Waiting (setting_of config) (home_of config) conn (inputs_in (setting_of config) bytes) (begun bytes) connection (law.story.told conn)
     (law.story.talk.answers conn) (law.story.course.sessions conn) place
     → place ≡ is_answered from answer → IsPlaced (of_connection conn) (without_first world.links from node) None
-    → KeepsOn config (told_of law.story) after (comes_to (taken_from_link world from node) from node (Answer answer) (front_at world node))
+    → KeepsOn config (told_of law.story) after (comes (taken_from_link world from node) node (From from (Answer answer)))
 unfolding frames_heard
 waiting_replied config heard after world law from answer rest conn bytes node front connection place first same own e at reader standing waiting is without =
     let was = law.nodes.fronts node front at.at in
@@ -192,7 +194,7 @@ who_is_told : (config : Config) (heard after : ℕ → Heard) (world : World) (l
     → on_link world.links from node ≡ Answer answer ∷ rest → ((c : ℕ) → after c ≡ heard c) → (answer.id).conn ≡ conn
     → IsAt world conn node front connection → place ≡ is_answered from answer → IsPlaced (of_connection conn) (without_first world.links from node) None
     → WhoWaits (setting_of config) (home_of config) conn node connection world law.story (heard conn) place
-    → KeepsOn config (told_of law.story) after (comes_to (taken_from_link world from node) from node (Answer answer) (front_at world node))
+    → KeepsOn config (told_of law.story) after (comes (taken_from_link world from node) node (From from (Answer answer)))
 who_is_told config heard after world law from answer rest conn node front connection place first same own at is without
     (open_waits bytes e reader standing waiting) =
     waiting_replied config heard after world law from answer rest conn bytes node front connection place first same own e at reader standing waiting is without
