@@ -11,8 +11,8 @@ use crate::delivery::deliver;
 use crate::flow::flow;
 use crate::world::{Client, World};
 use mur_base::{Bytes, Copied, Memory, NodeName};
-use schedule_text::Event;
 use node_step::NodeInput;
+use schedule_text::Event;
 use std::alloc::Global;
 
 /// Carries an event out; one of links that break or of disks is a step that changes nothing else. For want of memory the world is spent.
@@ -74,12 +74,7 @@ fn hang(alloc: Global, world: &mut World, conn: u64) -> Result<(), Memory>
 
 /// What a client does comes to the node to which it is connected.
 #[tactic(auto, unfolding(crate::specs::World::client_does))]
-fn client_does(
-    alloc: Global,
-    world: &mut World,
-    conn: u64,
-    input: NodeInput,
-) -> Result<(), Memory>
+fn client_does(alloc: Global, world: &mut World, conn: u64, input: NodeInput) -> Result<(), Memory>
     requires { IfSome (client_at world.old conn) (λ client. IfSome (node_at world.old client.at) (λ it. HasRoomToTake it input)) }
     ensures { OnOk result (world.new ≡ client_does world.old input (client_at world.old conn)) }
 {
