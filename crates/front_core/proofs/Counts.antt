@@ -1,8 +1,9 @@
 -- How many commands the connections of a frontend may have, behind what comes to it.
 use Rattle.std.proofs.Math.Logic.{⊎_elim}
-use Rattle.std.proofs.Common.{◌≡◌, ◌≢◌, ℕ, ◌+◌, ◌<◌, ◌≤◌, ◌^◌, List, length, Option, None, Some, refl, sym, ◌∙◌, subst, arith}
+use Rattle.std.proofs.Common.{◌≡◌, ◌≢◌, ℕ, nat_eq, ◌+◌, ◌<◌, ◌≤◌, ◌^◌, Bool, true, false, List, length, Option, None, Some, refl, sym, ◌∙◌, subst, arith}
 use Rattle.std.specs.Option.{IfSome}
 use Rattle.std.specs.Ordering.{nat_cmp}
+use Rattle.std.specs.Cmp.Lexicographic.{pointwise}
 use Rattle.front_core.specs.Reading.{inputs_of_more}
 use Rattle.imap_wire.proofs.MoreLaws.{frames_of_more-length}
 use Rattle.link_msg.specs.declared.answer.BackAnswer.{BackAnswer}
@@ -18,7 +19,7 @@ use Rattle.front_core.specs.declared.front.Front.{Front}
 use Rattle.front_core.specs.Answered.{answer_comes}
 use Rattle.front_core.specs.Ended.{released, released_at}
 use Rattle.front_core.specs.Front.{connection_at, new_connection, connect, connect_at, bytes_in, front_bytes_at, bytes_by, having_read}
-use Rattle.front_core.specs.Front.{hang, front_hang_at, hung_up, deliver, answer_at}
+use Rattle.front_core.specs.Front.{hang, front_hang_at, hung_up, deliver, answer_at, answer_from}
 use Rattle.front_core.specs.Room.{commands_of, HasCommands, HasRoomAt, HasRoomFor}
 use Rattle.front_core.specs.Taken.{inputs_come}
 use Rattle.front_core.proofs.ReadingLaws.{inputs_of_more-length}
@@ -114,13 +115,20 @@ answer_at_counts front answer most (Some connection) there has =
       answer_counts front.setting front.home (answer.id).conn connection answer,
     ))
 
-pub deliver_counts : (front : Front) (message : LinkMsg) (most : ℕ) → HasCommands front most → HasCommands (deliver front message).front most
+answer_from_counts : (front : Front) (answer : BackAnswer) (most : ℕ) (is_asked : Bool) → HasCommands front most
+    → HasCommands (answer_from is_asked front answer).front most
+unfolding answer_from
+answer_from_counts front answer most true has = answer_at_counts front answer most (connection_at front (answer.id).conn) refl has
+answer_from_counts front answer most false has = has
+
+pub deliver_counts : (front : Front) (from : List ℕ) (message : LinkMsg) (most : ℕ) → HasCommands front most
+    → HasCommands (deliver front from message).front most
 unfolding deliver
-deliver_counts front (Answer answer) most has = answer_at_counts front answer most (connection_at front (answer.id).conn) refl has
-deliver_counts front Up most has = has
-deliver_counts front End most has = has
-deliver_counts front (Line line) most has = has
-deliver_counts front (Ask ask) most has = has
+deliver_counts front from (Answer answer) most has = answer_from_counts front answer most (pointwise nat_eq from front.home) has
+deliver_counts front from Up most has = has
+deliver_counts front from End most has = has
+deliver_counts front from (Line line) most has = has
+deliver_counts front from (Ask ask) most has = has
 
 hang_at_counts : (front : Front) (conn most : ℕ) (found : Option Connection) → connection_at front conn ≡ found
     → HasCommands front most → HasCommands (front_hang_at front conn found) most

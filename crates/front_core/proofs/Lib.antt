@@ -8,3 +8,4 @@ pub mod EndedLaw
 pub mod Counts
 pub mod ReadingLaws
 pub mod OneConnection
+pub mod StrangerLaw

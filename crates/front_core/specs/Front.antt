@@ -1,6 +1,7 @@
 -- A frontend: what it does with what comes from clients and on links. Calls on a connection that isn't there change nothing.
-use Rattle.std.specs.Prelude.{ℕ, List, [], ◌∷◌, Option, None, Some}
+use Rattle.std.specs.Prelude.{ℕ, nat_eq, Bool, true, false, List, [], ◌∷◌, Option, None, Some}
 use Rattle.std.specs.Ordering.{nat_cmp}
+use Rattle.std.specs.Cmp.Lexicographic.{pointwise}
 use Rattle.imap_reply.specs.Greeting.{greeting}
 use Rattle.link_msg.specs.declared.answer.BackAnswer.{BackAnswer}
 use Rattle.link_msg.specs.declared.message.LinkMsg.{LinkMsg}
@@ -90,10 +91,15 @@ answer_at front answer None = still front
 answer_at front answer (Some connection) =
     with_turned front (answer.id).conn (answer_comes front.setting front.home (answer.id).conn connection answer)
 
+-- an answer counts only from the node that was asked
+unfoldable pub answer_from : Bool → Front → BackAnswer → Stepped
+answer_from true front answer = answer_at front answer (connection_at front (answer.id).conn)
+answer_from false front answer = still front
+
 -- a message on a link: only answers have a meaning for it
-unfoldable pub deliver : Front → LinkMsg → Stepped
-deliver front (Answer answer) = answer_at front answer (connection_at front (answer.id).conn)
-deliver front message = still front
+unfoldable pub deliver : Front → List ℕ → LinkMsg → Stepped
+deliver front from (Answer answer) = answer_from (pointwise nat_eq from front.home) front answer
+deliver front from message = still front
 
 -- how many commands of a connection wait for the answer of a home
 abbrev pub is_asked : Stage → ℕ

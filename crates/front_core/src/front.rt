@@ -1,7 +1,8 @@
 // A frontend, which speaks to mail clients and asks the homes of their mailboxes.
-ghost use Rattle.std.specs.Prelude.{◌≡◌, length, IfOk};
+ghost use Rattle.std.specs.Prelude.{◌≡◌, ◌≢◌, nat_eq, length, IfOk};
+ghost use Rattle.std.specs.Cmp.Lexicographic.{pointwise};
 ghost use Rattle.imap_reply.specs.Greeting.{greeting};
-ghost use Rattle.front_core.specs.Front.{new_front, new_connection, connect, connection_at, bytes_in, hang, deliver, answer_at};
+ghost use Rattle.front_core.specs.Front.{new_front, new_connection, connect, connection_at, bytes_in, hang, deliver, still, answer_at, answer_from};
 ghost use Rattle.front_core.specs.Room.{HasRoomAt, HasRoomFor};
 
 use crate::answered::given;
@@ -88,15 +89,40 @@ impl Front {
         }
     }
 
-    /// A message comes on a link: only answers have a meaning here. For want of memory the frontend is spent.
-    #[tactic(auto, unfolding(crate::specs::Front::deliver, crate::specs::Room::HasRoomFor))]
-    pub fn deliver(&mut self, alloc: Global, message: LinkMsg) -> Result<Outs, Memory>
+    /// A message of a node comes on a link: only answers of the node that was asked have a meaning here. For want of memory the frontend
+    /// is spent.
+    #[tactic(auto, unfolding(crate::specs::Front::deliver, crate::specs::Room::HasRoomFor), using(crate::proofs::StrangerLaw::strangers))]
+    pub fn deliver(
+        &mut self,
+        alloc: Global,
+        from: &NodeName,
+        message: LinkMsg,
+    ) -> Result<Outs, Memory>
         requires room { HasRoomFor self.old message }
-        ensures { IfOk result (λ outs. record { front = self.new; outs = outs } ≡ deliver self.old message) }
+        ensures step { IfOk result (λ outs. record { front = self.new; outs = outs } ≡ deliver self.old from.now message) }
+        ensures stranger { from.now ≢ self.old.home → IfOk result (λ outs. record { front = self.new; outs = outs } ≡ still self.old) }
     {
         match message {
-            LinkMsg::Answer(answer) => self.answer(alloc, answer),
+            LinkMsg::Answer(answer) => self.answer_from(alloc, from, answer),
             _ => Ok(Outs::new(alloc)),
+        }
+    }
+
+    #[tactic(auto, unfolding(crate::specs::Front::answer_from))]
+    fn answer_from(
+        &mut self,
+        alloc: Global,
+        from: &NodeName,
+        answer: BackAnswer,
+    ) -> Result<Outs, Memory>
+        requires room { HasRoomAt self.old (answer.id).conn 0 }
+        ensures { IfOk result (λ outs. record { front = self.new; outs = outs }
+            ≡ answer_from (pointwise nat_eq from.now self.old.home) self.old answer) }
+    {
+        if *from == self.home {
+            self.answer(alloc, answer)
+        } else {
+            Ok(Outs::new(alloc))
         }
     }
 

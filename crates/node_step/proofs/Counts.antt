@@ -38,7 +38,7 @@ front_counts front (Opened conn) most has =
 front_counts front (Piece conn bytes) most has = front_has (bytes_in front conn bytes).front (most + length bytes) (bytes_in_counts front conn bytes most has)
 front_counts front (Hung conn) most has = front_has (hang front conn) (most + 0) (no_more (hang front conn) most (hang_counts front conn most has))
 front_counts front (From name message) most has =
-    front_has (deliver front message).front (most + 0) (no_more (deliver front message).front most (deliver_counts front message most has))
+    front_has (deliver front name message).front (most + 0) (no_more (deliver front name message).front most (deliver_counts front name message most has))
 
 back_by_counts : (home : Backend) (input : Option BackInput) (most : ℕ) → HasCommandsAt (back_by home input).state most
 unfolding back_by as_front

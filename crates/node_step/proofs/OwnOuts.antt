@@ -6,8 +6,8 @@ use Rattle.backend_core.specs.declared.input.BackInput.TheVariants.{Up as up_in,
 use Rattle.backend_core.specs.Plan.{plan_of, answer_outs}
 use Rattle.backend_core.specs.Step.{home_step}
 use Rattle.front_core.specs.declared.front.Front.{Front}
-use Rattle.front_core.specs.Front.{connect, connection_at, bytes_in, deliver}
-use Rattle.front_core.proofs.OneConnection.OwnOuts.{IsFor, AreFor, answered_for, connect_for, bytes_for}
+use Rattle.front_core.specs.Front.{connect, bytes_in, deliver}
+use Rattle.front_core.proofs.OneConnection.OwnOuts.{IsFor, AreFor, answer_for_it, connect_for, bytes_for}
 use Rattle.link_msg.specs.declared.answer.AnswerBody.{AnswerBody}
 use Rattle.link_msg.specs.declared.counts.Counts.{Counts}
 use Rattle.node_step.specs.declared.input.NodeInput.{NodeInput}
@@ -60,22 +60,22 @@ nothing_for : (other : ℕ) → AreNotFor other []
 unfolding AreNotFor
 nothing_for other = tt
 
-message_for : (front : Front) (message : LinkMsg) (other : ℕ) → conn_of_message message ≢ Some other → AreNotFor other (deliver front message).outs
+message_for : (front : Front) (from : List ℕ) (message : LinkMsg) (other : ℕ) → conn_of_message message ≢ Some other
+    → AreNotFor other (deliver front from message).outs
 unfolding deliver
-message_for front (Answer answer) other ne =
-    none_for front.home (answer.id).conn other (deliver front (Answer answer)).outs (not_it (answer.id).conn other ne)
-    (answered_for front answer (connection_at front (answer.id).conn))
-message_for front Up other ne = nothing_for other
-message_for front End other ne = nothing_for other
-message_for front (Line line) other ne = nothing_for other
-message_for front (Ask ask) other ne = nothing_for other
+message_for front from (Answer answer) other ne =
+    none_for front.home (answer.id).conn other (deliver front from (Answer answer)).outs (not_it (answer.id).conn other ne) (answer_for_it front from answer)
+message_for front from Up other ne = nothing_for other
+message_for front from End other ne = nothing_for other
+message_for front from (Line line) other ne = nothing_for other
+message_for front from (Ask ask) other ne = nothing_for other
 
 front_own : (front : Front) (input : NodeInput) (other : ℕ) → conn_of input ≢ Some other → AreNotFor other (front_takes front input).outs
 unfolding front_takes
 front_own front (Opened conn) other ne = none_for front.home conn other (connect front conn).outs (not_it conn other ne) (connect_for front conn)
 front_own front (Piece conn bytes) other ne = none_for front.home conn other (bytes_in front conn bytes).outs (not_it conn other ne) (bytes_for front conn bytes)
 front_own front (Hung conn) other ne = nothing_for other
-front_own front (From name message) other ne = message_for front message other ne
+front_own front (From name message) other ne = message_for front name message other ne
 
 -- a backend has no clients
 
@@ -133,21 +133,21 @@ unfolding AreFor AreTo
 all_home may home conn [] there are = tt
 all_home may home conn (out ∷ outs) there are = (to_home may home conn out there are.0, all_home may home conn outs there are.1)
 
-message_goes : (may : List ℕ → Type 0) (front : Front) (message : LinkMsg) → may front.home → AreTo may (deliver front message).outs
+message_goes : (may : List ℕ → Type 0) (front : Front) (from : List ℕ) (message : LinkMsg) → may front.home → AreTo may (deliver front from message).outs
 unfolding deliver
-message_goes may front (Answer answer) there =
-    all_home may front.home (answer.id).conn (deliver front (Answer answer)).outs there (answered_for front answer (connection_at front (answer.id).conn))
-message_goes may front Up there = nowhere may
-message_goes may front End there = nowhere may
-message_goes may front (Line line) there = nowhere may
-message_goes may front (Ask ask) there = nowhere may
+message_goes may front from (Answer answer) there =
+    all_home may front.home (answer.id).conn (deliver front from (Answer answer)).outs there (answer_for_it front from answer)
+message_goes may front from Up there = nowhere may
+message_goes may front from End there = nowhere may
+message_goes may front from (Line line) there = nowhere may
+message_goes may front from (Ask ask) there = nowhere may
 
 front_goes : (may : List ℕ → Type 0) (front : Front) (input : NodeInput) → may front.home → AreTo may (front_takes front input).outs
 unfolding front_takes
 front_goes may front (Opened conn) there = all_home may front.home conn (connect front conn).outs there (connect_for front conn)
 front_goes may front (Piece conn bytes) there = all_home may front.home conn (bytes_in front conn bytes).outs there (bytes_for front conn bytes)
 front_goes may front (Hung conn) there = nowhere may
-front_goes may front (From name message) there = message_goes may front message there
+front_goes may front (From name message) there = message_goes may front name message there
 
 answered_goes : (may : List ℕ → Type 0) (from : List ℕ) (id : AskId) (counts : Counts) (body : Option AnswerBody) → may from
     → AreTo may (answer_outs from id counts body)

@@ -31,7 +31,7 @@ unfoldable pub front_takes : Front → NodeInput → Acted
 front_takes front (Opened conn) = front_acted (connect front conn)
 front_takes front (Piece conn bytes) = front_acted (bytes_in front conn bytes)
 front_takes front (Hung conn) = idle (node.Front (hang front conn))
-front_takes front (From name message) = front_acted (deliver front message)
+front_takes front (From name message) = front_acted (deliver front name message)
 
 -- what a message is to a backend
 unfoldable pub back_input : List ℕ → LinkMsg → Option BackInput

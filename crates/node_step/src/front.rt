@@ -23,6 +23,6 @@ pub fn front_takes(alloc: Global, front: &mut Front, input: NodeInput) -> Result
             front.hang(alloc, conn);
             Ok(Outs::new(alloc))
         }
-        NodeInput::From(_node, message) => front.deliver(alloc, message),
+        NodeInput::From(node, message) => front.deliver(alloc, &node, message),
     }
 }

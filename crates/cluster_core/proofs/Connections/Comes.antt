@@ -58,7 +58,7 @@ unfolding front_takes carry_all
 hung_comes world node conn front at = front_comes world node (Hung conn) front at
 
 pub answer_comes_to : (world : World) (from node : List ℕ) (answer : BackAnswer) (front : Front) → front_at world node ≡ Some front
-    → comes world node (From from (Answer answer)) ≡ with_front world node (deliver front (Answer answer))
+    → comes world node (From from (Answer answer)) ≡ with_front world node (deliver front from (Answer answer))
 unfolding front_takes
 answer_comes_to world from node answer front at = front_comes world node (From from (Answer answer)) front at
 

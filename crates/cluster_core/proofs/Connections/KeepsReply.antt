@@ -1,12 +1,14 @@
 -- An answer that comes keeps the law: the frontend replies to its command, or drops it where its client closed the connection.
 use Rattle.std.proofs.Common.{◌≡◌, ◌≢◌, ℕ, ◌+◌, ◌≤◌, Bool, true, false, List, [], ◌∷◌, ◌++◌, length, inl}
-use Rattle.std.proofs.Common.{inr, refl, sym, ◌∙◌, ap, subst}
+use Rattle.std.proofs.Common.{inr, refl, sym, ◌∙◌, ap, subst, nat_eq}
+use Rattle.std.specs.Cmp.Lexicographic.{pointwise}
+use Rattle.std.proofs.lemmas.Cmp.{nat_list_eq_equiv}
 use Rattle.front_core.specs.declared.connection.Connection.{Connection}
 use Rattle.front_core.specs.declared.connection.Stage.TheVariants.{Asked}
 use Rattle.front_core.specs.declared.front.Front.{Front}
 use Rattle.front_core.specs.Answered.{answer_comes, reading_again, unchanged}
 use Rattle.front_core.specs.Ended.{released}
-use Rattle.front_core.specs.Front.{connection_at, deliver as take_message, answer_at, with_turned}
+use Rattle.front_core.specs.Front.{connection_at, deliver as take_message, answer_from, answer_at, with_turned}
 use Rattle.front_core.specs.Taken.{Turned}
 use Rattle.imap_talk.specs.SessionEnds.{ends_session}
 use Rattle.imap_wire.specs.Frames.{begun}
@@ -49,14 +51,16 @@ use Rattle.front_core.proofs.OneConnection.Standing.IsLeft.{nothing}
 use Rattle.front_core.proofs.OneConnection.Waits.{in_answer}
 
 -- an answer comes to its frontend
-to_front : (world : World) (from node : List ℕ) (answer : BackAnswer) (front : Front) (connection : Connection) (turned : Turned)
+to_front : (world : World) (from node : List ℕ) (answer : BackAnswer) (front : Front) (connection : Connection) (turned : Turned) → from ≡ front.home
     → front_at world node ≡ Some front → connection_at front (answer.id).conn ≡ Some connection
     → answer_comes front.setting front.home (answer.id).conn connection answer ≡ turned
     → comes (taken_from_link world from node) node (From from (Answer answer)) ≡ world_after (taken_from_link world from node) node front
     (answer.id).conn (released turned.connection) turned.outs
-unfolding take_message answer_at
-to_front world from node answer front connection turned at has comes =
+unfolding take_message answer_from answer_at
+to_front world from node answer front connection turned asked at has comes =
     answer_comes_to (taken_from_link world from node) from node answer front at
+    ∙ ap (λ s. with_front (taken_from_link world from node) node (answer_from s front answer))
+    (ap (λ n. pointwise nat_eq n front.home) asked ∙ nat_list_eq_equiv.refl front.home)
     ∙ ap (λ f. with_front (taken_from_link world from node) node (answer_at front answer f)) has
     ∙ ap (λ t. with_front (taken_from_link world from node) node (with_turned front (answer.id).conn t)) comes
 
@@ -88,7 +92,7 @@ replied_reader setting home conn connection tag awaited turn held stage reader =
 -- what the frontend makes of the answer
 replied_kept : (config : Config) (heard after : ℕ → Heard) (world : World) (law : KeepsLaw config heard world) (from : List ℕ) (answer : BackAnswer)
     (rest : List LinkMsg) (conn : ℕ) (bytes node : List ℕ) (front : Front) (connection : Connection)
-    (tag : Tag) (awaited : Awaited) (turn : Turn) → on_link world.links from node ≡ Answer answer ∷ rest
+    (tag : Tag) (awaited : Awaited) (turn : Turn) → from ≡ front.home → on_link world.links from node ≡ Answer answer ∷ rest
     → ((c : ℕ) → after c ≡ heard c) → (answer.id).conn ≡ conn
     → heard conn ≡ client bytes false → IsAt world conn node front connection → HasBegunSo connection (reading_of (setting_of config) bytes)
     → connection.stage ≡ Asked tag awaited
@@ -98,11 +102,11 @@ replied_kept : (config : Config) (heard after : ℕ → Heard) (world : World) (
     (taken_from_link world from node) law.story (carry_all node (taken_from_link world from node)
     (replied_turn (setting_of config) (home_of config) conn connection tag turn).outs)
     → KeepsOn config (told_of law.story) after (comes (taken_from_link world from node) node (From from (Answer answer)))
-replied_kept config heard after world law from answer rest conn bytes node front connection tag awaited turn first same own e at reader stage comes stands =
+replied_kept config heard after world law from answer rest conn bytes node front connection tag awaited turn asked first same own e at reader stage comes stands =
     let turned : Turned = replied_turn (setting_of config) (home_of config) conn connection tag turn in
     let kept : Connection = released turned.connection in
     subst (λ w. KeepsOn config (told_of law.story) after w)
-    (sym (to_front world from node answer front connection turned at.at (ap (connection_at front) own ∙ at.has) comes
+    (sym (to_front world from node answer front connection turned asked at.at (ap (connection_at front) own ∙ at.has) comes
     ∙ ap (λ c. world_after (taken_from_link world from node) node front c kept turned.outs) own))
     (front_keeps config heard after world law
     (without_first world.links from node) conn node front connection kept turned.outs law.story stands.story
@@ -124,17 +128,17 @@ replied_kept config heard after world law from answer rest conn bytes node front
 -- an answer to a connection that was closed is dropped
 dropped : (config : Config) (heard after : ℕ → Heard) (world : World) (law : KeepsLaw config heard world) (from : List ℕ) (answer : BackAnswer)
     (rest : List LinkMsg) (conn : ℕ) (bytes node : List ℕ) (front : Front) (connection : Connection)
-    (more : List AnswerOf) → on_link world.links from node ≡ Answer answer ∷ rest → ((c : ℕ) → after c ≡ heard c) → (answer.id).conn ≡ conn
+    (more : List AnswerOf) → from ≡ front.home → on_link world.links from node ≡ Answer answer ∷ rest → ((c : ℕ) → after c ≡ heard c) → (answer.id).conn ≡ conn
     → heard conn ≡ client bytes true → IsAt world conn node front connection
     → IsGone (setting_of config) node (home_of config) conn (inputs_in (setting_of config) bytes) connection world law.story
     → law.story.talk.answers conn ≡ law.story.told conn ++ more → length more ≤ 1
     → IsPlaced (of_connection conn) (without_first world.links from node) None
     → KeepsOn config (told_of law.story) after (comes (taken_from_link world from node) node (From from (Answer answer)))
 unfolding carry_all
-dropped config heard after world law from answer rest conn bytes node front connection more first same own e at gone said few without =
+dropped config heard after world law from answer rest conn bytes node front connection more asked first same own e at gone said few without =
     let kept : Connection = released connection in
     subst (λ w. KeepsOn config (told_of law.story) after w)
-    (sym (to_front world from node answer front connection (unchanged connection) at.at (ap (connection_at front) own ∙ at.has)
+    (sym (to_front world from node answer front connection (unchanged connection) asked at.at (ap (connection_at front) own ∙ at.has)
     (ended_drops_answer front.setting front.home (answer.id).conn connection answer gone.stage_is)
     ∙ ap (λ c. world_after (taken_from_link world from node) node front c kept []) own))
     (front_keeps config heard after world law (without_first world.links from node) conn node front connection kept [] law.story law.story
@@ -179,7 +183,7 @@ waiting_replied config heard after world law from answer rest conn bytes node fr
     ∙ fits (setting_of config) (home_of config) conn connection waiting.tag waiting.name waiting.work answer knows.turn
     (sym (ap (λ (i : AskId). i.command) knows.id_is) ∙ ap (λ n. n + 1) (sym standing.count)) waiting.stage knows.shown in
     replied_kept config heard after world law from answer rest conn bytes node front connection waiting.tag (asked_for waiting.name waiting.work).awaited
-    knows.turn first same own e at reader waiting.stage comes
+    knows.turn (sym knows.home_is ∙ sym was.0) first same own e at reader waiting.stage comes
     (replied_stands (setting_of config) node (home_of config) law.backend conn (inputs_in (setting_of config) bytes) waiting.passed
     (begun bytes) waiting.request connection waiting.tag knows.turn (taken_from_link world from node) law.story waiting.parts standing.count
     standing.client waiting.lasts knows.later knows.turned waiting.answered knows.said_is without law.is_told waiting.last
@@ -202,18 +206,19 @@ who_is_told config heard after world law from answer rest conn node front connec
     (closed_waits bytes e gone waiting) =
     let knows = in_answer (home_of config) conn waiting.was waiting.tag waiting.name waiting.work (law.story.told conn) (law.story.talk.answers conn)
     (law.story.course.sessions conn) place from answer waiting.knows is in
-    dropped config heard after world law from answer rest conn bytes node front connection _ first same own e at gone knows.said_is (few_more _) without
+    dropped config heard after world law from answer rest conn bytes node front connection _
+    (sym knows.home_is ∙ sym (law.nodes.fronts node front at.at).0) first same own e at gone knows.said_is (few_more _) without
 
 -- the answer that comes is to a command which waits for it
 pub answer_keeps : (config : Config) (heard after : ℕ → Heard) (world : World) (law : KeepsLaw config heard world) (from to : List ℕ) (answer : BackAnswer)
     (rest : List LinkMsg) → on_link world.links from to ≡ Answer answer ∷ rest → ((c : ℕ) → after c ≡ heard c)
-    → KeepsOn config (told_of law.story) after (comes_to (taken_from_link world from to) from to (Answer answer) (front_at world to))
+    → KeepsOn config (told_of law.story) after (comes (taken_from_link world from to) to (From from (Answer answer)))
 answer_keeps config heard after world law from to answer rest first same =
     let conn : ℕ = (answer.id).conn in
     let tells = first_tells (setting_of config) (home_of config) conn world law.story (heard conn) (heard conn) from to (Answer answer) rest refl first refl
     (law.connections conn) in
     let there = in_an_answer tells.node from to answer tells.place tells.is_found in
-    subst (λ x. KeepsOn config (told_of law.story) after (comes_to (taken_from_link world from x) from x (Answer answer) (front_at world x))) there.0
+    subst (λ x. KeepsOn config (told_of law.story) after (comes (taken_from_link world from x) x (From from (Answer answer)))) there.0
     (who_is_told config heard after world law from answer rest conn tells.node tells.front tells.connection tells.place
     (ap (on_link world.links from) there.0 ∙ first) same refl tells.at there.1
     (subst (λ x. IsPlaced (of_connection conn) (without_first world.links from x) None) (sym there.0) tells.without) tells.who)
