@@ -126,13 +126,13 @@ nodes_commands home setting world [] have = have
 nodes_commands home setting world (node ∷ nodes) have =
     nodes_commands home setting (with_node home setting world node) nodes (node_commands home setting world node have)
 
+nobody_yet : (q : List ℕ) (front : Front) → as_front None ≡ Some front → HasCommands front 0
+unfolding as_front
+nobody_yet q front is = cc
+
 pub start_commands : (config : Config) → HaveCommands (start config) 0
 unfolding start
-start_commands config = nodes_commands _ _ _ config.nodes nothing_there
-  where
-    nothing_there : (q : List ℕ) (front : Front) → as_front None ≡ Some front → HasCommands front 0
-    unfolding as_front
-    nothing_there q front is = cc
+start_commands config = nodes_commands _ _ _ config.nodes nobody_yet
 
 nodes_steps : (home : List ℕ) (setting : Setting) (world : World) (nodes : List Node) → (with_nodes home setting world nodes).steps ≡ world.steps
 unfolding with_nodes
