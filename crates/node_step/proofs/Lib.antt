@@ -1,3 +1,3 @@
-pub mod Kinds
+pub mod NodeKinds
 pub mod Counts
 pub mod OwnOuts

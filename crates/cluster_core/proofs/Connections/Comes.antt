@@ -18,7 +18,7 @@ use Rattle.node_step.specs.declared.input.NodeInput.TheVariants.{Opened, Piece, 
 use Rattle.node_step.specs.declared.node.NodeState.{NodeState}
 use Rattle.node_step.specs.declared.node.NodeState.TheVariants as state
 use Rattle.node_step.specs.NodeStep.{Acted, front_acted, back_acted, as_front, as_back, front_takes, back_takes, back_by, back_input, takes as node_takes}
-use Rattle.node_step.proofs.Kinds.{front_is, back_is, front_no_back, back_no_front, a_front, a_back, no_back, no_front}
+use Rattle.node_step.proofs.NodeKinds.{front_is, back_is, front_no_back, back_no_front, a_front, a_back, no_back, no_front}
 use Rattle.cluster_core.specs.declared.world.World.{World}
 use Rattle.cluster_core.specs.World.{node_at, front_at, home_at, carry_all, with_state, acts, comes_to, comes}
 use Rattle.cluster_core.proofs.Connections.KeepsLaw.{LooksAlike, looks_same, same_put}

@@ -42,7 +42,7 @@ use Rattle.imap_talk.proofs.InputLaws.{requests-append}
 use Rattle.front_core.proofs.OneConnection.Readings.{FaultsLast, faults_after, inputs_in, inputs_with_more, reading_of, reading_with_more}
 use Rattle.node_step.specs.declared.input.NodeInput.TheVariants.{Piece}
 use Rattle.node_step.specs.declared.node.NodeState.TheVariants as state
-use Rattle.node_step.proofs.Kinds.{front_is}
+use Rattle.node_step.proofs.NodeKinds.{front_is}
 use Rattle.cluster_core.specs.declared.world.World.{World}
 use Rattle.imap_talk.specs.Heard.{Heard, nobody, elsewhere, client, frames_heard}
 use Rattle.cluster_core.specs.Heard.{hears}

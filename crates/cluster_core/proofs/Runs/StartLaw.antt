@@ -25,7 +25,7 @@ use Rattle.mur_model.proofs.HistoryGrows.{one_up_to}
 use Rattle.node_step.specs.declared.node.NodeState.{NodeState}
 use Rattle.node_step.specs.declared.node.NodeState.TheVariants as state
 use Rattle.node_step.specs.NodeStep.{as_back}
-use Rattle.node_step.proofs.Kinds.{front_is, back_is, back_no_front, a_back}
+use Rattle.node_step.proofs.NodeKinds.{front_is, back_is, back_no_front, a_back}
 use Rattle.cluster_core.specs.declared.world.World.{World}
 use Rattle.imap_talk.specs.Heard.{nobody, frames_heard}
 use Rattle.link_queue.specs.Links.{Links, on_link}
