@@ -1,5 +1,5 @@
 -- An answer that comes keeps the law: the frontend replies to its command, or drops it where its client closed the connection.
-use Rattle.std.proofs.Common.{◌≡◌, ◌≢◌, ℕ, ◌+◌, ◌≤◌, Bool, true, false, List, [], ◌∷◌, ◌++◌, length, inl}
+use Rattle.std.proofs.Common.{◌≡◌, ◌≢◌, ℕ, ◌+◌, ◌≤◌, Bool, true, false, List, [], ◌∷◌, ◌++◌, length, None, Some, inl, arith}
 use Rattle.std.proofs.Common.{inr, refl, sym, ◌∙◌, ap, subst}
 use Rattle.front_core.specs.declared.connection.Connection.{Connection}
 use Rattle.front_core.specs.declared.connection.Stage.TheVariants.{Asked}
