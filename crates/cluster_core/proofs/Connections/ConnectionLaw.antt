@@ -1,6 +1,6 @@
 -- What holds of a connection: what its client was told is a front of what the one store replied, and at most one command waits,
 -- in one place.
-use Rattle.std.proofs.Common.{◌≡◌, ◌≢◌, ℕ, true, false, nat_eq, List, [], ◌++◌, length, Option, Some, refl, ◌∙◌}
+use Rattle.std.proofs.Common.{◌≡◌, ◌≢◌, ℕ, true, false, nat_eq, List, [], ◌++◌, length, Option, None, Some, refl, ◌∙◌}
 use Rattle.std.proofs.Common.{arith}
 use Rattle.std.proofs.lemmas.Bool.Decides.{nat_tests}
 use Rattle.backend_core.specs.declared.backend.Backend.{Backend}

@@ -1,5 +1,5 @@
 -- An answer that comes keeps the law: the frontend replies to its command, or drops it where its client closed the connection.
-use Rattle.std.proofs.Common.{◌≡◌, ◌≢◌, ℕ, ◌+◌, ◌≤◌, Bool, true, false, List, [], ◌∷◌, ◌++◌, length, inl}
+use Rattle.std.proofs.Common.{◌≡◌, ◌≢◌, ℕ, ◌+◌, ◌≤◌, Bool, true, false, List, [], ◌∷◌, ◌++◌, length, None, Some, inl, arith}
 use Rattle.std.proofs.Common.{inr, refl, sym, ◌∙◌, ap, subst, nat_eq}
 use Rattle.std.specs.Cmp.Lexicographic.{pointwise}
 use Rattle.std.proofs.lemmas.Cmp.{nat_list_eq_equiv}
@@ -15,6 +15,7 @@ use Rattle.imap_wire.specs.Frames.{begun}
 use Rattle.link_msg.specs.declared.answer.BackAnswer.{BackAnswer}
 use Rattle.link_msg.specs.declared.message.LinkMsg.{LinkMsg}
 use Rattle.link_msg.specs.declared.message.LinkMsg.TheVariants.{Answer}
+use Rattle.mur_base.specs.declared.point.AskId.{AskId}
 use Rattle.mur_config.specs.declared.config.Config.{Config}
 use Rattle.imap_types.specs.declared.command.Tag.{Tag}
 use Rattle.imap_types.specs.declared.request.Answer.{Answer as AnswerOf}
