@@ -60,7 +60,7 @@ pub takes_counts : (it : NodeState) (input : NodeInput) (most : ℕ) → HasComm
 unfolding takes as_front
 takes_counts (node.Front front) input most has = front_counts front input most (its_own front most has)
 takes_counts (node.Back home) input most has = back_counts home input (most + bytes_of input)
-takes_counts (node.Master master) input most has next e = cc
+takes_counts (node.Master master) input most has = λ next e. (let no : None ≡ Some next = e in cc)
 
 front_room : (front : Front) (input : NodeInput) (most : ℕ) → HasCommands front most → most + bytes_of input < 2 ^ 64 → FrontHasRoom front input
 unfolding FrontHasRoom
