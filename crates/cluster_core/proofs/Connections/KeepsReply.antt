@@ -184,8 +184,8 @@ waiting_replied config heard after world law from answer rest conn bytes node fr
     standing.client waiting.lasts knows.later knows.turned waiting.answered knows.said_is without law.is_told waiting.last
     (law.requests conn ∙ ap (λ h. requests_of (setting_of config) (frames_heard h)) e))
 
-few_more : {T : Type 0} (item : T) → length (item ∷ []) ≤ 1
-few_more item = omega arith
+few_more : (reply : AnswerOf) → length (reply ∷ []) ≤ 1
+few_more reply = omega arith
 
 -- by whether its client has the connection open
 who_is_told : (config : Config) (heard after : ℕ → Heard) (world : World) (law : KeepsLaw config heard world) (from : List ℕ) (answer : BackAnswer)
@@ -201,7 +201,9 @@ who_is_told config heard after world law from answer rest conn node front connec
     (closed_waits bytes e gone waiting) =
     let knows = in_answer (home_of config) conn waiting.was waiting.tag waiting.name waiting.work (law.story.told conn) (law.story.talk.answers conn)
     (law.story.course.sessions conn) place from answer waiting.knows is in
-    dropped config heard after world law from answer rest conn bytes node front connection _ first same own e at gone knows.said_is (few_more _) without
+    let reply : AnswerOf = record { tag = waiting.tag; reply = (knows.turn).reply } in
+    dropped config heard after world law from answer rest conn bytes node front connection (reply ∷ []) first same own e at gone knows.said_is
+    (few_more reply) without
 
 -- the answer that comes is to a command which waits for it
 pub answer_keeps : (config : Config) (heard after : ℕ → Heard) (world : World) (law : KeepsLaw config heard world) (from to : List ℕ) (answer : BackAnswer)
