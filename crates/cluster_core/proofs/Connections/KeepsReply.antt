@@ -23,7 +23,6 @@ use Rattle.mur_model.specs.Act.{session_after}
 use Rattle.mur_model.proofs.HistoryGrows.{same_talk}
 use Rattle.mur_model.specs.Asking.{asked_for}
 use Rattle.mur_model.specs.declared.need.Awaited.{Awaited}
-use Rattle.imap_talk.specs.Inputs.{requests_in}
 use Rattle.front_core.specs.Reading.{Reading as Read}
 use Rattle.front_core.proofs.OneConnection.Readings.{inputs_in, reading_of}
 use Rattle.cluster_core.specs.declared.world.World.{World}
@@ -35,7 +34,7 @@ use Rattle.cluster_core.proofs.Connections.ConnectionLaw.{StandsOn}
 use Rattle.cluster_core.proofs.Connections.KeepsAnswer.{replied_turn, replied_stands, ended_turned, read_turned, fits, ended_drops_answer}
 use Rattle.cluster_core.proofs.Connections.KeepsData.{asked_reader, inputs_keep_reader}
 use Rattle.cluster_core.proofs.Connections.KeepsFront.{world_after, with_connection, front_keeps, is_at_after, standing_after, gone_after}
-use Rattle.cluster_core.proofs.Connections.FirstTells.{WhoWaits, TellsPlace, first_tells}
+use Rattle.cluster_core.proofs.Connections.FirstTells.{WhoWaits, first_tells}
 use Rattle.cluster_core.proofs.Connections.FirstTells.WhoWaits.{open_waits, closed_waits}
 use Rattle.cluster_core.proofs.Connections.KeepsLaw.{ConnectionIs, IsAt, IsGone, KeepsLaw, KeepsOn, is_not_closed}
 use Rattle.cluster_core.proofs.Connections.KeepsLaw.ConnectionIs.{is_open, is_closed}
@@ -43,7 +42,7 @@ use Rattle.front_core.proofs.OneConnection.Released.{released_count, released_en
 use Rattle.cluster_core.proofs.Connections.ConnectionLaw.{standing_released}
 use Rattle.imap_talk.proofs.RequestsOf.{requests_of}
 use Rattle.front_core.proofs.OneConnection.Places.{About, of_connection, nowhere, is_answered, in_an_answer, IsPlaced, PlacesStay, others_taken, Place}
-use Rattle.front_core.proofs.OneConnection.Standing.{HasBegunSo, LeftWaiting, Waiting}
+use Rattle.front_core.proofs.OneConnection.Standing.{HasBegunSo, Waiting}
 use Rattle.front_core.proofs.OneConnection.Standing.IsLeft.{nothing}
 use Rattle.front_core.proofs.OneConnection.Waits.{in_answer}
 
