@@ -26,7 +26,7 @@ use Rattle.imap_talk.proofs.InputLaws.{requests-append}
 use Rattle.front_core.proofs.OneConnection.Readings.{FaultsLast}
 use Rattle.link_msg.specs.declared.ask.FrontAsk.{FrontAsk}
 use Rattle.link_msg.specs.declared.how.How.{How}
-use Rattle.link_msg.specs.declared.how.How.TheVariants.{Here, Behind}
+use Rattle.link_msg.specs.declared.how.How.TheVariants.{Here}
 use Rattle.link_msg.specs.declared.message.LinkMsg.TheVariants.{Ask}
 use Rattle.link_msg.specs.declared.out.Out.{Out}
 use Rattle.link_msg.specs.declared.out.Out.TheVariants.{Client as to_client, Close, Link as to_node, Told as tell}

@@ -22,7 +22,6 @@ use Rattle.link_msg.specs.declared.message.LinkMsg.{LinkMsg}
 use Rattle.link_msg.specs.declared.message.LinkMsg.TheVariants.{Ask, Answer}
 use Rattle.mur_base.specs.Map.{value_at, with_value}
 use Rattle.mur_base.proofs.MapLaws.{names_apart, value_at-with_value, value_at-with_value-other}
-use Rattle.mur_base.specs.declared.point.AskId.{AskId}
 use Rattle.mur_config.specs.declared.config.Config.{Config}
 use Rattle.imap_types.specs.declared.command.Command.{Command}
 use Rattle.imap_types.specs.declared.command.Tag.{Tag}
@@ -33,7 +32,7 @@ use Rattle.mur_model.specs.declared.session.Turn.{Turn}
 use Rattle.mur_model.specs.declared.setting.Setting.{Setting}
 use Rattle.mur_model.specs.Act.{need_of, act_by, act_of, session_after, worked_at, MayAct}
 use Rattle.mur_model.specs.Answer.{Answered, answer_of, MayTake}
-use Rattle.mur_model.specs.History.{Course, numbered, carried_out, course_after}
+use Rattle.mur_model.specs.History.{Course, numbered, carried_out}
 use Rattle.mur_model.specs.Left.{store_after, kept}
 use Rattle.mur_model.proofs.HistoryGrows.{same_lists, item_more}
 use Rattle.mur_model.proofs.Numbered.{with_item, with_item-same, with_item-other}
@@ -288,7 +287,7 @@ ask_keeps config heard after world law from to ask rest first same =
     (ap (λ s. need_of (setting_of config) s it.it) (sym knows.session_is) ∙ it.need) in
     let answer : BackAnswer = record { id = ask.id; body = done.body } in
     let next : World = answered_world world from to done.backend ask done.body done.counts in
-    subst (λ w. KeepsOn config (told_of law.story) after w)
+    subst (λ w. KeepsOn config (told_of law.story) after w) {x = next}
     (sym (ask_comes (taken_from_link world from to) from to ask law.backend here ∙ done.world_is))
     (ask_kept config heard after world law from to it.tag it.name it.work ask rest done its_home first same
     (waits.moves next (having_said story.talk conn done.reply done.serial) done.course (is_answered to answer) (fronts_beside world to law.backend done.backend here) refl

@@ -1,5 +1,5 @@
 -- Bytes of a client keep the law.
-use Rattle.std.proofs.Common.{◌≡◌, ◌≢◌, ℕ, true, false, nat_eq, List, [], ◌∷◌, ◌++◌, length, Option, None, Some}
+use Rattle.std.proofs.Common.{◌≡◌, ◌≢◌, ℕ, true, false, nat_eq, List, [], ◌∷◌, ◌++◌, Option, None, Some}
 use Rattle.std.proofs.Common.{inl, inr, refl, sym, ◌∙◌, ap, subst}
 use Rattle.std.proofs.Common.{arith, append_assoc}
 use Rattle.std.specs.Option.{is_none}
@@ -16,7 +16,6 @@ use Rattle.front_core.specs.Ended.{released}
 use Rattle.front_core.specs.Front.{connection_at, having_read, bytes_in, front_bytes_at, bytes_by, still, with_turned}
 use Rattle.front_core.specs.Taken.{Turned, input_comes, inputs_come}
 use Rattle.front_core.proofs.FrameLaws.{reader_kept}
-use Rattle.imap_talk.specs.SessionEnds.{has_ended}
 use Rattle.imap_talk.specs.Transcript.{ends, replies_to}
 use Rattle.imap_talk.specs.Transcript.Stop.{silent}
 use Rattle.imap_talk.proofs.TranscriptGrows.{AreAnswered, end_told}

@@ -1,10 +1,9 @@
 -- A message that comes keeps the law, by its kind.
-use Rattle.std.proofs.Common.{◌≡◌, ℕ, List, [], ◌∷◌, None, Some, refl}
+use Rattle.std.proofs.Common.{◌≡◌, ℕ, List, [], ◌∷◌, None, refl}
 use Rattle.mur_config.specs.declared.config.Config.{Config}
 use Rattle.imap_talk.specs.Heard.{Heard}
 use Rattle.link_msg.specs.declared.message.LinkMsg.{LinkMsg}
 use Rattle.link_msg.specs.declared.message.LinkMsg.TheVariants.{Up, End, Line, Ask, Answer}
-use Rattle.link_queue.proofs.Placed.{Carried}
 use Rattle.link_queue.specs.Links.{Links, on_link}
 use Rattle.node_step.specs.declared.input.NodeInput.TheVariants.{From}
 use Rattle.cluster_core.specs.declared.world.World.{World}

@@ -15,9 +15,6 @@ use Rattle.imap_wire.specs.Frames.{begun}
 use Rattle.mur_base.specs.Map.{value_at, with_value}
 use Rattle.mur_base.proofs.MapLaws.{TellsApart, same_or_other, value_at-with_value, value_at-with_value-other}
 use Rattle.mur_config.specs.declared.config.Config.{Config}
-use Rattle.imap_types.specs.declared.request.Answer.{Answer}
-use Rattle.imap_types.specs.declared.request.Request.{Request}
-use Rattle.mur_model.specs.declared.session.Sess.{Sess}
 use Rattle.mur_model.specs.declared.session.Sess.TheVariants.{Off}
 use Rattle.mur_model.specs.declared.setting.Setting.{Setting}
 use Rattle.mur_model.specs.History.{Talk, TalkGoesOn}

@@ -25,7 +25,6 @@ use Rattle.mur_model.specs.Act.{session_after}
 use Rattle.mur_model.proofs.HistoryGrows.{same_talk}
 use Rattle.mur_model.specs.Asking.{asked_for}
 use Rattle.mur_model.specs.declared.need.Awaited.{Awaited}
-use Rattle.imap_talk.specs.Inputs.{requests_in}
 use Rattle.front_core.specs.Reading.{Reading as Read}
 use Rattle.front_core.proofs.OneConnection.Readings.{inputs_in, reading_of}
 use Rattle.node_step.specs.declared.input.NodeInput.TheVariants.{From}
@@ -39,7 +38,7 @@ use Rattle.cluster_core.proofs.Connections.ConnectionLaw.{StandsOn}
 use Rattle.cluster_core.proofs.Connections.KeepsAnswer.{replied_turn, replied_stands, ended_turned, read_turned, fits, ended_drops_answer}
 use Rattle.cluster_core.proofs.Connections.KeepsData.{asked_reader, inputs_keep_reader}
 use Rattle.cluster_core.proofs.Connections.KeepsFront.{world_after, with_connection, front_keeps, is_at_after, standing_after, gone_after}
-use Rattle.cluster_core.proofs.Connections.FirstTells.{WhoWaits, TellsPlace, first_tells}
+use Rattle.cluster_core.proofs.Connections.FirstTells.{WhoWaits, first_tells}
 use Rattle.cluster_core.proofs.Connections.FirstTells.WhoWaits.{open_waits, closed_waits}
 use Rattle.cluster_core.proofs.Connections.KeepsLaw.{ConnectionIs, IsAt, IsGone, KeepsLaw, KeepsOn, is_not_closed}
 use Rattle.cluster_core.proofs.Connections.KeepsLaw.ConnectionIs.{is_open, is_closed}
@@ -47,7 +46,7 @@ use Rattle.front_core.proofs.OneConnection.Released.{released_count, released_en
 use Rattle.cluster_core.proofs.Connections.ConnectionLaw.{standing_released}
 use Rattle.imap_talk.proofs.RequestsOf.{requests_of}
 use Rattle.front_core.proofs.OneConnection.Places.{About, of_connection, nowhere, is_answered, in_an_answer, IsPlaced, PlacesStay, others_taken, Place}
-use Rattle.front_core.proofs.OneConnection.Standing.{HasBegunSo, LeftWaiting, Waiting}
+use Rattle.front_core.proofs.OneConnection.Standing.{HasBegunSo, Waiting}
 use Rattle.front_core.proofs.OneConnection.Standing.IsLeft.{nothing}
 use Rattle.front_core.proofs.OneConnection.Waits.{in_answer}
 
@@ -190,8 +189,8 @@ waiting_replied config heard after world law from answer rest conn bytes node fr
     standing.client waiting.lasts knows.later knows.turned waiting.answered knows.said_is without law.is_told waiting.last
     (law.requests conn ∙ ap (λ h. requests_of (setting_of config) (frames_heard h)) e))
 
-few_more : {T : Type 0} (item : T) → length (item ∷ []) ≤ 1
-few_more item = omega arith
+few_more : (reply : AnswerOf) → length (reply ∷ []) ≤ 1
+few_more reply = omega arith
 
 -- by whether its client has the connection open
 who_is_told : (config : Config) (heard after : ℕ → Heard) (world : World) (law : KeepsLaw config heard world) (from : List ℕ) (answer : BackAnswer)
@@ -207,8 +206,9 @@ who_is_told config heard after world law from answer rest conn node front connec
     (closed_waits bytes e gone waiting) =
     let knows = in_answer (home_of config) conn waiting.was waiting.tag waiting.name waiting.work (law.story.told conn) (law.story.talk.answers conn)
     (law.story.course.sessions conn) place from answer waiting.knows is in
-    dropped config heard after world law from answer rest conn bytes node front connection _
-    (sym knows.home_is ∙ sym (law.nodes.fronts node front at.at).0) first same own e at gone knows.said_is (few_more _) without
+    let reply : AnswerOf = record { tag = waiting.tag; reply = (knows.turn).reply } in
+    dropped config heard after world law from answer rest conn bytes node front connection (reply ∷ [])
+    (sym knows.home_is ∙ sym (law.nodes.fronts node front at.at).0) first same own e at gone knows.said_is (few_more reply) without
 
 -- the answer that comes is to a command which waits for it
 pub answer_keeps : (config : Config) (heard after : ℕ → Heard) (world : World) (law : KeepsLaw config heard world) (from to : List ℕ) (answer : BackAnswer)

@@ -2,14 +2,13 @@
 use Rattle.std.proofs.Common.{◌≡◌, ℕ, ◌+◌, ◌≤◌, ◌<◌, Bool, true, false, ◌||◌, List, [], ◌∷◌, ◌++◌, length}
 use Rattle.std.proofs.Common.{Option, None, Some, refl, sym, ◌∙◌}
 use Rattle.std.proofs.Common.{ap, subst, arith, length-append}
-use Rattle.std.proofs.Common.{inl, inr, get_or}
+use Rattle.std.proofs.Common.{inl, inr}
 use Rattle.std.specs.Prelude.{AllPairs}
 use Rattle.std.specs.List.{list_any}
 use Rattle.std.proofs.Math.Logic.{⊎_elim}
 use Rattle.std.proofs.lemmas.Bool.Decides.{nat_tests}
 use Rattle.std.proofs.lemmas.List.{append-nil}
 use Rattle.front_core.specs.declared.connection.Connection.{Connection}
-use Rattle.front_core.specs.declared.front.Front.{Front}
 use Rattle.imap_talk.specs.Transcript.{transcript_of, all_told_till, ends}
 use Rattle.imap_wire.specs.Frames.{begun}
 use Rattle.mur_base.specs.declared.point.AskId.{AskId}
@@ -30,13 +29,13 @@ use Rattle.cluster_core.specs.History.{history_of}
 use Rattle.cluster_core.specs.Headline.OneStore.{AreEmpty, IsAnsweredThrough, first_course}
 use Rattle.cluster_core.specs.Headline.Points.{AreMadeBy, LosesTheNext}
 use Rattle.cluster_core.specs.Shown.{given_by, given_to}
-use Rattle.cluster_core.specs.World.{client_at, front_at}
+use Rattle.cluster_core.specs.World.{client_at}
 use Rattle.cluster_core.proofs.Connections.ConnectionLaw.{Story, told_of, client_with}
 use Rattle.front_core.proofs.OneConnection.Standing.{Knows, Stands, IsLeft, next_ask, next_id}
 use Rattle.front_core.proofs.OneConnection.Standing.Knows.{asked_so, answered_so}
 use Rattle.front_core.proofs.OneConnection.Standing.Stands.{reads as it_reads, waits, faulted, finished}
 use Rattle.front_core.proofs.OneConnection.Standing.IsLeft.{nothing, left_waiting}
-use Rattle.cluster_core.proofs.Connections.KeepsLaw.{ConnectionIs, IsAt}
+use Rattle.cluster_core.proofs.Connections.KeepsLaw.{ConnectionIs}
 use Rattle.cluster_core.proofs.Connections.KeepsLaw.ConnectionIs.{is_nobody, is_elsewhere, is_open, is_closed}
 use Rattle.cluster_core.proofs.Histories.Tally.{conn_of, command_of}
 use Rattle.cluster_core.proofs.Histories.Marks.{IsOf, Later, NoMore, Replied, all_points, counts_of, none_behind, pairs_of_points, marks_follow, answering_points, losing_points}

@@ -1,7 +1,7 @@
 -- What is known of a command that waits, by the message that it is in, and when its client closes the connection.
-use Rattle.std.proofs.Common.{◌≡◌, ℕ, ◌+◌, List, [], ◌∷◌, ◌++◌, length, Option, Some, refl, sym, ◌∙◌, ap, subst}
+use Rattle.std.proofs.Common.{◌≡◌, ℕ, ◌+◌, List, [], ◌∷◌, ◌++◌, length, Option, Some, sym, ◌∙◌, ap, subst}
 use Rattle.front_core.specs.declared.connection.Connection.{Connection}
-use Rattle.front_core.proofs.OneConnection.Places.{Place, nowhere, is_asked, is_answered}
+use Rattle.front_core.proofs.OneConnection.Places.{Place, is_asked, is_answered}
 use Rattle.front_core.proofs.OneConnection.Standing.{Knows, LeftWaiting, Waiting, next_ask, next_id}
 use Rattle.front_core.proofs.OneConnection.Standing.Knows.{asked_so, answered_so}
 use Rattle.imap_talk.specs.Inputs.{requests_in}
