@@ -23,6 +23,7 @@ use Rattle.schedule_text.specs.declared.event.Event.TheVariants.{Open, Data, Han
 use Rattle.cluster_core.specs.declared.world.Client.{Client as ClientOf}
 use Rattle.cluster_core.specs.declared.world.World.{World}
 use Rattle.cluster_core.specs.Flow.{run_steps}
+use Rattle.cluster_core.specs.Heard.{hears}
 use Rattle.imap_talk.specs.Heard.{Heard, nobody}
 use Rattle.link_queue.specs.Links.{Links, same_link, on_link, sent, without_first}
 use Rattle.link_queue.proofs.Wires.{same_names, on_link-sent, on_link-taken}
@@ -159,7 +160,7 @@ run_on : (config : Config) (heard : ℕ → Heard) (world : World) (steps : List
 unfolding run_steps
 run_on config heard world [] are law on = on
 run_on config heard world (event ∷ steps) are law on =
-    run_on config _ (steps_by world event) steps are (step_keeps config heard world event law).law
+    run_on config (λ conn. hears config conn (heard conn) event) (steps_by world event) steps are (step_keeps config heard world event law).law
     (takes_on (links_of config.nodes) (stepped world) event (have_homes config heard world are law) on)
 
 nothing_on : (pairs : List Link) (links : Links LinkMsg) → links ≡ [] → AreOn pairs links
