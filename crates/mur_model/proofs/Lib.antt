@@ -5,7 +5,10 @@ pub mod EachAnswer
 pub mod ClientLaw
 mod ViewLaw
 mod InPlaceLaw
+mod BesideLaw
 mod StoreLaw
+mod PartLaw
+mod StoredLaw
 mod FlagLaw
 mod ViewedLaw
 mod KeysLaw

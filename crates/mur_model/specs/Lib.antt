@@ -13,7 +13,7 @@ pub mod Answer
 pub mod History
 pub mod SameFlags
 pub mod News
-pub mod InPlace
+pub mod Beside
 pub mod ClientView
 pub mod Selected
 pub mod Needed
@@ -22,6 +22,7 @@ pub mod Noop
 pub mod Close
 pub mod Expunge
 pub mod StoreFlags
+pub mod StoredLines
 pub mod Select
 pub mod Keys
 pub mod Search

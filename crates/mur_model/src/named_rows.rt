@@ -1,6 +1,8 @@
 // The messages that a command of a selected session names (RFC 9051, 9: sequence-set; 6.4.9).
-ghost use Rattle.std.specs.Prelude.{◌≡◌, length, IfOk};
+ghost use Rattle.std.specs.Prelude.{◌≡◌, ◌-◌, ◌<◌, ◌≤◌, max, [], ◌∷◌, drop, length, take, IfOk};
 ghost use Rattle.std.specs.List.{zip};
+ghost use Rattle.std.specs.List.Sorted.{IsPartitionPoint};
+ghost use Rattle.mail_message.specs.RowOrder.{AreRising};
 ghost use Rattle.mail_message.specs.Sets.{set_at};
 ghost use Rattle.mur_model.specs.ClientView.{uids};
 ghost use Rattle.mur_model.specs.NamedRows.{has_number, has_numbers, has_all_numbers, last_uid, named_uids, names_messages, numbers_from, picked, uids_by};
@@ -44,9 +46,8 @@ pub fn names_messages(view: &View, by_uid: bool, set: &SetParts) -> bool
     by_uid || has_all_numbers(view.rows.len(), set)
 }
 
-/// The UIDs of the messages that a set names, in rising order, by their numbers or by their UIDs. The set is brought into order once;
-/// then time is linear in the rows.
-#[tactic(auto, unfolding(crate::specs::NamedRows::named_uids))]
+/// The UIDs of the messages that a set names, in rising order, by their numbers or by their UIDs. Those of a single part are neighbours,
+/// and no other row is looked at but for a binary search. A set of more parts is brought into order once; then time is linear in the rows.
 pub fn named_uids(
     alloc: Global,
     by_uid: bool,
@@ -55,7 +56,86 @@ pub fn named_uids(
 ) -> Result<Uids, Memory>
     ensures { IfOk result (λ uids. uids ≡ named_uids by_uid set.now rows.now) }
 {
-    let rows = rows.as_slice();
+    match set.as_slice() {
+        [part] => uids_of_part(alloc, by_uid, *part, rows.as_slice()),
+        _ => uids_of_set(alloc, by_uid, set, rows.as_slice()),
+    }
+}
+
+#[tactic(auto, unfolding(crate::specs::NamedRows::named_uids))]
+fn uids_of_part(alloc: Global, by_uid: bool, part: SetPart, rows: &[Row]) -> Result<Uids, Memory>
+    requires { AreRising rows.now }
+    ensures { IfOk result (λ uids. uids ≡ named_uids by_uid (part ∷ []) rows.now) }
+{
+    if by_uid {
+        uids_in_part(alloc, part.at(last_uid(rows)), rows)
+    } else {
+        numbered_in_part(alloc, part.at(number_of(rows.len())?), rows)
+    }
+}
+
+/// The UIDs that a part holds.
+#[tactic(auto, using(crate::proofs::PartLaw::no_uids))]
+fn uids_in_part(alloc: Global, part: SetPart, rows: &[Row]) -> Result<Uids, Memory>
+    requires { AreRising rows.now }
+    ensures { IfOk result (λ list. list ≡ uids_by (part ∷ []) (uids rows.now) rows.now) }
+{
+    match part.bounds() {
+        Some((least, greatest)) => {
+            let from = rows_below(rows, least);
+            let to = rows_until(rows, greatest);
+            uids_between(alloc, rows, from, to)
+        }
+        None => Ok(Uids::new(alloc)),
+    }
+}
+
+/// The UIDs of the rows whose numbers a part holds.
+#[tactic(auto, using(crate::proofs::PartLaw::no_numbers))]
+fn numbered_in_part(alloc: Global, part: SetPart, rows: &[Row]) -> Result<Uids, Memory>
+    ensures { IfOk result (λ list. list ≡ uids_by (part ∷ []) (numbers_from 1 rows.now) rows.now) }
+{
+    match part.bounds() {
+        Some((least, greatest)) => {
+            let from = (least.saturating_sub(1) as usize).min(rows.len());
+            let to = (greatest as usize).min(rows.len());
+            uids_between(alloc, rows, from, to)
+        }
+        None => Ok(Uids::new(alloc)),
+    }
+}
+
+/// The UIDs of neighbouring rows, of which so many stand before the first and so many up to the last.
+fn uids_between(alloc: Global, rows: &[Row], from: usize, to: usize) -> Result<Uids, Memory>
+    requires from { from ≤ length rows.now }
+    requires to { to ≤ length rows.now }
+    ensures { IfOk result (λ list. list ≡ uids (take (max from to - from) (drop from rows.now))) }
+{
+    uids_of(alloc, &rows[from..from.max(to)])
+}
+
+/// How many rows have a lower UID.
+fn rows_below(rows: &[Row], uid: u32) -> usize
+    requires { AreRising rows.now }
+    ensures within { result ≤ length rows.now }
+    ensures place { IsPartitionPoint (λ row. row.uid < uid) (λ row. uid ≤ row.uid) rows.now result }
+{
+    rows.partition_point(|row| row.uid < uid)
+}
+
+/// How many rows have a UID up to one.
+fn rows_until(rows: &[Row], uid: u32) -> usize
+    requires { AreRising rows.now }
+    ensures within { result ≤ length rows.now }
+    ensures place { IsPartitionPoint (λ row. row.uid ≤ uid) (λ row. uid < row.uid) rows.now result }
+{
+    rows.partition_point(|row| row.uid <= uid)
+}
+
+#[tactic(auto, unfolding(crate::specs::NamedRows::named_uids))]
+fn uids_of_set(alloc: Global, by_uid: bool, set: &SetParts, rows: &[Row]) -> Result<Uids, Memory>
+    ensures { IfOk result (λ uids. uids ≡ named_uids by_uid set.now rows.now) }
+{
     if by_uid {
         let numbers = uids_of(alloc, rows)?;
         uids_by(alloc, &set_at(alloc, last_uid(rows), set)?, &numbers, rows)

@@ -1,14 +1,15 @@
 // What a client is told of its view (RFC 9051, 7.4 and 7.5).
-ghost use Rattle.std.specs.Prelude.{◌≡◌, ◌++◌, ◌↔◌, IfOk, OnOk, IsTrue};
+ghost use Rattle.std.specs.Prelude.{◌≡◌, ◌≤◌, ◌++◌, ◌↔◌, length, IfOk, OnOk, IsTrue};
 ghost use Rattle.mail_message.specs.RowOrder.{AreRising};
 ghost use Rattle.mail_store.specs.Named.{set_of};
 ghost use Rattle.mur_model.specs.ClientView.{Known, Agrees, known_after_all, uids};
 ghost use Rattle.mur_model.specs.News.{is_among, news, told_of, expunge_lines, rows_there, rows_behind, is_above};
 ghost use Rattle.mur_model.specs.News.{fresh_rows, exists_lines, changed_lines, changed_line, flag_parts};
+ghost use Rattle.mur_model.specs.Beside.{same_until};
 ghost use Rattle.mur_model.specs.SameFlags.{is_same_flags};
 ghost use Rattle.std.specs.Option.{option_copied};
 
-use crate::in_place::{are_in_place, are_same_rows, told_in_place, told_unchanged};
+use crate::beside::{same_until, told_unchanged, told_walked, walk};
 use imap_types::{Parts, ReplyLine, ReplyLines};
 use mail_fetch::{flags_part, uid_part};
 use mail_message::{FlagSet, OrderedRows, Row, Rows};
@@ -25,9 +26,9 @@ pub struct Told {
 }
 
 /// The news of a view of a mailbox that has these rows now. Expunged messages are told where numbers may change; the flags of the rows
-/// with the UIDs that are told already stand in no line. Where no message of the view is gone, each of its rows is compared with one, and
-/// those of the mailbox become the view's without a copy; else time is linear in both lists of rows, but that each row of the view is
-/// looked up among those.
+/// with the UIDs that are told already stand in no line. One walk compares the view with the mailbox's rows, which become the view's without
+/// a copy; the set of the UIDs that are told is made where something has changed. Only where a message is gone that may not be told yet, each
+/// row is looked up and copied.
 pub fn news_of(
     alloc: Global,
     rows: &OrderedRows,
@@ -41,7 +42,7 @@ pub fn news_of(
     news_by(alloc, rows, now, expunges, told)
 }
 
-#[tactic(auto, using(crate::proofs::InPlaceLaw::same_rows))]
+#[tactic(auto, using(crate::proofs::BesideLaw::unchanged_news))]
 fn news_by(
     alloc: Global,
     rows: &OrderedRows,
@@ -51,30 +52,34 @@ fn news_by(
 ) -> Result<Told, Memory>
     ensures { IfOk result (λ it. it ≡ news rows.now now expunges (set_of told.now)) }
 {
-    if are_same_rows(rows.as_slice(), now.as_slice()) {
-        return told_unchanged(alloc, rows.len(), now);
+    let same = same_until(rows.as_slice(), now.as_slice());
+    if same == rows.len() {
+        return told_unchanged(alloc, same, now);
     }
-    news_beside(alloc, rows, now, expunges, &set_of(alloc, told)?)
+    news_from(alloc, rows, now, expunges, &set_of(alloc, told)?, same)
 }
 
-/// The news where something has changed.
-#[tactic(auto, using(crate::proofs::InPlaceLaw::in_place))]
-fn news_beside(
+/// The news where so many rows are the same first.
+#[tactic(auto, using(crate::proofs::BesideLaw::walked_news))]
+fn news_from(
     alloc: Global,
     rows: &OrderedRows,
     now: OrderedRows,
     expunges: bool,
     told: &BTreeSet<u32>,
+    same: usize,
 ) -> Result<Told, Memory>
+    requires is { same ≡ same_until rows.now now }
+    requires within { same ≤ length rows.now }
     ensures { IfOk result (λ it. it ≡ news rows.now now expunges told.now.keys) }
 {
-    if are_in_place(rows.as_slice(), now.as_slice()) {
-        return told_in_place(alloc, rows, now, told);
+    match walk(alloc, rows.as_slice(), now.as_slice(), expunges, told, same)? {
+        Some(walked) => told_walked(walked, now),
+        None => news_apart(alloc, rows, &now, expunges, told),
     }
-    news_apart(alloc, rows, &now, expunges, told)
 }
 
-/// The news where messages may be gone.
+/// The news by look-ups.
 #[tactic(auto, unfolding(crate::specs::News::news))]
 fn news_apart(
     alloc: Global,

@@ -49,7 +49,8 @@ pub fn with_news(
     })
 }
 
-fn put_all(lines: &mut ReplyLines, more: ReplyLines) -> Result<(), Memory>
+/// Puts lines behind others.
+pub fn put_all(lines: &mut ReplyLines, more: ReplyLines) -> Result<(), Memory>
     ensures { OnOk result (lines.new ≡ lines.old ++ more) }
 {
     for line in more.into_vec() {

@@ -1,17 +1,17 @@
 // STORE and UID STORE (RFC 9051, 6.4.6 and 6.4.9).
 ghost use Rattle.std.specs.Prelude.{◌≡◌, ◌≢◌, ◌++◌, IfOk, OnOk};
-ghost use Rattle.std.specs.Option.{option_copied};
 ghost use Rattle.mur_model.specs.Left.{IsLeft};
 ghost use Rattle.mur_model.specs.Selected.{rows_of};
 ghost use Rattle.mur_model.specs.StoreFlags.{store, store_at, store_told, store_refused};
-ghost use Rattle.mur_model.specs.StoreFlags.{store_name, stored_line, stored_lines, own_lines, some_gone, code_for};
+ghost use Rattle.mur_model.specs.StoreFlags.{store_name, stored_lines, own_lines, some_gone, code_for};
+ghost use Rattle.mur_model.specs.StoredLines.{placed_line, placed_lines};
 ghost use Rattle.mur_model.specs.Need.{begun_of};
 ghost use Rattle.mur_model.specs.Needed.{at_mailbox};
 ghost use Rattle.mur_model.specs.declared.work.ViewWork.TheVariants.{Store as store_work};
 
 use crate::named_rows::{named_uids, names_messages, uids_of};
 use crate::need::{Begun, at_view, no_such_number, read_only};
-use crate::news::{flag_parts, news_of};
+use crate::news::{flag_parts, news_of, number_of};
 use crate::selected::with_news;
 use crate::session::Turn;
 use crate::view::View;
@@ -162,7 +162,8 @@ fn put_own_lines(
     put_stored_lines(alloc, lines, it.by_uid, changes, rows)
 }
 
-/// Puts a line for each named message that is there.
+/// Puts a line for each named message that is there: each is looked up in the view.
+#[tactic(auto, using(crate::proofs::StoredLaw::lines_by_change))]
 fn put_stored_lines(
     alloc: Global,
     lines: &mut ReplyLines,
@@ -172,32 +173,45 @@ fn put_stored_lines(
 ) -> Result<(), Memory>
     ensures { OnOk result (lines.new ≡ lines.old ++ stored_lines by_uid changes.now 1 rows.now) }
 {
+    if rows.as_slice().is_empty() {
+        return Ok(());
+    }
+    put_placed_lines(alloc, lines, by_uid, rows, changes.as_slice())
+}
+
+/// Puts a line for each change of a message of the view.
+fn put_placed_lines(
+    alloc: Global,
+    lines: &mut ReplyLines,
+    by_uid: bool,
+    rows: &OrderedRows,
+    changes: &[Row],
+) -> Result<(), Memory>
+    ensures { OnOk result (lines.new ≡ lines.old ++ placed_lines by_uid 0 rows.now changes.now) }
+{
     let mut near = 0;
-    let mut number = 0u32;
-    for row in rows.as_slice() {
-        number = number.checked_add(1).ok_or(Memory)?;
-        put_stored_line(
-            alloc,
-            lines,
-            by_uid,
-            number,
-            changes.find(row.uid, &mut near),
-        )?;
+    for change in changes {
+        let place = rows.place(change.uid, &mut near);
+        put_placed_line(alloc, lines, by_uid, place, change)?;
     }
     Ok(())
 }
 
-fn put_stored_line(
+fn put_placed_line(
     alloc: Global,
     lines: &mut ReplyLines,
     by_uid: bool,
-    number: u32,
-    row: Option<&Row>,
+    place: Option<usize>,
+    change: &Row,
 ) -> Result<(), Memory>
-    ensures { OnOk result (lines.new ≡ lines.old ++ stored_line by_uid number (option_copied row.entry)) }
+    ensures { OnOk result (lines.new ≡ lines.old ++ placed_line by_uid place change.now) }
 {
-    match row {
-        Some(row) => lines.push(ReplyLine::Fetch(number, flag_parts(alloc, by_uid, row)?)),
+    match place {
+        Some(place) => {
+            let number = number_of(place.checked_add(1).ok_or(Memory)?)?;
+            let parts = flag_parts(alloc, by_uid, change)?;
+            lines.push(ReplyLine::Fetch(number, parts))
+        }
         None => Ok(()),
     }
 }

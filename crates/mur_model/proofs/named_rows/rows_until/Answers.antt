@@ -1,0 +1,15 @@
+use Rattle.std.proofs.Common.{leb, rules}
+use Rattle.std.proofs.lemmas.Bool.{leb-true, leb-false}
+use Rattle.std.proofs.lemmas.List.Sorted.{IsPartitionedBy-leb, IsPartitionPoint-from_clause}
+use Rattle.mail_message.specs.declared.message.Row.{Row}
+use Rattle.mur_model.proofs.PartLaw.{rising-from}
+use Rattle.mur_model.proofs.named_rows.rows_until.Goals as goal
+
+pub returns-clause-place : goal.returns-clause-place
+returns-clause-place c =
+    let place =
+    IsPartitionPoint-from_clause (λ (row : Row). leb row.uid c.args.uid) c.args.rows.now c.partition_point.result
+    c.partition_point.ensures.partitioned
+    (IsPartitionedBy-leb (λ (row : Row). row.uid) c.args.rows.now c.args.uid (rising-from c.args.rows.now c.requires))
+    (λ a r q k. search rules) in
+    (λ k d from below. leb-true _ _ (place.0 k d from below), λ k d from within. leb-false _ _ (place.1 k d from within))
