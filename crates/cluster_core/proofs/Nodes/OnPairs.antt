@@ -33,7 +33,7 @@ use Rattle.cluster_core.proofs.Connections.Keeps.{step_keeps}
 use Rattle.cluster_core.proofs.Connections.KeepsLaw.{KeepsLaw}
 use Rattle.cluster_core.proofs.Nodes.LinkedNodes.{start_keeps}
 use Rattle.cluster_core.proofs.Nodes.OneNodeLaw.{pairs_kept}
-use Rattle.cluster_core.proofs.Runs.StartLaw.{start_links}
+use Rattle.cluster_core.proofs.Runs.StartLaw.{nodes_pairs, start_links}
 
 -- two nodes are linked, in both directions
 abbrev Joined : List Link → List ℕ → List ℕ → Type 0
@@ -161,11 +161,6 @@ on_pairs config steps are =
     run_on config (λ conn. nobody) (start config) steps (start_keeps config are) (nothing_on (links_of config.nodes) (start config).links (start_links config))
 
 -- the pairs are those of the configuration
-
-nodes_pairs : (home : List ℕ) (setting : Setting) (world : World) (nodes : List Node) → (with_nodes home setting world nodes).pairs ≡ world.pairs
-unfolding with_nodes
-nodes_pairs home setting world [] = refl
-nodes_pairs home setting world (node ∷ nodes) = nodes_pairs home setting (with_node home setting world node) nodes
 
 start_pairs : (config : Config) → (start config).pairs ≡ links_of config.nodes
 unfolding start

@@ -100,10 +100,10 @@ unfolding with_nodes
 backends_stay home setting world [] = refl
 backends_stay home setting world (node ∷ nodes) = backends_stay home setting (with_node home setting world node) nodes
 
-pairs_stay : (home : List ℕ) (setting : Setting) (world : World) (nodes : List Node) → (with_nodes home setting world nodes).pairs ≡ world.pairs
+pub nodes_pairs : (home : List ℕ) (setting : Setting) (world : World) (nodes : List Node) → (with_nodes home setting world nodes).pairs ≡ world.pairs
 unfolding with_nodes
-pairs_stay home setting world [] = refl
-pairs_stay home setting world (node ∷ nodes) = pairs_stay home setting (with_node home setting world node) nodes
+nodes_pairs home setting world [] = refl
+nodes_pairs home setting world (node ∷ nodes) = nodes_pairs home setting (with_node home setting world node) nodes
 
 -- a backend that is there
 record HasBack (found : Option NodeState) : Type 0 where
@@ -310,7 +310,7 @@ start_keeps_for config are home_for =
         );
         frontends = frontends_at_start config are;
         backends = backends_stay (home_of config) (setting_of config) origin config.nodes;
-        pairs = pairs_stay (home_of config) (setting_of config) origin config.nodes;
+        pairs = nodes_pairs (home_of config) (setting_of config) origin config.nodes;
         home_for = home_for;
       };
       story = record { talk = record { requests = λ conn. []; answers = λ conn. []; serials = λ conn. [] }; told = λ conn. []; course = first_course };
