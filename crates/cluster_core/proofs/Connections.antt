@@ -1,4 +1,5 @@
 -- What holds of each connection, and each kind of event that keeps it.
+pub mod NameLaw
 pub mod ConnectionLaw
 pub mod FrameLaw
 pub mod KeepsLaw

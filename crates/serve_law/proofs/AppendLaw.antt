@@ -1,14 +1,13 @@
 -- An APPEND at the home is one at the store.
-use Rattle.std.proofs.Common.{◌≡◌, ℕ, List, [], ◌∷◌, Option, None, Some, refl, sym, subst}
+use Rattle.std.proofs.Common.{ℕ, List, [], ◌∷◌, Option, None, Some, refl, sym, subst}
 use Rattle.backend_core.specs.declared.backend.Backend.{Backend}
 use Rattle.backend_core.specs.declared.held.Held.{Held}
 use Rattle.backend_core.specs.Append.{append_step, append_within_limits}
 use Rattle.backend_core.specs.Served.{served, served_unless}
-use Rattle.backend_core.specs.HomeStep.{held_at, with_content}
+use Rattle.backend_core.specs.HomeStep.{with_content}
 use Rattle.mail_message.specs.declared.message.Message.{Message}
 use Rattle.mail_store.specs.Append.{appended, append_fault}
 use Rattle.mail_store.specs.declared.fault.StoreFault.{StoreFault}
-use Rattle.mur_base.specs.declared.home.Phase.TheVariants.{Open as open_here}
 use Rattle.mur_model.specs.Needed.{Append as append_work}
 use Rattle.mur_model.specs.declared.store.Store.{Store}
 use Rattle.mur_model.specs.Act.{MayWork}
@@ -18,15 +17,15 @@ use Rattle.session_core.specs.Append.{reply_to_append, reply_to_appended, reply_
 use Rattle.mur_model.specs.Asking.{asked_for}
 use Rattle.session_core.specs.Finish.{turn_of}
 use Rattle.backend_core.specs.OpenBox.{open_content}
-use Rattle.serve_law.proofs.HomeStore.{IsStoreOf, opened, changed_alike, kept_alike}
+use Rattle.serve_law.proofs.HomeStore.{IsAtHome, opened, changed_alike, kept_alike}
 use Rattle.serve_law.proofs.ServedAlike.{ServesAlike, apart, not_refused}
 
 abbrev pub AppendsAlike : Store → Backend → List ℕ → Message → Option Held → Type 0
 AppendsAlike store home name message found =
     ServesAlike store home name (append_work message) (append_on message (open_content found)) (append_step home name None (message ∷ []) found)
 
-fault_by : (store : Store) (home : Backend) (name : List ℕ) (message : Message) (held : Held) (fault : Option StoreFault) → held_at home name ≡ Some held
-    → held.phase ≡ open_here → IsStoreOf store home
+fault_by : (store : Store) (home : Backend) (name : List ℕ) (message : Message) (held : Held) (fault : Option StoreFault)
+    → IsAtHome store home name held
     → ServesAlike store home name (append_work message) (append_to_box message held.content fault)
     (record {
       home = with_content home name held (append_within_limits held.content (message ∷ []) fault).content;
@@ -35,45 +34,32 @@ fault_by : (store : Store) (home : Backend) (name : List ℕ) (message : Message
       counts = (append_within_limits held.content (message ∷ []) fault).response.counts;
     })
 unfolding append_within_limits append_to_box store_after asked_for turn_of reply_to_append reply_to_appended reply_to_uids MayWork
-fault_by store home name message held (Some fault) at e same = record {
+fault_by store home name message held (Some fault) is = record {
   free = tt;
   body = _;
   is_body = refl;
   shown = λ session own. refl;
-  still = kept_alike store home name held at same;
+  still = kept_alike store home name held is;
+  gives = λ given. given;
   unless = λ _. refl;
 }
-fault_by store home name message held None at e same = record {
+fault_by store home name message held None is = record {
   free = tt;
   body = _;
   is_body = refl;
   shown = λ session own. refl;
-  still = changed_alike store home name held (appended held.content (message ∷ [])) at e same;
+  still = changed_alike store home name held (appended held.content (message ∷ [])) is;
+  gives = λ given. given;
   unless = λ h. absurd (apart h);
 }
 
-there_by : (store : Store) (home : Backend) (name : List ℕ) (message : Message) (held : Held) → held_at home name ≡ Some held → held.phase ≡ open_here
-    → IsStoreOf store home
+pub appends_alike : (store : Store) (home : Backend) (name : List ℕ) (message : Message) (held : Held) → IsAtHome store home name held
     → AppendsAlike store home name message (Some held)
 unfolding append_step served served_unless append_on
-there_by store home name message held at e same =
+appends_alike store home name message held is =
     let step = append_within_limits held.content (message ∷ []) (append_fault held.content (message ∷ [])) in
     subst (λ r. ServesAlike store home name (append_work message) (append_on message (open_content (Some held))) (served_unless home name held step r))
-    (sym (not_refused held e))
+    (sym (not_refused held is.is_open))
     (subst (λ b. ServesAlike store home name (append_work message) (append_on message b) (served_unless home name held step None))
-    (sym (opened held held.content e))
-    (fault_by store home name message held (append_fault held.content (message ∷ [])) at e same))
-
-pub appends_alike : (store : Store) (home : Backend) (name : List ℕ) (message : Message) (found : Option Held) → held_at home name ≡ found
-    → IsStoreOf store home
-    → AppendsAlike store home name message found
-unfolding append_step served append_on store_after asked_for turn_of reply_to_append MayWork
-appends_alike store home name message None at same = record {
-  free = tt;
-  body = _;
-  is_body = refl;
-  shown = λ session own. refl;
-  still = same;
-  unless = λ _. refl;
-}
-appends_alike store home name message (Some held) at same = there_by store home name message held at (same.all_open name held at) same
+    (sym (opened held held.content is.is_open))
+    (fault_by store home name message held (append_fault held.content (message ∷ [])) is))

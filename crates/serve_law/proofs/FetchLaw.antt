@@ -1,12 +1,11 @@
 -- A FETCH at the home of its mailbox is one at the store, whether or not the rows of the mailbox tell all of it.
-use Rattle.std.proofs.Common.{◌≡◌, ℕ, Bool, true, false, ◌&&◌, List, Option, Some, refl}
+use Rattle.std.proofs.Common.{◌≡◌, ℕ, Bool, true, false, ◌&&◌, List, Some, refl, sym, subst}
 use Rattle.std.specs.List.{list_any}
 use Rattle.backend_core.specs.declared.backend.Backend.{Backend}
 use Rattle.backend_core.specs.declared.held.Held.{Held}
 use Rattle.backend_core.specs.HomeStep.{held_at, with_content}
 use Rattle.backend_core.specs.Look.{look_step}
 use Rattle.backend_core.specs.Read.{read_step, read_to, read_in}
-use Rattle.mur_base.specs.declared.home.Phase.TheVariants.{Open as open_here}
 use Rattle.mur_model.specs.declared.fetch.Fetching.{Fetching}
 use Rattle.mur_model.specs.declared.work.ViewWork.TheVariants.{Fetch}
 use Rattle.mur_model.specs.Needed.{Viewed as viewed_work}
@@ -21,7 +20,7 @@ use Rattle.mur_model.proofs.FetchRowsLaw.{rows_tell, rows_unseen}
 use Rattle.mur_model.specs.Asking.{fetch_op}
 use Rattle.session_core.specs.Viewed.{viewed_done, viewed_told, viewed_turn}
 use Rattle.backend_core.specs.OpenBox.{open_content}
-use Rattle.serve_law.proofs.HomeStore.{IsStoreOf, changed_alike, kept_alike}
+use Rattle.serve_law.proofs.HomeStore.{IsAtHome, changed_alike, kept_alike}
 use Rattle.serve_law.proofs.ServedAlike.{ServesAlike, apart}
 use Rattle.serve_law.proofs.ViewedAlike.{AnswersAlike, operates, LooksAlike, looks_alike, ViewsAlike}
 use Rattle.backend_core.specs.Step.{op_step}
@@ -29,18 +28,20 @@ use Rattle.imap_types.specs.declared.op.Op.{Op}
 use Rattle.mur_base.specs.declared.point.AskId.{AskId}
 
 reads_by : (store : Store) (home : Backend) (name : List ℕ) (view : View) (it : Fetching) (held : Held) (is : Bool) → sees view it ≡ is
-    → held_at home name ≡ Some held → held.phase ≡ open_here → IsStoreOf store home
+    → IsAtHome store home name held
     → AnswersAlike store home name view (Fetch it) (fetch_at view it held.content)
     (with_content home name held (read_to held.content it.uids is).content) (read_to held.content it.uids is).response
 unfolding viewed_turn viewed_told viewed_done store_after read_in
-reads_by store home name view it held true s at e same = rw s (record {
+reads_by store home name view it held true s at = rw s (record {
   shown = refl;
-  still = changed_alike store home name held (read_in held.content it.uids true) at e same;
+  still = changed_alike store home name held (read_in held.content it.uids true) at;
+  gives = λ given. given;
   unless = λ h. absurd (apart h);
 })
-reads_by store home name view it held false s at e same = rw s (record {
+reads_by store home name view it held false s at = rw s (record {
   shown = refl;
-  still = kept_alike store home name held at same;
+  still = kept_alike store home name held at;
+  gives = λ given. given;
   unless = λ _. refl;
 })
 
@@ -56,24 +57,27 @@ rows_look view it are box = (rows_told view it (rows_of box), fetched, refl)
     fetched : fetch_at view it box ≡ record { left = kept; turn = rows_told view it (rows_of box) }
     fetched = rw (unseen view.is_writable, rows_tell view it box are) refl
 
-read_views : (store : Store) (home : Backend) (name : List ℕ) (view : View) (it : Fetching) (found : Option Held)
-    → held_at home name ≡ found → IsStoreOf store home
-    → ViewsAlike store home name view (Fetch it) found (read_step home name (Some view.serial) it.uids (sees view it) found)
+read_views : (store : Store) (home : Backend) (name : List ℕ) (view : View) (it : Fetching) (held : Held)
+    → IsAtHome store home name held
+    → ViewsAlike store home name view (Fetch it) (Some held) (read_step home name (Some view.serial) it.uids (sees view it) (Some held))
 unfolding read_step work_there
-read_views store home name view it found at same =
-    operates store home name view (Fetch it) (λ content. read_to content it.uids (sees view it)) found at
-    (λ held there e. reads_by store home name view it held (sees view it) refl there e same) same
+read_views store home name view it held at =
+    operates store home name view (Fetch it) (λ content. read_to content it.uids (sees view it)) held
+    (reads_by store home name view it held (sees view it) refl at) at
 
-rows_views : (store : Store) (home : Backend) (name : List ℕ) (view : View) (it : Fetching) (found : Option Held) → asks_rows it ≡ true
-    → held_at home name ≡ found → IsStoreOf store home
-    → ViewsAlike store home name view (Fetch it) found (look_step home (Some view.serial) found)
-rows_views store home name view it found are at same = looks_alike store home name view (Fetch it) found at (rows_look view it are) same
+rows_views : (store : Store) (home : Backend) (name : List ℕ) (view : View) (it : Fetching) (held : Held) → asks_rows it ≡ true
+    → IsAtHome store home name held → ViewsAlike store home name view (Fetch it) (Some held) (look_step home (Some view.serial) (Some held))
+rows_views store home name view it held are at = looks_alike store home name view (Fetch it) held (rows_look view it are) at
 
 -- a FETCH, by whether the rows of the mailbox tell all of it
-pub fetches : (store : Store) (home : Backend) (id : AskId) (user name : List ℕ) (view : View) (it : Fetching) (op : Op) (rows : Bool)
-    → asks_rows it ≡ rows → IsStoreOf store home
+pub fetches : (store : Store) (home : Backend) (id : AskId) (user name : List ℕ) (view : View) (it : Fetching) (op : Op) (rows : Bool) (held : Held)
+    → asks_rows it ≡ rows → IsAtHome store home name held
     → ServesAlike store home name (viewed_work view (Fetch it)) (viewed_on view (Fetch it) (open_content (held_at home name)))
     (op_step home (record { id = id; user = user; name = name; selected = Some view.serial; op = op }) (fetch_op view it rows))
 unfolding op_step fetch_op
-fetches store home id user name view it op true are same = rows_views store home name view it (held_at home name) are refl same
-fetches store home id user name view it op false are same = read_views store home name view it (held_at home name) refl same
+fetches store home id user name view it op true held are is =
+    subst (λ f. ViewsAlike store home name view (Fetch it) f (look_step home (Some view.serial) f)) (sym is.at)
+    (rows_views store home name view it held are is)
+fetches store home id user name view it op false held are is =
+    subst (λ f. ViewsAlike store home name view (Fetch it) f (read_step home name (Some view.serial) it.uids (sees view it) f)) (sym is.at)
+    (read_views store home name view it held is)

@@ -11,4 +11,5 @@ pub mod ExpungeLaw
 pub mod StoreLaw
 pub mod FetchLaw
 pub mod SearchLaw
+pub mod MissingAlike
 pub mod ServeLaw

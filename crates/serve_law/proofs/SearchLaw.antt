@@ -1,5 +1,5 @@
 -- A SEARCH at the home of its mailbox is one at the store, whether or not the rows of the mailbox tell what is found.
-use Rattle.std.proofs.Common.{◌≡◌, ℕ, Bool, true, false, List, Option, Some, refl}
+use Rattle.std.proofs.Common.{◌≡◌, ℕ, Bool, true, false, List, Some, refl, sym, subst}
 use Rattle.backend_core.specs.declared.backend.Backend.{Backend}
 use Rattle.backend_core.specs.declared.held.Held.{Held}
 use Rattle.backend_core.specs.HomeStep.{held_at}
@@ -20,19 +20,20 @@ use Rattle.mur_model.proofs.SearchRowsLaw.{rows_search}
 use Rattle.mur_model.specs.Asking.{search_op}
 use Rattle.session_core.specs.Viewed.{viewed_done, viewed_told, viewed_turn}
 use Rattle.backend_core.specs.OpenBox.{open_content}
-use Rattle.serve_law.proofs.HomeStore.{IsStoreOf, kept_alike}
+use Rattle.serve_law.proofs.HomeStore.{IsAtHome, kept_alike}
 use Rattle.serve_law.proofs.ServedAlike.{ServesAlike}
 use Rattle.serve_law.proofs.ViewedAlike.{DoesAlike, operates, LooksAlike, looks_alike, ViewsAlike}
 use Rattle.backend_core.specs.Step.{op_step}
 use Rattle.imap_types.specs.declared.op.Op.{Op}
 use Rattle.mur_base.specs.declared.point.AskId.{AskId}
 
-does_search : (store : Store) (home : Backend) (name : List ℕ) (view : View) (it : Searching) → IsStoreOf store home
-    → DoesAlike store home name view (Search it) (λ content. read_to content (uids view.rows) false)
+does_search : (store : Store) (home : Backend) (name : List ℕ) (view : View) (it : Searching) (held : Held) → IsAtHome store home name held
+    → DoesAlike store home name view (Search it) (λ content. read_to content (uids view.rows) false) held
 unfolding viewed_turn viewed_told viewed_done store_after read_in work_there
-does_search store home name view it same held at e = record {
+does_search store home name view it held at = record {
   shown = refl;
-  still = kept_alike store home name held at same;
+  still = kept_alike store home name held at;
+  gives = λ given. given;
   unless = λ _. refl;
 }
 
@@ -44,24 +45,26 @@ search_look view it are box = (rows_searched view it (rows_of box), searched, re
     searched : search_at view it box ≡ record { left = kept; turn = rows_searched view it (rows_of box) }
     searched = rw (rows_search view it box are) refl
 
-search_views : (store : Store) (home : Backend) (name : List ℕ) (view : View) (it : Searching) (found : Option Held)
-    → held_at home name ≡ found → IsStoreOf store home
-    → ViewsAlike store home name view (Search it) found (read_step home name (Some view.serial) (uids view.rows) false found)
+search_views : (store : Store) (home : Backend) (name : List ℕ) (view : View) (it : Searching) (held : Held) → IsAtHome store home name held
+    → ViewsAlike store home name view (Search it) (Some held) (read_step home name (Some view.serial) (uids view.rows) false (Some held))
 unfolding read_step
-search_views store home name view it found at same =
-    operates store home name view (Search it) (λ content. read_to content (uids view.rows) false) found at
-    (does_search store home name view it same) same
+search_views store home name view it held at =
+    operates store home name view (Search it) (λ content. read_to content (uids view.rows) false) held (does_search store home name view it held at) at
 
-search_rows_views : (store : Store) (home : Backend) (name : List ℕ) (view : View) (it : Searching) (found : Option Held)
-    → are_keys_in_rows it.keys ≡ true → held_at home name ≡ found → IsStoreOf store home
-    → ViewsAlike store home name view (Search it) found (look_step home (Some view.serial) found)
-search_rows_views store home name view it found are at same = looks_alike store home name view (Search it) found at (search_look view it are) same
+search_rows_views : (store : Store) (home : Backend) (name : List ℕ) (view : View) (it : Searching) (held : Held)
+    → are_keys_in_rows it.keys ≡ true → IsAtHome store home name held
+    → ViewsAlike store home name view (Search it) (Some held) (look_step home (Some view.serial) (Some held))
+search_rows_views store home name view it held are at = looks_alike store home name view (Search it) held (search_look view it are) at
 
 -- a SEARCH, by whether the rows of the mailbox tell what is found
-pub searches : (store : Store) (home : Backend) (id : AskId) (user name : List ℕ) (view : View) (it : Searching) (op : Op) (rows : Bool)
-    → are_keys_in_rows it.keys ≡ rows → IsStoreOf store home
+pub searches : (store : Store) (home : Backend) (id : AskId) (user name : List ℕ) (view : View) (it : Searching) (op : Op) (rows : Bool) (held : Held)
+    → are_keys_in_rows it.keys ≡ rows → IsAtHome store home name held
     → ServesAlike store home name (viewed_work view (Search it)) (viewed_on view (Search it) (open_content (held_at home name)))
     (op_step home (record { id = id; user = user; name = name; selected = Some view.serial; op = op }) (search_op view rows))
 unfolding op_step search_op
-searches store home id user name view it op true are same = search_rows_views store home name view it (held_at home name) are refl same
-searches store home id user name view it op false are same = search_views store home name view it (held_at home name) refl same
+searches store home id user name view it op true held are is =
+    subst (λ f. ViewsAlike store home name view (Search it) f (look_step home (Some view.serial) f)) (sym is.at)
+    (search_rows_views store home name view it held are is)
+searches store home id user name view it op false held are is =
+    subst (λ f. ViewsAlike store home name view (Search it) f (read_step home name (Some view.serial) (uids view.rows) false f)) (sym is.at)
+    (search_views store home name view it held is)

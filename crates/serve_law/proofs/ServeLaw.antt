@@ -1,7 +1,12 @@
 -- What the home does with work at a mailbox is what the one store does with it. Each command has its law in a file of its own.
-use Rattle.std.proofs.Common.{ℕ, ◌+◌, List, refl, sym, subst}
+use Rattle.std.proofs.Common.{◌≡◌, ℕ, ◌+◌, List, None, Some, refl, sym, ◌∙◌, ap, subst}
 use Rattle.backend_core.specs.declared.backend.Backend.{Backend}
+use Rattle.backend_core.specs.Create.{create_step}
+use Rattle.backend_core.specs.Expunge.{expunge_step}
+use Rattle.backend_core.specs.Flags.{flags_step}
 use Rattle.backend_core.specs.HomeStep.{held_at}
+use Rattle.backend_core.specs.Look.{look_step}
+use Rattle.backend_core.specs.declared.held.Held.{Held}
 use Rattle.backend_core.specs.Step.{home_step, op_step}
 use Rattle.link_msg.specs.declared.ask.FrontAsk.{FrontAsk}
 use Rattle.mur_base.specs.declared.point.AskId.{AskId}
@@ -13,16 +18,20 @@ use Rattle.mur_model.specs.declared.view.View.{View}
 use Rattle.mur_model.specs.Act.{worked_at, work_on}
 use Rattle.mur_model.specs.FetchRows.{asks_rows}
 use Rattle.mur_model.specs.SearchRows.{are_keys_in_rows}
-use Rattle.mur_model.specs.Store.{is_spent}
+use Rattle.mur_model.specs.Create.{create_on}
+use Rattle.mur_model.specs.Store.{box_at, is_spent}
 use Rattle.mur_model.specs.Asking.{asked_for}
 use Rattle.mur_model.specs.Asking.{fetch_op, search_op, view_op}
 use Rattle.backend_core.specs.OpenBox.{open_content}
-use Rattle.serve_law.proofs.HomeStore.{IsStoreOf}
+use Rattle.serve_law.proofs.HomeStore.{AreSerialsTo, IsAtHome, IsStoreOf, opened}
+use Rattle.serve_law.proofs.HomeStore.IsStoreOf.{is_missing, is_there}
 use Rattle.serve_law.proofs.ServedAlike.{ServesAlike}
-use Rattle.serve_law.proofs.AppendLaw.{appends_alike}
-use Rattle.serve_law.proofs.CreateLaw.{creates_alike}
-use Rattle.serve_law.proofs.SelectLaw.{selects_alike}
-use Rattle.serve_law.proofs.StatusLaw.{looks_alike}
+use Rattle.serve_law.proofs.AppendLaw.{AppendsAlike, appends_alike}
+use Rattle.serve_law.proofs.CreateLaw.{CreatesAlike, creates_alike, creates_missing}
+use Rattle.serve_law.proofs.SelectLaw.{SelectsAlike, selects_alike}
+use Rattle.serve_law.proofs.StatusLaw.{LooksAlike, looks_alike}
+use Rattle.serve_law.proofs.MissingAlike.{misses_alike}
+use Rattle.serve_law.proofs.ViewedAlike.{ViewsAlike}
 use Rattle.serve_law.proofs.NewsLaw.{news_views}
 use Rattle.serve_law.proofs.CloseLaw.{close_views}
 use Rattle.serve_law.proofs.ExpungeLaw.{expunge_views}
@@ -41,29 +50,67 @@ OpensAlike store home id user name work =
     ServesAlike store home name work (work_on name work (home.last_serial + 1) (is_spent store.given) (open_content (held_at home name)))
     (home_step home (plain_ask id user name work))
 
-views : (store : Store) (home : Backend) (id : AskId) (user name : List ℕ) (view : View) (it : ViewWork) → IsStoreOf store home
+views : (store : Store) (home : Backend) (id : AskId) (user name : List ℕ) (view : View) (it : ViewWork) (held : Held) → IsAtHome store home name held
     → OpensAlike store home id user name (viewed_work view it)
 unfolding home_step op_step asked_for view_op work_on
-views store home id user name view (News why) same = news_views store home name view why (held_at home name) refl same
-views store home id user name view Close same = close_views store home name view (held_at home name) refl same
-views store home id user name view (Expunge only) same = expunge_views store home name view only (held_at home name) refl same
-views store home id user name view (store_work it) same = store_views store home name view it (held_at home name) refl same
-views store home id user name view (Fetch it) same = fetches store home id user name view it (fetch_op view it (asks_rows it)) (asks_rows it) refl same
-views store home id user name view (Search it) same =
-    searches store home id user name view it (search_op view (are_keys_in_rows it.keys)) (are_keys_in_rows it.keys) refl same
+views store home id user name view (News why) held is =
+    subst (λ f. ViewsAlike store home name view (News why) f (look_step home (Some view.serial) f)) (sym is.at) (news_views store home name view why held is)
+views store home id user name view Close held is =
+    subst (λ f. ViewsAlike store home name view Close f (expunge_step home name (Some view.serial) None f)) (sym is.at)
+    (close_views store home name view held is)
+views store home id user name view (Expunge only) held is =
+    subst (λ f. ViewsAlike store home name view (Expunge only) f (expunge_step home name (Some view.serial) only f)) (sym is.at)
+    (expunge_views store home name view only held is)
+views store home id user name view (store_work it) held is =
+    subst (λ f. ViewsAlike store home name view (store_work it) f (flags_step home name (Some view.serial) it.uids it.mode it.flags f)) (sym is.at)
+    (store_views store home name view it held is)
+views store home id user name view (Fetch it) held is =
+    fetches store home id user name view it (fetch_op view it (asks_rows it)) (asks_rows it) held refl is
+views store home id user name view (Search it) held is =
+    searches store home id user name view it (search_op view (are_keys_in_rows it.keys)) (are_keys_in_rows it.keys) held refl is
 
-opens_alike : (store : Store) (home : Backend) (id : AskId) (user name : List ℕ) (work : Work) → IsStoreOf store home
-    → OpensAlike store home id user name work
+-- a mailbox that is there
+there_alike : (store : Store) (home : Backend) (id : AskId) (user name : List ℕ) (work : Work) (held : Held) → IsAtHome store home name held
+    → AreSerialsTo store.given home.last_serial → OpensAlike store home id user name work
 unfolding home_step op_step asked_for work_on
-opens_alike store home id user name Make same = creates_alike store home name (held_at home name) refl same
-opens_alike store home id user name (append_work message) same = appends_alike store home name message (held_at home name) refl same
-opens_alike store home id user name (status_work shown items) same = looks_alike store home name shown items (held_at home name) refl same
-opens_alike store home id user name (select_work it) same = selects_alike store home name it (held_at home name) refl same
-opens_alike store home id user name (viewed_work view it) same = views store home id user name view it same
+there_alike store home id user name Make held is given =
+    subst (λ f. CreatesAlike store home name f) (sym is.at) (creates_alike store home name held is given)
+there_alike store home id user name (append_work message) held is given =
+    subst (λ f. AppendsAlike store home name message f) (sym is.at) (appends_alike store home name message held is)
+there_alike store home id user name (status_work shown items) held is given =
+    subst (λ f. LooksAlike store home name shown items f) (sym is.at) (looks_alike store home name shown items held is)
+there_alike store home id user name (select_work it) held is given =
+    subst (λ f. SelectsAlike store home name it f) (sym is.at) (selects_alike store home name it held is)
+there_alike store home id user name (viewed_work view it) held is given = views store home id user name view it held is
 
-pub serves_alike : (store : Store) (home : Backend) (id : AskId) (user name : List ℕ) (work : Work) → IsStoreOf store home
+abbrev MissedAlike : Store → Backend → AskId → List ℕ → List ℕ → Work → Type 0
+MissedAlike store home id user name work =
+    ServesAlike store home name work (work_on name work (home.last_serial + 1) (is_spent store.given) None) (home_step home (plain_ask id user name work))
+
+-- one that is missing
+missing_alike : (store : Store) (home : Backend) (id : AskId) (user name : List ℕ) (work : Work) → box_at store name ≡ None → held_at home name ≡ None
+    → AreSerialsTo store.given home.last_serial → MissedAlike store home id user name work
+unfolding home_step op_step asked_for work_on
+missing_alike store home id user name Make box none given =
+    subst (λ f. ServesAlike store home name Make (create_on name (home.last_serial + 1) (is_spent store.given) None) (create_step home name f)) (sym none)
+    (creates_missing store home name box none given)
+missing_alike store home id user name (append_work message) box none given =
+    misses_alike store home (plain_ask id user name (append_work message)) (append_work message) (is_spent store.given) (λ e. cc) refl box none
+missing_alike store home id user name (status_work shown items) box none given =
+    misses_alike store home (plain_ask id user name (status_work shown items)) (status_work shown items) (is_spent store.given) (λ e. cc) refl box none
+missing_alike store home id user name (select_work it) box none given =
+    misses_alike store home (plain_ask id user name (select_work it)) (select_work it) (is_spent store.given) (λ e. cc) refl box none
+missing_alike store home id user name (viewed_work view it) box none given =
+    misses_alike store home (plain_ask id user name (viewed_work view it)) (viewed_work view it) (is_spent store.given) (λ e. cc) refl box none
+
+pub serves_alike : (store : Store) (home : Backend) (id : AskId) (user name : List ℕ) (work : Work) → IsStoreOf store home name
+    → AreSerialsTo store.given home.last_serial
     → ServesAlike store home name work (worked_at store name work (home.last_serial + 1)) (home_step home (plain_ask id user name work))
-serves_alike store home id user name work same =
+serves_alike store home id user name work (is_missing box none) given =
     subst (λ b. ServesAlike store home name work (work_on name work (home.last_serial + 1) (is_spent store.given) b)
-    (home_step home (plain_ask id user name work))) (sym (same.boxes name))
-    (opens_alike store home id user name work same)
+    (home_step home (plain_ask id user name work))) (sym box)
+    (missing_alike store home id user name work box none given)
+serves_alike store home id user name work (is_there held is) given =
+    subst (λ b. ServesAlike store home name work (work_on name work (home.last_serial + 1) (is_spent store.given) b)
+    (home_step home (plain_ask id user name work))) (ap open_content is.at ∙ opened held held.content is.is_open ∙ sym is.box)
+    (there_alike store home id user name work held is given)

@@ -19,7 +19,7 @@ use Rattle.mail_message.specs.Boxes.{snapshot_of}
 use Rattle.backend_core.specs.Look.{look_step, look_at, look_unless}
 use Rattle.backend_core.specs.Response.{done}
 use Rattle.link_msg.specs.declared.outcome.Outcome.TheVariants.{None as nothing}
-use Rattle.serve_law.proofs.HomeStore.{IsStoreOf}
+use Rattle.serve_law.proofs.HomeStore.{AreSerialsTo, IsStoreOf}
 
 pub apart : Always ≡ IfAnswered → ⊥
 apart h = cc
@@ -30,7 +30,8 @@ pub record ServesAlike (store : Store) (home : Backend) (name : List ℕ) (work 
   pub body : AnswerBody
   pub is_body : step.body ≡ Some body
   pub shown : (session : Sess) → IsOfWork session work → turn_of session (asked_for name work).awaited body ≡ Some worked.turn
-  pub still : IsStoreOf (store_after store name worked.left) step.home
+  pub still : IsStoreOf (store_after store name worked.left) step.home name
+  pub gives : AreSerialsTo store.given home.last_serial → AreSerialsTo (store_after store name worked.left).given (step.home).last_serial
   pub unless : step.counts ≡ IfAnswered → worked.left ≡ kept
 
 -- a home serves a mailbox that is open to a session without one selected

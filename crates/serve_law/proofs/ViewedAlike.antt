@@ -4,10 +4,10 @@ use Rattle.std.proofs.lemmas.Bool.Decides.{nat_tests}
 use Rattle.backend_core.specs.declared.backend.Backend.{Backend}
 use Rattle.backend_core.specs.declared.held.Held.{Held}
 use Rattle.backend_core.specs.declared.response.Response.{Response}
-use Rattle.backend_core.specs.HomeStep.{HomeStep, BoxStep, held_at, with_content, answers}
+use Rattle.backend_core.specs.HomeStep.{HomeStep, BoxStep, with_content, answers}
 use Rattle.backend_core.specs.Look.{look_step, look_at, look_unless}
 use Rattle.backend_core.specs.Refusal.{refusal, refusal_in, is_other}
-use Rattle.backend_core.specs.Response.{done, not_now, no_snapshot}
+use Rattle.backend_core.specs.Response.{done, no_snapshot}
 use Rattle.backend_core.specs.Served.{served, served_unless}
 use Rattle.link_msg.specs.declared.counts.Counts.TheVariants.{IfAnswered}
 use Rattle.link_msg.specs.declared.outcome.Outcome.TheVariants.{None as nothing, Gone as gone_there}
@@ -27,7 +27,8 @@ use Rattle.mur_model.proofs.OwnView.{IsOfWork}
 use Rattle.session_core.specs.Finish.{turn_of}
 use Rattle.session_core.specs.Viewed.{viewed_done, viewed_in, viewed_told, viewed_turn}
 use Rattle.backend_core.specs.OpenBox.{open_content}
-use Rattle.serve_law.proofs.HomeStore.{IsStoreOf, opened}
+use Rattle.serve_law.proofs.HomeStore.{AreSerialsTo, IsAtHome, IsStoreOf, opened}
+use Rattle.serve_law.proofs.HomeStore.IsStoreOf.{is_there}
 use Rattle.serve_law.proofs.ServedAlike.{ServesAlike}
 
 -- ---- what is answered, and what is left
@@ -36,7 +37,8 @@ use Rattle.serve_law.proofs.ServedAlike.{ServesAlike}
 pub record AnswersAlike (store : Store) (home : Backend) (name : List ℕ) (view : View) (it : ViewWork) (worked : Worked) (behind : Backend) (response : Response)
     : Type 0 where
   pub shown : viewed_turn view it response.body ≡ Some worked.turn
-  pub still : IsStoreOf (store_after store name worked.left) behind
+  pub still : IsStoreOf (store_after store name worked.left) behind name
+  pub gives : AreSerialsTo store.given home.last_serial → AreSerialsTo (store_after store name worked.left).given behind.last_serial
   pub unless : response.counts ≡ IfAnswered → worked.left ≡ kept
 
 serves_as : (store : Store) (home : Backend) (name : List ℕ) (view : View) (it : ViewWork) (worked : Worked) (behind : Backend) (response : Response)
@@ -49,27 +51,21 @@ serves_as store home name view it worked behind response same = record {
   is_body = refl;
   shown = λ session own. ap (λ s. viewed_in s it response.body) own ∙ same.shown;
   still = same.still;
+  gives = same.gives;
   unless = same.unless;
 }
-
--- the home hasn't the mailbox
-missing : (store : Store) (home : Backend) (name : List ℕ) (view : View) (it : ViewWork) → IsStoreOf store home
-    → ServesAlike store home name (viewed_work view it) found_gone (answers home not_now)
-unfolding viewed_turn store_after
-missing store home name view it same =
-    serves_as store home name view it found_gone home not_now (record { shown = refl; still = same; unless = λ _. refl })
 
 tells_gone : (view : View) (it : ViewWork) → viewed_turn view it (done gone_there no_snapshot).body ≡ Some gone
 unfolding viewed_turn viewed_told
 tells_gone view it = refl
 
 -- the home has another mailbox of the name
-another : (store : Store) (home : Backend) (name : List ℕ) (view : View) (it : ViewWork) → IsStoreOf store home
+another : (store : Store) (home : Backend) (name : List ℕ) (view : View) (it : ViewWork) (held : Held) → IsAtHome store home name held
     → ServesAlike store home name (viewed_work view it) found_gone (answers home (done gone_there no_snapshot))
 unfolding store_after
-another store home name view it same =
+another store home name view it held is =
     serves_as store home name view it found_gone home (done gone_there no_snapshot)
-    (record { shown = tells_gone view it; still = same; unless = λ _. refl })
+    (record { shown = tells_gone view it; still = is_there held is; gives = λ given. given; unless = λ _. refl })
 
 -- ---- by the UIDVALIDITY
 
@@ -91,75 +87,72 @@ worked_by view it box is s = rw s refl
 at_serial : (store : Store) (home : Backend) (name : List ℕ) (view : View) (it : ViewWork) (held : Held)
     (step : Option Response → HomeStep) (is : Bool)
     → ((response : Response) → step (Some response) ≡ answers home response)
-    → ServesAlike store home name (viewed_work view it) (work_there view it held.content) (step None) → IsStoreOf store home
+    → ServesAlike store home name (viewed_work view it) (work_there view it held.content) (step None) → IsAtHome store home name held
     → ServesAlike store home name (viewed_work view it) (if is then work_there view it held.content else found_gone) (step (refusal_in open_here (not is)))
 unfolding refusal_in
-at_serial store home name view it held step true refuses does same = does
-at_serial store home name view it held step false refuses does same =
+at_serial store home name view it held step true refuses does at = does
+at_serial store home name view it held step false refuses does at =
     subst (λ s. ServesAlike store home name (viewed_work view it) found_gone s) (sym (refuses (done gone_there no_snapshot)))
-    (another store home name view it same)
+    (another store home name view it held at)
 
 -- the mailbox is open
 at_open : (store : Store) (home : Backend) (name : List ℕ) (view : View) (it : ViewWork) (held : Held)
-    (step : Option Response → HomeStep) → held.phase ≡ open_here
+    (step : Option Response → HomeStep)
     → ((response : Response) → step (Some response) ≡ answers home response)
-    → ServesAlike store home name (viewed_work view it) (work_there view it held.content) (step None) → IsStoreOf store home
+    → ServesAlike store home name (viewed_work view it) (work_there view it held.content) (step None) → IsAtHome store home name held
     → ServesAlike store home name (viewed_work view it) (viewed_on view it (open_content (Some held))) (step (refusal (Some view.serial) held))
-at_open store home name view it held step e refuses does same =
+at_open store home name view it held step refuses does at =
     let is : Bool = nat_eq held.content.serial view.serial in
-    subst (λ b. ServesAlike store home name (viewed_work view it) (viewed_on view it b) (step (refusal (Some view.serial) held))) (sym (opened held held.content e))
+    subst (λ b. ServesAlike store home name (viewed_work view it) (viewed_on view it b) (step (refusal (Some view.serial) held))) (sym (opened held held.content at.is_open))
     (subst (λ w. ServesAlike store home name (viewed_work view it) w (step (refusal (Some view.serial) held)))
     (sym (worked_by view it held.content is refl))
     (subst (λ r. ServesAlike store home name (viewed_work view it) (if is then work_there view it held.content else found_gone) (step r))
-    (sym (refused_by held view.serial is e (turned held.content.serial view.serial is refl)))
-    (at_serial store home name view it held step is refuses does same)))
+    (sym (refused_by held view.serial is at.is_open (turned held.content.serial view.serial is refl)))
+    (at_serial store home name view it held step is refuses does at)))
 
 -- ---- an operation on its messages
 
-abbrev pub DoesAlike : Store → Backend → List ℕ → View → ViewWork → (Content → BoxStep) → Type 0
-DoesAlike store home name view it operation =
-    (held : Held) → held_at home name ≡ Some held → held.phase ≡ open_here
-    → AnswersAlike store home name view it (work_there view it held.content) (with_content home name held (operation held.content).content)
+abbrev pub DoesAlike : Store → Backend → List ℕ → View → ViewWork → (Content → BoxStep) → Held → Type 0
+DoesAlike store home name view it operation held =
+    AnswersAlike store home name view it (work_there view it held.content) (with_content home name held (operation held.content).content)
     (operation held.content).response
 
-pub operates : (store : Store) (home : Backend) (name : List ℕ) (view : View) (it : ViewWork) (operation : Content → BoxStep)
-    (found : Option Held) → held_at home name ≡ found → DoesAlike store home name view it operation → IsStoreOf store home
-    → ServesAlike store home name (viewed_work view it) (viewed_on view it (open_content found)) (served home name (Some view.serial) operation found)
-unfolding served viewed_on served_unless
-operates store home name view it operation None at does same = missing store home name view it same
-operates store home name view it operation (Some held) at does same =
-    let e : held.phase ≡ open_here = same.all_open name held at in
-    at_open store home name view it held (λ r. served_unless home name held (operation held.content) r) e (λ _. refl)
+pub operates : (store : Store) (home : Backend) (name : List ℕ) (view : View) (it : ViewWork) (operation : Content → BoxStep) (held : Held)
+    → DoesAlike store home name view it operation held → IsAtHome store home name held
+    → ServesAlike store home name (viewed_work view it) (viewed_on view it (open_content (Some held)))
+    (served home name (Some view.serial) operation (Some held))
+unfolding served served_unless
+operates store home name view it operation held does at =
+    at_open store home name view it held (λ r. served_unless home name held (operation held.content) r) (λ _. refl)
     (serves_as store home name view it (work_there view it held.content) (with_content home name held (operation held.content).content)
-    (operation held.content).response (does held at e)) same
+    (operation held.content).response does) at
 
 -- ---- a look
 
 -- what is told of the rows of a mailbox that stays as it is
 looks : (store : Store) (home : Backend) (name : List ℕ) (view : View) (it : ViewWork) (held : Held) (turn : Turn)
     → work_there view it held.content ≡ record { left = kept; turn = turn }
-    → viewed_done view it nothing (snapshot_of held.content) ≡ Some turn → IsStoreOf store home
+    → viewed_done view it nothing (snapshot_of held.content) ≡ Some turn → IsAtHome store home name held
     → ServesAlike store home name (viewed_work view it) (work_there view it held.content) (answers home (done nothing (snapshot_of held.content)))
 unfolding viewed_turn viewed_told store_after
-looks store home name view it held turn is shown same =
+looks store home name view it held turn is shown at =
     subst (λ w. ServesAlike store home name (viewed_work view it) w (answers home (done nothing (snapshot_of held.content)))) (sym is)
     (serves_as store home name view it (record { left = kept; turn = turn }) home (done nothing (snapshot_of held.content))
-    (record { shown = shown; still = same; unless = λ _. refl }))
+    (record { shown = shown; still = is_there held at; gives = λ given. given; unless = λ _. refl }))
 
 abbrev pub LooksAlike : View → ViewWork → Type 0
 LooksAlike view it =
     (box : Content)
     → (turn : Turn) × (work_there view it box ≡ record { left = kept; turn = turn }) × (viewed_done view it nothing (snapshot_of box) ≡ Some turn)
 
-pub looks_alike : (store : Store) (home : Backend) (name : List ℕ) (view : View) (it : ViewWork) (found : Option Held) → held_at home name ≡ found
-    → LooksAlike view it → IsStoreOf store home
-    → ServesAlike store home name (viewed_work view it) (viewed_on view it (open_content found)) (look_step home (Some view.serial) found)
-unfolding look_step look_at look_unless viewed_on
-looks_alike store home name view it None at alike same = missing store home name view it same
-looks_alike store home name view it (Some held) at alike same =
+pub looks_alike : (store : Store) (home : Backend) (name : List ℕ) (view : View) (it : ViewWork) (held : Held)
+    → LooksAlike view it → IsAtHome store home name held
+    → ServesAlike store home name (viewed_work view it) (viewed_on view it (open_content (Some held))) (look_step home (Some view.serial) (Some held))
+unfolding look_step look_at look_unless
+looks_alike store home name view it held alike at =
     let shown = alike held.content in
-    at_open store home name view it held (λ r. answers home (look_unless held.content r)) (same.all_open name held at) (λ _. refl)
-    (looks store home name view it held shown.0 shown.1 shown.2 same) same
+    at_open store home name view it held (λ r. answers home (look_unless held.content r)) (λ _. refl)
+    (looks store home name view it held shown.0 shown.1 shown.2 at) at
 
 abbrev pub ViewsAlike : Store → Backend → List ℕ → View → ViewWork → Option Held → HomeStep → Type 0
 ViewsAlike store home name view it found step = ServesAlike store home name (viewed_work view it) (viewed_on view it (open_content found)) step

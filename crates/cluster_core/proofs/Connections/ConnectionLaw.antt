@@ -3,7 +3,6 @@
 use Rattle.std.proofs.Common.{◌≡◌, ◌≢◌, ℕ, true, false, nat_eq, List, [], ◌++◌, length, Option, None, Some, refl, ◌∙◌}
 use Rattle.std.proofs.Common.{arith}
 use Rattle.std.proofs.lemmas.Bool.Decides.{nat_tests}
-use Rattle.backend_core.specs.declared.backend.Backend.{Backend}
 use Rattle.front_core.specs.declared.connection.Connection.{Connection}
 use Rattle.front_core.specs.declared.connection.Stage.TheVariants.{Reading}
 use Rattle.imap_reply.specs.Greeting.{greeting}
@@ -114,21 +113,22 @@ pub record IsStanding (setting : Setting) (front home : List ℕ) (conn : ℕ) (
   pub stands : Stands setting home conn inputs held connection (story.told conn) (story.talk.answers conn) (story.course.sessions conn) place
 
 -- a world and a story that a step of one connection made of another
-pub record IsMade (setting : Setting) (backend : Backend) (conn : ℕ) (before : World) (told : Story) (world : World) (story : Story) : Type 0 where
+pub record IsMade (setting : Setting) (conn : ℕ) (before : World) (told : Story) (world : World) (story : Story) : Type 0 where
   pub others : KeepsOthers conn before world
   pub goes_on : GoesOnAt conn told story
-  pub is_told : IsTold setting world.steps world.marks backend story.talk story.told story.course
+  pub store : story.course.store ≡ told.course.store
+  pub is_told : IsTold setting world.steps world.marks story.talk story.told story.course
 
-pub record ReadsOn (setting : Setting) (front home : List ℕ) (backend : Backend) (conn : ℕ) (inputs : List Input) (connection : Connection) (before : World)
+pub record ReadsOn (setting : Setting) (front home : List ℕ) (conn : ℕ) (inputs : List Input) (connection : Connection) (before : World)
     (told : Story) (world : World) : Type 0 where
   pub story : Story
-  pub made : IsMade setting backend conn before told world story
+  pub made : IsMade setting conn before told world story
   pub reading : IsReading front conn inputs connection world story
 
-pub record StandsOn (setting : Setting) (front home : List ℕ) (backend : Backend) (conn : ℕ) (inputs : List Input) (held : Option (List ℕ))
+pub record StandsOn (setting : Setting) (front home : List ℕ) (conn : ℕ) (inputs : List Input) (held : Option (List ℕ))
     (connection : Connection) (before : World) (told : Story) (world : World) : Type 0 where
   pub story : Story
-  pub made : IsMade setting backend conn before told world story
+  pub made : IsMade setting conn before told world story
   pub standing : IsStanding setting front home conn inputs held connection world story
 
 pub session_at : (sessions : ℕ → Sess) (conn : ℕ) (session : Sess) → with_session sessions conn session conn ≡ session

@@ -4,7 +4,6 @@ use Rattle.std.proofs.Common.{◌≡◌, ℕ, ◌+◌, List, [], ◌∷◌, ◌+
 use Rattle.std.proofs.Common.{true, false}
 use Rattle.std.specs.Ordering.{nat_cmp}
 use Rattle.std.proofs.lemmas.List.{append-nil}
-use Rattle.backend_core.specs.declared.backend.Backend.{Backend}
 use Rattle.front_core.specs.declared.connection.Connection.{Connection}
 use Rattle.front_core.specs.declared.connection.Stage.TheVariants.{Reading, Asked, Ended}
 use Rattle.front_core.specs.Taken.{Turned, answers_now, answers_last, asks, ask_with, input_in, comes_at, input_comes, inputs_come, behind_outs}
@@ -62,7 +61,6 @@ use Rattle.front_core.proofs.OneConnection.FrontAnswers.{IsTaken, request_taken}
 use Rattle.front_core.proofs.OneConnection.FrontAnswers.IsTaken.{here, finishes, asked}
 use Rattle.imap_talk.proofs.RequestsOf.{answered_lengths, next_request, replies_stop}
 use Rattle.front_core.proofs.OneConnection.LastAnswer.{all_go_on}
-use Rattle.serve_law.proofs.HomeStore.{IsStoreOf}
 use Rattle.cluster_core.specs.declared.world.MarkKind.TheVariants.{Home, Told}
 use Rattle.link_msg.specs.declared.counts.Counts.{Counts}
 use Rattle.cluster_core.proofs.Histories.Tally.{acts}
@@ -156,18 +154,18 @@ not_a_home : {how : How} {counts : Counts} → Told how ≡ Home counts → ⊥
 not_a_home h = cc
 
 -- one answer more is that of the one store
-said_made : (setting : Setting) (front home : List ℕ) (backend : Backend) (conn : ℕ) (inputs : List Input) (connection : Connection) (before : World)
+said_made : (setting : Setting) (front home : List ℕ) (conn : ℕ) (inputs : List Input) (connection : Connection) (before : World)
     (told : Story) (world : World)
     (request : Request) (tag : Tag) (reply : Reply) (session : Sess) (text : List ℕ)
-    (was : ReadsOn setting front home backend conn inputs connection before told world)
+    (was : ReadsOn setting front home conn inputs connection before told world)
     → numbered (was.story.talk.requests conn) (length (was.story.told conn) + 1) ≡ Some request
     → ((store : Store) → answer_of setting store
     (was.story.course.sessions conn) request 0 ≡ record { store = store; session = session; answer = record { tag = tag; reply = reply } })
     → ((store : Store) → MayTake setting store (was.story.course.sessions conn) request 0)
-    → IsMade setting backend conn before told
+    → IsMade setting conn before told
     (marked_world (given_world world conn (client_with front inputs (was.story.told conn)) text) (record { conn = conn; command = connection.answered + 1 }) Here)
     (said_story setting was.story conn request (record { tag = tag; reply = reply }))
-said_made setting front home backend conn inputs connection before told world request tag reply session text was number is free =
+said_made setting front home conn inputs connection before told world request tag reply session text was number is free =
     let story = was.story in
     let course = story.course in
     let answer : Answer = record { tag = tag; reply = reply } in
@@ -182,30 +180,30 @@ said_made setting front home backend conn inputs connection before told world re
           (keeps_on conn world (given_world world conn client text) after_world (given_keeps world conn client text)
           (marked_keeps conn (given_world world conn client text) _ Here));
       goes_on = stories_follow conn told story now was.made.goes_on (said_goes_on setting story conn request answer);
+      store = ap (λ (a : Answered). a.store) out ∙ was.made.store;
       is_told = subst (λ n. IsTold setting world.steps
-          (world.marks ++ (record { step = world.steps; ask = record { conn = conn; command = n + 1 }; kind = Told Here }) ∷ []) backend now.talk now.told now.course)
+          (world.marks ++ (record { step = world.steps; ask = record { conn = conn; command = n + 1 }; kind = Told Here }) ∷ []) now.talk now.told now.course)
           lengths
-          (told_push setting world.steps world.marks backend backend story.talk story.told now.told course conn request 0 (Told Here) acting_here
+          (told_push setting world.steps world.marks story.talk story.told now.told course conn request 0 (Told Here) acting_here
           (tells_here setting story.talk conn story.told answer (ap length was.reading.said))
           (subst (λ n. numbered (story.talk.requests conn) (n + 1) ≡ Some request) (sym (ap length was.reading.said)) number) (free course.store)
-          (λ h. absurd (not_a_home h))
-          (subst (λ s. IsStoreOf s backend) (sym (ap (λ (a : Answered). a.store) out)) was.made.is_told.same) was.made.is_told);
+          (λ h. absurd (not_a_home h)) was.made.is_told);
     }
 
 -- a request that the frontend answers by itself
-answered_here : (setting : Setting) (front home : List ℕ) (backend : Backend) (conn : ℕ) (inputs next : List Input) (connection : Connection) (before : World)
+answered_here : (setting : Setting) (front home : List ℕ) (conn : ℕ) (inputs next : List Input) (connection : Connection) (before : World)
     (told : Story) (world : World)
-    (request : Request) (tag : Tag) (reply : Reply) (session : Sess) (was : ReadsOn setting front home backend conn inputs connection before told world)
+    (request : Request) (tag : Tag) (reply : Reply) (session : Sess) (was : ReadsOn setting front home conn inputs connection before told world)
     → numbered (was.story.talk.requests conn) (length (was.story.told conn) + 1) ≡ Some request
     → ((store : Store) → answer_of setting store
     (was.story.course.sessions conn) request 0 ≡ record { store = store; session = session; answer = record { tag = tag; reply = reply } })
     → ((store : Store) → MayTake setting store (was.story.course.sessions conn) request 0)
     → ends reply ≡ false → has_ended session ≡ false
     → ((answer : Answer) → ends answer.reply ≡ false → Grows inputs next (was.story.told conn) (was.story.told conn ++ answer ∷ []) (answer_text answer))
-    → ReadsOn setting front home backend conn next (answers_now conn connection session tag reply).connection before told
+    → ReadsOn setting front home conn next (answers_now conn connection session tag reply).connection before told
     (carry_all front world (answers_now conn connection session tag reply).outs)
 unfolding answers_now
-answered_here setting front home backend conn inputs next connection before told world request tag reply session was number is free stays lasts grows =
+answered_here setting front home conn inputs next connection before told world request tag reply session was number is free stays lasts grows =
     let story = was.story in
     let course = story.course in
     let answer : Answer = record { tag = tag; reply = reply } in
@@ -218,10 +216,10 @@ answered_here setting front home backend conn inputs next connection before told
     let after_world = marked_world (given_world world conn client text) (record { conn = conn; command = connection.answered + 1 }) Here in
     let now : Story = said_story setting story conn request answer in
     let grown = grows answer stays in
-    subst (λ w. ReadsOn setting front home backend conn next (answers_now conn connection session tag reply).connection before told w) (sym world_is)
+    subst (λ w. ReadsOn setting front home conn next (answers_now conn connection session tag reply).connection before told w) (sym world_is)
     (record {
       story = now;
-      made = said_made setting front home backend conn inputs connection before told world request tag reply session text was number is free;
+      made = said_made setting front home conn inputs connection before told world request tag reply session text was number is free;
       reading = record {
         stage_is = was.reading.stage_is;
         waiting_is = was.reading.waiting_is;
@@ -243,18 +241,18 @@ abbrev last_of : ℕ → Connection → Tag → Reply → Turned
 last_of conn connection tag reply = answers_last conn (record connection { session = session_ended }) tag reply
 
 -- a request that the frontend answers by itself, and with that ends the connection: nothing that follows it is taken
-last_here : (setting : Setting) (front home : List ℕ) (backend : Backend) (conn : ℕ) (inputs more : List Input) (held : Option (List ℕ))
+last_here : (setting : Setting) (front home : List ℕ) (conn : ℕ) (inputs more : List Input) (held : Option (List ℕ))
     (connection : Connection) (before : World) (told : Story) (world : World)
-    (request : Request) (tag : Tag) (reply : Reply) (was : ReadsOn setting front home backend conn inputs connection before told world)
+    (request : Request) (tag : Tag) (reply : Reply) (was : ReadsOn setting front home conn inputs connection before told world)
     → numbered (was.story.talk.requests conn) (length (was.story.told conn) + 1) ≡ Some request
     → ((store : Store) → answer_of setting store (was.story.course.sessions conn) request 0
     ≡ record { store = store; session = session_ended; answer = record { tag = tag; reply = reply } })
     → ((store : Store) → MayTake setting store (was.story.course.sessions conn) request 0)
     → ends reply ≡ true
-    → StandsOn setting front home backend conn (inputs ++ Asks request ∷ more) held (last_of conn connection tag reply).connection before told
+    → StandsOn setting front home conn (inputs ++ Asks request ∷ more) held (last_of conn connection tag reply).connection before told
     (carry_all front world (last_of conn connection tag reply).outs)
 unfolding answers_last
-last_here setting front home backend conn inputs more held connection before told world request tag reply was number is free is_end =
+last_here setting front home conn inputs more held connection before told world request tag reply was number is free is_end =
     let story = was.story in
     let course = story.course in
     let answer : Answer = record { tag = tag; reply = reply } in
@@ -267,10 +265,10 @@ last_here setting front home backend conn inputs more held connection before tol
     let world_is = last_carried front world conn client text (record { conn = conn; command = connection.answered + 1 }) Here was.reading.client in
     let after_world = marked_world (given_world world conn client text) (record { conn = conn; command = connection.answered + 1 }) Here in
     let now : Story = said_story setting story conn request answer in
-    subst (λ w. StandsOn setting front home backend conn next held (last_of conn connection tag reply).connection before told w) (sym world_is)
+    subst (λ w. StandsOn setting front home conn next held (last_of conn connection tag reply).connection before told w) (sym world_is)
     (record {
       story = now;
-      made = said_made setting front home backend conn inputs connection before told world request tag reply session_ended text was number is free;
+      made = said_made setting front home conn inputs connection before told world request tag reply session_ended text was number is free;
       standing = record {
         count = ap (λ n. n + 1) was.reading.count ∙ sym (length_with_item story.told conn answer);
         client = value_at-with_value nat_cmp numbers_apart world.clients conn (record client { given = client.given ++ text }) client was.reading.client
@@ -288,23 +286,24 @@ last_here setting front home backend conn inputs more held connection before tol
     })
 
 -- the client is told to go on
-awaited_here : (setting : Setting) (front home : List ℕ) (backend : Backend) (conn : ℕ) (inputs : List Input) (connection : Connection) (before : World)
+awaited_here : (setting : Setting) (front home : List ℕ) (conn : ℕ) (inputs : List Input) (connection : Connection) (before : World)
     (told : Story) (world : World)
-    (why : Continuation) → ReadsOn setting front home backend conn inputs connection before told world
-    → ReadsOn setting front home backend conn (inputs ++ GoesOn why ∷ []) connection before told (carry_all front world (to_client conn
+    (why : Continuation) → ReadsOn setting front home conn inputs connection before told world
+    → ReadsOn setting front home conn (inputs ++ GoesOn why ∷ []) connection before told (carry_all front world (to_client conn
     (continuation_line why) ∷ []))
-awaited_here setting front home backend conn inputs connection before told world why was =
+awaited_here setting front home conn inputs connection before told world why was =
     let story = was.story in
     let client : Client = client_with front inputs (story.told conn) in
     let world_is = line_carried front world conn client (continuation_line why) was.reading.client in
     let grown = continued inputs (story.told conn) why was.reading.answered in
-    subst (λ w. ReadsOn setting front home backend conn (inputs ++ GoesOn why ∷ []) connection before told w) (sym world_is)
+    subst (λ w. ReadsOn setting front home conn (inputs ++ GoesOn why ∷ []) connection before told w) (sym world_is)
     (record {
       story = story;
       made = record {
         others = keeps_on conn before world (given_world world conn client (continuation_line why)) was.made.others (given_keeps world conn client
             (continuation_line why));
         goes_on = was.made.goes_on;
+        store = was.made.store;
         is_told = was.made.is_told;
       };
       reading = record {
@@ -324,23 +323,24 @@ awaited_here setting front home backend conn inputs connection before told world
     })
 
 -- a fault ends the connection
-faulted_here : (setting : Setting) (front home : List ℕ) (backend : Backend) (conn : ℕ) (inputs : List Input) (held : Option (List ℕ))
+faulted_here : (setting : Setting) (front home : List ℕ) (conn : ℕ) (inputs : List Input) (held : Option (List ℕ))
     (connection : Connection) (before : World) (told : Story) (world : World)
-    (fault : FrameFault) → held ≡ None → ReadsOn setting front home backend conn inputs connection before told world
-    → StandsOn setting front home backend conn (inputs ++ Faults fault ∷ []) held (record connection { stage = Ended }) before told
+    (fault : FrameFault) → held ≡ None → ReadsOn setting front home conn inputs connection before told world
+    → StandsOn setting front home conn (inputs ++ Faults fault ∷ []) held (record connection { stage = Ended }) before told
     (carry_all front world (to_client conn (bye_line (bye_of fault)) ∷ Close conn ∷ []))
 unfolding requests_in
-faulted_here setting front home backend conn inputs held connection before told world fault none was =
+faulted_here setting front home conn inputs held connection before told world fault none was =
     let story = was.story in
     let client : Client = client_with front inputs (story.told conn) in
     let text = bye_line (bye_of fault) in
     let world_is = end_carried front world conn client text was.reading.client in
-    subst (λ w. StandsOn setting front home backend conn (inputs ++ Faults fault ∷ []) held (record connection { stage = Ended }) before told w) (sym world_is)
+    subst (λ w. StandsOn setting front home conn (inputs ++ Faults fault ∷ []) held (record connection { stage = Ended }) before told w) (sym world_is)
     (record {
       story = story;
       made = record {
         others = keeps_on conn before world (given_world world conn client text) was.made.others (given_keeps world conn client text);
         goes_on = was.made.goes_on;
+        store = was.made.store;
         is_told = was.made.is_told;
       };
       standing = record {
@@ -358,16 +358,16 @@ faulted_here setting front home backend conn inputs held connection before told 
     })
 
 -- a request that is asked of the home; the inputs behind it wait
-asked_here : (setting : Setting) (front home : List ℕ) (backend : Backend) (conn : ℕ) (inputs waiting : List Input) (held : Option (List ℕ))
+asked_here : (setting : Setting) (front home : List ℕ) (conn : ℕ) (inputs waiting : List Input) (held : Option (List ℕ))
     (connection : Connection) (before : World) (told : Story) (world : World)
     (request : Request) (tag : Tag) (it : Command) (name : List ℕ) (work : Work)
-    (was : ReadsOn setting front home backend conn inputs connection before told world)
+    (was : ReadsOn setting front home conn inputs connection before told world)
     → request ≡ a_command tag it → need_of setting (was.story.course.sessions conn) it ≡ Mailbox name work → FaultsLast waiting held
-    → StandsOn setting front home backend conn (inputs ++ Asks request ∷ waiting) held
+    → StandsOn setting front home conn (inputs ++ Asks request ∷ waiting) held
     (record connection { waiting = waiting; stage = Asked tag (asked_for name work).awaited }) before told
     (carry_all front world (to_node home (Ask (ask_with conn connection name (asked_for name work))) ∷ []))
 unfolding carry_all carry
-asked_here setting front home backend conn inputs waiting held connection before told world request tag it name work was is need last =
+asked_here setting front home conn inputs waiting held connection before told world request tag it name work was is need last =
     let story = was.story in
     let ask : FrontAsk = ask_with conn connection name (asked_for name work) in
     let next : World = record world { links = sent world.links front home (Ask ask) } in
@@ -383,6 +383,7 @@ asked_here setting front home backend conn inputs waiting held connection before
           places = λ whom ne. others_sent world.links front home (Ask ask) whom (λ e. ne (sym e));
         });
         goes_on = was.made.goes_on;
+        store = was.made.store;
         is_told = was.made.is_told;
       };
       standing = record {
@@ -430,17 +431,17 @@ asked_turned : (setting : Setting) (home : List ℕ) (conn : ℕ) (connection : 
 asked_turned setting home conn connection tag name work inputs =
     asked_waits setting home conn (record connection { stage = Asked tag (asked_for name work).awaited }) inputs tag (asked_for name work).awaited refl
 
-asked_kept : (setting : Setting) (front home : List ℕ) (backend : Backend) (conn : ℕ) (inputs waiting : List Input) (held : Option (List ℕ))
+asked_kept : (setting : Setting) (front home : List ℕ) (conn : ℕ) (inputs waiting : List Input) (held : Option (List ℕ))
     (connection : Connection) (before : World) (told : Story) (world : World)
     (request : Request) (tag : Tag) (it : Command) (name : List ℕ) (work : Work)
-    (was : ReadsOn setting front home backend conn inputs connection before told world)
+    (was : ReadsOn setting front home conn inputs connection before told world)
     → request ≡ a_command tag it → need_of setting (was.story.course.sessions conn) it ≡ Mailbox name work → FaultsLast waiting held
-    → StandsOn setting front home backend conn (inputs ++ Asks request ∷ waiting) held
+    → StandsOn setting front home conn (inputs ++ Asks request ∷ waiting) held
     (record connection { waiting = waiting; stage = Asked tag (asked_for name work).awaited }) before told
     (carry_all front (carry_all front world (asks home conn connection tag name (asked_for name work)).outs) [])
 unfolding carry_all
-asked_kept setting front home backend conn inputs waiting held connection before told world request tag it name work was is need last =
-    asked_here setting front home backend conn inputs waiting held connection before told world request tag it name work was is need last
+asked_kept setting front home conn inputs waiting held connection before told world request tag it name work was is need last =
+    asked_here setting front home conn inputs waiting held connection before told world request tag it name work was is need last
 
 -- nothing more comes to a connection that has ended
 pub ended_drops : (setting : Setting) (home : List ℕ) (conn : ℕ) (connection : Connection) (inputs : List Input) → connection.stage ≡ Ended
@@ -460,18 +461,18 @@ last_turned setting home conn connection tag reply inputs =
     ended_drops setting home conn (record connection { stage = Ended; answered = connection.answered + 1 }) inputs refl
 
 -- an input, and then the others
-pub came_on : (setting : Setting) (front home : List ℕ) (backend : Backend) (conn : ℕ) (all : List Input) (held : Option (List ℕ)) (connection : Connection)
+pub came_on : (setting : Setting) (front home : List ℕ) (conn : ℕ) (all : List Input) (held : Option (List ℕ)) (connection : Connection)
     (before : World) (told : Story) (world : World)
     (input : Input) (inputs : List Input) (turned : Turned) → input_comes setting home conn connection input ≡ turned
-    → StandsOn setting front home backend conn all held (inputs_come setting home conn turned.connection inputs).connection before told
+    → StandsOn setting front home conn all held (inputs_come setting home conn turned.connection inputs).connection before told
     (carry_all front (carry_all front world turned.outs) (inputs_come setting home conn turned.connection inputs).outs)
-    → StandsOn setting front home backend conn all held (inputs_come setting home conn connection (input ∷ inputs)).connection before told
+    → StandsOn setting front home conn all held (inputs_come setting home conn connection (input ∷ inputs)).connection before told
     (carry_all front world (inputs_come setting home conn connection (input ∷ inputs)).outs)
 unfolding inputs_come
-came_on setting front home backend conn all held connection before told world input inputs turned e stands =
-    subst (λ (t : Turned). StandsOn setting front home backend conn all held (inputs_come setting home conn t.connection inputs).connection before told
+came_on setting front home conn all held connection before told world input inputs turned e stands =
+    subst (λ (t : Turned). StandsOn setting front home conn all held (inputs_come setting home conn t.connection inputs).connection before told
     (carry_all front world (t.outs ++ (inputs_come setting home conn t.connection inputs).outs))) (sym e)
-    (subst (λ w. StandsOn setting front home backend conn all held (inputs_come setting home conn turned.connection inputs).connection before told w)
+    (subst (λ w. StandsOn setting front home conn all held (inputs_come setting home conn turned.connection inputs).connection before told w)
     (sym (carry_all-append front world turned.outs (inputs_come setting home conn turned.connection inputs).outs)) stands)
 
 reads_input : (setting : Setting) (home : List ℕ) (conn : ℕ) (connection : Connection) (input : Input) → connection.stage ≡ Reading
@@ -479,27 +480,27 @@ reads_input : (setting : Setting) (home : List ℕ) (conn : ℕ) (connection : C
 unfolding input_comes comes_at
 reads_input setting home conn connection input e = ap (comes_at setting home conn connection input) e
 
-fault_kept : (setting : Setting) (front home : List ℕ) (backend : Backend) (conn : ℕ) (inputs new : List Input) (held : Option (List ℕ))
+fault_kept : (setting : Setting) (front home : List ℕ) (conn : ℕ) (inputs new : List Input) (held : Option (List ℕ))
     (connection : Connection) (before : World) (told : Story) (world : World)
-    (fault : FrameFault) → new ≡ [] → held ≡ None → ReadsOn setting front home backend conn inputs connection before told world
-    → StandsOn setting front home backend conn (inputs ++ Faults fault ∷ new) held
+    (fault : FrameFault) → new ≡ [] → held ≡ None → ReadsOn setting front home conn inputs connection before told world
+    → StandsOn setting front home conn (inputs ++ Faults fault ∷ new) held
     (inputs_come setting home conn connection (Faults fault ∷ new)).connection before told
     (carry_all front world (inputs_come setting home conn connection (Faults fault ∷ new)).outs)
 unfolding input_in inputs_come carry_all
-fault_kept setting front home backend conn inputs new held connection before told world fault nil none was =
-    subst (λ n. StandsOn setting front home backend conn (inputs ++ Faults fault ∷ n) held
+fault_kept setting front home conn inputs new held connection before told world fault nil none was =
+    subst (λ n. StandsOn setting front home conn (inputs ++ Faults fault ∷ n) held
     (inputs_come setting home conn connection (Faults fault ∷ n)).connection before told
     (carry_all front world (inputs_come setting home conn connection (Faults fault ∷ n)).outs)) (sym nil)
-    (came_on setting front home backend conn (inputs ++ Faults fault ∷ []) held connection before told world (Faults fault) [] _
+    (came_on setting front home conn (inputs ++ Faults fault ∷ []) held connection before told world (Faults fault) [] _
     (reads_input setting home conn connection (Faults fault) was.reading.stage_is)
-    (faulted_here setting front home backend conn inputs held connection before told world fault none was))
+    (faulted_here setting front home conn inputs held connection before told world fault none was))
 
 -- the inputs of a piece that haven't ended stand so
-reads_stands : (setting : Setting) (front home : List ℕ) (backend : Backend) (conn : ℕ) (inputs : List Input) (held : Option (List ℕ))
+reads_stands : (setting : Setting) (front home : List ℕ) (conn : ℕ) (inputs : List Input) (held : Option (List ℕ))
     (connection : Connection) (before : World) (told : Story) (world : World)
-    → ReadsOn setting front home backend conn inputs connection before told world
-    → StandsOn setting front home backend conn inputs held connection before told world
-reads_stands setting front home backend conn inputs held connection before told world was = record {
+    → ReadsOn setting front home conn inputs connection before told world
+    → StandsOn setting front home conn inputs held connection before told world
+reads_stands setting front home conn inputs held connection before told world was = record {
   story = was.story;
   made = was.made;
   standing = record {
@@ -512,11 +513,11 @@ reads_stands setting front home backend conn inputs held connection before told 
 }
 
 -- the request of an input is the next that has no answer
-next_of : (setting : Setting) (front home : List ℕ) (backend : Backend) (conn : ℕ) (inputs rest : List Input) (input : Input) (connection : Connection)
+next_of : (setting : Setting) (front home : List ℕ) (conn : ℕ) (inputs rest : List Input) (input : Input) (connection : Connection)
     (before : World) (told : Story) (world : World) (request : Request)
-    (was : ReadsOn setting front home backend conn inputs connection before told world) → told.talk.requests conn ≡ requests_in (inputs ++ input ∷ rest)
+    (was : ReadsOn setting front home conn inputs connection before told world) → told.talk.requests conn ≡ requests_in (inputs ++ input ∷ rest)
     → requests_in (input ∷ rest) ≡ request ∷ requests_in rest → numbered (was.story.talk.requests conn) (length (was.story.told conn) + 1) ≡ Some request
-next_of setting front home backend conn inputs rest input connection before told world request was all is =
+next_of setting front home conn inputs rest input connection before told world request was all is =
     subst (λ r. numbered r (length (was.story.told conn) + 1) ≡ Some request)
     (sym (ap (λ (r : ℕ → List Request). r conn) was.made.goes_on.requests ∙ all ∙ requests-append inputs (input ∷ rest)
     ∙ ap (λ r. requests_in inputs ++ r) is))
@@ -524,55 +525,55 @@ next_of setting front home backend conn inputs rest input connection before told
     (answered_lengths inputs (was.story.told conn) was.reading.answered))
 
 -- the inputs that follow go on so, from wherever the connection reads
-abbrev pub Follow : Setting → List ℕ → List ℕ → Backend → ℕ → List Input → Option (List ℕ) → World → Story → Type 0
-Follow setting front home backend conn new held before told = (inputs : List Input) (connection : Connection) (world : World)
+abbrev pub Follow : Setting → List ℕ → List ℕ → ℕ → List Input → Option (List ℕ) → World → Story → Type 0
+Follow setting front home conn new held before told = (inputs : List Input) (connection : Connection) (world : World)
     → told.talk.requests conn ≡ requests_in (inputs ++ new)
-    → ReadsOn setting front home backend conn inputs connection before told world
-    → StandsOn setting front home backend conn (inputs ++ new) held (inputs_come setting home conn connection new).connection before told
+    → ReadsOn setting front home conn inputs connection before told world
+    → StandsOn setting front home conn (inputs ++ new) held (inputs_come setting home conn connection new).connection before told
     (carry_all front world (inputs_come setting home conn connection new).outs)
 
 -- an input behind which the connection reads on
-read_on : (setting : Setting) (front home : List ℕ) (backend : Backend) (conn : ℕ) (inputs new : List Input) (input : Input) (held : Option (List ℕ))
+read_on : (setting : Setting) (front home : List ℕ) (conn : ℕ) (inputs new : List Input) (input : Input) (held : Option (List ℕ))
     (connection : Connection) (before : World) (told : Story) (world : World)
     (turned : Turned) → input_comes setting home conn connection input ≡ turned → told.talk.requests conn ≡ requests_in (inputs ++ input ∷ new)
-    → Follow setting front home backend conn new held before told
-    → ReadsOn setting front home backend conn (inputs ++ input ∷ []) turned.connection before told (carry_all front world turned.outs)
-    → StandsOn setting front home backend conn (inputs ++ input ∷ new) held (inputs_come setting home conn connection (input ∷ new)).connection before told
+    → Follow setting front home conn new held before told
+    → ReadsOn setting front home conn (inputs ++ input ∷ []) turned.connection before told (carry_all front world turned.outs)
+    → StandsOn setting front home conn (inputs ++ input ∷ new) held (inputs_come setting home conn connection (input ∷ new)).connection before told
     (carry_all front world (inputs_come setting home conn connection (input ∷ new)).outs)
-read_on setting front home backend conn inputs new input held connection before told world turned e all follow reading =
-    came_on setting front home backend conn (inputs ++ input ∷ new) held connection before told world input new turned e
-    (subst (λ f. StandsOn setting front home backend conn f held (inputs_come setting home conn turned.connection new).connection before told
+read_on setting front home conn inputs new input held connection before told world turned e all follow reading =
+    came_on setting front home conn (inputs ++ input ∷ new) held connection before told world input new turned e
+    (subst (λ f. StandsOn setting front home conn f held (inputs_come setting home conn turned.connection new).connection before told
     (carry_all front (carry_all front world turned.outs) (inputs_come setting home conn turned.connection new).outs)) (append_assoc inputs (input ∷ []) new)
     (follow (inputs ++ input ∷ []) turned.connection (carry_all front world turned.outs)
     (all ∙ ap requests_in (sym (append_assoc inputs (input ∷ []) new))) reading))
 
-request_kept : (setting : Setting) (front home : List ℕ) (backend : Backend) (conn : ℕ) (inputs new : List Input) (request : Request) (held : Option (List ℕ))
+request_kept : (setting : Setting) (front home : List ℕ) (conn : ℕ) (inputs new : List Input) (request : Request) (held : Option (List ℕ))
     (connection : Connection) (before : World) (told : Story) (world : World)
-    (was : ReadsOn setting front home backend conn inputs connection before told world) → FaultsLast new held
+    (was : ReadsOn setting front home conn inputs connection before told world) → FaultsLast new held
     → told.talk.requests conn ≡ requests_in (inputs ++ Asks request ∷ new)
-    → Follow setting front home backend conn new held before told → IsTaken setting home conn (was.story.course.sessions conn) request
-    → StandsOn setting front home backend conn (inputs ++ Asks request ∷ new) held
+    → Follow setting front home conn new held before told → IsTaken setting home conn (was.story.course.sessions conn) request
+    → StandsOn setting front home conn (inputs ++ Asks request ∷ new) held
     (inputs_come setting home conn connection (Asks request ∷ new)).connection before told
     (carry_all front world (inputs_come setting home conn connection (Asks request ∷ new)).outs)
 unfolding input_in requests_in carry_all
-request_kept setting front home backend conn inputs new request held connection before told world was last all follow
+request_kept setting front home conn inputs new request held connection before told world was last all follow
     (here tag reply session is free stays lasts form) =
-    read_on setting front home backend conn inputs new (Asks request) held connection before told world (answers_now conn connection session tag reply)
+    read_on setting front home conn inputs new (Asks request) held connection before told world (answers_now conn connection session tag reply)
     (reads_input setting home conn connection (Asks request) was.reading.stage_is ∙ form connection was.reading.session_is) all follow
-    (answered_here setting front home backend conn inputs (inputs ++ Asks request ∷ []) connection before told world request tag reply session was
-    (next_of setting front home backend conn inputs new (Asks request) connection before told world request was all refl) is free stays lasts
+    (answered_here setting front home conn inputs (inputs ++ Asks request ∷ []) connection before told world request tag reply session was
+    (next_of setting front home conn inputs new (Asks request) connection before told world request was all refl) is free stays lasts
     (λ answer on. request_answered inputs (was.story.told conn) request answer was.reading.answered on))
-request_kept setting front home backend conn inputs new request held connection before told world was last all follow
+request_kept setting front home conn inputs new request held connection before told world was last all follow
     (finishes tag it reply command is free is_end form) =
     let turned : Turned = last_of conn connection tag reply in
-    came_on setting front home backend conn (inputs ++ Asks request ∷ new) held connection before told world (Asks request) new turned
+    came_on setting front home conn (inputs ++ Asks request ∷ new) held connection before told world (Asks request) new turned
     (reads_input setting home conn connection (Asks request) was.reading.stage_is ∙ form connection was.reading.session_is)
-    (subst (λ (t : Turned). StandsOn setting front home backend conn (inputs ++ Asks request ∷ new) held t.connection before told
+    (subst (λ (t : Turned). StandsOn setting front home conn (inputs ++ Asks request ∷ new) held t.connection before told
     (carry_all front (carry_all front world turned.outs) t.outs))
     (sym (last_turned setting home conn (record connection { session = session_ended }) tag reply new))
-    (last_here setting front home backend conn inputs new held connection before told world request tag reply was
-    (next_of setting front home backend conn inputs new (Asks request) connection before told world request was all refl) is free is_end))
-request_kept setting front home backend conn inputs new request held connection before told world was last all follow
+    (last_here setting front home conn inputs new held connection before told world request tag reply was
+    (next_of setting front home conn inputs new (Asks request) connection before told world request was all refl) is free is_end))
+request_kept setting front home conn inputs new request held connection before told world was last all follow
     (asked tag it name work is need form) =
     let turned : Turned = asks home conn connection tag name (asked_for name work) in
     let waits_all : inputs_come setting home conn turned.connection new ≡
@@ -580,29 +581,29 @@ request_kept setting front home backend conn inputs new request held connection 
     asked_turned setting home conn connection tag name work new
     ∙ ap (λ w. record { connection = record connection { waiting = w ++ new; stage = Asked tag (asked_for name work).awaited }; outs = [] })
     was.reading.waiting_is in
-    came_on setting front home backend conn (inputs ++ Asks request ∷ new) held connection before told world (Asks request) new turned
+    came_on setting front home conn (inputs ++ Asks request ∷ new) held connection before told world (Asks request) new turned
     (reads_input setting home conn connection (Asks request) was.reading.stage_is ∙ form connection was.reading.session_is)
-    (subst (λ (t : Turned). StandsOn setting front home backend conn (inputs ++ Asks request ∷ new) held t.connection before told
+    (subst (λ (t : Turned). StandsOn setting front home conn (inputs ++ Asks request ∷ new) held t.connection before told
     (carry_all front (carry_all front world turned.outs) t.outs)) (sym waits_all)
-    (asked_kept setting front home backend conn inputs new held connection before told world request tag it name work was is need last))
+    (asked_kept setting front home conn inputs new held connection before told world request tag it name work was is need last))
 
 -- all inputs of a piece, or all that waited
-pub inputs_kept : (setting : Setting) (front home : List ℕ) (backend : Backend) (conn : ℕ) (new : List Input) (held : Option (List ℕ)) (before : World)
+pub inputs_kept : (setting : Setting) (front home : List ℕ) (conn : ℕ) (new : List Input) (held : Option (List ℕ)) (before : World)
     (told : Story) → FaultsLast new held
-    → Follow setting front home backend conn new held before told
+    → Follow setting front home conn new held before told
 unfolding inputs_come FaultsLast input_in carry_all
-inputs_kept setting front home backend conn [] held before told last = λ inputs connection world all was.
-    subst (λ f. StandsOn setting front home backend conn f held connection before told world) (sym (append-nil inputs))
-    (reads_stands setting front home backend conn inputs held connection before told world was)
-inputs_kept setting front home backend conn (Asks request ∷ new) held before told last = λ inputs connection world all was.
-    request_kept setting front home backend conn inputs new request held connection before told world was last all
-    (inputs_kept setting front home backend conn new held before told last)
+inputs_kept setting front home conn [] held before told last = λ inputs connection world all was.
+    subst (λ f. StandsOn setting front home conn f held connection before told world) (sym (append-nil inputs))
+    (reads_stands setting front home conn inputs held connection before told world was)
+inputs_kept setting front home conn (Asks request ∷ new) held before told last = λ inputs connection world all was.
+    request_kept setting front home conn inputs new request held connection before told world was last all
+    (inputs_kept setting front home conn new held before told last)
     (request_taken setting home conn (was.story.course.sessions conn) request was.reading.goes_on)
-inputs_kept setting front home backend conn (GoesOn why ∷ new) held before told last = λ inputs connection world all was.
-    read_on setting front home backend conn inputs new (GoesOn why) held connection before told world
+inputs_kept setting front home conn (GoesOn why ∷ new) held before told last = λ inputs connection world all was.
+    read_on setting front home conn inputs new (GoesOn why) held connection before told world
     (record { connection = connection; outs = to_client conn (continuation_line why) ∷ [] })
     (reads_input setting home conn connection (GoesOn why) was.reading.stage_is) all
-    (inputs_kept setting front home backend conn new held before told last)
-    (awaited_here setting front home backend conn inputs connection before told world why was)
-inputs_kept setting front home backend conn (Faults fault ∷ new) held before told last = λ inputs connection world all was.
-    fault_kept setting front home backend conn inputs new held connection before told world fault last.0 last.1 was
+    (inputs_kept setting front home conn new held before told last)
+    (awaited_here setting front home conn inputs connection before told world why was)
+inputs_kept setting front home conn (Faults fault ∷ new) held before told last = λ inputs connection world all was.
+    fault_kept setting front home conn inputs new held connection before told world fault last.0 last.1 was

@@ -3,7 +3,6 @@ use Rattle.std.proofs.Common.{◌≡◌, ℕ, ◌+◌, Bool, true, false, nat_eq
 use Rattle.std.proofs.Common.{arith, append_assoc, length-append}
 use Rattle.std.specs.Ordering.{nat_cmp}
 use Rattle.std.proofs.lemmas.Bool.Decides.{nat_tests}
-use Rattle.backend_core.specs.declared.backend.Backend.{Backend}
 use Rattle.front_core.specs.declared.connection.Connection.{Connection}
 use Rattle.front_core.specs.declared.connection.Stage.TheVariants.{Asked, Ended}
 use Rattle.front_core.specs.Answered.{answer_by, answer_comes, ends_with, finished_in, reading_again, reads_on, told_behind, unchanged}
@@ -71,32 +70,32 @@ told_keeps : (world : World) (conn : ℕ) (client : Client) (text : List ℕ) (a
 told_keeps world conn client text ask = keeps_on conn world (given_world world conn client text) (marked_world (given_world world conn client text) ask Behind)
     (given_keeps world conn client text) (marked_keeps conn (given_world world conn client text) ask Behind)
 
-told_on : (setting : Setting) (backend : Backend) (conn : ℕ) (connection : Connection) (world : World) (story : Story) (answer : AnswerOf)
+told_on : (setting : Setting) (conn : ℕ) (connection : Connection) (world : World) (story : Story) (answer : AnswerOf)
     → connection.answered ≡ length (story.told conn) → story.talk.answers conn ≡ story.told conn ++ answer ∷ []
-    → IsTold setting world.steps world.marks backend story.talk story.told story.course
+    → IsTold setting world.steps world.marks story.talk story.told story.course
     → IsTold setting world.steps
-    (world.marks ++ (record { step = world.steps; ask = record { conn = conn; command = connection.answered + 1 }; kind = Told Behind }) ∷ []) backend story.talk
+    (world.marks ++ (record { step = world.steps; ask = record { conn = conn; command = connection.answered + 1 }; kind = Told Behind }) ∷ []) story.talk
     (with_item story.told conn answer) story.course
-told_on setting backend conn connection world story answer count said told =
+told_on setting conn connection world story answer count said told =
     subst (λ n. IsTold setting world.steps
-    (world.marks ++ (record { step = world.steps; ask = record { conn = conn; command = n + 1 }; kind = Told Behind }) ∷ []) backend story.talk
+    (world.marks ++ (record { step = world.steps; ask = record { conn = conn; command = n + 1 }; kind = Told Behind }) ∷ []) story.talk
     (with_item story.told conn answer) story.course) (sym count)
-    (told_behind_push setting world.steps world.marks backend story.talk story.told story.course conn answer
+    (told_behind_push setting world.steps world.marks story.talk story.told story.course conn answer
     (ap length said ∙ length-append (story.told conn) (answer ∷ [])) told)
 
 -- the connection reads again behind the reply
-replied_reads : (setting : Setting) (front home : List ℕ) (backend : Backend) (conn : ℕ) (all passed : List Input) (request : Request) (connection : Connection)
+replied_reads : (setting : Setting) (front home : List ℕ) (conn : ℕ) (all passed : List Input) (request : Request) (connection : Connection)
     (tag : Tag) (reply : Reply) (later : Option Sess) (world : World) (story : Story)
     → all ≡ passed ++ Asks request ∷ connection.waiting → connection.answered ≡ length (story.told conn)
     → client_at world conn ≡ Some (client_with front all (story.told conn))
     → story.course.sessions conn ≡ session_after connection.session later → has_ended (story.course.sessions conn) ≡ false
     → AreAnswered passed (story.told conn)
     → story.talk.answers conn ≡ story.told conn ++ (record { tag = tag; reply = reply }) ∷ []
-    → ends reply ≡ false → IsPlaced (of_connection conn) world.links None → IsTold setting world.steps world.marks backend story.talk story.told story.course
-    → ReadsOn setting front home backend conn (passed ++ Asks request ∷ [])
+    → ends reply ≡ false → IsPlaced (of_connection conn) world.links None → IsTold setting world.steps world.marks story.talk story.told story.course
+    → ReadsOn setting front home conn (passed ++ Asks request ∷ [])
     (reading_again (record connection { session = session_after connection.session later })) world story
     (carry_all front world (told_behind conn connection (reply_text tag reply)))
-replied_reads setting front home backend conn all passed request connection tag reply later world story parts count at session lasts answered said stays
+replied_reads setting front home conn all passed request connection tag reply later world story parts count at session lasts answered said stays
     none told =
     let answer : AnswerOf = record { tag = tag; reply = reply } in
     let client : Client = client_with front all (story.told conn) in
@@ -105,7 +104,7 @@ replied_reads setting front home backend conn all passed request connection tag 
     let now : Story = told_more story conn answer in
     let stops : replies_to all (story.told conn) ≡ replies_to passed (story.told conn) =
     ap (λ f. replies_to f (story.told conn)) parts ∙ sym (replies_stop passed (story.told conn) request connection.waiting answered) in
-    subst (λ w. ReadsOn setting front home backend conn (passed ++ Asks request ∷ [])
+    subst (λ w. ReadsOn setting front home conn (passed ++ Asks request ∷ [])
     (reading_again (record connection { session = session_after connection.session later })) world story w)
     (sym (answer_carried front world conn client text (record { conn = conn; command = connection.answered + 1 }) Behind at))
     (record {
@@ -113,7 +112,8 @@ replied_reads setting front home backend conn all passed request connection tag 
       made = record {
         others = told_keeps world conn client text (record { conn = conn; command = connection.answered + 1 });
         goes_on = told_goes_on story conn answer;
-        is_told = told_on setting backend conn connection world story answer count said told;
+        store = refl;
+        is_told = told_on setting conn connection world story answer count said told;
       };
       reading = record {
         stage_is = refl;
@@ -136,43 +136,43 @@ abbrev read_turn : Setting → List ℕ → ℕ → Connection → List ℕ → 
 read_turn setting home conn connection text later = reads_on setting home conn (record connection { session = session_after connection.session later }) text
 
 -- and what waited comes
-read_stands : (setting : Setting) (front home : List ℕ) (backend : Backend) (conn : ℕ) (all passed : List Input) (held : Option (List ℕ))
+read_stands : (setting : Setting) (front home : List ℕ) (conn : ℕ) (all passed : List Input) (held : Option (List ℕ))
     (request : Request) (connection : Connection) (tag : Tag) (reply : Reply) (later : Option Sess) (world : World) (story : Story)
     → all ≡ passed ++ Asks request ∷ connection.waiting → connection.answered ≡ length (story.told conn)
     → client_at world conn ≡ Some (client_with front all (story.told conn))
     → story.course.sessions conn ≡ session_after connection.session later → has_ended (story.course.sessions conn) ≡ false
     → AreAnswered passed (story.told conn)
     → story.talk.answers conn ≡ story.told conn ++ (record { tag = tag; reply = reply }) ∷ []
-    → ends reply ≡ false → IsPlaced (of_connection conn) world.links None → IsTold setting world.steps world.marks backend story.talk story.told story.course
+    → ends reply ≡ false → IsPlaced (of_connection conn) world.links None → IsTold setting world.steps world.marks story.talk story.told story.course
     → FaultsLast connection.waiting held → story.talk.requests conn ≡ requests_in all
-    → StandsOn setting front home backend conn all held (read_turn setting home conn connection (reply_text tag reply) later).connection world story
+    → StandsOn setting front home conn all held (read_turn setting home conn connection (reply_text tag reply) later).connection world story
     (carry_all front world (read_turn setting home conn connection (reply_text tag reply) later).outs)
-read_stands setting front home backend conn all passed held request connection tag reply later world story parts count at session lasts answered said stays none
+read_stands setting front home conn all passed held request connection tag reply later world story parts count at session lasts answered said stays none
     told last asked =
     let behind : Turned =
     inputs_come setting home conn (reading_again (record connection { session = session_after connection.session later })) connection.waiting in
     let whole : all ≡ (passed ++ Asks request ∷ []) ++ connection.waiting = parts ∙ sym (append_assoc passed (Asks request ∷ []) connection.waiting) in
-    subst (λ w. StandsOn setting front home backend conn all held behind.connection world story w)
+    subst (λ w. StandsOn setting front home conn all held behind.connection world story w)
     (sym (carry_all-append front world (told_behind conn connection (reply_text tag reply)) behind.outs))
-    (subst (λ f. StandsOn setting front home backend conn f held behind.connection world story
+    (subst (λ f. StandsOn setting front home conn f held behind.connection world story
     (carry_all front (carry_all front world (told_behind conn connection (reply_text tag reply))) behind.outs)) (sym whole)
-    (inputs_kept setting front home backend conn connection.waiting held world story last (passed ++ Asks request ∷ [])
+    (inputs_kept setting front home conn connection.waiting held world story last (passed ++ Asks request ∷ [])
     (reading_again (record connection { session = session_after connection.session later }))
     (carry_all front world (told_behind conn connection (reply_text tag reply)))
     (asked ∙ ap requests_in whole)
-    (replied_reads setting front home backend conn all passed request connection tag reply later world story parts count at session lasts answered said stays
+    (replied_reads setting front home conn all passed request connection tag reply later world story parts count at session lasts answered said stays
     none told)))
 
 -- nothing follows the reply of a session that has ended
-ended_stands : (setting : Setting) (front home : List ℕ) (backend : Backend) (conn : ℕ) (all passed : List Input) (held : Option (List ℕ))
+ended_stands : (setting : Setting) (front home : List ℕ) (conn : ℕ) (all passed : List Input) (held : Option (List ℕ))
     (request : Request) (connection : Connection) (tag : Tag) (reply : Reply) (world : World) (story : Story)
     → all ≡ passed ++ Asks request ∷ connection.waiting → connection.answered ≡ length (story.told conn)
     → client_at world conn ≡ Some (client_with front all (story.told conn)) → AreAnswered passed (story.told conn)
     → story.talk.answers conn ≡ story.told conn ++ (record { tag = tag; reply = reply }) ∷ []
-    → ends reply ≡ true → IsPlaced (of_connection conn) world.links None → IsTold setting world.steps world.marks backend story.talk story.told story.course
-    → StandsOn setting front home backend conn all held (ends_with conn connection (reply_text tag reply)).connection world story
+    → ends reply ≡ true → IsPlaced (of_connection conn) world.links None → IsTold setting world.steps world.marks story.talk story.told story.course
+    → StandsOn setting front home conn all held (ends_with conn connection (reply_text tag reply)).connection world story
     (carry_all front world (ends_with conn connection (reply_text tag reply)).outs)
-ended_stands setting front home backend conn all passed held request connection tag reply world story parts count at answered said is_end none told =
+ended_stands setting front home conn all passed held request connection tag reply world story parts count at answered said is_end none told =
     let answer : AnswerOf = record { tag = tag; reply = reply } in
     let client : Client = client_with front all (story.told conn) in
     let text : List ℕ = reply_text tag reply in
@@ -181,14 +181,15 @@ ended_stands setting front home backend conn all passed held request connection 
     let ended : replies_to all (story.told conn ++ answer ∷ []) ≡ replies_to passed (story.told conn) ++ text =
     ap (λ f. replies_to f (story.told conn ++ answer ∷ [])) parts
     ∙ end_told silent passed (story.told conn) request connection.waiting answer [] answered is_end in
-    subst (λ w. StandsOn setting front home backend conn all held (ends_with conn connection text).connection world story w)
+    subst (λ w. StandsOn setting front home conn all held (ends_with conn connection text).connection world story w)
     (sym (last_carried front world conn client text (record { conn = conn; command = connection.answered + 1 }) Behind at))
     (record {
       story = told_more story conn answer;
       made = record {
         others = told_keeps world conn client text (record { conn = conn; command = connection.answered + 1 });
         goes_on = told_goes_on story conn answer;
-        is_told = told_on setting backend conn connection world story answer count said told;
+        store = refl;
+        is_told = told_on setting conn connection world story answer count said told;
       };
       standing = record {
         count = ap (λ n. n + 1) count ∙ sym (length_with_item story.told conn answer);
@@ -233,46 +234,46 @@ read_turned setting home conn connection tag reply (Some (In user)) e = refl
 read_turned setting home conn connection tag reply (Some (Selected view)) e = refl
 read_turned setting home conn connection tag reply (Some session_ended) e = cc
 
-replied_by : (setting : Setting) (front home : List ℕ) (backend : Backend) (conn : ℕ) (all passed : List Input) (held : Option (List ℕ))
+replied_by : (setting : Setting) (front home : List ℕ) (conn : ℕ) (all passed : List Input) (held : Option (List ℕ))
     (request : Request) (connection : Connection) (tag : Tag) (turn : Turn) (world : World) (story : Story)
     → all ≡ passed ++ Asks request ∷ connection.waiting → connection.answered ≡ length (story.told conn)
     → client_at world conn ≡ Some (client_with front all (story.told conn))
     → has_ended connection.session ≡ false → story.course.sessions conn ≡ session_after connection.session turn.session → TurnEnds turn
     → AreAnswered passed (story.told conn)
     → story.talk.answers conn ≡ story.told conn ++ (record { tag = tag; reply = turn.reply }) ∷ []
-    → IsPlaced (of_connection conn) world.links None → IsTold setting world.steps world.marks backend story.talk story.told story.course
+    → IsPlaced (of_connection conn) world.links None → IsTold setting world.steps world.marks story.talk story.told story.course
     → FaultsLast connection.waiting held → story.talk.requests conn ≡ requests_in all
     → (ended : Bool) → ends_session turn.session ≡ ended
-    → StandsOn setting front home backend conn all held (replied_turn setting home conn connection tag turn).connection world story
+    → StandsOn setting front home conn all held (replied_turn setting home conn connection tag turn).connection world story
     (carry_all front world (replied_turn setting home conn connection tag turn).outs)
-replied_by setting front home backend conn all passed held request connection tag turn world story parts count at lasts session both answered said none told last
+replied_by setting front home conn all passed held request connection tag turn world story parts count at lasts session both answered said none told last
     asked true ended =
-    subst (λ (t : Turned). StandsOn setting front home backend conn all held t.connection world story (carry_all front world t.outs))
+    subst (λ (t : Turned). StandsOn setting front home conn all held t.connection world story (carry_all front world t.outs))
     (sym (ended_turned setting home conn connection tag turn.reply turn.session ended))
-    (ended_stands setting front home backend conn all passed held request (record connection { session = session_ended }) tag turn.reply world story parts count
+    (ended_stands setting front home conn all passed held request (record connection { session = session_ended }) tag turn.reply world story parts count
     at answered said (both ∙ ended) none told)
-replied_by setting front home backend conn all passed held request connection tag turn world story parts count at lasts session both answered said none told last
+replied_by setting front home conn all passed held request connection tag turn world story parts count at lasts session both answered said none told last
     asked false ended =
-    subst (λ (t : Turned). StandsOn setting front home backend conn all held t.connection world story (carry_all front world t.outs))
+    subst (λ (t : Turned). StandsOn setting front home conn all held t.connection world story (carry_all front world t.outs))
     (sym (read_turned setting home conn connection tag turn.reply turn.session ended))
-    (read_stands setting front home backend conn all passed held request connection tag turn.reply turn.session world story parts count at session
+    (read_stands setting front home conn all passed held request connection tag turn.reply turn.session world story parts count at session
     (ap has_ended session ∙ ended_by connection.session turn.session lasts ∙ ended) answered said (both ∙ ended) none told last asked)
 
 -- the connection behind the reply
-pub replied_stands : (setting : Setting) (front home : List ℕ) (backend : Backend) (conn : ℕ) (all passed : List Input) (held : Option (List ℕ))
+pub replied_stands : (setting : Setting) (front home : List ℕ) (conn : ℕ) (all passed : List Input) (held : Option (List ℕ))
     (request : Request) (connection : Connection) (tag : Tag) (turn : Turn) (world : World) (story : Story)
     → all ≡ passed ++ Asks request ∷ connection.waiting → connection.answered ≡ length (story.told conn)
     → client_at world conn ≡ Some (client_with front all (story.told conn))
     → has_ended connection.session ≡ false → story.course.sessions conn ≡ session_after connection.session turn.session → TurnEnds turn
     → AreAnswered passed (story.told conn)
     → story.talk.answers conn ≡ story.told conn ++ (record { tag = tag; reply = turn.reply }) ∷ []
-    → IsPlaced (of_connection conn) world.links None → IsTold setting world.steps world.marks backend story.talk story.told story.course
+    → IsPlaced (of_connection conn) world.links None → IsTold setting world.steps world.marks story.talk story.told story.course
     → FaultsLast connection.waiting held → story.talk.requests conn ≡ requests_in all
-    → StandsOn setting front home backend conn all held (replied_turn setting home conn connection tag turn).connection world story
+    → StandsOn setting front home conn all held (replied_turn setting home conn connection tag turn).connection world story
     (carry_all front world (replied_turn setting home conn connection tag turn).outs)
-replied_stands setting front home backend conn all passed held request connection tag turn world story parts count at lasts session both answered said none told
+replied_stands setting front home conn all passed held request connection tag turn world story parts count at lasts session both answered said none told
     last asked =
-    replied_by setting front home backend conn all passed held request connection tag turn world story parts count at lasts session both answered said none told
+    replied_by setting front home conn all passed held request connection tag turn world story parts count at lasts session both answered said none told
     last asked (ends_session turn.session) refl
 
 -- the answer that fits is replied to

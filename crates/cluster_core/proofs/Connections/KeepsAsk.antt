@@ -1,6 +1,5 @@
 -- An ask that comes keeps the law: its command is carried out at the home, and is then in the answer.
 use Rattle.std.proofs.Common.{◌≡◌, ◌≢◌, ℕ, ◌+◌, true, List, [], ◌∷◌, ◌++◌, length, None, Some, refl, sym, ◌∙◌, ap, subst}
-use Rattle.std.specs.Prelude.{is_some}
 use Rattle.std.specs.Ordering.{nat_cmp}
 use Rattle.std.specs.Cmp.Lexicographic.{slice_cmp}
 use Rattle.std.proofs.Math.Logic.{⊎_elim}
@@ -21,7 +20,7 @@ use Rattle.link_msg.specs.declared.counts.Counts.{Counts}
 use Rattle.link_msg.specs.declared.message.LinkMsg.{LinkMsg}
 use Rattle.link_msg.specs.declared.message.LinkMsg.TheVariants.{Ask, Answer}
 use Rattle.mur_base.specs.Map.{value_at, with_value}
-use Rattle.mur_base.proofs.MapLaws.{names_apart, value_at-with_value, value_at-with_value-other}
+use Rattle.mur_base.proofs.MapLaws.{names_apart, same_or_other, value_at-with_value, value_at-with_value-other}
 use Rattle.mur_config.specs.declared.config.Config.{Config}
 use Rattle.imap_types.specs.declared.command.Command.{Command}
 use Rattle.imap_types.specs.declared.command.Tag.{Tag}
@@ -45,13 +44,20 @@ use Rattle.node_step.specs.NodeStep.{as_front, as_back}
 use Rattle.cluster_core.specs.declared.world.World.{World}
 use Rattle.imap_talk.specs.Heard.{Heard, frames_heard}
 use Rattle.link_queue.specs.Links.{on_link, sent, without_first}
-use Rattle.cluster_core.specs.World.{front_at, home_at, home_of, setting_of, with_state, comes, taken_from_link, carry, carry_all}
+use Rattle.cluster_core.specs.World.{front_at, home_at, setting_of, with_state, comes, taken_from_link, carry, carry_all}
 use Rattle.cluster_core.proofs.Connections.Comes.{with_home, ask_comes, home_here, home_other, fronts_beside}
 use Rattle.cluster_core.proofs.Connections.ConnectionLaw.{Story, told_of, session_at, session_of_other}
 use Rattle.cluster_core.proofs.Connections.FirstTells.{first_tells, command_waits}
 use Rattle.cluster_core.proofs.Connections.KeepsLaw.{ConnectionIs, AreNodesOf, KeepsLaw, KeepsOn, connection_stays, same_front}
+use Rattle.cluster_core.proofs.Connections.KeepsStill.{nodes_alike}
+use Rattle.cluster_core.proofs.Connections.NameLaw.{NameIs, all_below, has_at, lacks_elsewhere, name_at, name_stays, node_has, store_at}
 use Rattle.imap_talk.proofs.RequestsOf.{requests_of}
-use Rattle.serve_law.proofs.HomeStore.{IsStoreOf}
+use Rattle.serve_law.proofs.HomeStore.{AreSerialsTo, IsStoreOf, other_boxes}
+use Rattle.backend_core.proofs.Others.{others_stay}
+use Rattle.backend_core.specs.HomeStep.{held_at}
+use Rattle.cluster_core.specs.Shown.{held_by}
+use Rattle.mur_model.specs.Store.{box_at}
+use Rattle.mur_model.specs.declared.store.Store.{Store}
 use Rattle.serve_law.proofs.ServedAlike.{ServesAlike}
 use Rattle.serve_law.proofs.ServeLaw.{serves_alike}
 use Rattle.cluster_core.specs.declared.world.MarkKind.TheVariants.{Home}
@@ -120,11 +126,15 @@ record IsAnswered (config : Config) (heard : ℕ → Heard) (world : World) (law
   reply : AnswerOf
   serial : ℕ
   backend : Backend
+  course : Course
   below_next : HasUidsBelowNext backend
   counts : Counts
-  course : Course
+  still : IsStoreOf course.store backend name
+  other_boxes : (other : List ℕ) → other ≢ name → box_at course.store other ≡ box_at law.story.course.store other
+  other_held : (other : List ℕ) → other ≢ name → held_at backend other ≡ held_at law.backend other
+  serials : AreSerialsTo course.store.given backend.last_serial
   world_is : with_home (taken_from_link world from to) to (plan_of law.backend (FromFront from ask)) ≡ answered_world world from to backend ask body counts
-  is_told : IsTold (setting_of config) world.steps (world.marks ++ (record { step = world.steps; ask = ask.id; kind = Home counts }) ∷ []) backend
+  is_told : IsTold (setting_of config) world.steps (world.marks ++ (record { step = world.steps; ask = ask.id; kind = Home counts }) ∷ [])
       (having_said law.story.talk conn reply serial) law.story.told course
   others : (other : ℕ) → other ≢ conn → course.sessions other ≡ law.story.course.sessions other
   mine : course.sessions conn ≡ session_after (law.story.course.sessions conn) turn.session
@@ -146,7 +156,8 @@ answers_ask config heard world law conn from to tag it name work ask is said ask
     let serial : ℕ = backend.last_serial + 1 in
     let user : List ℕ = user_of (course.sessions conn) in
     let serves = subst (λ a. ServesAlike course.store backend name work (worked_at course.store name work serial) (home_step backend a)) is
-    (serves_alike course.store backend (next_id conn (law.story.told conn)) user name work law.is_told.same) in
+    (serves_alike course.store backend (next_id conn (law.story.told conn)) user name work
+    (store_at world course.store law.home name backend law.home_is (law.names name)) law.serials) in
     let out = carried_as (setting_of config) course conn tag it name work serial need in
     let mark_is : next_id conn (law.story.talk.answers conn) ≡ ask.id = ap (next_id conn) said ∙ ap (λ (a : FrontAsk). a.id) is in
     record {
@@ -155,21 +166,26 @@ answers_ask config heard world law conn from to tag it name work ask is said ask
       reply = (carried_out (setting_of config) course conn (a_command tag it) serial).answer;
       serial = serial;
       backend = (home_step backend ask).home;
-      below_next = step_stays_below backend ask law.below_next;
+      below_next = step_stays_below backend ask (all_below world course.store law.home backend law.home_is law.names);
       counts = (home_step backend ask).counts;
+      still = subst (λ (s : Store). IsStoreOf s (home_step backend ask).home name) (sym (ap (λ (a : Answered). a.store) out)) serves.still;
+      other_boxes = λ other ne. ap (λ (a : Answered). box_at a.store other) out
+          ∙ other_boxes course.store name (worked_at course.store name work serial).left other ne;
+      other_held = λ other ne. others_stay backend ask other (λ e. ne (e ∙ sym (ap (λ (a : FrontAsk). a.name) is)));
+      serials = subst (λ (s : Store). AreSerialsTo s.given ((home_step backend ask).home).last_serial) (sym (ap (λ (a : Answered). a.store) out))
+          (serves.gives law.serials);
       course = next_course (setting_of config) course conn (a_command tag it) serial;
       world_is = answers_so world from to backend ask serves.body serves.is_body;
       is_told = subst (λ a. IsTold (setting_of config) world.steps
-          (world.marks ++ (record { step = world.steps; ask = a; kind = Home (home_step backend ask).counts }) ∷ []) (home_step backend ask).home
+          (world.marks ++ (record { step = world.steps; ask = a; kind = Home (home_step backend ask).counts }) ∷ [])
           (having_said law.story.talk conn (carried_out (setting_of config) course conn (a_command tag it) serial).answer serial) law.story.told
           (next_course (setting_of config) course conn (a_command tag it) serial)) mark_is
-          (told_push (setting_of config) world.steps world.marks backend (home_step backend ask).home law.story.talk law.story.told law.story.told course conn (a_command tag it) serial
+          (told_push (setting_of config) world.steps world.marks law.story.talk law.story.told law.story.told course conn (a_command tag it) serial
           (Home (home_step backend ask).counts) (acting_home (home_step backend ask).counts)
           (still_told (setting_of config) law.story.talk conn (home_step backend ask).counts law.story.told (law.is_told.ahead conn))
           (ap (λ l. numbered (law.story.talk.requests conn) (length l + 1)) said ∙ asked)
           (may_take (setting_of config) course conn tag it name work serial need serves.free)
-          (λ h. same_store (setting_of config) course conn tag it name work serial need (serves.unless (counts_same h)))
-          (subst (λ s. IsStoreOf s (home_step backend ask).home) (sym (ap (λ (a : Answered). a.store) out)) serves.still) law.is_told);
+          (λ h. same_store (setting_of config) course conn tag it name work serial need (serves.unless (counts_same h))) law.is_told);
       others = λ other ne. session_of_other course.sessions conn _ other ne;
       mine = session_at course.sessions conn _ ∙ ap (λ (a : Answered). a.session) out;
       shown = serves.shown (course.sessions conn) (work_own (setting_of config) (course.sessions conn) it (Mailbox name work) need);
@@ -178,31 +194,25 @@ answers_ask config heard world law conn from to tag it name work ask is said ask
       replied = ap (λ (a : Answered). a.answer.reply) out;
     }
 
--- the nodes with another state of the home
-nodes_with_home : (config : Config) (world next : World) (backend later : Backend)
-    → next.nodes ≡ with_value (slice_cmp nat_cmp) world.nodes (home_of config) (state.Back later) → next.backends ≡ world.backends → next.pairs ≡ world.pairs
-    → AreNodesOf config world backend → AreNodesOf config next later
-nodes_with_home config world next backend later changed backends pairs nodes =
-    let home : List ℕ = home_of config in
-    let put : World = with_state world home (state.Back later) in
-    let here : (any : List ℕ) → front_at next any ≡ front_at world any =
-    λ any. ap (λ n. as_front (value_at (slice_cmp nat_cmp) n any)) changed ∙ fronts_beside world home backend later nodes.home_is any in
-    let homes : (any : List ℕ) → home_at next any ≡ home_at put any = λ any. ap (λ n. as_back (value_at (slice_cmp nat_cmp) n any)) changed in
-    record {
-      home_no_front = here home ∙ nodes.home_no_front;
-      home_is = homes home ∙ home_here world home backend later nodes.home_is;
-      fronts = λ node front at. nodes.fronts node front (sym (here node) ∙ at);
-      frontends = λ node. ap is_some (here node) ∙ nodes.frontends node;
-      other_homes = λ node other ne at. nodes.other_homes node other ne (sym (home_other world home node (state.Back later) ne) ∙ sym (homes node) ∙ at);
-      backends = backends ∙ nodes.backends;
-      pairs = pairs ∙ nodes.pairs;
-    }
+-- what the nodes have of another name than the one that was asked for, and what other nodes have of it
+
+other_node : (world next : World) (node name : List ℕ) → home_at next node ≡ home_at world node → node_has next node name ≡ node_has world node name
+other_node world next node name same = ap (λ h. value_at (slice_cmp nat_cmp) (held_by h) name) same
+
+other_name : (world next : World) (home node name : List ℕ) (was later : Backend) → home_at next home ≡ Some later
+    → ((any : List ℕ) → any ≢ home → home_at next any ≡ home_at world any) → home_at world home ≡ Some was → held_at later name ≡ held_at was name
+    → node_has next node name ≡ node_has world node name
+other_name world next home node name was later now others at same = ⊎_elim
+    (λ (e : node ≡ home). subst (λ n. node_has next n name ≡ node_has world n name) (sym e)
+    (has_at next home later name now ∙ same ∙ sym (has_at world home was name at)))
+    (λ (ne : node ≢ home). other_node world next node name (others node ne))
+    (same_or_other (slice_cmp nat_cmp) names_apart node home)
 
 -- what was on its way for others is where it was when an ask is taken and answered
-others_stay : (world : World) (from to : List ℕ) (ask : FrontAsk) (rest : List LinkMsg) (body : AnswerBody) (whom : About)
+places_stay : (world : World) (from to : List ℕ) (ask : FrontAsk) (rest : List LinkMsg) (body : AnswerBody) (whom : About)
     → on_link world.links from to ≡ Ask ask ∷ rest → whom ≢ of_connection (ask.id).conn
     → PlacesStay whom world.links (sent (without_first world.links from to) to from (Answer (record { id = ask.id; body = body })))
-others_stay world from to ask rest body whom first ne = λ here placed.
+places_stay world from to ask rest body whom first ne = λ here placed.
     others_sent (without_first world.links from to) to from (Answer (record { id = ask.id; body = body })) whom (λ e. ne (sym e)) here
     (others_taken world.links from to (Ask ask) rest whom first (λ e. ne (sym e)) here placed)
 
@@ -215,32 +225,46 @@ story_after law conn done = record { talk = having_said law.story.talk conn done
 ask_kept : (config : Config) (heard later : ℕ → Heard) (world : World) (law : KeepsLaw config heard world) (from to : List ℕ)
     (tag : Tag) (name : List ℕ) (work : Work) (ask : FrontAsk) (rest : List LinkMsg)
     (answered : IsAnswered config heard world law (ask.id).conn from to tag name work ask)
-    → to ≡ home_of config → on_link world.links from to ≡ Ask ask ∷ rest → ((other : ℕ) → later other ≡ heard other)
-    → ConnectionIs (setting_of config) (home_of config) (ask.id).conn (answered_world world from to answered.backend ask answered.body answered.counts)
+    → to ≡ law.home → on_link world.links from to ≡ Ask ask ∷ rest → ((other : ℕ) → later other ≡ heard other)
+    → ConnectionIs (setting_of config) law.home (ask.id).conn (answered_world world from to answered.backend ask answered.body answered.counts)
     (story_after law (ask.id).conn answered) (heard (ask.id).conn)
     → KeepsOn config (told_of law.story) later (answered_world world from to answered.backend ask answered.body answered.counts)
 ask_kept config heard later world law from to tag name work ask rest answered its_home first same mine =
     let conn : ℕ = (ask.id).conn in
     let story : Story = story_after law conn answered in
     let next : World = answered_world world from to answered.backend ask answered.body answered.counts in
-    let same_fronts = fronts_beside world to law.backend answered.backend (ap (home_at world) its_home ∙ law.nodes.home_is) in
+    let was : home_at world to ≡ Some law.backend = ap (home_at world) its_home ∙ law.home_is in
+    let same_fronts = fronts_beside world to law.backend answered.backend was in
+    let now : home_at next law.home ≡ Some answered.backend = ap (home_at next) (sym its_home) ∙ home_here world to law.backend answered.backend was in
+    let others : (any : List ℕ) → any ≢ law.home → home_at next any ≡ home_at world any =
+    λ any ne. home_other world to any (state.Back answered.backend) (λ e. ne (e ∙ its_home)) in
     record {
       law = record {
+        home = law.home;
         backend = answered.backend;
-        nodes = nodes_with_home config world next law.backend answered.backend
-            (ap (λ h. with_value (slice_cmp nat_cmp) world.nodes h (state.Back answered.backend)) its_home) refl refl law.nodes;
-        below_next = answered.below_next;
+        home_is = now;
+        nodes = nodes_alike config world next law.home same_fronts refl refl law.nodes;
         story = story;
+        names = λ other. ⊎_elim
+            (λ (e : other ≡ name). subst (λ n. NameIs next answered.course.store law.home n) (sym e)
+            (name_at next answered.course.store law.home name answered.backend now answered.below_next
+            (λ node ne. other_node world next node name (others node ne)
+            ∙ lacks_elsewhere world law.story.course.store law.home name node ne (law.names name)) answered.still))
+            (λ (ne : other ≢ name). name_stays world next law.story.course.store answered.course.store law.home other
+            (λ node. other_name world next law.home node other law.backend answered.backend now others law.home_is (answered.other_held other ne))
+            (answered.other_boxes other ne) (law.names other))
+            (same_or_other (slice_cmp nat_cmp) names_apart other name);
+        serials = answered.serials;
         is_told = answered.is_told;
         requests = λ other. law.requests other ∙ ap (λ h. requests_of (setting_of config) (frames_heard h)) (sym (same other));
-        no_others = others_stay world from to ask rest answered.body of_nobody first (nobody_whom conn) None law.no_others;
-        connections = λ other. subst (λ h. ConnectionIs (setting_of config) (home_of config) other next story h) (sym (same other)) (⊎_elim
-            (λ (e : other ≡ conn). subst (λ c. ConnectionIs (setting_of config) (home_of config) c next story (heard c)) (sym e) mine)
-            (λ (ne : other ≢ conn). connection_stays (setting_of config) (home_of config) other world next law.story story (heard other)
+        no_others = places_stay world from to ask rest answered.body of_nobody first (nobody_whom conn) None law.no_others;
+        connections = λ other. subst (λ h. ConnectionIs (setting_of config) law.home other next story h) (sym (same other)) (⊎_elim
+            (λ (e : other ≡ conn). subst (λ c. ConnectionIs (setting_of config) law.home c next story (heard c)) (sym e) mine)
+            (λ (ne : other ≢ conn). connection_stays (setting_of config) law.home other world next law.story story (heard other)
             (record {
               fronts = λ node. same_front other (front_at world node) (front_at next node) (same_fronts node);
               client = refl;
-              places = others_stay world from to ask rest answered.body (of_connection other) first (other_whom other conn ne);
+              places = places_stay world from to ask rest answered.body (of_connection other) first (other_whom other conn ne);
               told = refl;
               said = with_item-other law.story.talk.answers conn answered.reply other ne;
               session = answered.others other ne;
@@ -270,7 +294,7 @@ pub ask_keeps : (config : Config) (heard after : ℕ → Heard) (world : World) 
     → KeepsOn config (told_of law.story) after (comes (taken_from_link world from to) to (From from (Ask ask)))
 ask_keeps config heard after world law from to ask rest first same =
     let conn : ℕ = (ask.id).conn in
-    let home : List ℕ = home_of config in
+    let home : List ℕ = law.home in
     let story = law.story in
     let tells = first_tells (setting_of config) home conn world story (heard conn) (heard conn) from to (Ask ask) rest refl first refl (law.connections conn) in
     let there = in_an_ask tells.node from to ask tells.place tells.is_found in
@@ -279,7 +303,7 @@ ask_keeps config heard after world law from to ask rest first same =
     let knows = in_ask home conn it.was it.tag it.name it.work (story.told conn) (story.talk.answers conn) (story.course.sessions conn) tells.place to ask
     it.knows there.1 in
     let its_home : to ≡ home = sym knows.home_is in
-    let here : home_at world to ≡ Some law.backend = ap (home_at world) its_home ∙ law.nodes.home_is in
+    let here : home_at world to ≡ Some law.backend = ap (home_at world) its_home ∙ law.home_is in
     let done : IsAnswered config heard world law conn from to it.tag it.name it.work ask =
     answers_ask config heard world law conn from to it.tag it.it it.name it.work ask
     (ap (λ s. next_ask conn (story.told conn) s it.name it.work) (sym knows.session_is) ∙ knows.ask_is) knows.said_is
@@ -288,7 +312,7 @@ ask_keeps config heard after world law from to ask rest first same =
     let answer : BackAnswer = record { id = ask.id; body = done.body } in
     let next : World = answered_world world from to done.backend ask done.body done.counts in
     subst (λ w. KeepsOn config (told_of law.story) after w) {x = next}
-    (sym (ask_comes (taken_from_link world from to) from to ask law.backend here ∙ done.world_is))
+    (sym {b = next} (ask_comes (taken_from_link world from to) from to ask law.backend here ∙ done.world_is))
     (ask_kept config heard after world law from to it.tag it.name it.work ask rest done its_home first same
     (waits.moves next (having_said story.talk conn done.reply done.serial) done.course (is_answered to answer) (fronts_beside world to law.backend done.backend here) refl
     (subst (λ n. IsPlaced (of_connection conn) next.links (Some (record { from = to; to = n; message = Answer answer }))) (sym there.0)

@@ -45,7 +45,7 @@ use Rattle.node_step.proofs.NodeKinds.{front_is}
 use Rattle.cluster_core.specs.declared.world.World.{World}
 use Rattle.imap_talk.specs.Heard.{Heard, nobody, elsewhere, client, frames_heard}
 use Rattle.cluster_core.specs.Heard.{hears}
-use Rattle.cluster_core.specs.World.{client_at, node_at, front_at, home_of, setting_of, carry_all, comes, client_does}
+use Rattle.cluster_core.specs.World.{client_at, node_at, front_at, setting_of, carry_all, comes, client_does}
 use Rattle.cluster_core.proofs.Connections.ConnectionLaw.{Story, told_of, keeps_all, same_story, IsReading, IsStanding}
 use Rattle.front_core.proofs.OneConnection.Standing.{HasBegunSo, Stands, Waiting}
 use Rattle.cluster_core.proofs.Connections.ConnectionLaw.{StandsOn}
@@ -166,18 +166,18 @@ faults_behind (Faults fault ∷ front) new held later one two none =
 abbrev Behind : (config : Config) (heard : ℕ → Heard) (world : World) (law : KeepsLaw config heard world) (conn : ℕ) (bytes more node : List ℕ)
     (connection : Connection) → Type 0
 Behind config heard world law conn bytes more node connection =
-    StandsOn (setting_of config) node (home_of config) law.backend conn (inputs_in (setting_of config) (bytes ++ more)) (begun (bytes ++ more))
-    (inputs_come (setting_of config) (home_of config) conn (having_read (setting_of config) connection more) (inputs_of_more
+    StandsOn (setting_of config) node law.home conn (inputs_in (setting_of config) (bytes ++ more)) (begun (bytes ++ more))
+    (inputs_come (setting_of config) law.home conn (having_read (setting_of config) connection more) (inputs_of_more
     (setting_of config) connection.reader more)).connection world
     (asked_talk config heard conn more law.story)
-    (carry_all node world (inputs_come (setting_of config) (home_of config) conn (having_read (setting_of config) connection more) (inputs_of_more
+    (carry_all node world (inputs_come (setting_of config) law.home conn (having_read (setting_of config) connection more) (inputs_of_more
     (setting_of config) connection.reader more)).outs)
 
 now_told : (config : Config) (heard : ℕ → Heard) (world : World) (law : KeepsLaw config heard world) (conn : ℕ) (bytes more : List ℕ) (held : Read)
     → heard conn ≡ client bytes false → reading_of (setting_of config) bytes ≡ held
-    → IsTold (setting_of config) world.steps world.marks law.backend (asked_talk config heard conn more law.story).talk law.story.told law.story.course
+    → IsTold (setting_of config) world.steps world.marks (asked_talk config heard conn more law.story).talk law.story.told law.story.course
 now_told config heard world law conn bytes more held e is =
-    told_asked (setting_of config) world.steps world.marks law.backend law.story.talk law.story.told law.story.course _
+    told_asked (setting_of config) world.steps world.marks law.story.talk law.story.told law.story.course _
     (asked_more config heard conn bytes more held e is law.story.talk.requests law.requests) law.is_told
 
 all_inputs : (config : Config) (heard : ℕ → Heard) (conn : ℕ) (bytes more : List ℕ) (held : Read) → heard conn ≡ client bytes false
@@ -198,12 +198,12 @@ reading_behind config heard world law conn bytes more node connection e reader r
     let held : reading_of (setting_of config) bytes ≡ connection.reader = sym reader in
     let told : Story = asked_talk config heard conn more law.story in
     let new : List Input = inputs_of_more (setting_of config) connection.reader more in
-    let turned : Turned = inputs_come (setting_of config) (home_of config) conn (having_read (setting_of config) connection more) new in
-    subst (λ f. StandsOn (setting_of config) node (home_of config) law.backend conn f (begun (bytes ++ more)) turned.connection world told
+    let turned : Turned = inputs_come (setting_of config) law.home conn (having_read (setting_of config) connection more) new in
+    subst (λ f. StandsOn (setting_of config) node law.home conn f (begun (bytes ++ more)) turned.connection world told
     (carry_all node world turned.outs)) (sym (inputs_with_more (setting_of config) bytes more connection.reader held))
-    (subst (λ h. StandsOn (setting_of config) node (home_of config) law.backend conn (inputs_in (setting_of config) bytes ++ new) h turned.connection world told
+    (subst (λ h. StandsOn (setting_of config) node law.home conn (inputs_in (setting_of config) bytes ++ new) h turned.connection world told
     (carry_all node world turned.outs)) (sym (ap (λ (r : Read). r.held) (reading_with_more (setting_of config) bytes more connection.reader held)))
-    (inputs_kept (setting_of config) node (home_of config) law.backend conn new (read_more (setting_of config) connection.reader more).held world told
+    (inputs_kept (setting_of config) node law.home conn new (read_more (setting_of config) connection.reader more).held world told
     (faults_after (setting_of config) bytes more connection.reader held)
     (inputs_in (setting_of config) bytes) (having_read (setting_of config) connection more) world
     (all_inputs config heard conn bytes more connection.reader e held)
@@ -212,6 +212,7 @@ reading_behind config heard world law conn bytes more node connection e reader r
       made = record {
         others = keeps_all conn world;
         goes_on = same_story conn told;
+        store = refl;
         is_told = now_told config heard world law conn bytes more connection.reader e held;
       };
       reading = record {
@@ -230,8 +231,8 @@ reading_behind config heard world law conn bytes more node connection e reader r
 -- the inputs of more bytes wait behind a command that waits
 waiting_behind : (config : Config) (heard : ℕ → Heard) (world : World) (law : KeepsLaw config heard world) (conn : ℕ) (bytes more node : List ℕ)
     (connection : Connection) → heard conn ≡ client bytes false → connection.reader ≡ reading_of (setting_of config) bytes
-    → (standing : IsStanding (setting_of config) node (home_of config) conn (inputs_in (setting_of config) bytes) (begun bytes) connection world law.story)
-    → Waiting (setting_of config) (home_of config) conn (inputs_in (setting_of config) bytes) (begun bytes) connection (law.story.told conn)
+    → (standing : IsStanding (setting_of config) node law.home conn (inputs_in (setting_of config) bytes) (begun bytes) connection world law.story)
+    → Waiting (setting_of config) law.home conn (inputs_in (setting_of config) bytes) (begun bytes) connection (law.story.told conn)
     (law.story.talk.answers conn) (law.story.course.sessions conn) standing.place
     → Behind config heard world law conn bytes more node connection
 unfolding carry_all
@@ -240,24 +241,25 @@ waiting_behind config heard world law conn bytes more node connection e reader s
     let told : Story = asked_talk config heard conn more law.story in
     let new : List Input = inputs_of_more (setting_of config) connection.reader more in
     let passed : List Input = waiting.passed in
-    let waits_all : inputs_come (setting_of config) (home_of config) conn
+    let waits_all : inputs_come (setting_of config) law.home conn
     (having_read (setting_of config) connection more) new ≡ record {
       connection = record (having_read
           (setting_of config) connection more) { waiting = connection.waiting ++ new };
       outs = [];
     } =
-    asked_waits (setting_of config) (home_of config) conn (having_read (setting_of config) connection more) new waiting.tag
+    asked_waits (setting_of config) law.home conn (having_read (setting_of config) connection more) new waiting.tag
     (asked_for waiting.name waiting.work).awaited waiting.stage in
     let now : inputs_in (setting_of config) (bytes ++ more) ≡ passed ++ Asks waiting.request ∷ (connection.waiting ++ new) =
     inputs_with_more (setting_of config) bytes more connection.reader held ∙ ap (λ f. f ++ new) waiting.parts
     ∙ append_assoc passed (Asks waiting.request ∷ connection.waiting) new in
-    subst (λ (t : Turned). StandsOn (setting_of config) node (home_of config) law.backend conn (inputs_in (setting_of config) (bytes ++ more))
+    subst (λ (t : Turned). StandsOn (setting_of config) node law.home conn (inputs_in (setting_of config) (bytes ++ more))
     (begun (bytes ++ more)) t.connection world told (carry_all node world t.outs)) (sym waits_all)
     (record {
       story = told;
       made = record {
         others = keeps_all conn world;
         goes_on = same_story conn told;
+        store = refl;
         is_told = now_told config heard world law conn bytes more connection.reader e held;
       };
       standing = record {
@@ -305,7 +307,7 @@ taken_more : (config : Config) (heard : ℕ → Heard) (world : World) (law : Ke
     (inputs_come front.setting front.home conn (having_read front.setting connection more) (inputs_of_more front.setting connection.reader more))))
 taken_more config heard world law conn bytes more node front connection e at reader behind =
     let was = law.nodes.fronts node front at.at in
-    let turned : Turned = inputs_come (setting_of config) (home_of config) conn (having_read (setting_of config) connection more)
+    let turned : Turned = inputs_come (setting_of config) law.home conn (having_read (setting_of config) connection more)
     (inputs_of_more (setting_of config) connection.reader more) in
     let same : inputs_come front.setting front.home conn (having_read front.setting connection more)
     (inputs_of_more front.setting connection.reader more) ≡ turned =
@@ -314,7 +316,7 @@ taken_more config heard world law conn bytes more node front connection e at rea
     (inputs_of_more (setting_of config) connection.reader more)) was.0 in
     let kept : Connection = released turned.connection in
     let reads_so : HasBegunSo turned.connection (reading_of (setting_of config) (bytes ++ more)) =
-    inr (inputs_keep_reader (setting_of config) (home_of config) conn (having_read (setting_of config) connection more) (inputs_of_more
+    inr (inputs_keep_reader (setting_of config) law.home conn (having_read (setting_of config) connection more) (inputs_of_more
     (setting_of config) connection.reader more)
     ∙ sym (reading_with_more (setting_of config) bytes more connection.reader (sym reader))) in
     subst (λ (t : Turned). KeepsOn config (told_of law.story) (after_data config heard conn more) (with_front world node (with_turned front conn t))) (sym same)
@@ -328,42 +330,45 @@ taken_more config heard world law conn bytes more node front connection e at rea
     }) refl refl refl (λ other. refl) (λ other ne. other_heard config conn other more (heard other) ne)
     (λ shut. absurd (is_not_closed (after_data config heard conn more conn) (bytes ++ more) (heard_more config conn bytes more (heard conn) e) shut))
     behind.made
-    (subst (λ h. ConnectionIs (setting_of config) (home_of config) conn (world_after world node front conn kept turned.outs) behind.story h)
+    (subst (λ h. ConnectionIs (setting_of config) law.home conn (world_after world node front conn kept turned.outs) behind.story h)
     (sym (heard_more config conn bytes more (heard conn) e))
     (is_open (bytes ++ more) node (with_connection front conn kept) kept
     (is_at_after world node front conn connection kept turned.outs at.at at.has)
     (begun_released turned.connection (reading_of (setting_of config) (bytes ++ more)) reads_so)
-    (standing_after world node front conn kept turned.outs (setting_of config) (home_of config) (inputs_in (setting_of config) (bytes ++ more))
+    (standing_after world node front conn kept turned.outs (setting_of config) law.home (inputs_in (setting_of config) (bytes ++ more))
     (begun (bytes ++ more)) behind.story
-    (standing_released (setting_of config) node (home_of config) conn (inputs_in (setting_of config) (bytes ++ more)) (begun (bytes ++ more))
+    (standing_released (setting_of config) node law.home conn (inputs_in (setting_of config) (bytes ++ more)) (begun (bytes ++ more))
     turned.connection (carry_all node world turned.outs) behind.story behind.standing)))))
 
 -- one that has ended takes none of what it is sent: it stands so behind more bytes as well
 heard_on : (config : Config) (heard : ℕ → Heard) (world : World) (law : KeepsLaw config heard world) (conn : ℕ) (bytes more node : List ℕ) (front : Front)
     (connection : Connection) → heard conn ≡ client bytes false
     → IsAt world conn node front connection → connection.stage ≡ Ended
-    → IsStanding (setting_of config) node (home_of config) conn (inputs_in (setting_of config) (bytes ++ more)) (begun (bytes ++ more)) connection world
+    → IsStanding (setting_of config) node law.home conn (inputs_in (setting_of config) (bytes ++ more)) (begun (bytes ++ more)) connection world
     (asked_talk config heard conn more law.story)
     → KeepsOn config (told_of law.story) (after_data config heard conn more) world
 heard_on config heard world law conn bytes more node front connection e at stage standing =
     let told : Story = asked_talk config heard conn more law.story in
     record {
       law = record {
+        home = law.home;
         backend = law.backend;
+        home_is = law.home_is;
         nodes = law.nodes;
-        below_next = law.below_next;
         story = told;
+        names = law.names;
+        serials = law.serials;
         is_told = now_told config heard world law conn bytes more (reading_of (setting_of config) bytes) e refl;
         requests = λ other. refl;
         no_others = law.no_others;
         connections = λ other. ⊎_elim
-            (λ (same : other ≡ conn). subst (λ c. ConnectionIs (setting_of config) (home_of config) c world told (after_data config heard conn more c))
+            (λ (same : other ≡ conn). subst (λ c. ConnectionIs (setting_of config) law.home c world told (after_data config heard conn more c))
             (sym same)
-            (subst (λ h. ConnectionIs (setting_of config) (home_of config) conn world told h) (sym (heard_more config conn bytes more (heard conn) e))
+            (subst (λ h. ConnectionIs (setting_of config) law.home conn world told h) (sym (heard_more config conn bytes more (heard conn) e))
             (is_open (bytes ++ more) node front connection at (inl stage) standing)))
-            (λ (ne : other ≢ conn). subst (λ h. ConnectionIs (setting_of config) (home_of config) other world told h)
+            (λ (ne : other ≢ conn). subst (λ h. ConnectionIs (setting_of config) law.home other world told h)
             (sym (other_heard config conn other more (heard other) ne))
-            (connection_stays (setting_of config) (home_of config) other world world law.story told (heard other)
+            (connection_stays (setting_of config) law.home other world world law.story told (heard other)
             (record {
               fronts = λ any. same_front other (front_at world any) (front_at world any) refl;
               client = refl;
@@ -385,14 +390,14 @@ heard_on config heard world law conn bytes more node front connection e at stage
 -- no frame ends in what is sent behind a fault
 faulted_on : (config : Config) (heard : ℕ → Heard) (world : World) (law : KeepsLaw config heard world) (conn : ℕ) (bytes more node : List ℕ)
     (connection : Connection)
-    → IsStanding (setting_of config) node (home_of config) conn (inputs_in (setting_of config) bytes) (begun bytes) connection world law.story → begun bytes
+    → IsStanding (setting_of config) node law.home conn (inputs_in (setting_of config) bytes) (begun bytes) connection world law.story → begun bytes
     ≡ None
-    → IsStanding (setting_of config) node (home_of config) conn (inputs_in (setting_of config) (bytes ++ more)) (begun (bytes ++ more)) connection world
+    → IsStanding (setting_of config) node law.home conn (inputs_in (setting_of config) (bytes ++ more)) (begun (bytes ++ more)) connection world
     (asked_talk config heard conn more law.story)
 faulted_on config heard world law conn bytes more node connection standing none =
-    subst (λ f. IsStanding (setting_of config) node (home_of config) conn f (begun (bytes ++ more)) connection world
+    subst (λ f. IsStanding (setting_of config) node law.home conn f (begun (bytes ++ more)) connection world
     (asked_talk config heard conn more law.story)) (sym (ap (inputs_from (setting_of config)) (frames-ended bytes more none)))
-    (subst (λ h. IsStanding (setting_of config) node (home_of config) conn (inputs_in (setting_of config) bytes) h connection world
+    (subst (λ h. IsStanding (setting_of config) node law.home conn (inputs_in (setting_of config) bytes) h connection world
     (asked_talk config heard conn more law.story))
     (none ∙ sym (begun-ended bytes more none)) (record {
       count = standing.count;
@@ -405,11 +410,11 @@ faulted_on config heard world law conn bytes more node connection standing none 
 -- the frames that are sent behind the answer that ended a session are answered by nothing
 finished_on : (config : Config) (heard : ℕ → Heard) (world : World) (law : KeepsLaw config heard world) (conn : ℕ) (bytes more node : List ℕ)
     (connection : Connection) (passed rest : List Input) (asking : Request) (before : List Answer) (final : Answer)
-    → (standing : IsStanding (setting_of config) node (home_of config) conn (inputs_in (setting_of config) bytes) (begun bytes) connection world law.story)
+    → (standing : IsStanding (setting_of config) node law.home conn (inputs_in (setting_of config) bytes) (begun bytes) connection world law.story)
     → connection.stage ≡ Ended → inputs_in (setting_of config) bytes ≡ passed ++ Asks asking ∷ rest → AreAnswered passed before → law.story.told conn
     ≡ before ++ final ∷ []
     → ends final.reply ≡ true → law.story.talk.answers conn ≡ law.story.told conn → standing.place ≡ nowhere
-    → IsStanding (setting_of config) node (home_of config) conn (inputs_in (setting_of config) (bytes ++ more)) (begun (bytes ++ more)) connection world
+    → IsStanding (setting_of config) node law.home conn (inputs_in (setting_of config) (bytes ++ more)) (begun (bytes ++ more)) connection world
     (asked_talk config heard conn more law.story)
 finished_on config heard world law conn bytes more node connection passed rest asking before final standing stage parts answered told is_end said none =
     let reader : Read = reading_of (setting_of config) bytes in
@@ -461,7 +466,7 @@ asked_reader connection held tag awaited stage is = reader_of connection held (�
 ended_more : (config : Config) (heard : ℕ → Heard) (world : World) (law : KeepsLaw config heard world) (conn : ℕ) (bytes more node : List ℕ) (front : Front)
     (connection : Connection) → heard conn ≡ client bytes false
     → IsAt world conn node front connection → connection.stage ≡ Ended
-    → IsStanding (setting_of config) node (home_of config) conn (inputs_in (setting_of config) (bytes ++ more)) (begun (bytes ++ more)) connection world
+    → IsStanding (setting_of config) node law.home conn (inputs_in (setting_of config) (bytes ++ more)) (begun (bytes ++ more)) connection world
     (asked_talk config heard conn more law.story)
     → KeepsOn config (told_of law.story) (after_data config heard conn more) (with_front world node (bytes_in front conn more))
 ended_more config heard world law conn bytes more node front connection e at stage standing =
@@ -479,8 +484,8 @@ ended_more config heard world law conn bytes more node front connection e at sta
 stands_more : (config : Config) (heard : ℕ → Heard) (world : World) (law : KeepsLaw config heard world) (conn : ℕ) (bytes more node : List ℕ) (front : Front)
     (connection : Connection) → heard conn ≡ client bytes false
     → IsAt world conn node front connection → HasBegunSo connection (reading_of (setting_of config) bytes)
-    → (standing : IsStanding (setting_of config) node (home_of config) conn (inputs_in (setting_of config) bytes) (begun bytes) connection world law.story)
-    → Stands (setting_of config) (home_of config) conn (inputs_in (setting_of config) bytes) (begun bytes) connection (law.story.told conn)
+    → (standing : IsStanding (setting_of config) node law.home conn (inputs_in (setting_of config) bytes) (begun bytes) connection world law.story)
+    → Stands (setting_of config) law.home conn (inputs_in (setting_of config) bytes) (begun bytes) connection (law.story.told conn)
     (law.story.talk.answers conn) (law.story.course.sessions conn) standing.place
     → KeepsOn config (told_of law.story) (after_data config heard conn more) (with_front world node (bytes_in front conn more))
 stands_more config heard world law conn bytes more node front connection e at reader standing (reads stage waiting session lasts all said none) =
@@ -533,7 +538,7 @@ unfolding client_does
 at_front world conn bytes node front given at is = ap (client_does world (Piece conn bytes)) at ∙ piece_comes world node conn bytes front is
 
 data_by : (config : Config) (heard : ℕ → Heard) (world : World) (conn : ℕ) (bytes : List ℕ) (law : KeepsLaw config heard world) (was : Heard) → heard conn ≡ was
-    → ConnectionIs (setting_of config) (home_of config) conn world law.story was
+    → ConnectionIs (setting_of config) law.home conn world law.story was
     → KeepsOn config (told_of law.story) (after_data config heard conn bytes) (client_does world (Piece conn bytes) (client_at world conn))
 unfolding client_does
 data_by config heard world conn bytes law was e (is_nobody none fronts untold) =

@@ -8,7 +8,7 @@ use Rattle.front_core.specs.declared.connection.Connection.{Connection}
 use Rattle.front_core.specs.declared.front.Front.{Front}
 use Rattle.front_core.specs.Front.{connection_at}
 use Rattle.link_msg.specs.declared.out.Out.{Out}
-use Rattle.mur_base.specs.Map.{with_value}
+use Rattle.mur_base.specs.Map.{value_at, with_value}
 use Rattle.mur_base.proofs.MapLaws.{numbers_apart, value_at-with_value, value_at-with_value-other}
 use Rattle.mur_config.specs.declared.config.Config.{Config}
 use Rattle.imap_talk.specs.declared.inputs.Input.{Input}
@@ -22,10 +22,15 @@ use Rattle.cluster_core.specs.declared.world.World.{World}
 use Rattle.imap_talk.specs.Heard.{Heard, frames_heard, has_closed}
 use Rattle.link_msg.specs.declared.message.LinkMsg.{LinkMsg}
 use Rattle.link_queue.specs.Links.{Links}
-use Rattle.cluster_core.specs.World.{front_at, home_of, setting_of, carry_all, with_state}
+use Rattle.cluster_core.specs.World.{front_at, setting_of, carry_all, with_state}
 use Rattle.cluster_core.proofs.Connections.ConnectionLaw.{Story, told_of, IsMade, IsStanding}
-use Rattle.cluster_core.proofs.Connections.Comes.{front_here}
+use Rattle.cluster_core.proofs.Connections.Comes.{front_here, homes_beside}
 use Rattle.cluster_core.proofs.Connections.KeepsLaw.{ConnectionIs, IsAt, IsGone, KeepsLaw, KeepsOn, connection_stays}
+use Rattle.cluster_core.proofs.Connections.NameLaw.{name_stays}
+use Rattle.cluster_core.specs.Shown.{held_by}
+use Rattle.mur_model.specs.Store.{box_at}
+use Rattle.mur_model.specs.declared.store.Store.{Store}
+use Rattle.serve_law.proofs.HomeStore.{AreSerialsTo}
 use Rattle.cluster_core.proofs.Connections.KeepsStill.{fronts_at_other, nodes_with_front, having_nodes, carry_all_nodes}
 use Rattle.front_core.proofs.OneConnection.Places.{About, of_connection, of_nobody, nobody_whom, other_whom, PlacesStay}
 use Rattle.imap_talk.proofs.RequestsOf.{requests_of}
@@ -47,8 +52,8 @@ pub front_keeps : (config : Config) (heard after : ℕ → Heard) (origin : Worl
     → ((other : ℕ) → told.talk.requests other ≡ requests_of (setting_of config) (frames_heard (after other)))
     → ((other : ℕ) → other ≢ conn → after other ≡ heard other)
     → (has_closed (after conn) ≡ true → story.told conn ≡ law.story.told conn)
-    → IsMade (setting_of config) law.backend conn (record origin { links = links }) told (carry_all node (record origin { links = links }) outs) story
-    → ConnectionIs (setting_of config) (home_of config) conn (world_after (record origin { links = links }) node front conn connection outs) story (after conn)
+    → IsMade (setting_of config) conn (record origin { links = links }) told (carry_all node (record origin { links = links }) outs) story
+    → ConnectionIs (setting_of config) law.home conn (world_after (record origin { links = links }) node front conn connection outs) story (after conn)
     → KeepsOn config (told_of law.story) after (world_after (record origin { links = links }) node front conn connection outs)
 front_keeps config heard after origin law links conn node front was connection outs told story places at has more same_told same_said same_course requests others
     no_more made mine =
@@ -57,22 +62,27 @@ front_keeps config heard after origin law links conn node front was connection o
     let nodes = with_value (slice_cmp nat_cmp) world.nodes node (state.Front later) in
     let carried : World = carry_all node world outs in
     let next : World = having_nodes carried nodes in
+    let same_store : story.course.store ≡ law.story.course.store = made.store ∙ ap (λ (c : Course). c.store) same_course in
     let e : world_after world node front conn connection outs ≡ next = carry_all_nodes node world nodes outs in
     subst (λ w. KeepsOn config (told_of law.story) after w) (sym e)
     (record {
       law = record {
+        home = law.home;
         backend = law.backend;
-        nodes = nodes_with_front config origin next law.backend node front later at refl made.others.backends made.others.pairs refl refl law.nodes;
-        below_next = law.below_next;
+        home_is = homes_beside origin node front later at law.home ∙ law.home_is;
+        nodes = nodes_with_front config origin next law.home node front later at refl made.others.backends made.others.pairs refl refl law.nodes;
         story = story;
+        names = λ name. name_stays origin next law.story.course.store story.course.store law.home name
+            (λ any. ap (λ h. value_at (slice_cmp nat_cmp) (held_by h) name) (homes_beside origin node front later at any)) (ap (λ (s : Store). box_at s name) same_store) (law.names name);
+        serials = subst (λ (s : Store). AreSerialsTo s.given law.backend.last_serial) (sym same_store) law.serials;
         is_told = made.is_told;
         requests = λ other. ap (λ (r : ℕ → List Request). r other) made.goes_on.requests ∙ requests other;
         no_others = made.others.places of_nobody (nobody_whom conn) None (places of_nobody (nobody_whom conn) None law.no_others);
         connections = λ other. ⊎_elim
-            (λ (same : other ≡ conn). subst (λ c. ConnectionIs (setting_of config) (home_of config) c next story (after c)) (sym same)
-            (subst (λ w. ConnectionIs (setting_of config) (home_of config) conn w story (after conn)) e mine))
-            (λ (ne : other ≢ conn). subst (λ h. ConnectionIs (setting_of config) (home_of config) other next story h) (sym (others other ne))
-            (connection_stays (setting_of config) (home_of config) other origin next law.story story (heard other)
+            (λ (same : other ≡ conn). subst (λ c. ConnectionIs (setting_of config) law.home c next story (after c)) (sym same)
+            (subst (λ w. ConnectionIs (setting_of config) law.home conn w story (after conn)) e mine))
+            (λ (ne : other ≢ conn). subst (λ h. ConnectionIs (setting_of config) law.home other next story h) (sym (others other ne))
+            (connection_stays (setting_of config) law.home other origin next law.story story (heard other)
             (record {
               fronts = fronts_at_other origin node front later other at
                   (value_at-with_value-other nat_cmp numbers_apart front.connections conn other connection ne);

@@ -23,7 +23,7 @@ use Rattle.node_step.specs.declared.node.NodeState.TheVariants as state
 use Rattle.cluster_core.specs.declared.world.World.{World}
 use Rattle.imap_talk.specs.Heard.{Heard, nobody, elsewhere, client, frames_heard}
 use Rattle.cluster_core.specs.Heard.{hears}
-use Rattle.cluster_core.specs.World.{client_at, node_at, home_of, setting_of, carry_all, with_state, comes, client_does}
+use Rattle.cluster_core.specs.World.{client_at, node_at, setting_of, carry_all, with_state, comes, client_does}
 use Rattle.cluster_core.proofs.Connections.ConnectionLaw.{told_of, keeps_all, same_story}
 use Rattle.front_core.proofs.OneConnection.Standing.{Stands, IsLeft}
 use Rattle.front_core.proofs.OneConnection.Standing.Stands.{reads, waits, faulted, finished}
@@ -79,7 +79,7 @@ hangs_at world conn node front connection given at is = ap (client_does world (H
 closes : (config : Config) (heard : ℕ → Heard) (world : World) (conn : ℕ) (law : KeepsLaw config heard world) (bytes node : List ℕ) (front : Front)
     (connection : Connection) → IsAt world conn node front connection
     → law.story.talk.requests conn ≡ requests_in (inputs_in (setting_of config) bytes) → after_hang config heard conn conn ≡ client bytes true
-    → IsGone (setting_of config) node (home_of config) conn (inputs_in (setting_of config) bytes) (hung_up connection) world law.story
+    → IsGone (setting_of config) node law.home conn (inputs_in (setting_of config) bytes) (hung_up connection) world law.story
     → KeepsOn config (told_of law.story) (after_hang config heard conn) (world_after world node front conn (hung_up connection) [])
 unfolding carry_all frames_heard
 closes config heard world conn law bytes node front connection at asked now gone =
@@ -93,11 +93,11 @@ closes config heard world conn law bytes node front connection at asked now gone
     (heard other) ne)))
     (cases_eq other conn))
     (λ other ne. other_heard config conn other (heard other) ne) (λ shut. refl)
-    (record { others = keeps_all conn world; goes_on = same_story conn law.story; is_told = law.is_told })
-    (subst (λ h. ConnectionIs (setting_of config) (home_of config) conn (world_after world node front conn (hung_up connection) []) law.story h) (sym now)
+    (record { others = keeps_all conn world; goes_on = same_story conn law.story; store = refl; is_told = law.is_told })
+    (subst (λ h. ConnectionIs (setting_of config) law.home conn (world_after world node front conn (hung_up connection) []) law.story h) (sym now)
     (is_closed bytes node (with_connection front conn (hung_up connection)) (hung_up connection)
     (is_at_after world node front conn connection (hung_up connection) [] at.at at.has)
-    (gone_after world node front conn (hung_up connection) (setting_of config) (home_of config) (inputs_in (setting_of config) bytes) law.story gone)))
+    (gone_after world node front conn (hung_up connection) (setting_of config) law.home (inputs_in (setting_of config) bytes) law.story gone)))
 
 alike_heard : (config : Config) (heard : ℕ → Heard) (world next : World) (conn : ℕ) (law : KeepsLaw config heard world) → LooksAlike world next
     → after_hang config heard conn conn ≡ heard conn
@@ -127,7 +127,7 @@ unfolding hears
 closed_heard config conn bytes = refl
 
 hang_by : (config : Config) (heard : ℕ → Heard) (world : World) (conn : ℕ) (law : KeepsLaw config heard world) (was : Heard) → heard conn ≡ was
-    → ConnectionIs (setting_of config) (home_of config) conn world law.story was
+    → ConnectionIs (setting_of config) law.home conn world law.story was
     → KeepsOn config (told_of law.story) (after_hang config heard conn) (client_does world (Hung conn) (client_at world conn))
 unfolding client_does frames_heard
 hang_by config heard world conn law was e (is_nobody none fronts untold) =
@@ -146,11 +146,11 @@ hang_by config heard world conn law was e (is_open bytes node front connection a
       stage_is = refl;
       count = standing.count;
       client = standing.client;
-      lasts = stands_last (setting_of config) (home_of config) conn (inputs_in (setting_of config) bytes) (begun bytes) connection
+      lasts = stands_last (setting_of config) law.home conn (inputs_in (setting_of config) bytes) (begun bytes) connection
           (law.story.told conn) (law.story.talk.answers conn) (law.story.course.sessions conn) standing.place standing.stands;
       place = standing.place;
       placed = standing.placed;
-      left = left_by (setting_of config) (home_of config) conn (inputs_in (setting_of config) bytes) (begun bytes) connection
+      left = left_by (setting_of config) law.home conn (inputs_in (setting_of config) bytes) (begun bytes) connection
           (law.story.told conn) (law.story.talk.answers conn) (law.story.course.sessions conn) standing.place standing.stands;
     }))
 hang_by config heard world conn law was e (is_closed bytes node front connection at gone) =

@@ -1,11 +1,10 @@
 -- The law that every step keeps: one case for each connection, by what was heard of its client.
-use Rattle.std.proofs.Common.{◌≡◌, ◌≢◌, ℕ, ◌≤◌, true, false, List, [], length, Option, None, Some, refl, sym, ◌∙◌, ap, subst}
+use Rattle.std.proofs.Common.{◌≡◌, ◌≢◌, ℕ, ◌≤◌, true, false, List, [], ◌∷◌, length, Option, None, Some, refl, sym, ◌∙◌, ap, subst}
 use Rattle.std.proofs.Common.{arith}
-use Rattle.std.specs.Prelude.{is_some}
+use Rattle.std.specs.Prelude.{is_some, All, Contains}
 use Rattle.std.specs.declared.cmp.Ordering.{Ordering}
 use Rattle.std.proofs.Math.Logic.{⊎_elim}
 use Rattle.backend_core.specs.declared.backend.Backend.{Backend}
-use Rattle.backend_core.specs.HomeLaws.{HasUidsBelowNext}
 use Rattle.front_core.specs.declared.connection.Connection.{Connection}
 use Rattle.front_core.specs.declared.connection.Stage.TheVariants.{Ended}
 use Rattle.front_core.specs.declared.front.Front.{Front}
@@ -26,11 +25,14 @@ use Rattle.imap_talk.specs.Heard.{Heard, nobody, elsewhere, client, frames_heard
 use Rattle.cluster_core.specs.Heard.{is_frontend}
 use Rattle.link_msg.specs.declared.message.LinkMsg.{LinkMsg}
 use Rattle.link_queue.specs.Links.{Links}
-use Rattle.cluster_core.specs.World.{start, client_at, node_at, front_at, home_at, home_of, setting_of}
+use Rattle.cluster_core.specs.World.{backends_of, client_at, node_at, front_at, home_at, setting_of}
 use Rattle.cluster_core.proofs.Connections.ConnectionLaw.{Story, told_of, client_with, IsStanding}
 use Rattle.front_core.proofs.OneConnection.Standing.{HasBegunSo, Stands, IsLeft}
 use Rattle.imap_talk.proofs.RequestsOf.{requests_of}
+use Rattle.cluster_core.proofs.Connections.NameLaw.{NameIs}
 use Rattle.cluster_core.proofs.Histories.Told.{IsTold}
+use Rattle.mur_config.specs.Nodes.{links_of}
+use Rattle.serve_law.proofs.HomeStore.{AreSerialsTo}
 use Rattle.front_core.proofs.OneConnection.Places.{About, of_connection, of_nobody, IsPlaced, PlacesStay, Place, its_message}
 
 -- a connection that no frontend has
@@ -67,26 +69,37 @@ pub data ConnectionIs (setting : Setting) (home : List ℕ) (conn : ℕ) (world 
   is_closed : (bytes node : List ℕ) (front : Front) (connection : Connection) → IsAt world conn node front connection
       → IsGone setting node home conn (inputs_in setting bytes) connection world story → ConnectionIs setting home conn world story (client bytes true)
 
--- the nodes of a run stay what they are: one home holds every mailbox
-pub record AreNodesOf (config : Config) (world : World) (backend : Backend) : Type 0 where
-  pub home_no_front : front_at world (home_of config) ≡ None
-  pub home_is : home_at world (home_of config) ≡ Some backend
-  pub fronts : (node : List ℕ) (front : Front) → front_at world node ≡ Some front → (front.home ≡ home_of config) × (front.setting ≡ setting_of config)
+-- a home that all frontends may ask: the first backend, linked with each of them
+pub record IsHomeFor (config : Config) (home : List ℕ) : Type 0 where
+  pub rest : List (List ℕ)
+  pub names : backends_of config.nodes ≡ home ∷ rest
+  pub others : All (λ n. home ≢ n) rest
+  pub to_home : (node : List ℕ) → is_frontend config node ≡ true → Contains (links_of config.nodes) (record { from = node; to = home })
+  pub from_home : (node : List ℕ) → is_frontend config node ≡ true → Contains (links_of config.nodes) (record { from = home; to = node })
+
+-- the nodes of a run stay what they are, and each frontend asks this home
+pub record AreNodesOf (config : Config) (world : World) (home : List ℕ) : Type 0 where
+  pub home_no_front : front_at world home ≡ None
+  pub fronts : (node : List ℕ) (front : Front) → front_at world node ≡ Some front → (front.home ≡ home) × (front.setting ≡ setting_of config)
   pub frontends : (node : List ℕ) → is_some (front_at world node) ≡ is_frontend config node
-  pub other_homes : (node : List ℕ) (other : Backend) → node ≢ home_of config → home_at world node ≡ Some other → other.held ≡ []
-  pub backends : world.backends ≡ (start config).backends
-  pub pairs : world.pairs ≡ (start config).pairs
+  pub backends : world.backends ≡ backends_of config.nodes
+  pub pairs : world.pairs ≡ links_of config.nodes
+  pub home_for : IsHomeFor config home
 
 pub record KeepsLaw (config : Config) (heard : ℕ → Heard) (world : World) : Type 0 where
+  -- the home that the frontends ask
+  pub home : List ℕ
   pub backend : Backend
-  pub nodes : AreNodesOf config world backend
-  pub below_next : HasUidsBelowNext backend
+  pub home_is : home_at world home ≡ Some backend
+  pub nodes : AreNodesOf config world home
   pub story : Story
-  pub is_told : IsTold (setting_of config) world.steps world.marks backend story.talk story.told story.course
+  pub names : (name : List ℕ) → NameIs world story.course.store home name
+  pub serials : AreSerialsTo story.course.store.given backend.last_serial
+  pub is_told : IsTold (setting_of config) world.steps world.marks story.talk story.told story.course
   pub requests : (conn : ℕ) → story.talk.requests conn ≡ requests_of (setting_of config) (frames_heard (heard conn))
   -- each message on its way is about a connection
   pub no_others : IsPlaced of_nobody world.links None
-  pub connections : (conn : ℕ) → ConnectionIs (setting_of config) (home_of config) conn world story (heard conn)
+  pub connections : (conn : ℕ) → ConnectionIs (setting_of config) home conn world story (heard conn)
 
 -- so it does behind a world in which so much was said; a client that has closed its connection was told no more
 pub record KeepsOn (config : Config) (before : Talk) (heard : ℕ → Heard) (world : World) : Type 0 where

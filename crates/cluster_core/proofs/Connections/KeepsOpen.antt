@@ -17,7 +17,7 @@ use Rattle.imap_talk.specs.Transcript.{replies_to, told_till}
 use Rattle.imap_talk.proofs.TranscriptGrows.{AreAnswered, none_answered}
 use Rattle.imap_wire.specs.Frames.{begun}
 use Rattle.imap_wire.proofs.FeedLaws.{frames-nil}
-use Rattle.mur_base.specs.Map.{with_value, with_entry}
+use Rattle.mur_base.specs.Map.{value_at, with_value, with_entry}
 use Rattle.mur_base.proofs.MapLaws.{numbers_apart, value_at-with_value, value_at-with_value-other, value_at-with_entry, value_at-with_entry-other}
 use Rattle.mur_config.specs.declared.config.Config.{Config}
 use Rattle.imap_types.specs.declared.request.Answer.{Answer}
@@ -32,14 +32,16 @@ use Rattle.node_step.specs.declared.node.NodeState.TheVariants as state
 use Rattle.cluster_core.specs.declared.world.World.{World}
 use Rattle.imap_talk.specs.Heard.{Heard, nobody, elsewhere, client, frames_heard}
 use Rattle.cluster_core.specs.Heard.{hears, opened_at, is_frontend}
-use Rattle.cluster_core.specs.World.{client_at, node_at, front_at, home_of, setting_of, with_client, with_state, comes, opens, given_more, carry, carry_all}
+use Rattle.cluster_core.specs.Shown.{held_by}
+use Rattle.cluster_core.specs.World.{client_at, node_at, front_at, setting_of, with_client, with_state, comes, opens, given_more, carry, carry_all}
 use Rattle.cluster_core.proofs.Connections.ConnectionLaw.{Story, told_of}
-use Rattle.cluster_core.proofs.Connections.Comes.{with_front, opened_comes, opened_elsewhere, front_here}
+use Rattle.cluster_core.proofs.Connections.Comes.{with_front, opened_comes, opened_elsewhere, front_here, homes_beside}
 use Rattle.front_core.proofs.OneConnection.Places.{nowhere}
 use Rattle.front_core.proofs.OneConnection.Standing.Stands.{reads}
 use Rattle.cluster_core.proofs.Connections.KeepsLaw.{ConnectionIs, IsUntold, KeepsLaw, KeepsOn, connection_stays}
 use Rattle.cluster_core.proofs.Connections.KeepsLaw.{looks_same, same_front}
 use Rattle.cluster_core.proofs.Connections.KeepsLaw.ConnectionIs.{is_nobody, is_elsewhere, is_open, is_closed}
+use Rattle.cluster_core.proofs.Connections.NameLaw.{name_stays}
 use Rattle.cluster_core.proofs.Connections.KeepsStill.{still_kept, fronts_at_other, nodes_alike, nodes_with_front}
 use Rattle.front_core.proofs.OneConnection.Readings.{inputs_in, reading_of}
 use Rattle.imap_talk.proofs.RequestsOf.{requests_of}
@@ -119,22 +121,25 @@ joined_keeps config heard world node conn law none new =
     let off : is_frontend config node ≡ false = sym (law.nodes.frontends node) ∙ ap is_some none in
     record {
       law = record {
+        home = law.home;
         backend = law.backend;
-        nodes = nodes_alike config world next law.backend (λ any. refl) refl refl law.nodes;
-        below_next = law.below_next;
+        home_is = law.home_is;
+        nodes = nodes_alike config world next law.home (λ any. refl) refl refl law.nodes;
         story = law.story;
+        names = λ name. name_stays world next law.story.course.store law.story.course.store law.home name (λ any. refl) refl (law.names name);
+        serials = law.serials;
         is_told = law.is_told;
         requests = requests_first config law.story heard conn node new.nobody_is law.requests;
         no_others = law.no_others;
         connections = λ other. ⊎_elim
-            (λ (same : other ≡ conn). subst (λ c. ConnectionIs (setting_of config) (home_of config) c next law.story (after_open config heard node conn c))
+            (λ (same : other ≡ conn). subst (λ c. ConnectionIs (setting_of config) law.home c next law.story (after_open config heard node conn c))
             (sym same)
-            (subst (λ h. ConnectionIs (setting_of config) (home_of config) conn next law.story h)
+            (subst (λ h. ConnectionIs (setting_of config) law.home conn next law.story h)
             (sym (hears_first config conn (heard conn) node false new.nobody_is off))
             (is_elsewhere node (value_at-with_entry nat_cmp numbers_apart world.clients conn (record { at = node; given = [] })) none new.untold)))
-            (λ (ne : other ≢ conn). subst (λ h. ConnectionIs (setting_of config) (home_of config) other next law.story h)
+            (λ (ne : other ≢ conn). subst (λ h. ConnectionIs (setting_of config) law.home other next law.story h)
             (sym (other_after config heard node conn other ne))
-            (connection_stays (setting_of config) (home_of config) other world next law.story law.story (heard other)
+            (connection_stays (setting_of config) law.home other world next law.story law.story (heard other)
             (record {
               fronts = λ any. same_front other (front_at world any) (front_at next any) refl;
               client = clients_other world node conn other ne;
@@ -205,17 +210,21 @@ front_keeps_open config heard world node conn front law at new =
     subst (λ w. KeepsOn config (told_of law.story) (after_open config heard node conn) w) (sym (greets world node conn front (new.fronts node front at)))
     (record {
       law = record {
+        home = law.home;
         backend = law.backend;
-        nodes = nodes_with_front config world next law.backend node front later at refl refl refl refl refl law.nodes;
-        below_next = law.below_next;
+        home_is = homes_beside world node front later at law.home ∙ law.home_is;
+        nodes = nodes_with_front config world next law.home node front later at refl refl refl refl refl law.nodes;
         story = law.story;
+        names = λ name. name_stays world next law.story.course.store law.story.course.store law.home name
+            (λ any. ap (λ h. value_at (slice_cmp nat_cmp) (held_by h) name) (homes_beside world node front later at any)) refl (law.names name);
+        serials = law.serials;
         is_told = law.is_told;
         requests = requests_first config law.story heard conn node new.nobody_is law.requests;
         no_others = law.no_others;
         connections = λ other. ⊎_elim
-            (λ (same : other ≡ conn). subst (λ c. ConnectionIs (setting_of config) (home_of config) c next law.story (after_open config heard node conn c))
+            (λ (same : other ≡ conn). subst (λ c. ConnectionIs (setting_of config) law.home c next law.story (after_open config heard node conn c))
             (sym same)
-            (subst (λ h. ConnectionIs (setting_of config) (home_of config) conn next law.story h)
+            (subst (λ h. ConnectionIs (setting_of config) law.home conn next law.story h)
             (sym (hears_first config conn (heard conn) node true new.nobody_is on))
             (is_open [] node later new_connection
             (record {
@@ -234,9 +243,9 @@ front_keeps_open config heard world node conn front law at new =
                   (law.story.told conn) new.untold.told)
                   (new.untold.said ∙ sym new.untold.told) refl;
             }))))
-            (λ (ne : other ≢ conn). subst (λ h. ConnectionIs (setting_of config) (home_of config) other next law.story h)
+            (λ (ne : other ≢ conn). subst (λ h. ConnectionIs (setting_of config) law.home other next law.story h)
             (sym (other_after config heard node conn other ne))
-            (connection_stays (setting_of config) (home_of config) other world next law.story law.story (heard other)
+            (connection_stays (setting_of config) law.home other world next law.story law.story (heard other)
             (record {
               fronts = fronts_at_other world node front later other at
                   (value_at-with_entry-other nat_cmp numbers_apart front.connections conn other new_connection ne);
@@ -269,9 +278,9 @@ pub open_keeps : (config : Config) (heard : ℕ → Heard) (world : World) (node
 unfolding opens
 open_keeps config heard world node conn None at law =
     open_by config heard world node conn (front_at world node) refl law
-    (is_new (setting_of config) (home_of config) conn world law.story (heard conn) at (law.connections conn))
+    (is_new (setting_of config) law.home conn world law.story (heard conn) at (law.connections conn))
 open_keeps config heard world node conn (Some there) at law =
     still_kept config heard (after_open config heard node conn) world world (looks_same world)
     (λ other. heard_before config other (heard other) node conn
-    (λ e. λ same. has_client (setting_of config) (home_of config) conn world law.story (heard conn) there at (law.connections conn)
+    (λ e. λ same. has_client (setting_of config) law.home conn world law.story (heard conn) there at (law.connections conn)
     (sym (ap heard same) ∙ e))) law

@@ -31,7 +31,7 @@ use Rattle.node_step.specs.declared.input.NodeInput.TheVariants.{From}
 use Rattle.cluster_core.specs.declared.world.World.{World}
 use Rattle.imap_talk.specs.Heard.{Heard, client, frames_heard}
 use Rattle.link_queue.specs.Links.{on_link, without_first}
-use Rattle.cluster_core.specs.World.{front_at, home_of, setting_of, taken_from_link, carry_all, comes}
+use Rattle.cluster_core.specs.World.{front_at, setting_of, taken_from_link, carry_all, comes}
 use Rattle.cluster_core.proofs.Connections.Comes.{with_front, answer_comes_to}
 use Rattle.cluster_core.proofs.Connections.ConnectionLaw.{told_of, keeps_all, same_story, IsStanding}
 use Rattle.cluster_core.proofs.Connections.ConnectionLaw.{StandsOn}
@@ -96,14 +96,14 @@ replied_kept : (config : Config) (heard after : ℕ → Heard) (world : World) (
     → ((c : ℕ) → after c ≡ heard c) → (answer.id).conn ≡ conn
     → heard conn ≡ client bytes false → IsAt world conn node front connection → HasBegunSo connection (reading_of (setting_of config) bytes)
     → connection.stage ≡ Asked tag awaited
-    → answer_comes front.setting front.home (answer.id).conn connection answer ≡ replied_turn (setting_of config) (home_of config) conn connection tag turn
-    → StandsOn (setting_of config) node (home_of config) law.backend conn (inputs_in (setting_of config) bytes) (begun bytes)
-    (replied_turn (setting_of config) (home_of config) conn connection tag turn).connection
+    → answer_comes front.setting front.home (answer.id).conn connection answer ≡ replied_turn (setting_of config) law.home conn connection tag turn
+    → StandsOn (setting_of config) node law.home conn (inputs_in (setting_of config) bytes) (begun bytes)
+    (replied_turn (setting_of config) law.home conn connection tag turn).connection
     (taken_from_link world from node) law.story (carry_all node (taken_from_link world from node)
-    (replied_turn (setting_of config) (home_of config) conn connection tag turn).outs)
+    (replied_turn (setting_of config) law.home conn connection tag turn).outs)
     → KeepsOn config (told_of law.story) after (comes (taken_from_link world from node) node (From from (Answer answer)))
 replied_kept config heard after world law from answer rest conn bytes node front connection tag awaited turn asked first same own e at reader stage comes stands =
-    let turned : Turned = replied_turn (setting_of config) (home_of config) conn connection tag turn in
+    let turned : Turned = replied_turn (setting_of config) law.home conn connection tag turn in
     let kept : Connection = released turned.connection in
     subst (λ w. KeepsOn config (told_of law.story) after w)
     (sym (to_front world from node answer front connection turned asked at.at (ap (connection_at front) own ∙ at.has) comes
@@ -113,16 +113,16 @@ replied_kept config heard after world law from answer rest conn bytes node front
     (others_on world from node answer rest conn first own) at.at at.has (same_talk (told_of law.story)) refl refl refl
     (λ other. law.requests other ∙ ap (λ h. requests_of (setting_of config) (frames_heard h)) (sym (same other))) (λ other ne. same other)
     (λ shut. absurd (is_not_closed (after conn) bytes (same conn ∙ e) shut)) stands.made
-    (subst (λ h. ConnectionIs (setting_of config) (home_of config) conn
+    (subst (λ h. ConnectionIs (setting_of config) law.home conn
     (world_after (taken_from_link world from node) node front conn kept turned.outs) stands.story h) (sym (same conn ∙ e))
     (is_open bytes node (with_connection front conn kept) kept
     (is_at_after (taken_from_link world from node) node front conn connection kept turned.outs at.at at.has)
     (begun_released turned.connection (reading_of (setting_of config) bytes)
-    (replied_reader (setting_of config) (home_of config) conn connection tag awaited turn (reading_of (setting_of config) bytes) stage reader))
-    (standing_after (taken_from_link world from node) node front conn kept turned.outs (setting_of config) (home_of config) (inputs_in
+    (replied_reader (setting_of config) law.home conn connection tag awaited turn (reading_of (setting_of config) bytes) stage reader))
+    (standing_after (taken_from_link world from node) node front conn kept turned.outs (setting_of config) law.home (inputs_in
     (setting_of config) bytes)
     (begun bytes) stands.story
-    (standing_released (setting_of config) node (home_of config) conn (inputs_in (setting_of config) bytes) (begun bytes) turned.connection
+    (standing_released (setting_of config) node law.home conn (inputs_in (setting_of config) bytes) (begun bytes) turned.connection
     (carry_all node (taken_from_link world from node) turned.outs) stands.story stands.standing)))))
 
 -- an answer to a connection that was closed is dropped
@@ -130,7 +130,7 @@ dropped : (config : Config) (heard after : ℕ → Heard) (world : World) (law :
     (rest : List LinkMsg) (conn : ℕ) (bytes node : List ℕ) (front : Front) (connection : Connection)
     (more : List AnswerOf) → from ≡ front.home → on_link world.links from node ≡ Answer answer ∷ rest → ((c : ℕ) → after c ≡ heard c) → (answer.id).conn ≡ conn
     → heard conn ≡ client bytes true → IsAt world conn node front connection
-    → IsGone (setting_of config) node (home_of config) conn (inputs_in (setting_of config) bytes) connection world law.story
+    → IsGone (setting_of config) node law.home conn (inputs_in (setting_of config) bytes) connection world law.story
     → law.story.talk.answers conn ≡ law.story.told conn ++ more → length more ≤ 1
     → IsPlaced (of_connection conn) (without_first world.links from node) None
     → KeepsOn config (told_of law.story) after (comes (taken_from_link world from node) node (From from (Answer answer)))
@@ -144,12 +144,12 @@ dropped config heard after world law from answer rest conn bytes node front conn
     (front_keeps config heard after world law (without_first world.links from node) conn node front connection kept [] law.story law.story
     (others_on world from node answer rest conn first own) at.at at.has (same_talk (told_of law.story)) refl refl refl
     (λ other. law.requests other ∙ ap (λ h. requests_of (setting_of config) (frames_heard h)) (sym (same other))) (λ other ne. same other) (λ shut. refl)
-    (record { others = keeps_all conn (taken_from_link world from node); goes_on = same_story conn law.story; is_told = law.is_told })
-    (subst (λ h. ConnectionIs (setting_of config) (home_of config) conn (world_after (taken_from_link world from node) node front conn kept []) law.story h)
+    (record { others = keeps_all conn (taken_from_link world from node); goes_on = same_story conn law.story; store = refl; is_told = law.is_told })
+    (subst (λ h. ConnectionIs (setting_of config) law.home conn (world_after (taken_from_link world from node) node front conn kept []) law.story h)
     (sym (same conn ∙ e))
     (is_closed bytes node (with_connection front conn kept) kept
     (is_at_after (taken_from_link world from node) node front conn connection kept [] at.at at.has)
-    (gone_after (taken_from_link world from node) node front conn kept (setting_of config) (home_of config) (inputs_in (setting_of config) bytes) law.story
+    (gone_after (taken_from_link world from node) node front conn kept (setting_of config) law.home (inputs_in (setting_of config) bytes) law.story
     (record {
       stage_is = released_ended connection gone.stage_is;
       count = released_count connection ∙ gone.count;
@@ -165,26 +165,26 @@ waiting_replied : (config : Config) (heard after : ℕ → Heard) (world : World
     (rest : List LinkMsg) (conn : ℕ) (bytes node : List ℕ) (front : Front) (connection : Connection) (place : Place)
     → on_link world.links from node ≡ Answer answer ∷ rest → ((c : ℕ) → after c ≡ heard c) → (answer.id).conn ≡ conn → heard conn ≡ client bytes false
     → IsAt world conn node front connection → HasBegunSo connection (reading_of (setting_of config) bytes)
-    → IsStanding (setting_of config) node (home_of config) conn (inputs_in (setting_of config) bytes) (begun bytes) connection world law.story
-    → Waiting (setting_of config) (home_of config) conn (inputs_in (setting_of config) bytes) (begun bytes) connection (law.story.told conn)
+    → IsStanding (setting_of config) node law.home conn (inputs_in (setting_of config) bytes) (begun bytes) connection world law.story
+    → Waiting (setting_of config) law.home conn (inputs_in (setting_of config) bytes) (begun bytes) connection (law.story.told conn)
     (law.story.talk.answers conn) (law.story.course.sessions conn) place
     → place ≡ is_answered from answer → IsPlaced (of_connection conn) (without_first world.links from node) None
     → KeepsOn config (told_of law.story) after (comes (taken_from_link world from node) node (From from (Answer answer)))
 unfolding frames_heard
 waiting_replied config heard after world law from answer rest conn bytes node front connection place first same own e at reader standing waiting is without =
     let was = law.nodes.fronts node front at.at in
-    let knows = in_answer (home_of config) conn connection.session waiting.tag waiting.name waiting.work (law.story.told conn) (law.story.talk.answers conn)
+    let knows = in_answer law.home conn connection.session waiting.tag waiting.name waiting.work (law.story.told conn) (law.story.talk.answers conn)
     (law.story.course.sessions conn) place from answer waiting.knows is in
     let comes : answer_comes front.setting front.home (answer.id).conn connection answer ≡ replied_turn (setting_of config)
-    (home_of config) conn connection waiting.tag knows.turn =
+    law.home conn connection waiting.tag knows.turn =
     ap (λ x. answer_comes x front.home (answer.id).conn connection answer) was.1
     ∙ ap (λ x. answer_comes (setting_of config) x (answer.id).conn connection answer) was.0
-    ∙ ap (λ c. answer_comes (setting_of config) (home_of config) c connection answer) own
-    ∙ fits (setting_of config) (home_of config) conn connection waiting.tag waiting.name waiting.work answer knows.turn
+    ∙ ap (λ c. answer_comes (setting_of config) law.home c connection answer) own
+    ∙ fits (setting_of config) law.home conn connection waiting.tag waiting.name waiting.work answer knows.turn
     (sym (ap (λ (i : AskId). i.command) knows.id_is) ∙ ap (λ n. n + 1) (sym standing.count)) waiting.stage knows.shown in
     replied_kept config heard after world law from answer rest conn bytes node front connection waiting.tag (asked_for waiting.name waiting.work).awaited
     knows.turn (sym knows.home_is ∙ sym was.0) first same own e at reader waiting.stage comes
-    (replied_stands (setting_of config) node (home_of config) law.backend conn (inputs_in (setting_of config) bytes) waiting.passed
+    (replied_stands (setting_of config) node law.home conn (inputs_in (setting_of config) bytes) waiting.passed
     (begun bytes) waiting.request connection waiting.tag knows.turn (taken_from_link world from node) law.story waiting.parts standing.count
     standing.client waiting.lasts knows.later knows.turned waiting.answered knows.said_is without law.is_told waiting.last
     (law.requests conn ∙ ap (λ h. requests_of (setting_of config) (frames_heard h)) e))
@@ -197,14 +197,14 @@ who_is_told : (config : Config) (heard after : ℕ → Heard) (world : World) (l
     (rest : List LinkMsg) (conn : ℕ) (node : List ℕ) (front : Front) (connection : Connection) (place : Place)
     → on_link world.links from node ≡ Answer answer ∷ rest → ((c : ℕ) → after c ≡ heard c) → (answer.id).conn ≡ conn
     → IsAt world conn node front connection → place ≡ is_answered from answer → IsPlaced (of_connection conn) (without_first world.links from node) None
-    → WhoWaits (setting_of config) (home_of config) conn node connection world law.story (heard conn) place
+    → WhoWaits (setting_of config) law.home conn node connection world law.story (heard conn) place
     → KeepsOn config (told_of law.story) after (comes (taken_from_link world from node) node (From from (Answer answer)))
 who_is_told config heard after world law from answer rest conn node front connection place first same own at is without
     (open_waits bytes e reader standing waiting) =
     waiting_replied config heard after world law from answer rest conn bytes node front connection place first same own e at reader standing waiting is without
 who_is_told config heard after world law from answer rest conn node front connection place first same own at is without
     (closed_waits bytes e gone waiting) =
-    let knows = in_answer (home_of config) conn waiting.was waiting.tag waiting.name waiting.work (law.story.told conn) (law.story.talk.answers conn)
+    let knows = in_answer law.home conn waiting.was waiting.tag waiting.name waiting.work (law.story.told conn) (law.story.talk.answers conn)
     (law.story.course.sessions conn) place from answer waiting.knows is in
     let reply : AnswerOf = record { tag = waiting.tag; reply = (knows.turn).reply } in
     dropped config heard after world law from answer rest conn bytes node front connection (reply ∷ [])
@@ -216,7 +216,7 @@ pub answer_keeps : (config : Config) (heard after : ℕ → Heard) (world : Worl
     → KeepsOn config (told_of law.story) after (comes (taken_from_link world from to) to (From from (Answer answer)))
 answer_keeps config heard after world law from to answer rest first same =
     let conn : ℕ = (answer.id).conn in
-    let tells = first_tells (setting_of config) (home_of config) conn world law.story (heard conn) (heard conn) from to (Answer answer) rest refl first refl
+    let tells = first_tells (setting_of config) law.home conn world law.story (heard conn) (heard conn) from to (Answer answer) rest refl first refl
     (law.connections conn) in
     let there = in_an_answer tells.node from to answer tells.place tells.is_found in
     subst (λ x. KeepsOn config (told_of law.story) after (comes (taken_from_link world from x) x (From from (Answer answer)))) there.0

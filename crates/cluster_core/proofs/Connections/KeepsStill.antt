@@ -4,7 +4,6 @@ use Rattle.std.specs.Prelude.{is_some}
 use Rattle.std.specs.Ordering.{nat_cmp}
 use Rattle.std.specs.Cmp.Lexicographic.{slice_cmp}
 use Rattle.std.proofs.Math.Logic.{⊎_elim}
-use Rattle.backend_core.specs.declared.backend.Backend.{Backend}
 use Rattle.front_core.specs.declared.front.Front.{Front}
 use Rattle.front_core.specs.Front.{connection_at}
 use Rattle.link_msg.specs.declared.out.Out.{Out}
@@ -19,44 +18,46 @@ use Rattle.node_step.specs.declared.node.NodeState.TheVariants as state
 use Rattle.node_step.specs.NodeStep.{as_front, as_back}
 use Rattle.cluster_core.specs.declared.world.World.{World}
 use Rattle.imap_talk.specs.Heard.{Heard, frames_heard}
-use Rattle.cluster_core.specs.World.{client_at, node_at, front_at, home_at, home_of, setting_of, given_more, carry, carry_all, with_state}
+use Rattle.cluster_core.specs.Shown.{held_by}
+use Rattle.cluster_core.specs.World.{client_at, front_at, home_at, setting_of, given_more, carry, carry_all, with_state}
 use Rattle.cluster_core.proofs.Connections.ConnectionLaw.{told_of}
 use Rattle.cluster_core.proofs.Connections.Comes.{front_here, front_other, homes_beside}
+use Rattle.cluster_core.proofs.Connections.NameLaw.{name_stays, node_has}
 use Rattle.cluster_core.proofs.Connections.KeepsLaw.{ConnectionIs, AreNodesOf, KeepsLaw, KeepsOn, LooksAlike, SameFront, same_front, connection_stays}
 use Rattle.cluster_core.proofs.Connections.KeepsLaw.SameFront.{both}
 use Rattle.front_core.proofs.OneConnection.Places.{of_connection, of_nobody}
 use Rattle.imap_talk.proofs.RequestsOf.{requests_of}
 use Rattle.cluster_core.proofs.Histories.Told.{IsTold, told_later}
 
-pub nodes_alike : (config : Config) (world next : World) (backend : Backend) → ((node : List ℕ) → node_at next node ≡ node_at world node)
-    → next.backends ≡ world.backends → next.pairs ≡ world.pairs → AreNodesOf config world backend → AreNodesOf config next backend
-nodes_alike config world next backend alike backends pairs nodes =
-    let fronts : (node : List ℕ) → front_at next node ≡ front_at world node = λ node. ap as_front (alike node) in
-    let homes : (node : List ℕ) → home_at next node ≡ home_at world node = λ node. ap as_back (alike node) in
-    record {
-      home_no_front = fronts (home_of config) ∙ nodes.home_no_front;
-      home_is = homes (home_of config) ∙ nodes.home_is;
-      fronts = λ node front at. nodes.fronts node front (sym (fronts node) ∙ at);
-      frontends = λ node. ap is_some (fronts node) ∙ nodes.frontends node;
-      other_homes = λ node other ne at. nodes.other_homes node other ne (sym (homes node) ∙ at);
-      backends = backends ∙ nodes.backends;
-      pairs = pairs ∙ nodes.pairs;
-    }
+pub nodes_alike : (config : Config) (world next : World) (home : List ℕ) → ((node : List ℕ) → front_at next node ≡ front_at world node)
+    → next.backends ≡ world.backends → next.pairs ≡ world.pairs → AreNodesOf config world home → AreNodesOf config next home
+nodes_alike config world next home fronts backends pairs nodes = record {
+  home_no_front = fronts home ∙ nodes.home_no_front;
+  fronts = λ node front at. nodes.fronts node front (sym (fronts node) ∙ at);
+  frontends = λ node. ap is_some (fronts node) ∙ nodes.frontends node;
+  backends = backends ∙ nodes.backends;
+  pairs = pairs ∙ nodes.pairs;
+  home_for = nodes.home_for;
+}
 
 unfoldable pub still_kept : (config : Config) (heard after : ℕ → Heard) (world next : World) → LooksAlike world next → ((conn : ℕ) → after conn ≡ heard conn)
     → (law : KeepsLaw config heard world) → KeepsOn config (told_of law.story) after next
 still_kept config heard after world next alike same law = record {
   law = record {
+    home = law.home;
     backend = law.backend;
-    nodes = nodes_alike config world next law.backend alike.nodes alike.backends alike.pairs law.nodes;
-    below_next = law.below_next;
+    home_is = ap as_back (alike.nodes law.home) ∙ law.home_is;
+    nodes = nodes_alike config world next law.home (λ node. ap as_front (alike.nodes node)) alike.backends alike.pairs law.nodes;
     story = law.story;
-    is_told = subst (λ m. IsTold (setting_of config) next.steps m law.backend law.story.talk law.story.told law.story.course) (sym alike.marks)
-        (told_later (setting_of config) world.steps next.steps world.marks law.backend law.story.talk law.story.told law.story.course alike.steps law.is_told);
+    names = λ name. name_stays world next law.story.course.store law.story.course.store law.home name
+        (λ node. ap (λ n. value_at (slice_cmp nat_cmp) (held_by (as_back n)) name) (alike.nodes node)) refl (law.names name);
+    serials = law.serials;
+    is_told = subst (λ m. IsTold (setting_of config) next.steps m law.story.talk law.story.told law.story.course) (sym alike.marks)
+        (told_later (setting_of config) world.steps next.steps world.marks law.story.talk law.story.told law.story.course alike.steps law.is_told);
     requests = λ conn. law.requests conn ∙ ap (λ h. requests_of (setting_of config) (frames_heard h)) (sym (same conn));
     no_others = alike.places of_nobody None law.no_others;
-    connections = λ conn. subst (λ h. ConnectionIs (setting_of config) (home_of config) conn next law.story h) (sym (same conn))
-        (connection_stays (setting_of config) (home_of config) conn world next law.story law.story (heard conn)
+    connections = λ conn. subst (λ h. ConnectionIs (setting_of config) law.home conn next law.story h) (sym (same conn))
+        (connection_stays (setting_of config) law.home conn world next law.story law.story (heard conn)
         (record {
           fronts = λ node. same_front conn (front_at world node) (front_at next node) (ap as_front (alike.nodes node));
           client = alike.clients conn;
@@ -83,18 +84,15 @@ fronts_at_other world node front next other at same any = ⊎_elim
     (same_or_other (slice_cmp nat_cmp) names_apart any node)
 
 -- the nodes with another state of one frontend
-pub nodes_with_front : (config : Config) (world next : World) (backend : Backend) (node : List ℕ) (front later : Front) → front_at world node ≡ Some front
+pub nodes_with_front : (config : Config) (world next : World) (asked : List ℕ) (node : List ℕ) (front later : Front) → front_at world node ≡ Some front
     → next.nodes ≡ with_value (slice_cmp nat_cmp) world.nodes node (state.Front later) → next.backends ≡ world.backends
-    → next.pairs ≡ world.pairs → later.home ≡ front.home → later.setting ≡ front.setting → AreNodesOf config world backend → AreNodesOf config next backend
-nodes_with_front config world next backend node front later at changed backends pairs home setting nodes =
+    → next.pairs ≡ world.pairs → later.home ≡ front.home → later.setting ≡ front.setting → AreNodesOf config world asked → AreNodesOf config next asked
+nodes_with_front config world next asked node front later at changed backends pairs home setting nodes =
     let put : World = with_state world node (state.Front later) in
     let here : (any : List ℕ) → front_at next any ≡ front_at put any = λ any. ap (λ n. as_front (value_at (slice_cmp nat_cmp) n any)) changed in
-    let homes : (any : List ℕ) → home_at next any ≡ home_at world any =
-    λ any. ap (λ n. as_back (value_at (slice_cmp nat_cmp) n any)) changed ∙ homes_beside world node front later at any in
     record {
-      home_no_front = here (home_of config) ∙ front_other world node (home_of config) (state.Front later)
+      home_no_front = here asked ∙ front_other world node asked (state.Front later)
           (λ e. some_none front (sym at ∙ ap (front_at world) (sym e) ∙ nodes.home_no_front)) ∙ nodes.home_no_front;
-      home_is = homes (home_of config) ∙ nodes.home_is;
       fronts = λ any found is. ⊎_elim
           (λ (e : any ≡ node). let same : later ≡ found = just (sym (front_here world node front later at)
           ∙ ap (front_at put) (sym e) ∙ sym (here any) ∙ is) in
@@ -107,9 +105,9 @@ nodes_with_front config world next backend node front later at changed backends 
           ∙ ap (λ n. is_some (front_at world n)) (sym e))
           (λ (ne : any ≢ node). ap is_some (front_other world node any (state.Front later) ne))
           (same_or_other (slice_cmp nat_cmp) names_apart any node) ∙ nodes.frontends any;
-      other_homes = λ any other ne is. nodes.other_homes any other ne (sym (homes any) ∙ is);
       backends = backends ∙ nodes.backends;
       pairs = pairs ∙ nodes.pairs;
+      home_for = nodes.home_for;
     }
   where
     some_none : (f : Front) → Some f ≡ None → ⊥

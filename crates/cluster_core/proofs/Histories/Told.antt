@@ -1,11 +1,10 @@
--- The marks so far are those of one store, whose mailboxes the home has; and one more.
-use Rattle.std.proofs.Common.{◌≡◌, ◌≢◌, ◌⊎◌, inl, inr, ℕ, ◌+◌, ◌<◌, ◌≤◌, nat_le, true, false, List, [], ◌∷◌, ◌++◌, length, get_or, None, Some, refl, sym, ◌∙◌, ap, subst, arith}
+-- The marks so far are those of one store; and one more.
+use Rattle.std.proofs.Common.{◌≡◌, ◌≢◌, ◌⊎◌, ℕ, ◌+◌, ◌≤◌, nat_le, true, false, List, [], ◌∷◌, ◌++◌, length, get_or, None, Some, refl, sym, ◌∙◌, ap, subst, arith}
 use Rattle.std.specs.Prelude.{All, AllPairs}
 use Rattle.std.proofs.Math.Logic.{⊎_elim}
 use Rattle.std.proofs.lemmas.Bool.{cases_eq}
 use Rattle.std.proofs.lemmas.Bool.Decides.{nat_tests}
 use Rattle.std.proofs.lemmas.List.Elements.{All-push, All-weaker}
-use Rattle.backend_core.specs.declared.backend.Backend.{Backend}
 use Rattle.link_msg.specs.declared.counts.Counts.{Counts}
 use Rattle.link_msg.specs.declared.counts.Counts.TheVariants.{IfAnswered}
 use Rattle.link_msg.specs.declared.how.How.TheVariants.{Here, Behind}
@@ -24,11 +23,9 @@ use Rattle.cluster_core.specs.History.{is_of}
 use Rattle.cluster_core.proofs.Histories.Marks.{Carries, carries_on, carries_push, carries_telling, MarkedOnce, marked_once_push, marked_once_telling, marks_push}
 use Rattle.cluster_core.proofs.Histories.Marks.{Later, counts_of}
 use Rattle.cluster_core.proofs.Histories.Tally.{acts, conn_of, command_of, Fit, fits, fit_push, fits_apart, fits_told, StillFits, of_another, of_both}
-use Rattle.serve_law.proofs.HomeStore.{IsStoreOf}
 
-pub record IsTold (setting : Setting) (now : ℕ) (marks : List Mark) (home : Backend) (talk : Talk) (told : ℕ → List Answer) (course : Course) : Type 0 where
+pub record IsTold (setting : Setting) (now : ℕ) (marks : List Mark) (talk : Talk) (told : ℕ → List Answer) (course : Course) : Type 0 where
   pub carries : Carries setting talk first_course marks course
-  pub same : IsStoreOf course.store home
   pub once : MarkedOnce (λ conn. length (talk.answers conn)) marks
   pub later : AllPairs Later marks
   pub numbers : All (λ (mark : Mark). command_of mark ≤ length (talk.answers (conn_of mark))) marks
@@ -81,16 +78,15 @@ fits_still setting talk conn kind told now on mark first its number low = ⊎_el
     (ap (λ l. nat_le (command_of first) (length l)) (on.others (conn_of first) ne)))
     (cases_eq (conn_of first) conn)
 
-pub told_push : (setting : Setting) (now : ℕ) (marks : List Mark) (home later_home : Backend) (talk : Talk) (told later_told : ℕ → List Answer) (course : Course)
+pub told_push : (setting : Setting) (now : ℕ) (marks : List Mark) (talk : Talk) (told later_told : ℕ → List Answer) (course : Course)
     (conn : ℕ) (request : Request) (serial : ℕ) (kind : MarkKind) → acts kind ≡ true → TellsOn setting talk conn kind told later_told
     → numbered (talk.requests conn) (length (talk.answers conn) + 1) ≡ Some request
     → MayTake setting course.store (course.sessions conn) request serial
     → (kind ≡ Home IfAnswered → (carried_out setting course conn request serial).store ≡ course.store)
-    → IsStoreOf (carried_out setting course conn request serial).store later_home
-    → IsTold setting now marks home talk told course
-    → IsTold setting now (marks ++ next_mark now talk conn kind ∷ []) later_home
+    → IsTold setting now marks talk told course
+    → IsTold setting now (marks ++ next_mark now talk conn kind ∷ [])
     (having_said talk conn (carried_out setting course conn request serial).answer serial) later_told (next_course setting course conn request serial)
-told_push setting now marks home later_home talk told later_told course conn request serial kind acting on asked free unless same is =
+told_push setting now marks talk told later_told course conn request serial kind acting on asked free unless is =
     let answer : Answer = (carried_out setting course conn request serial).answer in
     let longer : Talk = having_said talk conn answer serial in
     let mark : Mark = next_mark now talk conn kind in
@@ -103,7 +99,6 @@ told_push setting now marks home later_home talk told later_told course conn req
             free = free;
           })
           (numbered_new talk.answers conn answer (length (talk.answers conn)) refl) unless;
-      same = same;
       once = marked_once_push (λ c. length (talk.answers c)) (λ c. length (longer.answers c)) marks mark acting refl
           (length_with_item talk.answers conn answer) (λ other ne. ap length (with_item-other talk.answers conn answer other ne)) is.once;
       later = marks_push Later marks mark is.later (λ k d h. (
@@ -192,14 +187,13 @@ fits_behind now talk told conn answer said first low = ⊎_elim
     (cases_eq (conn_of first) conn)
 
 -- a client is told behind a home's answer
-pub told_behind_push : (setting : Setting) (now : ℕ) (marks : List Mark) (home : Backend) (talk : Talk) (told : ℕ → List Answer) (course : Course) (conn : ℕ)
-    (answer : Answer) → length (talk.answers conn) ≡ length (told conn) + 1 → IsTold setting now marks home talk told course
-    → IsTold setting now (marks ++ telling_mark now told conn ∷ []) home talk (with_item told conn answer) course
-told_behind_push setting now marks home talk told course conn answer said is =
+pub told_behind_push : (setting : Setting) (now : ℕ) (marks : List Mark) (talk : Talk) (told : ℕ → List Answer) (course : Course) (conn : ℕ)
+    (answer : Answer) → length (talk.answers conn) ≡ length (told conn) + 1 → IsTold setting now marks talk told course
+    → IsTold setting now (marks ++ telling_mark now told conn ∷ []) talk (with_item told conn answer) course
+told_behind_push setting now marks talk told course conn answer said is =
     let mark : Mark = telling_mark now told conn in
     record {
       carries = carries_telling setting talk first_course course marks mark telling is.carries;
-      same = is.same;
       once = marked_once_telling (λ c. length (talk.answers c)) marks mark telling is.once;
       later = marks_push Later marks mark is.later (λ k d h. (
         λ e. omega (arith, is.numbers k d h, said, ap (λ c. length (talk.answers c)) e),
@@ -223,13 +217,12 @@ told_behind_push setting now marks home talk told course conn answer said is =
     }
 
 -- more is asked
-pub told_asked : (setting : Setting) (now : ℕ) (marks : List Mark) (home : Backend) (talk : Talk) (told : ℕ → List Answer) (course : Course)
-    (requests : ℕ → List Request) → GoesOn talk.requests requests → IsTold setting now marks home talk told course
-    → IsTold setting now marks home (record { requests = requests; answers = talk.answers; serials = talk.serials }) told course
-told_asked setting now marks home talk told course requests more is = record {
+pub told_asked : (setting : Setting) (now : ℕ) (marks : List Mark) (talk : Talk) (told : ℕ → List Answer) (course : Course)
+    (requests : ℕ → List Request) → GoesOn talk.requests requests → IsTold setting now marks talk told course
+    → IsTold setting now marks (record { requests = requests; answers = talk.answers; serials = talk.serials }) told course
+told_asked setting now marks talk told course requests more is = record {
   carries = carries_on setting talk (record { requests = requests; answers = talk.answers; serials = talk.serials })
       (record { requests = more; answers = same_lists talk.answers; serials = same_lists talk.serials }) first_course course marks is.carries;
-  same = is.same;
   once = is.once;
   later = is.later;
   numbers = is.numbers;
@@ -240,11 +233,10 @@ told_asked setting now marks home talk told course requests more is = record {
 }
 
 -- a step begins
-pub told_later : (setting : Setting) (now next : ℕ) (marks : List Mark) (home : Backend) (talk : Talk) (told : ℕ → List Answer) (course : Course) → now ≤ next
-    → IsTold setting now marks home talk told course → IsTold setting next marks home talk told course
-told_later setting now next marks home talk told course le is = record {
+pub told_later : (setting : Setting) (now next : ℕ) (marks : List Mark) (talk : Talk) (told : ℕ → List Answer) (course : Course) → now ≤ next
+    → IsTold setting now marks talk told course → IsTold setting next marks talk told course
+told_later setting now next marks talk told course le is = record {
   carries = is.carries;
-  same = is.same;
   once = is.once;
   later = is.later;
   numbers = is.numbers;

@@ -1,4 +1,4 @@
--- The listed backends are those of the configuration, and a name is open at no node but the home.
+-- The listed backends are those of the configuration, and a name is open at no node but its home.
 use Rattle.std.proofs.Common.{◌≡◌, ◌≢◌, ℕ, Bool, true, false, cond, List, [], ◌∷◌, None, Some, refl, sym, ◌∙◌, ap, subst, get_or}
 use Rattle.std.specs.Prelude.{All, AllPairs}
 use Rattle.std.specs.Ordering.{nat_cmp}
@@ -7,8 +7,6 @@ use Rattle.std.specs.Str.{bytes_eq}
 use Rattle.std.proofs.Math.Logic.{⊎_elim}
 use Rattle.std.proofs.lemmas.List.Elements.{All-cons, All-nil}
 use Rattle.std.proofs.lemmas.Slice.Eq.{bytes_eq-Decides}
-use Rattle.backend_core.specs.declared.backend.Backend.{Backend}
-use Rattle.mur_base.specs.Map.{value_at}
 use Rattle.mur_base.proofs.MapLaws.{names_apart, same_or_other}
 use Rattle.mur_config.specs.declared.config.Config.{Config}
 use Rattle.mur_config.specs.declared.node.Kind.{Kind}
@@ -18,11 +16,12 @@ use Rattle.mur_config.specs.Nodes.{AreNodes, is_node_named, node_named}
 use Rattle.cluster_core.specs.declared.world.World.{World}
 use Rattle.cluster_core.specs.Headline.Backends.{IsBackendOf, IsBackend}
 use Rattle.cluster_core.specs.Headline.OpenAt.{IsOpenAt, OpensAtOneNode}
-use Rattle.cluster_core.specs.Shown.{held_at_node}
-use Rattle.cluster_core.specs.World.{or_backend, backends_of, home_of, home_at}
+use Rattle.cluster_core.specs.World.{or_backend, backends_of}
 use Rattle.mur_config.proofs.NodesApart.{head_apart, tail_apart}
-use Rattle.cluster_core.proofs.Names.HomesLaw.{started, all_named, holds_none}
+use Rattle.cluster_core.proofs.Runs.StartLaw.{all_named}
 use Rattle.cluster_core.proofs.Connections.KeepsLaw.{AreNodesOf}
+use Rattle.cluster_core.proofs.Connections.NameLaw.{NameIs, lacks_elsewhere}
+use Rattle.mur_model.specs.declared.store.Store.{Store}
 use Rattle.cluster_core.proofs.Names.NamesHeld.{bytes_itself}
 
 found_first : (node : Node) (nodes : List Node) → node_named node.name (node ∷ nodes) ≡ Some node
@@ -62,23 +61,17 @@ all_backends (node ∷ nodes) pairs =
     (all_behind node nodes (backends_of nodes) (all_named (λ n. node.name ≢ n) nodes (head_apart node nodes pairs))
     (all_backends nodes (tail_apart node nodes pairs)))
 
-pub are_backends : (config : Config) (world : World) (backend : Backend) → AreNodes config.nodes → AreNodesOf config world backend
+pub are_backends : (config : Config) (world : World) (home : List ℕ) → AreNodes config.nodes → AreNodesOf config world home
     → All (IsBackend config) world.backends
-are_backends config world backend are nodes =
-    subst (All (IsBackend config)) (sym (nodes.backends ∙ started config)) (all_backends config.nodes are.names)
+are_backends config world home are nodes = subst (All (IsBackend config)) (sym nodes.backends) (all_backends config.nodes are.names)
 
--- a name that is open is so at the home
-open_at_home : (config : Config) (world : World) (backend : Backend) (name node : List ℕ) → AreNodesOf config world backend → IsOpenAt world name node
-    → node ≡ home_of config
-open_at_home config world backend name node nodes is = ⊎_elim
-    (λ (e : node ≡ home_of config). e)
-    (λ (ne : node ≢ home_of config). absurd (
-    let none : value_at (slice_cmp nat_cmp) (held_at_node world node) name ≡ None =
-    holds_none config world backend node name nodes (λ e. ne (sym e)) (home_at world node) refl in
-    let both : None ≡ Some is.held = sym none ∙ is.at in cc
-    ))
-    (same_or_other (slice_cmp nat_cmp) names_apart node (home_of config))
+-- a name that is open is so at the home that is asked
+open_at_home : (world : World) (store : Store) (home name node : List ℕ) → NameIs world store home name → IsOpenAt world name node → node ≡ home
+open_at_home world store home name node its is = ⊎_elim
+    (λ (e : node ≡ home). e)
+    (λ (ne : node ≢ home). absurd (let both : None ≡ Some is.held = sym (lacks_elsewhere world store home name node ne its) ∙ is.at in cc))
+    (same_or_other (slice_cmp nat_cmp) names_apart node home)
 
-pub opens_at_one : (config : Config) (world : World) (backend : Backend) → AreNodesOf config world backend → OpensAtOneNode world
-opens_at_one config world backend nodes = λ name one other here there.
-    open_at_home config world backend name one nodes here ∙ sym (open_at_home config world backend name other nodes there)
+pub opens_at_one : (world : World) (store : Store) (home : List ℕ) → ((name : List ℕ) → NameIs world store home name) → OpensAtOneNode world
+opens_at_one world store home names = λ name one other here there.
+    open_at_home world store home name one (names name) here ∙ sym (open_at_home world store home name other (names name) there)

@@ -19,7 +19,7 @@ use Rattle.cluster_core.specs.Shown.{home_rows}
 use Rattle.cluster_core.specs.World.{start}
 use Rattle.cluster_core.proofs.Names.BackendsLaw.{opens_at_one}
 use Rattle.cluster_core.proofs.Names.ShownHomes.{shows_boxes}
-use Rattle.cluster_core.proofs.OneServer.ToldSoFar.{kept_all}
+use Rattle.cluster_core.proofs.OneServer.ToldSoFar.{kept_all, names_of}
 
 rows_cons : (p : HomeRow → Bool) (x : HomeRow) (xs : List HomeRow) → count_by p (x ∷ xs) ≡ cond (p x) 1 0 + count_by p xs
 rows_cons p x xs = sum_by-append (λ y. cond (p y) 1 0) (x ∷ []) xs ∙ ap (λ n. n + count_by p xs) (omega arith)
@@ -52,6 +52,6 @@ pub keeps_one_home_each : (config : Config) (events : List Event) → AreNodes c
 keeps_one_home_each config events are = λ before later parts.
     let law = ((kept_all config events are).at before later parts).law in
     let world : World = run_steps (start config) before in (
-      one_home config law.story.course.store world (shows_boxes config world law.backend law.story.course.store are law.nodes law.is_told.same),
-      opens_at_one config world law.backend law.nodes,
+      one_home config law.story.course.store world (shows_boxes config world law.story.course.store law.home law.backend are (names_of config _ world law)),
+      opens_at_one world law.story.course.store law.home law.names,
     )

@@ -26,13 +26,11 @@ use Rattle.cluster_core.specs.Headline.HomeLaw.{is_writable_home}
 use Rattle.cluster_core.specs.Headline.Homes.{numbers_shown, numbers_of, IsHeldAt, ShowsBoxesOf}
 use Rattle.backend_core.specs.OpenBox.{open_box, open_content}
 use Rattle.cluster_core.specs.Shown.{held_at_node, held_by, home_row, row_if, home_rows_of, rows_of_all, names_at, home_rows}
-use Rattle.cluster_core.specs.World.{home_of}
 use Rattle.cluster_core.proofs.Names.BackendsLaw.{are_backends}
-use Rattle.cluster_core.proofs.Names.HomesLaw.{home_first, rows_here}
-use Rattle.cluster_core.proofs.Connections.KeepsLaw.{AreNodesOf}
+use Rattle.cluster_core.proofs.Names.HomesLaw.{AreNamesOf, first_home, rows_here}
+use Rattle.cluster_core.proofs.Connections.NameLaw.{open_store, store_at}
 use Rattle.cluster_core.proofs.Names.NamesHeld.{is_name, names_cons, same_bytes, once_among, names_rise, nothing_rises, one_here, first_listed, bytes_itself}
 use Rattle.cluster_core.proofs.Names.NamesHeld.{key_has}
-use Rattle.serve_law.proofs.HomeStore.{IsStoreOf}
 
 kept_by : {X : Type 0} (b : Bool) (x : X) (us vs ws : List X) → us ≡ vs ++ ws → cond b (x ∷ us) us ≡ cond b (x ∷ vs) vs ++ ws
 kept_by true x us vs ws e = ap (λ l. x ∷ l) e
@@ -52,25 +50,26 @@ other_row : (name other node : List ℕ) (found : Option Held) → bytes_eq othe
 other_row name other node None h = refl
 other_row name other node (Some held) h = not_named (is_open held.phase) (bytes_eq other name) (home_row other node held) h
 
-module _ (config : Config) (world : World) (backend : Backend) (are : AreNodes config.nodes) (nodes : AreNodesOf config world backend) (name : List ℕ) where
+module _ (config : Config) (world : World) (store : Store) (home : List ℕ) (backend : Backend) (are : AreNamesOf config world store home backend)
+    (name : List ℕ) where
   -- the homes of the name among the rows of these names
   abbrev homes_among : List (List ℕ) → List HomeRow
   homes_among names = filter (is_writable_home name) (rows_of_all world names)
 
   -- the same of one name alone
   abbrev homes_of : List ℕ → List HomeRow
-  homes_of other = filter (is_writable_home name) (row_if other (home_of config) (value_at (slice_cmp nat_cmp) backend.held other))
+  homes_of other = filter (is_writable_home name) (row_if other home (value_at (slice_cmp nat_cmp) backend.held other))
 
   homes_first : (other : List ℕ) (names : List (List ℕ)) → homes_among (other ∷ names) ≡ homes_of other ++ homes_among names
   unfolding rows_of_all
   homes_first other names =
       filter_both (is_writable_home name) (home_rows_of world other world.backends) (rows_of_all world names)
-      ∙ ap (λ rows. filter (is_writable_home name) rows ++ homes_among names) (rows_here config world backend other are nodes)
+      ∙ ap (λ rows. filter (is_writable_home name) rows ++ homes_among names) (rows_here config world store home backend are other)
 
   not_first : (other : List ℕ) (names : List (List ℕ)) → bytes_eq other name ≡ false → homes_among (other ∷ names) ≡ homes_among names
   not_first other names h =
       homes_first other names
-      ∙ ap (λ rows. rows ++ homes_among names) (other_row name other (home_of config) (value_at (slice_cmp nat_cmp) backend.held other) h)
+      ∙ ap (λ rows. rows ++ homes_among names) (other_row name other home (value_at (slice_cmp nat_cmp) backend.held other) h)
 
   none_by : (other : List ℕ) (names : List (List ℕ)) (b : Bool) → bytes_eq other name ≡ b → count_by (is_name name) (other ∷ names) ≡ 0
       → (count_by (is_name name) names ≡ 0 → homes_among names ≡ []) → homes_among (other ∷ names) ≡ []
@@ -104,14 +103,13 @@ module _ (config : Config) (world : World) (backend : Backend) (are : AreNodes c
   -- a name that the home has is listed
   is_listed : (held : Held) → value_at (slice_cmp nat_cmp) backend.held name ≡ Some held → 1 ≤ count_by (is_name name) (names_at world [] world.backends)
   is_listed held at =
-      let first = home_first config world backend are nodes in
-      subst (λ all. 1 ≤ count_by (is_name name) (names_at world [] all)) (sym first.names)
-      (first_listed world name (home_of config) first.rest
-      (subst (λ h. 1 ≤ count_by (is_name name) (keys_of (held_by h))) (sym nodes.home_is) (key_has name backend.held held at)))
+      subst (λ all. 1 ≤ count_by (is_name name) (names_at world [] all)) (sym (first_home config world store home backend are))
+      (first_listed world name home are.nodes.home_for.rest
+      (subst (λ h. 1 ≤ count_by (is_name name) (keys_of (held_by h))) (sym are.home_is) (key_has name backend.held held at)))
 
   unlisted : (found : Option Held) → value_at (slice_cmp nat_cmp) backend.held name ≡ found
       → count_by (is_name name) (names_at world [] world.backends) ≡ 0
-      → filter (is_writable_home name) (row_if name (home_of config) found) ≡ []
+      → filter (is_writable_home name) (row_if name home found) ≡ []
   unlisted None at none = refl
   unlisted (Some held) at none = absurd (omega (arith, none, is_listed held at))
 
@@ -172,12 +170,13 @@ all_at config world (name ∷ names) are =
     All-append (IsHeldAt config world) (home_rows_of world name world.backends) (rows_of_all world names) (rows_at config world name world.backends are)
     (all_at config world names are)
 
-pub shows_boxes : (config : Config) (world : World) (backend : Backend) (store : Store) → AreNodes config.nodes → AreNodesOf config world backend
-    → IsStoreOf store backend → ShowsBoxesOf config store world
+pub shows_boxes : (config : Config) (world : World) (store : Store) (home : List ℕ) (backend : Backend) → AreNodes config.nodes
+    → AreNamesOf config world store home backend → ShowsBoxesOf config store world
 unfolding home_rows
-shows_boxes config world backend store are nodes same = record {
-  open_homes = λ name. ap (map numbers_shown) (homes_here config world backend are nodes name)
-      ∙ same_numbers name (home_of config) (value_at (slice_cmp nat_cmp) backend.held name)
-      ∙ ap (λ box. map numbers_of (option_to_list box)) (sym (same.boxes name));
-  rows = all_at config world (names_at world [] world.backends) (are_backends config world backend are nodes);
+shows_boxes config world store home backend are names = record {
+  open_homes = λ name. ap (map numbers_shown) (homes_here config world store home backend names name)
+      ∙ same_numbers name home (value_at (slice_cmp nat_cmp) backend.held name)
+      ∙ ap (λ box. map numbers_of (option_to_list box))
+      (sym (open_store store backend name (store_at world store home name backend names.home_is (names.names name))));
+  rows = all_at config world (names_at world [] world.backends) (are_backends config world home are names.nodes);
 }

@@ -18,7 +18,11 @@ use Rattle.mur_model.specs.declared.setting.Setting.{Setting}
 use Rattle.node_step.specs.NodeStep.{as_front}
 use Rattle.cluster_core.specs.declared.world.World.{World}
 use Rattle.cluster_core.specs.World.{no_world, or_backend, backends_of, home_of, setting_of, first_state, with_node, with_nodes, start, front_at}
-use Rattle.cluster_core.proofs.Runs.StartLaw.{first_backend}
+use Rattle.cluster_core.proofs.Runs.FrontsOfStart.{frontends_at_start}
+use Rattle.cluster_core.proofs.Runs.StartLaw.{first_backend, home_no_front, others_apart, start_keeps_for}
+use Rattle.cluster_core.proofs.Connections.KeepsLaw.{IsHomeFor, KeepsLaw}
+use Rattle.cluster_core.specs.Heard.{is_frontend}
+use Rattle.imap_talk.specs.Heard.{nobody}
 
 -- a node of this kind and name
 record HasNode (nodes : List Node) (kind : Kind) (name : List ℕ) : Type 0 where
@@ -206,3 +210,24 @@ apart_between (from ∷ froms) nodes =
 pub pairs_apart : (nodes : List Node) → All AreApart (links_of nodes)
 unfolding links_of
 pairs_apart nodes = apart_between nodes nodes
+
+-- the first backend is a home that all frontends may ask
+home_for : (config : Config) → AreNodes config.nodes → IsHomeFor config (home_of config)
+home_for config are =
+    let first = first_backend config.nodes are in
+    let apart : (name : List ℕ) → is_frontend config name ≡ true → name ≢ home_of config = λ name is same.
+    (let no : false ≡ true = sym (no_front config are) ∙ ap (is_frontend config) (sym same) ∙ is in cc) in
+    record {
+      rest = first.rest;
+      names = first.is;
+      others = others_apart config.nodes first.rest (home_of config) are.names first.is;
+      to_home = λ name is. to_the_home config name are (frontends_at_start config are name ∙ is) (apart name is);
+      from_home = λ name is. from_the_home config name are (frontends_at_start config are name ∙ is) (apart name is);
+    }
+  where
+    no_front : (config : Config) → AreNodes config.nodes → is_frontend config (home_of config) ≡ false
+    no_front config are = sym (frontends_at_start config are (home_of config)) ∙ ap is_some (home_no_front config are)
+
+-- the law holds before the first step
+pub start_keeps : (config : Config) → AreNodes config.nodes → KeepsLaw config (λ conn. nobody) (start config)
+start_keeps config are = start_keeps_for config are (home_for config are)

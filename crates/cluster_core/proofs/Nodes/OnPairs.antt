@@ -12,7 +12,6 @@ use Rattle.link_msg.specs.declared.out.Out.{Out}
 use Rattle.link_msg.specs.declared.out.Out.TheVariants.{Client as to_client, Close, Link as to_node, Mark as mark_out, Told as tell}
 use Rattle.mur_config.specs.declared.config.Config.{Config}
 use Rattle.mur_config.specs.declared.node.Link.{Link}
-use Rattle.mur_config.specs.declared.node.Node.{Node}
 use Rattle.mur_config.specs.Nodes.{AreNodes, links_of}
 use Rattle.mur_model.specs.declared.setting.Setting.{Setting}
 use Rattle.node_step.specs.declared.node.NodeState.{NodeState}
@@ -28,14 +27,13 @@ use Rattle.imap_talk.specs.Heard.{Heard, nobody}
 use Rattle.link_queue.specs.Links.{Links, same_link, on_link, sent, without_first}
 use Rattle.link_queue.proofs.Wires.{same_names, on_link-sent, on_link-taken}
 use Rattle.cluster_core.specs.Headline.OneStore.{AreEmpty}
-use Rattle.cluster_core.specs.World.{start, client_at, node_at, front_at, home_of, given_more, carry, carry_all, with_state, comes_to, with_client, opens}
+use Rattle.cluster_core.specs.World.{start, client_at, node_at, front_at, given_more, carry, carry_all, with_state, comes_to, with_client, opens}
 use Rattle.cluster_core.specs.World.{client_does, with_node, with_nodes, taken_from_link, deliver_first, takes, stepped, steps_by}
 use Rattle.cluster_core.proofs.Connections.Keeps.{step_keeps}
 use Rattle.cluster_core.proofs.Connections.KeepsLaw.{KeepsLaw}
-use Rattle.cluster_core.proofs.Nodes.LinkedNodes.{to_the_home, from_the_home}
+use Rattle.cluster_core.proofs.Nodes.LinkedNodes.{start_keeps}
 use Rattle.cluster_core.proofs.Nodes.OneNodeLaw.{pairs_kept}
-use Rattle.cluster_core.proofs.Runs.FrontsOfStart.{frontends_at_start}
-use Rattle.cluster_core.proofs.Runs.StartLaw.{start_keeps, start_links}
+use Rattle.cluster_core.proofs.Runs.StartLaw.{nodes_pairs, start_links}
 
 -- two nodes are linked, in both directions
 abbrev Joined : List Link → List ℕ → List ℕ → Type 0
@@ -140,28 +138,19 @@ takes_on pairs world (Hang conn) homes on = client_on pairs world (Hung conn) (c
 takes_on pairs world (Deliver from to) homes on = deliver_on pairs world from to (on_link world.links from to) refl homes on
 takes_on pairs world event homes on = on
 
--- the home is no frontend
-front_apart : (config : Config) (heard : ℕ → Heard) (world : World) (law : KeepsLaw config heard world) (name : List ℕ)
-    → is_some (front_at world name) ≡ true → name ≡ home_of config → ⊥
-front_apart config heard world law name is same =
-    (let no : false ≡ true = sym (ap is_some (ap (front_at world) same ∙ law.nodes.home_no_front)) ∙ is in cc)
-
-have_homes : (config : Config) (heard : ℕ → Heard) (world : World) → AreNodes config.nodes → KeepsLaw config heard world
-    → HaveHomes (links_of config.nodes) world
-have_homes config heard world are law node front at =
-    let there : is_some (front_at world node) ≡ true = ap is_some at in
-    let at_start = frontends_at_start config are node ∙ sym (law.nodes.frontends node) ∙ there in
-    let apart = front_apart config heard world law node there in
+have_homes : (config : Config) (heard : ℕ → Heard) (world : World) → KeepsLaw config heard world → HaveHomes (links_of config.nodes) world
+have_homes config heard world law node front at =
+    let is_front = sym (law.nodes.frontends node) ∙ ap is_some at in
     subst (λ h. Joined (links_of config.nodes) node h) (sym (law.nodes.fronts node front at).0)
-    (to_the_home config node are at_start apart, from_the_home config node are at_start apart)
+    (law.nodes.home_for.to_home node is_front, law.nodes.home_for.from_home node is_front)
 
-run_on : (config : Config) (heard : ℕ → Heard) (world : World) (steps : List Event) → AreNodes config.nodes → KeepsLaw config heard world
+run_on : (config : Config) (heard : ℕ → Heard) (world : World) (steps : List Event) → KeepsLaw config heard world
     → AreOn (links_of config.nodes) world.links → AreOn (links_of config.nodes) (run_steps world steps).links
 unfolding run_steps
-run_on config heard world [] are law on = on
-run_on config heard world (event ∷ steps) are law on =
-    run_on config (λ conn. hears config conn (heard conn) event) (steps_by world event) steps are (step_keeps config heard world event law).law
-    (takes_on (links_of config.nodes) (stepped world) event (have_homes config heard world are law) on)
+run_on config heard world [] law on = on
+run_on config heard world (event ∷ steps) law on =
+    run_on config (λ conn. hears config conn (heard conn) event) (steps_by world event) steps (step_keeps config heard world event law).law
+    (takes_on (links_of config.nodes) (stepped world) event (have_homes config heard world law) on)
 
 nothing_on : (pairs : List Link) (links : Links LinkMsg) → links ≡ [] → AreOn pairs links
 unfolding on_link
@@ -169,14 +158,9 @@ nothing_on pairs links none from to = inl (rw none refl)
 
 on_pairs : (config : Config) (steps : List Event) → AreNodes config.nodes → AreOn (links_of config.nodes) (run_steps (start config) steps).links
 on_pairs config steps are =
-    run_on config (λ conn. nobody) (start config) steps are (start_keeps config are) (nothing_on (links_of config.nodes) (start config).links (start_links config))
+    run_on config (λ conn. nobody) (start config) steps (start_keeps config are) (nothing_on (links_of config.nodes) (start config).links (start_links config))
 
 -- the pairs are those of the configuration
-
-nodes_pairs : (home : List ℕ) (setting : Setting) (world : World) (nodes : List Node) → (with_nodes home setting world nodes).pairs ≡ world.pairs
-unfolding with_nodes
-nodes_pairs home setting world [] = refl
-nodes_pairs home setting world (node ∷ nodes) = nodes_pairs home setting (with_node home setting world node) nodes
 
 start_pairs : (config : Config) → (start config).pairs ≡ links_of config.nodes
 unfolding start

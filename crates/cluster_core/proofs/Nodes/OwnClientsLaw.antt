@@ -27,7 +27,7 @@ use Rattle.imap_talk.specs.Heard.{Heard, nobody}
 use Rattle.cluster_core.specs.Heard.{heard_from}
 use Rattle.link_queue.specs.Links.{Links, on_link}
 use Rattle.cluster_core.specs.Headline.OneNode.{node_of, ServesItsOwn, ServesItsOwnEach, ServesItsOwnBehind}
-use Rattle.cluster_core.specs.World.{start, home_of, setting_of, client_at, node_at, given_more, carry, carry_all, with_state, comes_to, with_client, opens}
+use Rattle.cluster_core.specs.World.{start, setting_of, client_at, node_at, given_more, carry, carry_all, with_state, comes_to, with_client, opens}
 use Rattle.cluster_core.specs.World.{client_does, taken_from_link, deliver_first, takes, stepped, steps_by}
 use Rattle.cluster_core.proofs.Connections.Keeps.{run_keeps}
 use Rattle.cluster_core.proofs.Connections.FirstTells.{first_tells}
@@ -36,7 +36,7 @@ use Rattle.cluster_core.proofs.Nodes.OneNodeLaw.{one_more_step}
 use Rattle.node_step.specs.declared.node.NodeState.{NodeState}
 use Rattle.node_step.specs.NodeStep.{takes as node_takes}
 use Rattle.node_step.proofs.OwnOuts.{conn_of, conn_of_message, IsNotFor, AreNotFor, takes_own}
-use Rattle.cluster_core.proofs.Runs.StartLaw.{start_keeps}
+use Rattle.cluster_core.proofs.Nodes.LinkedNodes.{start_keeps}
 use Rattle.front_core.proofs.OneConnection.Places.{in_an_answer}
 
 -- the client of this connection is as it was
@@ -146,7 +146,7 @@ is_at (Some it) client known a b = (let same : Some client ≡ Some known = sym 
 own_by_law : (config : Config) (heard : ℕ → Heard) (world : World) → KeepsLaw config heard world → (from to : List ℕ) → ComesToItsOwn world from to
 own_by_law config heard world law from to = λ answer rest client first at.
     let conn : ℕ = (answer.id).conn in
-    let tells = first_tells (setting_of config) (home_of config) conn world law.story (heard conn) (heard conn) from to (Answer answer) rest refl first refl
+    let tells = first_tells (setting_of config) law.home conn world law.story (heard conn) (heard conn) from to (Answer answer) rest refl first refl
     (law.connections conn) in
     is_at (client_at world conn) client _ at tells.client_is ∙ (in_an_answer tells.node from to answer tells.place tells.is_found).0
 

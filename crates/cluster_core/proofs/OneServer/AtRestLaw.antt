@@ -9,19 +9,19 @@ use Rattle.cluster_core.specs.Headline.AtRest.{NothingWaits, NothingWaitsBehind}
 use Rattle.cluster_core.specs.Flow.{run_steps, steps_of_event}
 use Rattle.cluster_core.specs.Heard.{heard_from}
 use Rattle.imap_talk.specs.Heard.{nobody, frames_heard}
-use Rattle.cluster_core.specs.World.{start, home_of, setting_of}
+use Rattle.cluster_core.specs.World.{start, setting_of}
 use Rattle.cluster_core.proofs.Connections.Keeps.{run_keeps}
 use Rattle.cluster_core.proofs.Connections.KeepsLaw.{KeepsLaw}
 use Rattle.cluster_core.proofs.OneServer.OneStoreLaw.{says_of}
 use Rattle.imap_talk.proofs.RequestsOf.{requests_of, asks_all}
-use Rattle.cluster_core.proofs.Runs.StartLaw.{start_keeps}
+use Rattle.cluster_core.proofs.Nodes.LinkedNodes.{start_keeps}
 use Rattle.cluster_core.proofs.Runs.Unrolled.{run_steps-append}
 
 at_rest : (config : Config) (steps : List Event) (world : World) → KeepsLaw config (λ conn. heard_from config conn nobody steps) world
     → NothingWaits config steps world
 at_rest config steps world law = λ empty conn stays.
     let heard = heard_from config conn nobody steps in
-    let says = says_of (setting_of config) (home_of config) conn world law.story heard (law.connections conn) in
+    let says = says_of (setting_of config) law.home conn world law.story heard (law.connections conn) in
     record {
       requests = requests_of (setting_of config) (frames_heard heard);
       answers = law.story.told conn;

@@ -10,7 +10,7 @@ use Rattle.cluster_core.specs.Flow.{run_steps}
 use Rattle.cluster_core.specs.Heard.{hears, heard_from}
 use Rattle.imap_talk.specs.Heard.{Heard, nobody, elsewhere, client, bytes_heard, has_closed}
 use Rattle.cluster_core.specs.Shown.{given_to}
-use Rattle.cluster_core.specs.World.{start, home_of, setting_of, steps_by}
+use Rattle.cluster_core.specs.World.{start, setting_of, steps_by}
 use Rattle.cluster_core.proofs.Connections.ConnectionLaw.{told_of}
 use Rattle.cluster_core.proofs.Connections.Keeps.{step_keeps}
 use Rattle.cluster_core.proofs.Connections.KeepsLaw.{KeepsLaw, KeepsOn}
@@ -30,8 +30,8 @@ step_gives : (config : Config) (heard : ℕ → Heard) (world : World) (event : 
     → KeepsOn config (told_of law.story) (λ other. hears config other (heard other) event) (steps_by world event) → has_closed (heard conn) ≡ true
     → given_to (steps_by world event) conn ≡ given_to world conn
 step_gives config heard world event conn law next shut =
-    let was = says_of (setting_of config) (home_of config) conn world law.story (heard conn) (law.connections conn) in
-    let now = says_of (setting_of config) (home_of config) conn (steps_by world event) next.law.story (hears config conn (heard conn) event)
+    let was = says_of (setting_of config) law.home conn world law.story (heard conn) (law.connections conn) in
+    let now = says_of (setting_of config) next.law.home conn (steps_by world event) next.law.story (hears config conn (heard conn) event)
     (next.law.connections conn) in
     let same : hears config conn (heard conn) event ≡ heard conn = closed_hears config conn (heard conn) event shut in
     now.given

@@ -187,10 +187,10 @@ unanswered story mark point is = λ loss. omega (
 )
 
 -- the commands of the marks were replied to, of which at most one that no client was told of
-replied_to : (setting : Setting) (now : ℕ) (marks : List Mark) (home : _) (story : Story) → IsTold setting now marks home story.talk story.told story.course
+replied_to : (setting : Setting) (now : ℕ) (marks : List Mark) (story : Story) → IsTold setting now marks story.talk story.told story.course
     → ((conn : ℕ) → IsToldSo (story.told conn) (story.talk.answers conn))
     → Replied (counts_of story.told) (λ conn. length (story.talk.answers conn)) marks
-replied_to setting now marks home story told so = record {
+replied_to setting now marks story told so = record {
   numbers = told.numbers;
   few = λ conn. omega (arith, ap length (so conn).parts, length-append (story.told conn) (so conn).rest, (so conn).few);
 }
@@ -202,15 +202,15 @@ pub record IsLegalTo (setting : Setting) (talk : Talk) (points : List Point) (st
   pub legal : IsLegal setting first_course talk points last
 
 -- the history is legal for what was asked and told
-pub legal_history : (setting : Setting) (world : World) (story : Story) (home : _)
-    → IsTold setting world.steps world.marks home story.talk story.told story.course
+pub legal_history : (setting : Setting) (world : World) (story : Story)
+    → IsTold setting world.steps world.marks story.talk story.told story.course
     → ((conn : ℕ) → IsToldSo (story.told conn) (story.talk.answers conn))
     → IsLegalTo setting (told_of story) (history_of world) story.course.store
 unfolding history_of
-legal_history setting world story home told so =
+legal_history setting world story told so =
     let none : AllPairs (NoMore (counts_of story.told)) world.marks =
     none_behind (counts_of story.told) (λ conn. length (story.talk.answers conn)) world.marks told.fit told.later
-    (replied_to setting world.steps world.marks home story told so) in
+    (replied_to setting world.steps world.marks story told so) in
     let followed = marks_follow setting story.talk story.told
     (record { rest = λ conn. (so conn).rest; parts = λ conn. (so conn).parts }) first_course story.course world.marks told.carries told.fit none in
     record {
@@ -242,29 +242,29 @@ legal_history setting world story home told so =
     }
 
 -- the steps of the history rise
-pub steps_rise : (setting : Setting) (world : World) (story : Story) (home : _)
-    → IsTold setting world.steps world.marks home story.talk story.told story.course
+pub steps_rise : (setting : Setting) (world : World) (story : Story)
+    → IsTold setting world.steps world.marks story.talk story.told story.course
     → AllPairs (λ (one other : Point). one.step ≤ other.step) (history_of world)
 unfolding history_of
-steps_rise setting world story home told =
+steps_rise setting world story told =
     pairs_of_points (counts_of story.told) Later (λ (m : Mark). command_of m ≤ length (story.talk.answers (conn_of m)))
     (λ (one other : Point). one.step ≤ other.step)
     (λ earlier later one other behind bound is at. omega (arith, behind.1, is.same_step, at.same_step)) world.marks told.fit told.later told.numbers
 
 -- no point of the history is of a later step
-pub made_by_now : (setting : Setting) (world : World) (story : Story) (home : _)
-    → IsTold setting world.steps world.marks home story.talk story.told story.course → AreMadeBy world.steps (history_of world)
+pub made_by_now : (setting : Setting) (world : World) (story : Story)
+    → IsTold setting world.steps world.marks story.talk story.told story.course → AreMadeBy world.steps (history_of world)
 unfolding history_of
-made_by_now setting world story home told =
+made_by_now setting world story told =
     all_points (counts_of story.told) (λ (m : Mark). m.step ≤ world.steps) (λ (p : Point). p.step ≤ world.steps)
     (λ mark point timely is. omega (arith, timely, is.same_step)) world.marks told.fit told.timely
 
 -- a lost command is the first that wasn't answered
-pub loses_the_next : (setting : Setting) (world : World) (story : Story) (home : _)
-    → IsTold setting world.steps world.marks home story.talk story.told story.course
+pub loses_the_next : (setting : Setting) (world : World) (story : Story)
+    → IsTold setting world.steps world.marks story.talk story.told story.course
     → ((conn : ℕ) → IsToldSo (story.told conn) (story.talk.answers conn)) → LosesTheNext (told_of story) (history_of world)
 unfolding history_of
-loses_the_next setting world story home told so =
+loses_the_next setting world story told so =
     all_points (counts_of story.told) (λ (m : Mark). command_of m ≤ length (story.talk.answers (conn_of m)))
     (λ (p : Point). loses p.what ≡ true → p.ask.command ≡ length (story.told p.ask.conn) + 1)
     (λ mark point bound is. λ loss. omega (

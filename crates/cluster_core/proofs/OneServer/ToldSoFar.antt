@@ -31,16 +31,16 @@ use Rattle.cluster_core.specs.Headline.OneStore.{first_course, HasBoxesOf, IsAns
 use Rattle.imap_talk.specs.Requests.{AreRequests}
 use Rattle.store_law.specs.Serials.{GivesLowSerials}
 use Rattle.cluster_core.specs.Shown.{given_to}
-use Rattle.cluster_core.specs.World.{start, home_of, setting_of}
+use Rattle.cluster_core.specs.World.{start, setting_of}
 use Rattle.store_law.proofs.BegunLaw.{begins_as_read}
 use Rattle.store_law.proofs.AppendedThere.{keeps_appended}
 use Rattle.cluster_core.proofs.Connections.ConnectionLaw.{Story, told_of}
-use Rattle.cluster_core.proofs.Names.HomesLaw.{has_boxes}
+use Rattle.cluster_core.proofs.Connections.NameLaw.{store_below}
+use Rattle.cluster_core.proofs.Names.HomesLaw.{AreNamesOf, has_boxes}
 use Rattle.cluster_core.proofs.Histories.InTime.{StandsBehind, run_behind}
 use Rattle.cluster_core.proofs.Connections.Keeps.{IsKeptAt, KeepsAll, run_keeps}
 use Rattle.cluster_core.proofs.Connections.KeepsLaw.{KeepsLaw}
 use Rattle.store_law.proofs.NoneLost.{both_hold, loses_none}
-use Rattle.serve_law.proofs.HomeStore.{store_below}
 use Rattle.cluster_core.proofs.Histories.Tally.{acts, conn_of, command_of}
 use Rattle.cluster_core.proofs.Histories.Marks.{Carries, counts_of, is_mark, all_points}
 use Rattle.cluster_core.proofs.Histories.Marks.Carries.{no_marks, a_mark, a_telling}
@@ -51,7 +51,7 @@ use Rattle.imap_talk.proofs.RequestsOf.{asks_all}
 use Rattle.serve_law.proofs.HomeStore.{low_serials}
 use Rattle.store_law.proofs.RisingStores.{Rises, box_rises, none_rises, points_rise, some_rising}
 use Rattle.cluster_core.proofs.Names.ShownHomes.{shows_boxes}
-use Rattle.cluster_core.proofs.Runs.StartLaw.{start_keeps}
+use Rattle.cluster_core.proofs.Nodes.LinkedNodes.{start_keeps}
 use Rattle.cluster_core.proofs.Runs.StepsMade.{steps_made}
 use Rattle.cluster_core.proofs.Histories.Told.{IsTold}
 use Rattle.cluster_core.proofs.Runs.Unrolled.{run_steps-append}
@@ -110,13 +110,13 @@ abbrev ToldBy : Story → ℕ → Mark → Type 0
 ToldBy story now m = acts m.kind ≡ true → command_of m ≤ length (story.told (conn_of m)) → m.step ≤ now
 
 -- the points of the whole run, as they stand to a moment of it
-pub stands_in_time : (setting : Setting) (now later : World) (story whole : Story) (home last_home : _)
-    → IsTold setting now.steps now.marks home story.talk story.told story.course
-    → IsTold setting later.steps later.marks last_home whole.talk whole.told whole.course → StandsBehind now later
+pub stands_in_time : (setting : Setting) (now later : World) (story whole : Story)
+    → IsTold setting now.steps now.marks story.talk story.told story.course
+    → IsTold setting later.steps later.marks whole.talk whole.told whole.course → StandsBehind now later
     → ((conn : ℕ) → IsToldSo (story.told conn) (story.talk.answers conn))
     → StandsInTime (told_of story) now.steps (history_of later)
 unfolding history_of
-stands_in_time setting now later story whole home last_home told all behind so =
+stands_in_time setting now later story whole told all behind so =
     let asked = marks_asked setting story.talk _ story.course now.marks told.carries in
     record {
       behind_command = all_points (counts_of whole.told) (AskedBy story now.steps)
@@ -160,6 +160,11 @@ stands_in_time setting now later story whole home last_home told all behind so =
     told_within : (conn : ℕ) → length (story.told conn) ≤ length (story.talk.answers conn)
     told_within conn = omega (arith, ap length (so conn).parts, length-append (story.told conn) (so conn).rest)
 
+-- the names, by the law
+pub names_of : (config : Config) (heard : ℕ → Heard) (world : World) (law : KeepsLaw config heard world)
+    → AreNamesOf config world law.story.course.store law.home law.backend
+names_of config heard world law = record { home_is = law.home_is; nodes = law.nodes; names = law.names }
+
 -- the law at a step, of a run that ends so
 told_so_far : (config : Config) (talk : Talk) (before later : List Event) → AreNodes config.nodes → IsDate config.date
     → IsKeptAt config talk (λ conn. heard_from config conn nobody before) (run_steps (start config) before)
@@ -170,17 +175,17 @@ told_so_far config talk before later are date_is now last =
     let world : World = run_steps (start config) before in
     let heard : ℕ → Heard = λ conn. heard_from config conn nobody before in
     let says : (conn : ℕ) → SaysOf (setting_of config) world conn (heard conn) (law.story.told conn) (law.story.talk.answers conn) =
-    λ conn. says_of (setting_of config) (home_of config) conn world law.story (heard conn) (law.connections conn) in
+    λ conn. says_of (setting_of config) law.home conn world law.story (heard conn) (law.connections conn) in
     let behind : StandsBehind world (run_steps (start config) (before ++ later)) =
     subst (λ w. StandsBehind world w) (sym (run_steps-append (start config) before later)) (run_behind world later) in
     let asked : (conn : ℕ) → AreRequests (setting_of config) (frames_heard (heard conn)) (law.story.talk.requests conn) =
     λ conn. subst (λ r. AreRequests (setting_of config) (frames_heard (heard conn)) r) (sym (law.requests conn))
     (asks_all (setting_of config) (frames_heard (heard conn))) in
     let legal : IsLegalTo (setting_of config) (told_of law.story) (history_of world) law.story.course.store =
-    legal_history (setting_of config) world law.story law.backend law.is_told (λ conn. (says conn).so) in
+    legal_history (setting_of config) world law.story law.is_told (λ conn. (says conn).so) in
     let below_next : (name : List ℕ) → IfSome (box_at legal.last.store name) AreUidsBelowNext =
     subst (λ (s : Store). (name : List ℕ) → IfSome (box_at s name) AreUidsBelowNext) (sym legal.same_store)
-    (store_below law.story.course.store law.backend law.is_told.same law.below_next) in
+    (λ name. store_below world law.story.course.store law.home name (law.names name)) in
     let rises : (name : List ℕ) → IfSome (box_at legal.last.store name) Rises =
     λ name. box_rises legal.last.store name
     (points_rise (setting_of config) (told_of law.story) first_course legal.last (history_of world) legal.legal.follows none_rises) in
@@ -198,19 +203,19 @@ told_so_far config talk before later are date_is now last =
       legal = legal.legal;
       refusals = have_causes (setting_of config) first_course (told_of law.story) (history_of world) legal.last legal.legal;
       one_content = subst (λ s. HasBoxesOf s world) (sym legal.same_store)
-          (has_boxes config world law.backend law.story.course.store are law.nodes law.is_told.same);
+          (has_boxes config world law.story.course.store law.home law.backend (names_of config heard world law));
       homes_shown = subst (λ s. ShowsBoxesOf config s world) (sym legal.same_store)
-          (shows_boxes config world law.backend law.story.course.store are law.nodes law.is_told.same);
+          (shows_boxes config world law.story.course.store law.home law.backend are (names_of config heard world law));
       below_next = below_next;
       uids_rise = λ name. some_rising (box_at legal.last.store name) (rises name);
       none_lost = loses_none (setting_of config) legal.last.store
           (λ name. both_hold (box_at legal.last.store name) (below_next name) (rises name));
       appended_there = keeps_appended (setting_of config) legal.last.store rises;
-      low_serials = subst GivesLowSerials (sym legal.same_store) (low_serials law.story.course.store law.backend law.is_told.same);
-      lost_next = loses_the_next (setting_of config) world law.story law.backend law.is_told (λ conn. (says conn).so);
-      made_by_now = made_by_now (setting_of config) world law.story law.backend law.is_told;
+      low_serials = subst GivesLowSerials (sym legal.same_store) (low_serials law.story.course.store law.backend.last_serial law.serials);
+      lost_next = loses_the_next (setting_of config) world law.story law.is_told (λ conn. (says conn).so);
+      made_by_now = made_by_now (setting_of config) world law.story law.is_told;
       in_time = stands_in_time (setting_of config) world
-          (run_steps (start config) (before ++ later)) law.story last.story law.backend last.backend law.is_told last.is_told behind (λ conn. (says conn).so);
+          (run_steps (start config) (before ++ later)) law.story last.story law.is_told last.is_told behind (λ conn. (says conn).so);
       counted = steps_made config before;
       nothing_waits = λ empty conn stays.
           subst (λ r. IsAnsweredThrough r (law.story.told conn)) (sym (law.requests conn)) ((says conn).waits_not empty stays);
@@ -238,5 +243,5 @@ told_by_one_store config events are date_is =
       begins_as_read = begins_as_read (setting_of config);
       talk = all.talk;
       at_each_step = λ before later e. told_at config all.talk steps before later e are date_is (all.at before later e) last;
-      steps_rise = steps_rise (setting_of config) (run_steps (start config) steps) last.story last.backend last.is_told;
+      steps_rise = steps_rise (setting_of config) (run_steps (start config) steps) last.story last.is_told;
     }

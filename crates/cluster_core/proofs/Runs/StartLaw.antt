@@ -6,7 +6,7 @@ use Rattle.std.specs.Ordering.{nat_cmp}
 use Rattle.std.specs.Cmp.Lexicographic.{slice_cmp}
 use Rattle.std.proofs.Math.Logic.{⊎_elim}
 use Rattle.std.proofs.lemmas.Bool.Decides.{nat_tests}
-use Rattle.std.proofs.lemmas.List.Elements.{All-head, All-tail, All-cons}
+use Rattle.std.proofs.lemmas.List.Elements.{All-head, All-tail, All-cons, All-nil}
 use Rattle.backend_core.specs.declared.backend.Backend.{Backend}
 use Rattle.backend_core.specs.Plan.{booted}
 use Rattle.front_core.specs.declared.front.Front.{Front}
@@ -20,7 +20,7 @@ use Rattle.mur_config.specs.declared.node.Kind.TheVariants.{Master, Frontend, Ba
 use Rattle.mur_config.specs.declared.node.Node.{Node}
 use Rattle.mur_config.specs.Nodes.{AreNodes, count_of_kind, is_node_of_kind, is_of_kind, links_of}
 use Rattle.mur_model.specs.declared.setting.Setting.{Setting}
-use Rattle.mur_model.specs.Store.{empty_store, is_spent}
+use Rattle.mur_model.specs.Store.{is_spent}
 use Rattle.mur_model.proofs.HistoryGrows.{one_up_to}
 use Rattle.node_step.specs.declared.node.NodeState.{NodeState}
 use Rattle.node_step.specs.declared.node.NodeState.TheVariants as state
@@ -34,7 +34,7 @@ use Rattle.cluster_core.specs.World.{no_world, first_name, or_backend, backends_
 use Rattle.cluster_core.specs.World.{node_at, front_at, home_at}
 use Rattle.cluster_core.proofs.Runs.FrontsOfStart.{frontends_at_start}
 use Rattle.mur_config.proofs.NodesApart.{head_apart, tail_apart}
-use Rattle.cluster_core.proofs.Connections.KeepsLaw.{KeepsLaw}
+use Rattle.cluster_core.proofs.Connections.KeepsLaw.{IsHomeFor, KeepsLaw}
 use Rattle.cluster_core.proofs.Connections.KeepsLaw.ConnectionIs.{is_nobody}
 use Rattle.cluster_core.proofs.Histories.Tally.{Fit, command_of}
 use Rattle.cluster_core.proofs.Histories.Marks.{Carries, Later, MarkedOnce}
@@ -42,7 +42,9 @@ use Rattle.cluster_core.proofs.Histories.Marks.Carries.{no_marks}
 use Rattle.cluster_core.specs.declared.world.Mark.{Mark}
 use Rattle.imap_talk.specs.Inputs.{inputs_of, requests_in}
 use Rattle.imap_talk.proofs.RequestsOf.{requests_of}
-use Rattle.serve_law.proofs.HomeStore.{IsStoreOf}
+use Rattle.serve_law.proofs.HomeStore.{AreSerialsTo}
+use Rattle.cluster_core.proofs.Connections.NameLaw.NameIs.{absent}
+use Rattle.cluster_core.specs.Shown.{held_by}
 use Rattle.front_core.proofs.OneConnection.Places.{About, of_connection, of_nobody, IsPlaced}
 
 -- a node that has done nothing
@@ -97,6 +99,11 @@ pub backends_stay : (home : List ℕ) (setting : Setting) (world : World) (nodes
 unfolding with_nodes
 backends_stay home setting world [] = refl
 backends_stay home setting world (node ∷ nodes) = backends_stay home setting (with_node home setting world node) nodes
+
+pub nodes_pairs : (home : List ℕ) (setting : Setting) (world : World) (nodes : List Node) → (with_nodes home setting world nodes).pairs ≡ world.pairs
+unfolding with_nodes
+nodes_pairs home setting world [] = refl
+nodes_pairs home setting world (node ∷ nodes) = nodes_pairs home setting (with_node home setting world node) nodes
 
 -- a backend that is there
 record HasBack (found : Option NodeState) : Type 0 where
@@ -172,6 +179,38 @@ unfolding backends_of count_of_kind
 backend_count [] = refl
 backend_count (node ∷ nodes) = count_by_kind node nodes node.kind refl (backend_count nodes)
 
+name_by : (P : List ℕ → Type 0) (node : Node) (kind : Kind) (names : List (List ℕ)) → P node.name → All P names → All P (or_backend kind node.name names)
+unfolding or_backend
+name_by P node Master names p all = all
+name_by P node Frontend names p all = all
+name_by P node backend_kind names p all = All-cons P node.name names p all
+
+-- what holds of all names holds of the backends'
+pub all_named : (P : List ℕ → Type 0) (nodes : List Node) → All (λ (node : Node). P node.name) nodes → All P (backends_of nodes)
+unfolding backends_of
+all_named P [] all = All-nil P
+all_named P (node ∷ nodes) all =
+    name_by P node node.kind (backends_of nodes) (All-head (λ (n : Node). P n.name) node nodes all)
+    (all_named P nodes (All-tail (λ (n : Node). P n.name) node nodes all))
+
+first_apart : (node : Node) (nodes : List Node) (kind : Kind) (rest : List (List ℕ)) (home : List ℕ) → or_backend kind node.name (backends_of nodes) ≡ home ∷ rest
+    → All (λ (other : Node). node.name ≢ other.name) nodes → ((r : List (List ℕ)) → backends_of nodes ≡ home ∷ r → All (λ n. home ≢ n) r)
+    → All (λ n. home ≢ n) rest
+unfolding or_backend
+first_apart node nodes Master rest home e all later = later rest e
+first_apart node nodes Frontend rest home e all later = later rest e
+first_apart node nodes backend_kind rest home e all later =
+    let same : node.name ≡ home = cc in
+    let others : backends_of nodes ≡ rest = cc in
+    subst (λ h. All (λ n. h ≢ n) rest) same (subst (λ r. All (λ n. node.name ≢ n) r) others (all_named (λ n. node.name ≢ n) nodes all))
+
+pub others_apart : (nodes : List Node) (rest : List (List ℕ)) (home : List ℕ) → AllPairs (λ (one other : Node). one.name ≢ other.name) nodes
+    → backends_of nodes ≡ home ∷ rest → All (λ n. home ≢ n) rest
+unfolding backends_of
+others_apart [] rest home pairs e = cc
+others_apart (node ∷ nodes) rest home pairs e =
+    first_apart node nodes node.kind rest home e (head_apart node nodes pairs) (λ r h. others_apart nodes r home (tail_apart node nodes pairs) h)
+
 pub record HasFirst (names : List (List ℕ)) : Type 0 where
   pub rest : List (List ℕ)
   pub is : names ≡ first_name names ∷ rest
@@ -203,15 +242,14 @@ no_steps config = (fresh_start config).steps
 pub start_links : (config : Config) → (start config).links ≡ []
 start_links config = (fresh_start config).links
 
-nothing_held : (store_of : Backend) → store_of.held ≡ [] → store_of.last_serial ≡ 0 → IsStoreOf empty_store store_of
+none_given : (last : ℕ) → last ≡ 0 → AreSerialsTo [] last
 unfolding is_spent
-nothing_held backend held serial = record {
-  boxes = λ name. rw held refl;
-  all_open = λ name there at. (let none : value_at (slice_cmp nat_cmp) backend.held name ≡ None = (rw held refl) in cc);
-  serials = λ k d h. absurd (omega arith);
-  spent = rw serial refl;
-  counted = serial;
-}
+none_given last zero = record { serials = λ k d h. absurd (omega arith); spent = rw zero refl; counted = zero }
+
+nothing_at : (home : List ℕ) (setting : Setting) (world : World) (node name : List ℕ) (found : Option Backend) → IsFresh home setting world
+    → home_at world node ≡ found → value_at (slice_cmp nat_cmp) (held_by found) name ≡ None
+nothing_at home setting world node name None fresh at = refl
+nothing_at home setting world node name (Some backend) fresh at = rw (fresh_home home setting world node backend fresh at).0 refl
 
 counts_nothing : (number : ℕ) → 0 ≡ one_up_to 0 number
 unfolding one_up_to
@@ -243,9 +281,17 @@ fits_none : Fit (λ conn. 0) []
 unfolding Fit
 fits_none = tt
 
-pub start_keeps : (config : Config) → AreNodes config.nodes → KeepsLaw config (λ conn. nobody) (start config)
+pub home_no_front : (config : Config) → AreNodes config.nodes → front_at (start config) (home_of config) ≡ None
 unfolding start
-start_keeps config are =
+home_no_front config are =
+    let first = first_backend config.nodes are in
+    let origin : World = record no_world { backends = backends_of config.nodes; pairs = links_of config.nodes } in
+    let has = home_comes (home_of config) (setting_of config) config.nodes origin first.rest (home_of config) are.names first.is in
+    back_no_front (node_at (start config) (home_of config)) has.backend has.at
+
+pub start_keeps_for : (config : Config) → AreNodes config.nodes → IsHomeFor config (home_of config) → KeepsLaw config (λ conn. nobody) (start config)
+unfolding start
+start_keeps_for config are home_for =
     let first = first_backend config.nodes are in
     let origin : World = record no_world { backends = backends_of config.nodes; pairs = links_of config.nodes } in
     let has = home_comes (home_of config) (setting_of config) config.nodes origin first.rest (home_of config) are.names first.is in
@@ -253,26 +299,27 @@ start_keeps config are =
     let fresh_one = fresh_front (home_of config) (setting_of config) (start config) in
     let free = fresh_home (home_of config) (setting_of config) (start config) (home_of config) has.backend fresh has.at in
     record {
+      home = home_of config;
       backend = has.backend;
+      home_is = has.at;
       nodes = record {
-        home_no_front = back_no_front (node_at (start config) (home_of config)) has.backend has.at;
-        home_is = has.at;
+        home_no_front = home_no_front config are;
         fronts = λ node front at. (
           ap (λ (f : Front). f.home) (fresh_one node front fresh at) ∙ home_new_front node (home_of config) (setting_of config),
           ap (λ (f : Front). f.setting) (fresh_one node front fresh at) ∙ setting_new_front node (home_of config) (setting_of config),
         );
         frontends = frontends_at_start config are;
-        other_homes = λ node other ne at. (fresh_home (home_of config) (setting_of config) (start config) node other fresh at).0;
-        backends = refl;
-        pairs = refl;
+        backends = backends_stay (home_of config) (setting_of config) origin config.nodes;
+        pairs = nodes_pairs (home_of config) (setting_of config) origin config.nodes;
+        home_for = home_for;
       };
-      below_next = λ name there at. (let none : value_at (slice_cmp nat_cmp) has.backend.held name ≡ None = (rw free.0 refl) in cc);
       story = record { talk = record { requests = λ conn. []; answers = λ conn. []; serials = λ conn. [] }; told = λ conn. []; course = first_course };
+      names = λ name. absent refl (λ node. nothing_at (home_of config) (setting_of config) (start config) node name (home_at (start config) node) fresh refl);
+      serials = none_given has.backend.last_serial free.1;
       is_told = record {
         carries = subst (λ m. Carries (setting_of config)
             (record { requests = λ conn. []; answers = λ conn. []; serials = λ conn. [] }) first_course m first_course) (sym fresh.marks)
             (no_marks first_course);
-        same = nothing_held has.backend free.0 free.1;
         once = subst (λ m. MarkedOnce (λ conn. 0) m) (sym fresh.marks) (λ conn number. counts_nothing number);
         later = subst (λ m. AllPairs Later m) (sym fresh.marks) (λ i j d h k. absurd (omega arith));
         numbers = subst (λ m. All (λ (mark : Mark). command_of mark ≤ 0) m) (sym fresh.marks) (λ k d h. absurd (omega arith));
