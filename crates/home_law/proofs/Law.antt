@@ -1,5 +1,5 @@
 -- The home law of one name, from the invariant at each backend.
-use Rattle.std.proofs.Common.{◌≡◌, List, [], ◌∷◌, ◌⊎◌, inl, inr, sym, ◌∙◌, ap, subst}
+use Rattle.std.proofs.Common.{◌≡◌, [], ◌⊎◌, inl, inr, sym, ◌∙◌, ap, subst}
 use Rattle.std.proofs.Math.Logic.{⊎_elim}
 use Rattle.home_law.specs.Items.{RecordKind, kept, active, NameRecord, no_record, recorded, Server, mine, serving}
 use Rattle.home_law.specs.Link.{see}

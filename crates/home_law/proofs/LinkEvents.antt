@@ -1,11 +1,10 @@
 -- Each event keeps the invariant of a link: a lemma an event.
-use Rattle.std.proofs.Common.{◌≡◌, ◌≢◌, ℕ, Bool, true, false, List, [], ◌∷◌, refl, sym, ap, subst}
-use Rattle.home_law.specs.Items.{NameRecord, Server, Mine, Seen}
+use Rattle.std.proofs.Common.{◌≡◌, ◌≢◌, ℕ, Bool, List, [], ◌∷◌, refl, sym, subst}
+use Rattle.home_law.specs.Items.{NameRecord, Server, Mine}
 use Rattle.home_law.specs.Steps.{NameAsk}
 use Rattle.home_law.specs.Link.{Back, LineStep, hears_first, asked, asked_each, takes_first, cut, crash, lose, join, see, put}
 use Rattle.home_law.specs.Rows.{mine_of}
 use Rattle.home_law.specs.LinkOk.{LinkOk}
-use Rattle.home_law.proofs.Moves.{is_other}
 use Rattle.home_law.proofs.Events.{LineStepOk, hears_by, takes_by, asked_kept}
 use Rattle.home_law.proofs.Faults.{cut_by, crash_by, lose_by, join_by}
 use Rattle.home_law.proofs.Records.{see_put, others_same}

@@ -1,5 +1,5 @@
 -- What the invariant of a link says.
-use Rattle.std.proofs.Common.{◌≡◌, Bool, true, false, not, ◌&&◌, ◌||◌, List, [], ◌∷◌, ◌⊎◌, inl, inr, refl, sym, ◌∙◌, subst}
+use Rattle.std.proofs.Common.{◌≡◌, Bool, true, false, ◌&&◌, ◌||◌, List, [], ◌∷◌, ◌⊎◌, inl, inr, refl, subst}
 use Rattle.std.proofs.Math.Logic.{⊎_elim}
 use Rattle.home_law.specs.Items.{RecordKind, bare, kept, active, Seen, Mine, away, mine, HomePhase, no_phase, creating, serving, closing, pointer, Item, refused, item_number, is_among}
 use Rattle.home_law.specs.Steps.{answer}

@@ -3,7 +3,7 @@ use Rattle.std.proofs.Common.{◌≡◌, Bool, true, false, cond, List, [], ◌�
 use Rattle.home_law.specs.Items.{RecordKind, bare, kept, active, NameRecord, no_record, recorded, Server, is_same_server, Seen, free, other, own, Item, backend_up, backend_end, listed_active, listed_reserved, list_ok}
 use Rattle.home_law.specs.Steps.{answer_list, answer_find}
 use Rattle.home_law.specs.Link.{see}
-use Rattle.home_law.specs.ManyNames.{Mailbox, is_same_mailbox, SentLine, sent_list, sent_find, with_line, NameResponse, mailbox_told, reserve_told, ok_told, no_told, BackMessage, up_told, end_told, response, line_items, ok_items, no_items, downs_of, left_of, NameRow, row_at, HasNoRow, AreOnce, row_line, list_lines, list_answer, ListsEach, find_answer, find_items, FindsEach}
+use Rattle.home_law.specs.ManyNames.{Mailbox, is_same_mailbox, SentLine, sent_list, sent_find, with_line, mailbox_told, reserve_told, ok_told, no_told, BackMessage, up_told, end_told, response, line_items, ok_items, no_items, downs_of, left_of, NameRow, row_at, HasNoRow, AreOnce, row_line, list_lines, list_answer, ListsEach, find_answer, find_items, FindsEach}
 use Rattle.home_law.proofs.SameName.{is_the_same, is_another}
 
 -- what comes after other messages is read by the lines that they leave

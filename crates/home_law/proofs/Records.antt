@@ -1,5 +1,5 @@
 -- The record of the name, as its backend and the others find it.
-use Rattle.std.proofs.Common.{◌≡◌, ◌≢◌, Bool, true, false, cond, refl, sym, ◌∙◌, ap}
+use Rattle.std.proofs.Common.{◌≡◌, Bool, true, false, cond, refl, sym, ◌∙◌, ap}
 use Rattle.home_law.specs.Items.{RecordKind, NameRecord, no_record, recorded, Server, is_same_server, Seen, free, other, own, away, mine}
 use Rattle.home_law.specs.Link.{see, put}
 use Rattle.home_law.specs.Rows.{mine_of}

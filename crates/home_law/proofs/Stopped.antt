@@ -1,12 +1,11 @@
 -- A crash inside a step, after its entry and with no outputs, is the step and then a crash that keeps nothing that the step sent.
 use Rattle.std.proofs.Common.{◌≡◌, ℕ, zero, suc, Bool, true, false, List, [], ◌∷◌, ◌++◌, take, refl, sym, ◌∙◌, ap, subst}
 use Rattle.std.proofs.lemmas.List.{append-nil}
-use Rattle.home_law.specs.Items.{NameRecord, Server, Mine, Seen, Item, backend_end, master_end, Ctl}
+use Rattle.home_law.specs.Items.{NameRecord, Server, Mine, Seen, Item, backend_end, master_end}
 use Rattle.home_law.specs.Steps.{BackStep, hear, MasterStep, answer, NameAsk, ask, unlinked, crashed}
-use Rattle.home_law.specs.Link.{Back, sent_over, does, hears_first, asked, LineStep, took, takes_first, shorten, crash, lose, silently, stopped_hearing, stopped_asked, stopped_taking, see, put}
+use Rattle.home_law.specs.Link.{Back, sent_over, does, hears_first, asked, took, takes_first, shorten, crash, lose, silently, stopped_hearing, stopped_asked, stopped_taking, see, put}
 use Rattle.home_law.specs.Rows.{mine_of}
 use Rattle.home_law.specs.LinkOk.{LinkOk}
-use Rattle.home_law.proofs.Moves.{is_other}
 use Rattle.home_law.proofs.Events.{IsOk, LineStepOk, hears_by, takes_by, asked_kept, hear_linked, ask_linked}
 use Rattle.home_law.proofs.Faults.{crash_by, lose_by}
 use Rattle.home_law.proofs.Records.{see_put}

@@ -1,5 +1,5 @@
 -- The invariant of one name: what holds of a backend, of the record as it finds it, and of both queues of its link, at each moment.
-use Rattle.std.specs.Prelude.{◌≡◌, ℕ, Bool, true, false, ◌⊎◌, List, [], ◌∷◌, ⊤}
+use Rattle.std.specs.Prelude.{◌≡◌, Bool, true, false, ◌⊎◌, List, [], ◌∷◌, ⊤}
 use Rattle.home_law.specs.Items.{Mine, Item, backend_up, backend_end, Server}
 use Rattle.home_law.specs.Link.{Back, see}
 use Rattle.home_law.specs.NameRun.{NameWorld}
