@@ -1,0 +1,2 @@
+pub mod LinesLaw
+pub mod AboveLaw

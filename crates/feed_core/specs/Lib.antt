@@ -1,0 +1,4 @@
+pub mod Feed
+pub mod RecLines
+pub mod Listing
+pub mod Above

@@ -1,0 +1,20 @@
+//! A frontend's replica of the master's table: what the lines of a stream make (RFC 3656, 4.11).
+//!
+//! [`Replica::take`] takes one line; `specs/Feed.antt` says what it changes. From an empty replica the lines of all records make these records
+//! ([`lines_make_their_records`], `specs/RecLines.antt`). A name is looked up by [`Replica::find`], the nearest name above one that has a record by
+//! [`Replica::nearest_above`], and mailboxes are listed by [`Replica::names`] and [`Replica::matching`]. Nothing here knows of tags or links: its owner
+//! makes a new replica when its link to the master comes up, and hands on the lines that stand under its UPDATE.
+#![tactic(auto)]
+
+mod above;
+mod fault;
+mod laws;
+mod listing;
+mod rec;
+mod replica;
+
+pub use fault::FeedFault;
+pub use laws::lines_make_their_records;
+pub use listing::MailNames;
+pub use rec::Rec;
+pub use replica::Replica;

@@ -1,0 +1,16 @@
+pub mod Finite
+pub mod Lists
+pub mod Shortens
+pub mod Move
+pub mod Kept
+pub mod Moves
+pub mod Events
+pub mod Faults
+pub mod SameName
+pub mod Records
+pub mod LinkEvents
+pub mod Stopped
+pub mod LinkSays
+pub mod Keeps
+pub mod Law
+pub mod ManyNamesLaw
