@@ -1,5 +1,5 @@
 -- What comes to a node is a step of what the node is; a frontend or a backend in another state leaves all other nodes as they were.
-use Rattle.std.proofs.Common.{◌≡◌, ◌≢◌, ℕ, List, [], Option, None, Some, refl, sym, ◌∙◌, ap, subst, arith}
+use Rattle.std.proofs.Common.{◌≡◌, ◌≢◌, ℕ, List, Option, None, Some, refl, sym, ◌∙◌, ap, subst, arith}
 use Rattle.std.specs.Ordering.{nat_cmp}
 use Rattle.std.specs.Cmp.Lexicographic.{slice_cmp}
 use Rattle.std.proofs.Math.Logic.{⊎_elim}
@@ -11,13 +11,12 @@ use Rattle.front_core.specs.Front.{Stepped, connect, bytes_in, hang, deliver}
 use Rattle.link_msg.specs.declared.ask.FrontAsk.{FrontAsk}
 use Rattle.link_msg.specs.declared.answer.BackAnswer.{BackAnswer}
 use Rattle.link_msg.specs.declared.message.LinkMsg.TheVariants.{Ask, Answer}
-use Rattle.mur_base.specs.Map.{with_value}
 use Rattle.mur_base.proofs.MapLaws.{names_apart, same_or_other, value_at-with_value, value_at-with_value-other}
 use Rattle.node_step.specs.declared.input.NodeInput.{NodeInput}
 use Rattle.node_step.specs.declared.input.NodeInput.TheVariants.{Opened, Piece, Hung, From}
 use Rattle.node_step.specs.declared.node.NodeState.{NodeState}
 use Rattle.node_step.specs.declared.node.NodeState.TheVariants as state
-use Rattle.node_step.specs.NodeStep.{Acted, front_acted, back_acted, as_front, as_back, front_takes, back_takes, back_by, back_input, takes as node_takes}
+use Rattle.node_step.specs.NodeStep.{front_acted, back_acted, as_front, as_back, front_takes, back_takes, back_by, back_input, takes as node_takes}
 use Rattle.node_step.proofs.NodeKinds.{front_is, back_is, front_no_back, back_no_front, a_front, a_back, no_back, no_front}
 use Rattle.cluster_core.specs.declared.world.World.{World}
 use Rattle.cluster_core.specs.World.{node_at, front_at, home_at, carry_all, with_state, acts, comes_to, comes}

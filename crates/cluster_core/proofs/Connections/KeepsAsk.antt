@@ -20,7 +20,7 @@ use Rattle.link_msg.specs.declared.counts.Counts.{Counts}
 use Rattle.link_msg.specs.declared.message.LinkMsg.{LinkMsg}
 use Rattle.link_msg.specs.declared.message.LinkMsg.TheVariants.{Ask, Answer}
 use Rattle.mur_base.specs.Map.{value_at, with_value}
-use Rattle.mur_base.proofs.MapLaws.{names_apart, same_or_other, value_at-with_value, value_at-with_value-other}
+use Rattle.mur_base.proofs.MapLaws.{names_apart, same_or_other}
 use Rattle.mur_config.specs.declared.config.Config.{Config}
 use Rattle.imap_types.specs.declared.command.Command.{Command}
 use Rattle.imap_types.specs.declared.command.Tag.{Tag}
@@ -40,7 +40,6 @@ use Rattle.mur_model.proofs.OwnView.{IsOfNeeded, work_own}
 use Rattle.session_core.specs.Finish.{turn_of}
 use Rattle.node_step.specs.declared.input.NodeInput.TheVariants.{From}
 use Rattle.node_step.specs.declared.node.NodeState.TheVariants as state
-use Rattle.node_step.specs.NodeStep.{as_front, as_back}
 use Rattle.cluster_core.specs.declared.world.World.{World}
 use Rattle.imap_talk.specs.Heard.{Heard, frames_heard}
 use Rattle.link_queue.specs.Links.{on_link, sent, without_first}
@@ -48,7 +47,7 @@ use Rattle.cluster_core.specs.World.{front_at, home_at, setting_of, with_state, 
 use Rattle.cluster_core.proofs.Connections.Comes.{with_home, ask_comes, home_here, home_other, fronts_beside}
 use Rattle.cluster_core.proofs.Connections.ConnectionLaw.{Story, told_of, session_at, session_of_other}
 use Rattle.cluster_core.proofs.Connections.FirstTells.{first_tells, command_waits}
-use Rattle.cluster_core.proofs.Connections.KeepsLaw.{ConnectionIs, AreNodesOf, KeepsLaw, KeepsOn, connection_stays, same_front}
+use Rattle.cluster_core.proofs.Connections.KeepsLaw.{ConnectionIs, KeepsLaw, KeepsOn, connection_stays, same_front}
 use Rattle.cluster_core.proofs.Connections.KeepsStill.{nodes_alike}
 use Rattle.cluster_core.proofs.Connections.NameLaw.{NameIs, all_below, has_at, lacks_elsewhere, name_at, name_stays, node_has, store_at}
 use Rattle.imap_talk.proofs.RequestsOf.{requests_of}

@@ -19,10 +19,10 @@ use Rattle.node_step.specs.NodeStep.{as_front, as_back}
 use Rattle.cluster_core.specs.declared.world.World.{World}
 use Rattle.imap_talk.specs.Heard.{Heard, frames_heard}
 use Rattle.cluster_core.specs.Shown.{held_by}
-use Rattle.cluster_core.specs.World.{client_at, front_at, home_at, setting_of, given_more, carry, carry_all, with_state}
+use Rattle.cluster_core.specs.World.{client_at, front_at, setting_of, given_more, carry, carry_all, with_state}
 use Rattle.cluster_core.proofs.Connections.ConnectionLaw.{told_of}
-use Rattle.cluster_core.proofs.Connections.Comes.{front_here, front_other, homes_beside}
-use Rattle.cluster_core.proofs.Connections.NameLaw.{name_stays, node_has}
+use Rattle.cluster_core.proofs.Connections.Comes.{front_here, front_other}
+use Rattle.cluster_core.proofs.Connections.NameLaw.{name_stays}
 use Rattle.cluster_core.proofs.Connections.KeepsLaw.{ConnectionIs, AreNodesOf, KeepsLaw, KeepsOn, LooksAlike, SameFront, same_front, connection_stays}
 use Rattle.cluster_core.proofs.Connections.KeepsLaw.SameFront.{both}
 use Rattle.front_core.proofs.OneConnection.Places.{of_connection, of_nobody}

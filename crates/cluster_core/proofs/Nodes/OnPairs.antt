@@ -13,7 +13,6 @@ use Rattle.link_msg.specs.declared.out.Out.TheVariants.{Client as to_client, Clo
 use Rattle.mur_config.specs.declared.config.Config.{Config}
 use Rattle.mur_config.specs.declared.node.Link.{Link}
 use Rattle.mur_config.specs.Nodes.{AreNodes, links_of}
-use Rattle.mur_model.specs.declared.setting.Setting.{Setting}
 use Rattle.node_step.specs.declared.node.NodeState.{NodeState}
 use Rattle.node_step.specs.NodeStep.{as_front, takes as node_takes}
 use Rattle.node_step.proofs.OwnOuts.{IsTo, AreTo, sender_of, takes_goes}
@@ -28,7 +27,7 @@ use Rattle.link_queue.specs.Links.{Links, same_link, on_link, sent, without_firs
 use Rattle.link_queue.proofs.Wires.{same_names, on_link-sent, on_link-taken}
 use Rattle.cluster_core.specs.Headline.OneStore.{AreEmpty}
 use Rattle.cluster_core.specs.World.{start, client_at, node_at, front_at, given_more, carry, carry_all, with_state, comes_to, with_client, opens}
-use Rattle.cluster_core.specs.World.{client_does, with_node, with_nodes, taken_from_link, deliver_first, takes, stepped, steps_by}
+use Rattle.cluster_core.specs.World.{client_does, taken_from_link, deliver_first, takes, stepped, steps_by}
 use Rattle.cluster_core.proofs.Connections.Keeps.{step_keeps}
 use Rattle.cluster_core.proofs.Connections.KeepsLaw.{KeepsLaw}
 use Rattle.cluster_core.proofs.Nodes.LinkedNodes.{start_keeps}
