@@ -1,6 +1,6 @@
 -- What a walk over a view and its mailbox's rows finds is the news.
 use Rattle.std.proofs.Common.{◌≡◌, ℕ, suc, ◌+◌, ◌<◌, ◌≤◌, nat_eq, nat_lt, Bool, true, false, not, ◌&&◌, List, [], ◌∷◌, ◌++◌, length}
-use Rattle.std.proofs.Common.{drop, None, Some, refl, ap, ◌∙◌, sym, subst, append_assoc, append-nil, zero-add, arith}
+use Rattle.std.proofs.Common.{drop, None, Some, refl, ap, ◌∙◌, sym, subst, append_assoc, append-nil, zero-add, add-one, drop-cons, get_or, ap₂, arith}
 use Rattle.std.specs.Prelude.{⊤}
 use Rattle.std.specs.List.{AllByRecursion}
 use Rattle.std.specs.List.Sorted.{IsStrictlySortedBy}
@@ -71,6 +71,18 @@ nothing_same (row ∷ rows) = refl
 -- none is, where the mailbox has no more
 pub none_same : (rows now : List Row) (at : ℕ) → length now ≤ at → same_until (drop at rows) (drop at now) ≡ 0
 none_same rows now at beyond = rw (drop_of_length-le now beyond) (nothing_same (drop at rows))
+
+-- ---- a step by a message that is there
+
+next_row : (rows : List Row) (row : Row) (at : ℕ) → at < length rows → row ≡ get_or rows at row → drop at rows ≡ row ∷ drop (at + 1) rows
+next_row rows row at within is = drop-cons rows at row within ∙ ap₂ (λ (r : Row) rest. r ∷ rest) (sym is) (ap (λ n. drop n rows) (sym (add-one at)))
+
+pub kept_step : (e : Bool) (told : List ℕ) (done next : Walked) (row it : Row) (rows now : List Row) → it.uid ≡ row.uid → done.kept < length now
+    → it ≡ get_or now done.kept it → next ≡ one_kept told row it done
+    → walked e told done (row ∷ rows) (drop done.kept now) ≡ walked e told next rows (drop next.kept now)
+kept_step e told done next row it rows now is within at so =
+    let same : nat_eq it.uid row.uid ≡ true = grind (arith, nat_tests, is) in
+    rw (so, next_row now it done.kept within at, same) refl
 
 -- ---- look-ups of the rows of a view
 
