@@ -83,7 +83,7 @@ pub record Talked : Type 0 where
   pub bytes : List (List ℕ)
 
 abbrev pub talked_on : List (List ℕ) → Told → Talked
-talked_on bytes told = record { scene = told.scene; bytes = bytes ++ told.bytes ∷ [] }
+talked_on bytes it = record { scene = it.scene; bytes = bytes ++ it.bytes ∷ [] }
 
 -- a client sends a text and CRLF
 abbrev pub Line : Type 0
