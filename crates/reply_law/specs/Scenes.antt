@@ -1,7 +1,6 @@
 -- The mailboxes that the talks are about, and how far the clients are with them.
-use Rattle.std.specs.Prelude.{ℕ, true, false, List, [], ◌∷◌, ◌^◌, ◌-◌, codes}
+use Rattle.std.specs.Prelude.{ℕ, true, false, [], ◌∷◌, ◌^◌, ◌-◌, codes}
 use Rattle.mail_message.specs.Boxes.{Content}
-use Rattle.mail_message.specs.FlagSets.{Flags}
 use Rattle.mail_message.specs.declared.message.Message.{Message}
 use Rattle.mail_message.specs.declared.system_flags.SystemFlags.{SystemFlags}
 use Rattle.mur_base.specs.declared.user.User.{User}

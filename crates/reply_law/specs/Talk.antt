@@ -3,7 +3,6 @@ use Rattle.std.specs.Prelude.{◌≡◌, ℕ, List, [], ◌∷◌, ◌++◌, map
 use Rattle.std.specs.List.{fold}
 use Prim.Native.String.{String}
 use Rattle.mur_base.specs.Ascii.{crlf}
-use Rattle.imap_types.specs.declared.request.Request.{Request}
 use Rattle.imap_wire.specs.declared.frame.Frame.TheVariants.{Whole}
 use Rattle.mur_model.specs.declared.session.Sess.{Sess}
 use Rattle.mur_model.specs.declared.session.Sess.TheVariants.{Off}

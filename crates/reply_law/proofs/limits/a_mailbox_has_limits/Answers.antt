@@ -1,4 +1,4 @@
-use Rattle.std.proofs.Common.{◌≡◌, ap, codes, length, refl, Some, [], ◌∷◌}
+use Rattle.std.proofs.Common.{◌≡◌, ap, codes, length, refl, Some}
 use Rattle.mail_message.specs.Boxes.{Content}
 use Rattle.mail_message.specs.FlagSets.{no_flags}
 use Rattle.mail_message.specs.declared.message.Message.{Message}
