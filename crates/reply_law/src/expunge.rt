@@ -14,7 +14,7 @@ pub fn messages_are_expunged()
     ensures none { IsTalk selected (first "a STORE 3 -FLAGS.SILENT (\\Deleted)" ("a OK STORE completed" ∷ []) ∷ first "b EXPUNGE" ("b OK EXPUNGE completed" ∷ []) ∷ []) }
     ensures by_uid { IsTalk selected (first "a STORE 1,2 +FLAGS.SILENT (\\Deleted)" ("a OK STORE completed" ∷ [])
         ∷ first "b UID EXPUNGE 5,9,100" ("* 2 EXPUNGE" ∷ "b OK UID EXPUNGE completed" ∷ [])
-        ∷ first "c SEARCH DELETED" ("* ESEARCH (TAG \"c\") ALL 1:2" ∷ "c OK SEARCH completed" ∷ []) ∷ []) }
+        ∷ first "c FETCH 1:* FLAGS" ("* 1 FETCH (FLAGS (\\Deleted \\Seen))" ∷ "* 2 FETCH (FLAGS (\\Answered \\Deleted $Fwd Work))" ∷ "* 3 FETCH (FLAGS (\\Flagged \\Draft))" ∷ "c OK FETCH completed" ∷ []) ∷ []) }
     ensures not_named { IsAnswered selected "a UID EXPUNGE 3:5" ("a OK UID EXPUNGE completed" ∷ []) }
     ensures read_only { IsTalk examined (first "a EXPUNGE" ("a NO [CANNOT] cannot be done" ∷ [])
         ∷ first "b UID EXPUNGE 8" ("b NO [CANNOT] cannot be done" ∷ [])

@@ -13,7 +13,6 @@ mod limits;
 mod login;
 mod names;
 mod news;
-mod search;
 mod select;
 mod states;
 mod status;
@@ -34,10 +33,6 @@ pub use login::{a_session_begins_once, a_user_logs_in, others_do_not_log_in};
 pub use names::{inbox_is_the_own_mailbox, others_are_refused};
 pub use news::{
     another_mailbox_is_not_taken_for_it, changes_are_told_in_order, changes_are_told_once,
-};
-pub use search::{
-    keys_are_put_together, messages_are_searched_by_day, messages_are_searched_by_flags,
-    messages_are_searched_by_size,
 };
 pub use select::{a_mailbox_is_not_selected, a_mailbox_is_selected};
 pub use states::{

@@ -18,10 +18,6 @@ pub returns-clause-admin_missing : goal.returns-clause-admin_missing
 unfolding computes
 returns-clause-admin_missing c = refl
 
-pub returns-clause-bad_date : goal.returns-clause-bad_date
-unfolding computes
-returns-clause-bad_date c = refl
-
 pub returns-clause-bad_flag : goal.returns-clause-bad_flag
 unfolding computes
 returns-clause-bad_flag c = refl

@@ -2,6 +2,6 @@ use Rattle.std.proofs.Common.{refl}
 use Rattle.reply_law.proofs.Computes.{computes}
 use Rattle.reply_law.proofs.expunge.an_expunged_message_keeps_its_number.Goals as goal
 
-pub returns-clause-two : goal.returns-clause-two
+pub returns : goal.returns
 unfolding computes
-returns-clause-two c = refl
+returns c = refl

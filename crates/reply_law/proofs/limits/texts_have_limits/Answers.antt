@@ -25,11 +25,3 @@ returns-clause-keyword c = refl
 pub returns-clause-longer_keyword : goal.returns-clause-longer_keyword
 unfolding computes
 returns-clause-longer_keyword c = refl
-
-pub returns-clause-keys : goal.returns-clause-keys
-unfolding computes
-returns-clause-keys c = refl
-
-pub returns-clause-deeper_keys : goal.returns-clause-deeper_keys
-unfolding computes
-returns-clause-deeper_keys c = refl

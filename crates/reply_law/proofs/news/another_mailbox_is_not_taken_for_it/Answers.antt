@@ -14,10 +14,6 @@ pub returns-clause-store : goal.returns-clause-store
 unfolding computes
 returns-clause-store c = refl
 
-pub returns-clause-search : goal.returns-clause-search
-unfolding computes
-returns-clause-search c = refl
-
 pub returns-clause-expunge : goal.returns-clause-expunge
 unfolding computes
 returns-clause-expunge c = refl

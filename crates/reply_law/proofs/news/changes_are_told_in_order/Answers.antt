@@ -34,14 +34,6 @@ pub returns-clause-uid_store : goal.returns-clause-uid_store
 unfolding computes
 returns-clause-uid_store c = refl
 
-pub returns-clause-search : goal.returns-clause-search
-unfolding computes
-returns-clause-search c = refl
-
-pub returns-clause-uid_search : goal.returns-clause-uid_search
-unfolding computes
-returns-clause-uid_search c = refl
-
 pub returns-clause-expunge : goal.returns-clause-expunge
 unfolding computes
 returns-clause-expunge c = refl
