@@ -24,7 +24,7 @@ pub fn messages_are_expunged()
 /// A message that another session expunged keeps its number until that is told: a FETCH by numbers leaves it out and says so, and the next NOOP
 /// tells it (RFC 9051, 7.1: EXPUNGEISSUED; 7.5.1).
 pub fn an_expunged_message_keeps_its_number()
-    ensures two { IsTalk both_selected_two (second "b5 STORE 1 +FLAGS.SILENT (\\Deleted)" ("b5 OK STORE completed" ∷ [])
+    ensures { IsTalk both_selected_two (second "b5 STORE 1 +FLAGS.SILENT (\\Deleted)" ("b5 OK STORE completed" ∷ [])
         ∷ second "b6 EXPUNGE" ("* 1 EXPUNGE" ∷ "b6 OK EXPUNGE completed" ∷ [])
         ∷ first "c3 FETCH 1:2 (UID)" ("* 2 FETCH (UID 2)" ∷ "c3 OK [EXPUNGEISSUED] FETCH completed" ∷ [])
         ∷ first "c4 NOOP" ("* 1 EXPUNGE" ∷ "c4 OK NOOP completed" ∷ []) ∷ []) }
