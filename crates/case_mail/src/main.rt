@@ -4,7 +4,6 @@
 
 mod home;
 mod line;
-mod mailbox;
 mod messages;
 mod model;
 mod names;
@@ -29,9 +28,6 @@ impl Cases for Kinds {
             ["session", steps @ ..] => session::put(alloc, steps, out),
             ["model", steps @ ..] => model::put(alloc, steps, out),
             ["search", key] => messages::put_found(alloc, key, out),
-            ["without", flags, name] => mailbox::put_without(alloc, flags, name, out),
-            ["found", uid] => mailbox::put_found(alloc, uid, out),
-            ["access list", one, other] => mailbox::put_lists(alloc, one, other, out),
             ["part", from, count] => messages::put_part(alloc, from, count, out),
             ["name", kind, text] => names::put_fault(alloc, kind, text, out),
             ["first access list", name] => names::put_first_acl(alloc, name, out),
