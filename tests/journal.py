@@ -6,8 +6,8 @@
     tests/journal.py --write FOLDER    writes the tables of case_disk
 
 It is written from the pages that say what the bytes of a journal are (the head of crates/mur_journal/src/lib.rt) and what a crash leaves
-(`MemDisk::crash`, `StopDisk`), and knows no code of the program. A journal's status is 0, that of another file 1. The tables of crates/case_disk
-are those that it writes; what a row's fields are is said at the head of each.
+(`MemDisk::crash`, `StopDisk`), and knows no code of the program. A journal's status is 0, that of another file 1, and that of one that can't be
+read 2. The tables of crates/case_disk are those that it writes; what a row's fields are is said at the head of each.
 """
 import os, re, sys
 
@@ -418,7 +418,7 @@ def tell(path):
     return 0
 
 
-def main(words):
+def told(words):
     if words[:1] == ['--check'] and len(words) > 1:
         return check(words[1:])
     if words[:1] == ['--write'] and len(words) == 2:
@@ -427,6 +427,14 @@ def main(words):
         return tell(words[0])
     print(__doc__.strip())
     return 2
+
+
+def main(words):
+    try:
+        return told(words)
+    except OSError as fault:
+        print(fault, file=sys.stderr)
+        return 2
 
 
 if __name__ == '__main__':
