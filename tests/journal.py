@@ -404,7 +404,7 @@ def check(files):
     return 0 if count and not faults else 1
 
 
-def tell(path):
+def show(path):
     with open(path, 'rb') as file:
         image = file.read()
     try:
@@ -418,20 +418,20 @@ def tell(path):
     return 0
 
 
-def told(words):
+def carried_out(words):
     if words[:1] == ['--check'] and len(words) > 1:
         return check(words[1:])
     if words[:1] == ['--write'] and len(words) == 2:
         return write(words[1])
     if len(words) == 1 and not words[0].startswith('--'):
-        return tell(words[0])
+        return show(words[0])
     print(__doc__.strip())
     return 2
 
 
 def main(words):
     try:
-        return told(words)
+        return carried_out(words)
     except OSError as fault:
         print(fault, file=sys.stderr)
         return 2
