@@ -169,7 +169,18 @@ impl Disk for MemDisk {
         Ok(())
     }
 
-    fn sync(&mut self) -> Result<(), DiskFault> {
+    fn sync(&mut self) -> Result<(), DiskFault>
+        ensures durable { OnOk result (Only self.old.held.bytes (MayLeave self.new.held)) }
+        ensures size { length self.new.held.bytes ≡ length self.old.held.bytes }
+        ensures seen { self.new.held.bytes ≡ self.old.held.bytes }
+        ensures crash { NoMore (MayLeave self.old.held) (MayLeave self.new.held) }
+        ensures time { DiskGoesOn self.old.past.moments self.old.held self.new.past.moments self.new.held }
+        ensures cause { HasDiskCause 0 0 result }
+
+        // It never fails, and takes no memory.
+        ensures ok { IsOk result }
+        ensures still { IsStill self.old.held.bytes self.new.held }
+    {
         self.settle();
         Ok(())
     }

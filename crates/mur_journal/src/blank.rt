@@ -1,8 +1,9 @@
 // The journal of an empty disk.
-ghost use Rattle.std.specs.Prelude.{◌≡◌, [], ◌∷◌, ◌++◌, IsTrue, IsFalse, IfOk, IfErr, OnOk};
+ghost use Rattle.std.specs.Prelude.{◌≡◌, ◌≤◌, [], ◌∷◌, ◌++◌, length, IsTrue, IsFalse, IfOk, IfErr, OnOk};
 ghost use Rattle.mur_disk.specs.Calls.{Holds};
 ghost use Rattle.mur_disk.specs.Counts.{HasDiskCause};
 ghost use Rattle.mur_disk.specs.Crash.{Only};
+ghost use Rattle.mur_disk.specs.Moments.{LeavesOnly};
 ghost use Rattle.mur_journal.specs.Faults.{HasFormatCause};
 ghost use Rattle.mur_journal.specs.Image.{magic, entries_of};
 ghost use Rattle.mur_journal.specs.Parts.{disk_of, journal_is_spent};
@@ -23,6 +24,8 @@ fn write_header<D: Disk>(disk: &mut D) -> Result<(), DiskFault>
     ensures durable { IsTrue (D.tells disk.old) → OnOk result (Only (magic ++ 0 ∷ []) (D.may_leave disk.new)) }
     ensures size { OnOk result (D.size disk.new ≡ 9) }
     ensures told { D.tells disk.new ≡ D.tells disk.old }
+    ensures any_moment { IsTrue (D.tells disk.old) → Only (D.seen disk.old) (D.may_leave disk.old)
+        → LeavesOnly D.moment D.left_since disk.old disk.new (λ image. length image ≤ 9) }
     ensures cause { HasDiskCause (D.faults disk.old) (D.faults disk.new) result }
 {
     write_synced(disk, 0, &HEADER)
@@ -39,6 +42,13 @@ pub fn format<D: Disk>(disk: D) -> Result<Journal<D>, (D, AppendFault)>
     ensures whole { IfOk result (λ journal. IsFalse (journal_is_spent journal)) }
     ensures told { IfOk result (λ journal. D.tells (disk_of journal) ≡ D.tells disk) }
     ensures counted { IfOk result (λ journal. D.faults (disk_of journal) ≡ D.faults disk) }
+    ensures told_back { IfErr result (λ refused. D.tells refused.0 ≡ D.tells disk) }
+
+    // A crash at any moment of the call leaves at most nine bytes, on a disk on which nothing was pending.
+    ensures any_moment { IsTrue (D.tells disk) → Only (D.seen disk) (D.may_leave disk)
+        → IfOk result (λ journal. LeavesOnly D.moment D.left_since disk (disk_of journal) (λ image. length image ≤ 9)) }
+    ensures no_more { IsTrue (D.tells disk) → Only (D.seen disk) (D.may_leave disk)
+        → IfErr result (λ refused. LeavesOnly D.moment D.left_since disk refused.0 (λ image. length image ≤ 9)) }
     ensures cause { IfErr result (λ refused. HasFormatCause (D.faults disk) (D.faults refused.0) refused.1) }
 {
     let mut disk = disk;
