@@ -10,6 +10,7 @@ use Rattle.mail_message.specs.RowOrder.{AreRising, row_at}
 use Rattle.mail_message.specs.FlagSets.{Flags}
 use Rattle.mail_delta.specs.SameFlags.{have_same_flags}
 use Rattle.mail_delta.specs.Deltas.{rows_of, is_changed, is_same_row, is_gone, gone_of, delta_of, with_row, is_among, without_rows, applied}
+use Rattle.mail_delta.specs.declared.delta.Delta.{Delta}
 use Rattle.mail_delta.specs.Notes.{row_in}
 use Rattle.mail_delta.proofs.FlagLaw.{same_flags_decide}
 use Rattle.mail_delta.proofs.Keyed.{passed, found-at, at-filter, rise-filter, rise-map, at-map, same-items}
@@ -109,3 +110,23 @@ applied-delta old box was rising =
 pub all-changed : (rows : List Row) → filter (is_changed []) rows ≡ rows
 all-changed [] = refl
 all-changed (row ∷ rows) = ap (λ rest. row ∷ rest) (all-changed rows)
+
+-- ---- the same with what a look gives
+
+pub all-told : (seen : Snapshot) (box : Content) (changed : List Row) (gone : List ℕ) → seen ≡ snapshot_of box → changed ≡ seen.rows → gone ≡ []
+    → ◌≡◌ {A = Delta} (record { serial = seen.serial; next = seen.next; size = seen.size; changed = changed; gone = gone }) (delta_of [] box)
+all-told seen box changed gone e is none =
+    let rows : changed ≡ filter (is_changed []) (rows_of box) = is ∙ ap (λ (s : Snapshot). s.rows) e ∙ sym (all-changed (rows_of box)) in
+    λ i. record { serial = (e i).serial; next = (e i).next; size = (e i).size; changed = rows i; gone = none i }
+
+pub complete-by : (old : Snapshot) (box : Content) (seen : Snapshot) (now were changed : List Row) (gone : List ℕ) → seen ≡ snapshot_of box
+    → now ≡ seen.rows → were ≡ old.rows → changed ≡ filter (is_changed old.rows) now → gone ≡ gone_of seen.rows were
+    → AreRising old.rows → IsRising box.messages
+    → applied old (record { serial = seen.serial; next = seen.next; size = seen.size; changed = changed; gone = gone }) ≡ snapshot_of box
+complete-by old box seen now were changed gone e n w hc hg rising sorted =
+    let rows : seen.rows ≡ rows_of box = ap (λ (s : Snapshot). s.rows) e in
+    let new : changed ≡ filter (is_changed old.rows) (rows_of box) = hc ∙ ap (filter (is_changed old.rows)) (n ∙ rows) in
+    let left : gone ≡ gone_of (rows_of box) old.rows = hg ∙ ap (λ r. gone_of r were) rows ∙ ap (gone_of (rows_of box)) w in
+    let delta : ◌≡◌ {A = Delta} (record { serial = seen.serial; next = seen.next; size = seen.size; changed = changed; gone = gone }) (delta_of old.rows box) =
+    (λ i. record { serial = (e i).serial; next = (e i).next; size = (e i).size; changed = new i; gone = left i }) in
+    ap (applied old) delta ∙ applied-delta old box rising sorted

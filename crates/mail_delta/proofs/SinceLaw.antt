@@ -1,5 +1,5 @@
 -- What is told since a mark is what changed since the rows that the mailbox had at it.
-use Rattle.std.proofs.Common.{◌≡◌, ℕ, Bool, List, Option, Some, None, option_map, refl, sym, ◌∙◌, ap, absurd}
+use Rattle.std.proofs.Common.{◌≡◌, ℕ, Bool, List, Option, Some, None, option_map, refl, sym, ◌∙◌, ap}
 use Rattle.std.specs.Option.{is_some}
 use Rattle.std.specs.Ordering.{nat_cmp}
 use Rattle.mur_base.specs.Map.{IsInOrder}
@@ -37,7 +37,7 @@ module _ (log : LogState) (mark : Mark) (box : Content) (rows : List Row) (risin
       let before = λ (k : ℕ). some_is (row_before notes k (row_in box k)) (row_at rows k) (since k (row_in box k) ∙ had k) in
       told ∙ delta-told box notes rows rising were order before size is
 
-  pub never-since : AreSince log mark None → None {A = Delta} ≡ Some (delta_of rows box)
+  pub never-since : AreSince log mark None → ◌≡◌ {A = Option Delta} None (Some (delta_of rows box))
   never-since since = let e = since 0 (row_in box 0) ∙ had 0 in cc
 
 pub complete-since : (log : LogState) (mark : Mark) (box : Content) (old : Snapshot) → IsRising box.messages → AreRising old.rows

@@ -1,6 +1,6 @@
 // The log of a mailbox's changes, from which its home tells what changed since a mark.
 ghost use Rattle.std.specs.Prelude.{◌≡◌, ℕ, List, Option, Some, [], false, is_some, IfOk, OnOk, OnErr};
-ghost use Rattle.std.specs.List.{position_from};
+ghost use Rattle.std.specs.List.{position_from, remove};
 ghost use Rattle.std.specs.Option.{IfSome, option_map};
 ghost use Rattle.std.specs.Ordering.{nat_cmp};
 ghost use Rattle.mur_base.specs.Map.{IsInOrder};
@@ -11,7 +11,7 @@ ghost use Rattle.mail_message.specs.RowOrder.{AreRising};
 ghost use Rattle.mail_delta.specs.Deltas.{delta_of, applied};
 ghost use Rattle.mail_delta.specs.Notes.{row_before, delta_by};
 ghost use Rattle.mail_delta.specs.Spans.{was_at, is_kept, Remembers, noted, next_mark, marked, forgotten, marks_of};
-ghost use Rattle.mail_delta.specs.Handing.{begins_at, handed_at};
+ghost use Rattle.mail_delta.specs.Handing.{begins_at, handed_at, taken_out};
 
 use crate::delta::Delta;
 use crate::mark::Mark;
@@ -122,11 +122,8 @@ impl ChangeLog {
     pub fn forget(&mut self, alloc: Global, mark: Mark) -> Result<(), Memory>
         ensures { OnOk result (self.new ≡ forgotten self.old mark) }
     {
-        let Some(place) = place_of(&self.spans, mark.0) else {
-            return Ok(());
-        };
-        match self.spans.remove(place) {
-            Some(span) => hand_on(alloc, &mut self.spans, place, &span.before),
+        match place_of(&self.spans, mark.0) {
+            Some(place) => take_out(alloc, &mut self.spans, place),
             None => Ok(()),
         }
     }
@@ -177,6 +174,17 @@ fn place_of(spans: &VecDeque<Span>, mark: u64) -> Option<usize>
         }
     }
     None
+}
+
+/// Takes out the span at a place, if there is one; its notes go over to the next one.
+fn take_out(alloc: Global, spans: &mut VecDeque<Span>, place: usize) -> Result<(), Memory>
+    ensures spans { OnOk result (spans.new.items ≡ taken_out spans.old.items place) }
+    ensures marks { marks_of spans.new.items ≡ marks_of (remove spans.old.items place) }
+{
+    match spans.remove(place) {
+        Some(span) => hand_on(alloc, spans, place, &span.before),
+        None => Ok(()),
+    }
 }
 
 /// Puts notes beside those of the span at a place, if there is one; for want of memory some of them.
