@@ -4,7 +4,8 @@ use Rattle.std.proofs.Common.{Option, Some, None, Result, Ok, Err, OnOk, refl, s
 use Rattle.std.specs.List.{position_from, remove, slice_set}
 use Rattle.mail_delta.specs.declared.span.Span.{Span}
 use Rattle.mail_delta.specs.Notes.{Notes, with_later}
-use Rattle.mail_delta.specs.Spans.{handed_on, spans_without, marks_of, AreFalling}
+use Rattle.mail_delta.specs.declared.mark.Mark.{Mark}
+use Rattle.mail_delta.specs.Spans.{LogState, handed_on, spans_without, forgotten, marks_of, AreFalling}
 use Rattle.mail_delta.specs.Handing.{begins_at, handed_at, notes_at, taken_out}
 use Rattle.mail_delta.proofs.Keyed.{some_is}
 
@@ -119,3 +120,15 @@ pub taken-past : (spans : List Span) (place : ℕ) → length spans ≤ place �
 taken-past spans place le =
     let same = removed-past spans place le in
     ap (λ rest. handed_at (notes_at spans place) rest place) same ∙ handed-past (notes_at spans place) spans place le
+
+-- ---- a mark that is forgotten
+
+pub forgotten-some : {A E : Type 0} (result : Result A E) (log : LogState) (mark : Mark) (place : ℕ) (after : List Span)
+    → Some place ≡ position_from (begins_at mark.0) 0 log.spans → OnOk result (after ≡ taken_out log.spans place)
+    → OnOk result (record log { spans = after } ≡ forgotten log mark)
+forgotten-some (Err fault) log mark place after at ok = tt
+forgotten-some (Ok done) log mark place after at ok =
+    ap (λ (spans : List Span). record log { spans = spans }) (ok ∙ taken_out-is mark.0 0 place place log.spans (omega arith) (sym at))
+
+pub forgotten-none : (log : LogState) (mark : Mark) → None ≡ position_from (begins_at mark.0) 0 log.spans → log ≡ forgotten log mark
+forgotten-none log mark at = ap (λ (spans : List Span). record log { spans = spans }) (sym (without-none mark.0 0 log.spans (sym at)))

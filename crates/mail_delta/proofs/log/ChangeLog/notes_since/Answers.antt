@@ -9,7 +9,7 @@ pub returns-then-span-mark : goal.returns-then-span-mark
 returns-then-span-mark c = λ uid now.
     let same = c.if-span-mark.true in
     sym (since-step c.args.mark.0 c.args.self.now.spans c.loop-place.place c.in-Some.span.now c.loop-place.notes c.put_earlier.new.notes true (rw (← c.self.view_is) (omega arith))
-    (first_of (c.in-Some.ensures.lookup, grind (arith, common_steps))) (grind (arith, nat_tests, same)) c.in_ok-put_earlier.ensures.notes
+    (rw (← c.self.view_is) c.in-Some.ensures.lookup) (grind (arith, nat_tests, same)) c.in_ok-put_earlier.ensures.notes
     c.in_ok-put_earlier.ensures.ordered uid now)
     ∙ c.loop-place.invariant uid now
 
@@ -19,7 +19,7 @@ loop-place-preserved c =
       | in-Some+in_ok-put_earlier+else-span-mark w ↦ λ uid now.
           let apart = w.if-span-mark.false in
           sym (since-step c.args.mark.0 c.args.self.now.spans c.loop-place.place w.in-Some.span.now c.loop-place.notes c.match-get.notes false (rw (← c.self.view_is) (omega arith))
-          (first_of (w.in-Some.ensures.lookup, grind (arith, common_steps))) (grind (arith, nat_tests, apart))
+          (rw (← c.self.view_is) w.in-Some.ensures.lookup) (grind (arith, nat_tests, apart))
           (w.notes-is ∙ w.in_ok-put_earlier.ensures.notes) w.in_ok-put_earlier.ensures.ordered uid now)
           ∙ c.loop-place.invariant uid now
       | in_default w ↦ λ uid now. first_of (grind (arith, common_steps), absurd (omega arith), search rules)
