@@ -22,5 +22,5 @@ loop-place-preserved c =
           (rw (← c.self.view_is) w.in-Some.ensures.lookup) (grind (arith, nat_tests, apart))
           (w.notes-is ∙ w.in_ok-put_earlier.ensures.notes) w.in_ok-put_earlier.ensures.ordered uid now)
           ∙ c.loop-place.invariant uid now
-      | in_default w ↦ λ uid now. first_of (grind (arith, common_steps), absurd (omega arith), search rules)
+      | in_default w ↦ let never = w.in_default.ensures.variant.1 (omega arith) in cc
     ]
