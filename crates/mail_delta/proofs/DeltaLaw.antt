@@ -1,5 +1,5 @@
 -- A delta makes of the old rows those that a mailbox has now.
-use Rattle.std.proofs.Common.{◌≡◌, ℕ, Bool, true, false, cond, not, List, [], ◌∷◌, map, Option, Some, None, option_map, refl, sym, ◌∙◌, ap, subst}
+use Rattle.std.proofs.Common.{◌≡◌, ℕ, Bool, true, false, cond, not, List, [], ◌∷◌, map, Option, Some, None, option_map, refl, sym, ◌∙◌, ap}
 use Rattle.std.specs.List.{filter, fold}
 use Rattle.std.specs.Option.{is_some}
 use Rattle.mail_message.specs.declared.message.Row.{Row}
@@ -7,7 +7,6 @@ use Rattle.mail_message.specs.declared.message.Message.{Message}
 use Rattle.mail_message.specs.declared.message.Snapshot.{Snapshot}
 use Rattle.mail_message.specs.Boxes.{Content, row_of, size_of, snapshot_of, IsRising}
 use Rattle.mail_message.specs.RowOrder.{AreRising, row_at}
-use Rattle.mail_message.specs.FlagSets.{Flags}
 use Rattle.mail_delta.specs.SameFlags.{have_same_flags}
 use Rattle.mail_delta.specs.Deltas.{rows_of, is_changed, is_same_row, is_gone, gone_of, delta_of, with_row, is_among, without_rows, applied}
 use Rattle.mail_delta.specs.declared.delta.Delta.{Delta}

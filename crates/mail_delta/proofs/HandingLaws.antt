@@ -1,6 +1,6 @@
 -- A span that is taken out at its place, and its notes, which go over to the next one.
-use Rattle.std.proofs.Common.{◌≡◌, ℕ, zero, suc, ◌+◌, ◌<◌, ◌≤◌, Bool, true, false, cond, ◌==◌, List, [], ◌∷◌, ◌++◌, map, length, take, drop, get_or}
-use Rattle.std.proofs.Common.{Option, Some, None, Result, Ok, Err, OnOk, refl, sym, ◌∙◌, ap, subst, arith}
+use Rattle.std.proofs.Common.{◌≡◌, ℕ, zero, suc, ◌+◌, ◌<◌, ◌≤◌, Bool, true, false, cond, ◌==◌, List, [], ◌∷◌, length, get_or}
+use Rattle.std.proofs.Common.{Some, None, Result, Ok, Err, OnOk, refl, sym, ◌∙◌, ap, arith}
 use Rattle.std.specs.List.{position_from, remove, slice_set}
 use Rattle.mail_delta.specs.declared.span.Span.{Span}
 use Rattle.mail_delta.specs.Notes.{Notes, with_later}

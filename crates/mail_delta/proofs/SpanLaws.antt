@@ -1,5 +1,5 @@
 -- What a log remembers of a mark, after a note, a change, a new mark and a mark that is forgotten.
-use Rattle.std.proofs.Common.{◌≡◌, ◌≢◌, ◌⊎◌, inl, inr, ℕ, ◌+◌, ◌-◌, ◌^◌, ◌<◌, ◌≤◌, Bool, true, false, cond, ◌==◌, ◌||◌, List, [], ◌∷◌, Option, Some, None}
+use Rattle.std.proofs.Common.{◌≡◌, ◌≢◌, ◌⊎◌, inl, inr, ℕ, ◌+◌, ◌<◌, ◌≤◌, Bool, true, false, cond, ◌==◌, ◌||◌, List, [], ◌∷◌, Option, Some, None}
 use Rattle.std.proofs.Common.{refl, sym, ◌∙◌, ap, subst, arith}
 use Rattle.std.specs.Option.{is_some}
 use Rattle.std.specs.Ordering.{nat_cmp}
@@ -11,7 +11,7 @@ use Rattle.mail_message.specs.RowOrder.{row_at}
 use Rattle.mail_delta.specs.declared.span.Span.{Span}
 use Rattle.mail_delta.specs.declared.mark.Mark.{Mark}
 use Rattle.mail_delta.specs.Deltas.{rows_of}
-use Rattle.mail_delta.specs.Notes.{Notes, noted_or, row_in, row_before, with_later}
+use Rattle.mail_delta.specs.Notes.{Notes, noted_or, row_in, row_before}
 use Rattle.mail_delta.specs.Spans.{LogState, was_at, is_kept, Remembers, is_noted, spans_noted, noted, ChangesOnlyNoted, has_given_all, next_mark, marked}
 use Rattle.mail_delta.specs.Spans.{handed_on, spans_without, forgotten, marks_of, AreFalling, AreGiven}
 use Rattle.mail_delta.proofs.Keyed.{same_number, some_is}

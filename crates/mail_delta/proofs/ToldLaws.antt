@@ -1,7 +1,7 @@
 -- What notes tell of a mailbox is what changed since it had the rows that were noted.
-use Rattle.std.proofs.Common.{◌≡◌, ℕ, ◌≤◌, Bool, true, false, cond, not, ◌==◌, List, [], ◌∷◌, ◌++◌, map, Option, Some, None, option_map, refl, sym, ◌∙◌, ap}
+use Rattle.std.proofs.Common.{◌≡◌, ℕ, Bool, true, false, cond, not, ◌==◌, List, [], ◌∷◌, ◌++◌, Option, Some, None, option_map, refl, sym, ◌∙◌, ap}
 use Rattle.std.proofs.Common.{subst, arith}
-use Rattle.std.specs.List.{AllByRecursion, filter, find}
+use Rattle.std.specs.List.{AllByRecursion, filter}
 use Rattle.std.specs.List.Sorted.{IsStrictlySortedBy}
 use Rattle.std.specs.Option.{is_some}
 use Rattle.std.specs.Map.{keys_of}
@@ -14,8 +14,6 @@ use Rattle.mail_message.specs.declared.message.Message.{Message}
 use Rattle.mail_message.specs.Boxes.{Content, message_at, row_of, size_of, IsRising}
 use Rattle.mail_message.specs.RowOrder.{AreRising, row_at}
 use Rattle.mail_message.proofs.FoundUids.{IsOf, found_is}
-use Rattle.mail_delta.specs.SameFlags.{have_same_flags}
-use Rattle.mail_delta.specs.declared.delta.Delta.{Delta}
 use Rattle.mail_delta.specs.Deltas.{rows_of, is_changed, is_same_row, is_gone, gone_of, delta_of}
 use Rattle.mail_delta.specs.Notes.{Notes, noted_or, row_in, row_before, changed_row, gone_uid, changed_in, gone_in, delta_by}
 use Rattle.mail_delta.proofs.FlagLaw.{flags_self}

@@ -21,4 +21,3 @@ pub use laws::{
 pub use log::ChangeLog;
 pub use mark::Mark;
 pub use mirror::Mirror;
-

@@ -1,4 +1,4 @@
-use Rattle.std.proofs.Common.{refl, sym, ◌∙◌, ap, subst, arith}
+use Rattle.std.proofs.Common.{refl, sym, arith}
 use Rattle.std.proofs.lemmas.Grind.{common_steps}
 use Rattle.mail_delta.proofs.HandingLaws.{taken-some, taken-past}
 use Rattle.mail_delta.proofs.log.take_out.Goals as goal

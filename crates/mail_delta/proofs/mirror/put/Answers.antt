@@ -1,4 +1,4 @@
-use Rattle.std.proofs.Common.{◌≡◌, ◌≤◌, true, false, length, slice_get, sym, ◌∙◌, ap, subst}
+use Rattle.std.proofs.Common.{◌≤◌, length, slice_get, sym, ◌∙◌, ap, subst}
 use Rattle.mail_message.specs.RowOrder.{AreRising, IsPlace}
 use Rattle.mail_delta.specs.Deltas.{has_uid_at}
 use Rattle.mail_delta.proofs.PutLaws.{set-is, insert-is}

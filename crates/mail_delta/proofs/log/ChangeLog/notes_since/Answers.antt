@@ -1,5 +1,4 @@
-use Rattle.std.proofs.Common.{true, false, sym, ◌∙◌, rules, arith}
-use Rattle.std.proofs.lemmas.Grind.{common_steps}
+use Rattle.std.proofs.Common.{true, false, sym, ◌∙◌, arith}
 use Rattle.std.proofs.lemmas.Bool.Decides.{nat_tests}
 use Rattle.mail_delta.proofs.LoopLaws.{since-step}
 use Rattle.mail_delta.proofs.log.ChangeLog.notes_since.Goals.{in-Some+in_ok-put_earlier+else-span-mark, in_default}
