@@ -1,0 +1,12 @@
+pub mod FlagLaw
+pub mod Keyed
+pub mod RowPuts
+pub mod DeltaLaw
+pub mod NoteLaws
+pub mod SpanLaws
+pub mod ToldLaws
+pub mod HandingLaws
+pub mod SinceLaw
+pub mod AwayLaws
+pub mod PutLaws
+pub mod LoopLaws

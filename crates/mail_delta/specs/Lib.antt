@@ -1,0 +1,5 @@
+pub mod SameFlags
+pub mod Deltas
+pub mod Notes
+pub mod Spans
+pub mod Handing
