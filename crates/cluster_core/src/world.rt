@@ -56,9 +56,13 @@ pub struct World {
 
 impl World {
     /// The backend of a name, if there is one.
+    #[tactic(auto, unfolding(node_step::specs::NodeStep::as_back))]
     pub fn home(&self, node: &NodeName) -> Option<&Backend>
         ensures { option_copied result ≡ home_at self.now node.now }
     {
-        self.nodes.get(node)?.as_back()
+        match self.nodes.get(node) {
+            Some(it) => it.as_back(),
+            None => None,
+        }
     }
 }

@@ -178,10 +178,11 @@ pub hang_fits : (world : World) (conn : ℕ) (found : Option Client)
 hang_fits world conn None = tt
 hang_fits world conn (Some client) = hang_fits_at conn (node_at world client.at)
 
-pub message_fits : (world : World) (from to : List ℕ) (message : LinkMsg) → HasRoom world (Deliver from to)
-    → IfSome (node_at world to) (λ it. HasRoomToTake it (From from message))
+pub message_fits : (world : World) (from to sender : List ℕ) (message : LinkMsg) → HasRoom world (Deliver from to)
+    → IfSome (node_at world to) (λ it. HasRoomToTake it (From sender message))
 unfolding bytes_brought
-message_fits world from to message room = fits_at world to (From from message) room.most (node_at world to) refl room.commands (omega (arith, room.fits))
+message_fits world from to sender message room =
+    fits_at world to (From sender message) room.most (node_at world to) refl room.commands (omega (arith, room.fits))
 
 -- a flow has room for a delivery, and for the others behind it
 pub turn_room : (world : World) (from to : List ℕ) (left : ℕ) → HasRoom world (Flow left) → HasRoom world (Deliver from to)

@@ -6,4 +6,4 @@ pub overflow_add-world : goal.overflow_add-world
 overflow_add-world c = omega (arith, step_fits _ _ c.requires)
 
 pub comes-requires : goal.comes-requires
-comes-requires c = message_fits c.args.world.now _ _ _ c.requires
+comes-requires c = message_fits c.args.world.now c.args.from.now c.args.to.now _ _ c.requires
