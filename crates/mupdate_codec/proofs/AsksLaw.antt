@@ -1,15 +1,15 @@
 -- A tag tells the command that it was made of.
-use Rattle.std.proofs.Common.{◌≡◌, ℕ, ◌+◌, ◌-◌, ◌^◌, ◌<◌, List, [], ◌∷◌, ◌++◌, Bool, true, false, ◌==◌, ◌&&◌, nat_eq, nat_lt, cond, Option, None, Some, refl, sym, ap, ◌∙◌}
+use Rattle.std.proofs.Common.{◌≡◌, ℕ, ◌+◌, ◌-◌, ◌^◌, ◌<◌, List, [], ◌∷◌, ◌++◌, Bool, true, false, nat_eq, cond, None, Some, refl, sym, ap, ◌∙◌}
 use Rattle.std.proofs.Common.{append-nil, append_assoc, arith, not, length, take, drop, get_or, add-one, take-suc, drop-cons, suc, ap₂, length-drop}
 use Rattle.std.proofs.lemmas.Bool.Decides.{nat_tests}
 use Rattle.std.specs.List.{list_all}
 use Rattle.mur_base.specs.Number.{is_digit, is_numeral, number_of, digits_behind}
 use Rattle.mur_base.specs.declared.point.AskId.{AskId}
-use Rattle.grammar.specs.Numbers.{value_of, decimal_text}
+use Rattle.grammar.specs.Numbers.{decimal_text}
 use Rattle.grammar.specs.Runs.{some}
 use Rattle.grammar.proofs.Conditions.{and_left, and_right}
 use Rattle.grammar.proofs.NumeralLaw.{decimal_writes}
-use Rattle.mupdate_codec.specs.Asks.{tag_of, split_dash, ask_by, ask_in, ask_id_of}
+use Rattle.mupdate_codec.specs.Asks.{tag_of, split_dash, ask_in, ask_id_of}
 
 no_dash : (c : ℕ) → is_digit c ≡ true → nat_eq c 45 ≡ false
 unfolding is_digit

@@ -1,15 +1,15 @@
--- Where lines end: what a line that has begun is known by, as bytes come.
-use Rattle.std.proofs.Common.{◌≡◌, ℕ, zero, suc, ◌+◌, ◌-◌, ◌<◌, ◌≤◌, List, [], ◌∷◌, ◌++◌, length, Bool, true, false, not, ◌==◌, nat_eq, Result, Ok, Err, ◌⊎◌, inl, inr, ⊎_elim}
-use Rattle.std.proofs.Common.{refl, sym, ap, ◌∙◌, subst, append-nil, append_assoc, length-append, arith, eqb-true}
+-- Where lines end, and that bytes are cut in one way.
+use Rattle.std.proofs.Common.{◌≡◌, ℕ, List, [], ◌∷◌, ◌++◌, Bool, true, false, not, nat_eq, Result, Ok, Err, ◌⊎◌, inl, inr, ⊎_elim}
+use Rattle.std.proofs.Common.{refl, sym, ap, ◌∙◌, subst, append-nil, append_assoc, eqb-true}
 use Rattle.std.specs.List.{list_all}
-use Rattle.grammar.proofs.Conditions.{and_left, and_right}
+use Rattle.grammar.proofs.Conditions.{and_right}
 use Rattle.mupdate_codec.specs.declared.command.MCommand.{MCommand}
 use Rattle.mupdate_codec.specs.declared.tag.Tag.{Tag}
 use Rattle.mupdate_codec.specs.Answers.{IsBegun}
 use Rattle.mupdate_codec.specs.Arguments.{exact}
 use Rattle.mupdate_codec.specs.Commands.{command_line, IsCommandLine}
 use Rattle.mupdate_codec.specs.Cut.{IsUncut, EndsLine, IsCut, waits, cuts}
-use Rattle.mupdate_codec.specs.Waits.{stops_at_end, goes_on, HasBegunLine}
+use Rattle.mupdate_codec.specs.Waits.{stops_at_end, goes_on}
 use Rattle.mupdate_codec.proofs.AnswersLaw.{more_found, more_only}
 use Rattle.mupdate_codec.proofs.LinesLaw.{law_command_line}
 
@@ -41,62 +41,13 @@ lf_in (c ∷ bytes) x (d ∷ front) rest e =
 abbrev pub has_no_lf : List ℕ → Bool
 has_no_lf = list_all (λ c. not (nat_eq c 10))
 
-no_lf : (f rest : List ℕ) → has_no_lf (f ++ 10 ∷ rest) ≡ true → ⊥
+pub no_lf : (f rest : List ℕ) → has_no_lf (f ++ 10 ∷ rest) ≡ true → ⊥
 no_lf [] rest h = let both : false ≡ true = h in cc
 no_lf (c ∷ f) rest h = no_lf f rest (and_right (not (nat_eq c 10)) _ h)
 
-not_nothing : (front : List ℕ) (c : ℕ) (rest : List ℕ) → [] ≡ front ++ c ∷ rest → ⊥
+pub not_nothing : (front : List ℕ) (c : ℕ) (rest : List ℕ) → [] ≡ front ++ c ∷ rest → ⊥
 not_nothing [] c rest e = cc
 not_nothing (d ∷ front) c rest e = cc
-
-pub holds_nothing : HasBegunLine [] 0
-holds_nothing = record {
-  uncut = λ front rest e. absurd (not_nothing front 10 rest e);
-  skips = λ text some room. absurd (omega arith);
-}
-
--- bytes of a literal
-pub holds_literal : (bytes x : List ℕ) (left : ℕ) → HasBegunLine bytes left → 0 < left → length x ≤ left → HasBegunLine (bytes ++ x) (left - length x)
-holds_literal bytes x left h some room = record {
-  uncut = λ front rest e.
-      ⊎_elim (λ r. h.uncut front r.0 r.1)
-      (λ f. let size = ap length f.2 in
-      subst (λ s. goes_on s ≡ true) (sym (append_assoc bytes f.0 (10 ∷ [])) ∙ ap (λ s. s ++ 10 ∷ []) (sym f.1))
-      (h.skips (f.0 ++ 10 ∷ []) some (omega (arith, size, length-append f.0 (10 ∷ []), length-append f.0 (10 ∷ rest)))))
-      (lf_in bytes x front rest e);
-  skips = λ text more few.
-      subst (λ s. goes_on s ≡ true) (sym (append_assoc bytes x text)) (h.skips (x ++ text) some (omega (arith, length-append x text)));
-}
-
--- bytes without an LF
-pub holds_text : (bytes x : List ℕ) → HasBegunLine bytes 0 → has_no_lf x ≡ true → HasBegunLine (bytes ++ x) 0
-holds_text bytes x h none = record {
-  uncut = λ front rest e. ⊎_elim (λ r. h.uncut front r.0 r.1) (λ f. absurd (no_lf f.0 rest (ap has_no_lf (sym f.2) ∙ none))) (lf_in bytes x front rest e);
-  skips = λ text some room. absurd (omega arith);
-}
-
-only_lf : (f rest : List ℕ) → (let s : List ℕ = 10 ∷ [] in s) ≡ f ++ 10 ∷ rest → f ≡ []
-only_lf [] rest e = refl
-only_lf (c ∷ f) rest e = let none : [] ≡ f ++ 10 ∷ rest = cc in absurd (not_nothing f 10 rest none)
-
--- an LF behind which the line goes on
-pub holds_lf : (bytes : List ℕ) (left : ℕ) → HasBegunLine bytes 0 → goes_on (bytes ++ 10 ∷ []) ≡ true
-    → ((text : List ℕ) → 0 < left → length text ≤ left → goes_on ((bytes ++ 10 ∷ []) ++ text) ≡ true) → HasBegunLine (bytes ++ 10 ∷ []) left
-holds_lf bytes left h goes skips = record {
-  uncut = λ front rest e.
-      ⊎_elim (λ r. h.uncut front r.0 r.1)
-      (λ f. subst (λ s. goes_on (s ++ 10 ∷ []) ≡ true) (sym (f.1 ∙ ap (λ g. bytes ++ g) (only_lf f.0 rest f.2) ∙ append-nil bytes)) goes)
-      (lf_in bytes (10 ∷ []) front rest e);
-  skips = skips;
-}
-
--- what is known of a line that has begun says that none has ended
-pub holds_uncut : (bytes : List ℕ) (left : ℕ) → HasBegunLine bytes left → IsUncut bytes
-holds_uncut bytes left h = λ front rest e. goes_to (front ++ 10 ∷ []) (h.uncut front rest e)
-
--- a line that ends
-pub ends_line : (bytes : List ℕ) → HasBegunLine bytes 0 → ¬ IsBegun IsCommandLine (bytes ++ 10 ∷ []) → EndsLine (bytes ++ 10 ∷ [])
-ends_line bytes h ends = record { front = bytes; parts = refl; uncut = holds_uncut bytes 0 h; ends = ends }
 
 -- more bytes of a connection that is cut
 

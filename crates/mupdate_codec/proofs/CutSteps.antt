@@ -1,16 +1,16 @@
 -- What a cutter does with a piece, step by step.
-use Rattle.std.proofs.Common.{◌≡◌, ℕ, zero, suc, ◌+◌, ◌-◌, ◌<◌, ◌≤◌, List, [], ◌∷◌, ◌++◌, length, take, drop, get_or, Bool, true, false, not, ◌==◌, nat_eq, cond, Option, None, Some}
-use Rattle.std.proofs.Common.{refl, sym, ap, ◌∙◌, subst, append-nil, append_assoc, length-append, arith, eqb-true, add-one, take-suc, length-take-le, length-drop}
-use Rattle.std.proofs.lemmas.List.{take-append-drop}
-use Rattle.std.specs.List.{list_all, concat}
+use Rattle.std.proofs.Common.{◌≡◌, ℕ, zero, suc, ◌+◌, ◌-◌, ◌<◌, ◌≤◌, List, [], ◌∷◌, ◌++◌, length, take, drop, get_or, Bool, true, false, not, nat_eq, cond, Option, None, Some}
+use Rattle.std.proofs.Common.{refl, sym, ap, ◌∙◌, subst, append-nil, append_assoc, arith, eqb-true, add-one, take-suc, length-take-le, length-drop}
+use Rattle.std.specs.List.{concat}
 use Rattle.std.specs.Option.{IfSome, IsSomeAnd, is_none, is_some, option_to_list}
 use Rattle.memchr.specs.Find.{IsFirstByte, is_byte}
 use Rattle.grammar.proofs.Conditions.{and_both, not_then_false}
 use Rattle.mupdate_codec.specs.Answers.{IsBegun}
 use Rattle.mupdate_codec.specs.Commands.{IsCommandLine}
 use Rattle.mupdate_codec.specs.Cut.{IsUncut, EndsLine, IsCut, Feeds, waits}
-use Rattle.mupdate_codec.specs.Waits.{goes_on, HasBegunLine, Ended, TakesSome}
-use Rattle.mupdate_codec.proofs.CutLaw.{has_no_lf, holds_literal, holds_text, holds_lf, holds_uncut, holds_nothing, ends_line, goes_from, cut_waits, cut_line}
+use Rattle.mupdate_codec.specs.Waits.{goes_on, octets_left, HasBegunLine, Ended, TakesSome}
+use Rattle.mupdate_codec.proofs.BegunLaw.{holds_literal, holds_text, holds_lf, holds_uncut, ends_line}
+use Rattle.mupdate_codec.proofs.CutLaw.{has_no_lf, goes_from, cut_waits, cut_line}
 
 -- a search for LF
 
@@ -50,12 +50,10 @@ ended_by begun piece at h u = record {
 }
 
 -- a line that goes on behind its LF
-pub ended_goes_on : (bytes : List ℕ) (left : ℕ) → Ended bytes → IsBegun IsCommandLine bytes
-    → ((text : List ℕ) → 0 < left → length text ≤ left → goes_on (bytes ++ text) ≡ true) → HasBegunLine bytes left
-ended_goes_on bytes left e b skips =
+pub ended_goes_on : (bytes : List ℕ) (left : ℕ) → Ended bytes → IsBegun IsCommandLine bytes → left ≡ octets_left bytes → HasBegunLine bytes left
+ended_goes_on bytes left e b is =
     subst (λ s. HasBegunLine s left) (sym e.parts)
-    (holds_lf e.front left e.holds (ap goes_on (sym e.parts) ∙ goes_from bytes b)
-    (λ text some room. ap (λ s. goes_on (s ++ text)) (sym e.parts) ∙ skips text some room))
+    (holds_lf e.front left e.holds (ap goes_on (sym e.parts) ∙ goes_from bytes b) (is ∙ ap octets_left e.parts))
 
 -- and one that ends with it
 pub ended_ends : (bytes : List ℕ) → Ended bytes → ¬ IsBegun IsCommandLine bytes → EndsLine bytes

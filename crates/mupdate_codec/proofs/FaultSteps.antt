@@ -1,5 +1,5 @@
 -- What the fault that is made of a stop says of the stop.
-use Rattle.std.proofs.Common.{◌≡◌, ℕ, zero, suc, ◌<◌, Bool, true, false, cond, nat_eq, Result, Err, refl, ap, ◌∙◌, arith, eqb-true}
+use Rattle.std.proofs.Common.{◌≡◌, ℕ, ◌<◌, Bool, true, false, cond, nat_eq, Result, Err, refl, ap, ◌∙◌, arith, eqb-true}
 use Rattle.std.proofs.lemmas.Bool.Decides.{nat_tests}
 use Rattle.mupdate_codec.specs.declared.fault.LineFault.{LineFault}
 use Rattle.mupdate_codec.specs.declared.fault.LineFault.TheVariants.{More, Bad}

@@ -11,6 +11,10 @@ pub mod ToldLines
 pub mod ReadsLaw
 pub mod AsksLaw
 pub mod CutLaw
+pub mod HeadReads
 pub mod HeadLaw
+pub mod MarksLaw
+pub mod InnerLaw
+pub mod BegunLaw
 pub mod CutSteps
 pub mod FaultSteps

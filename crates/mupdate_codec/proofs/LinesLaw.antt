@@ -1,19 +1,16 @@
 -- The lines of commands and responses: their laws.
-use Rattle.std.proofs.Common.{◌≡◌, ℕ, [], ◌∷◌, List, ◌==◌, Bool, true, false, ◌||◌, refl, ap, sym, subst, eqb-true, arith}
-use Rattle.grammar.specs.Part.{◌then◌, give, map, byte}
-use Rattle.grammar.specs.Exact.{any, among, Begins}
+use Rattle.std.proofs.Common.{◌≡◌, ℕ, [], ◌∷◌, ◌==◌, Bool, true, ◌||◌, refl, ap, eqb-true, arith}
+use Rattle.grammar.specs.Exact.{any, among}
 use Rattle.grammar.specs.Forms.{Form, Law, as_it_stands, preceded, constant, dispatch, followed, nothing, ◌spaced◌, begins_row}
 use Rattle.grammar.specs.Words.{word, Lawful, Apart}
-use Rattle.grammar.proofs.Conditions.{among_all, and_left}
+use Rattle.grammar.proofs.Conditions.{and_left}
 use Rattle.grammar.proofs.FormLaw.{Branch, Within, branch, one_byte, law_behind, law_constant, law_dispatch, law_either, law_followed, law_made, law_maybe, law_nothing, law_spaced, law_weaker}
 use Rattle.grammar.proofs.NamesLaw.{law_table}
 use Rattle.grammar.proofs.RunLaw.{lawful_run_upto, apart_run_upto}
 use Rattle.grammar.proofs.StartLaw.{starts_word, begins_from}
 use Rattle.grammar.proofs.WordLaw.{good_word}
-use Rattle.mupdate_codec.specs.declared.command.MCommand.{MCommand}
 use Rattle.mupdate_codec.specs.declared.command.MCommand.TheVariants as command
 use Rattle.mupdate_codec.specs.declared.command.MResponse.TheVariants as response
-use Rattle.mupdate_codec.specs.declared.tag.Tag.{Tag}
 use Rattle.mupdate_codec.specs.declared.tag.Tag.TheVariants.{Star, Text}
 use Rattle.mupdate_codec.specs.declared.word.Verb.{Verb}
 use Rattle.mupdate_codec.specs.declared.word.Verb.TheVariants as verb
@@ -88,7 +85,7 @@ pub apart_tags : Apart mupdate_tags is_space
 unfolding is_mupdate_tag_byte
 apart_tags = apart_run_upto is_mupdate_tag_byte TAG_MOST is_space (λ c h. ap is_mupdate_tag_byte (eqb-true c 32 h))
 
-law_tags : Law is_mupdate_tag_byte is_space (as_it_stands mupdate_tags)
+pub law_tags : Law is_mupdate_tag_byte is_space (as_it_stands mupdate_tags)
 law_tags = record {
   good = λ V. good_word mupdate_tags lawful_tags is_space apart_tags;
   begins = begins_from is_space (word mupdate_tags) (starts_word mupdate_tags is_mupdate_tag_byte lawful_tags refl (λ c h. and_left (is_mupdate_tag_byte c) true (and_left _ _ h)));

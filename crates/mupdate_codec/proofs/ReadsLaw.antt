@@ -1,14 +1,14 @@
 -- What a reading that tells places says of the lines.
-use Rattle.std.proofs.Common.{◌≡◌, ℕ, zero, suc, Bool, ◌+◌, ◌-◌, ◌<◌, ◌≤◌, List, [], ◌∷◌, ◌++◌, length, take, Result, Ok, Err, refl, sym, ap, ◌∙◌, subst}
+use Rattle.std.proofs.Common.{◌≡◌, ℕ, zero, suc, Bool, ◌-◌, ◌<◌, ◌≤◌, List, [], ◌∷◌, ◌++◌, length, take, Result, Ok, Err, refl, sym, ap, ◌∙◌, subst}
 use Rattle.std.proofs.Common.{length-append, arith}
 use Rattle.grammar.specs.Exact.{any}
 use Rattle.grammar.specs.Forms.{Form, Law}
 use Rattle.grammar.proofs.Reading.{ok_parts}
-use Rattle.mupdate_codec.specs.Answers.{IsBegun, HasLine, BeginsNone}
+use Rattle.mupdate_codec.specs.Answers.{IsBegun, HasLine}
 use Rattle.mupdate_codec.specs.Arguments.{Texts, exact}
 use Rattle.mupdate_codec.specs.Told.{told_texts, IsTold}
 use Rattle.mupdate_codec.proofs.AnswersLaw.{line_read, line_found, more_found, more_only, no_line, not_begun}
-use Rattle.mupdate_codec.proofs.ToldLaw.{Told, Tells, TellsStop}
+use Rattle.mupdate_codec.proofs.ToldLaw.{Told, Tells}
 
 take_front : (front rest : List ℕ) → take (length front) (front ++ rest) ≡ front
 take_front [] rest = refl

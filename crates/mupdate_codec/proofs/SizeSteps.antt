@@ -2,13 +2,11 @@
 use Rattle.std.proofs.Common.{◌≡◌, ℕ, ◌<◌, ◌≤◌, nat_le, List, [], ◌∷◌, ◌++◌, length, Result, Ok, Err, Bool, true, false, ◌&&◌, cond, refl, ap, sym, ◌∙◌}
 use Rattle.std.proofs.Common.{le-leb}
 use borrow.Author.Tests.{lt-leb}
-use Rattle.std.specs.List.{list_all}
-use Rattle.mur_base.specs.Number.{is_digit}
 use Rattle.grammar.specs.Part.{◌>>=◌}
 use Rattle.grammar.specs.Runs.{some}
 use Rattle.grammar.specs.Words.{scan, halt}
 use Rattle.grammar.specs.Numbers.{value_of, numerals, number}
-use Rattle.grammar.proofs.Conditions.{and_both, and_left, and_right, and_false, and_false_right}
+use Rattle.grammar.proofs.Conditions.{and_left, and_right, and_false, and_false_right}
 use Rattle.grammar.proofs.Reading.{ok_parts}
 use Rattle.mupdate_codec.specs.Sizes.{sizes, size}
 

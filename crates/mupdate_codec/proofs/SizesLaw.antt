@@ -1,19 +1,16 @@
 -- Numbers between two bounds are lawful words.
-use Rattle.std.proofs.Common.{◌≡◌, ℕ, zero, suc, ◌+◌, ◌-◌, ◌*◌, ◌<◌, ◌≤◌, List, [], ◌∷◌, ◌++◌, length, Bool, true, false, ◌&&◌, nat_le, nat_lt, ◌==◌, nat_eq}
-use Rattle.std.proofs.Common.{refl, sym, ap, ◌∙◌, subst, append-nil, append_assoc, le_trans, arith, leb-true, le-leb, length-append}
+use Rattle.std.proofs.Common.{◌≡◌, ℕ, ◌+◌, ◌-◌, ◌*◌, ◌<◌, ◌≤◌, List, [], ◌∷◌, ◌++◌, Bool, true, false, nat_le, nat_eq}
+use Rattle.std.proofs.Common.{refl, sym, ap, ◌∙◌, subst, append-nil, le_trans, arith, leb-true, le-leb}
 use Rattle.std.proofs.lemmas.Bool.Decides.{nat_tests}
 use Rattle.std.specs.List.{list_all}
 use Rattle.mur_base.specs.Number.{is_digit}
-use Rattle.grammar.specs.Exact.{Good, among}
 use Rattle.grammar.specs.Numbers.{value_of}
 use Rattle.grammar.specs.Runs.{some}
-use Rattle.grammar.specs.Words.{Lawful, Apart, word}
-use Rattle.grammar.proofs.Conditions.{and_both, and_left, and_right, and_false, not_true, among_all}
+use Rattle.grammar.specs.Words.{Lawful, Apart}
+use Rattle.grammar.proofs.Conditions.{and_both, and_left, and_right, and_false}
 use Rattle.grammar.proofs.NumberLaw.{digits_behind-append, digits_behind-grows, value_of-push}
 use Rattle.grammar.proofs.RunLaw.{all_front, all_push, some_push}
-use Rattle.grammar.proofs.SequenceLaw.{good_map}
-use Rattle.grammar.proofs.WordLaw.{good_word}
-use Rattle.mupdate_codec.specs.Sizes.{sizes, size}
+use Rattle.mupdate_codec.specs.Sizes.{sizes}
 
 digit_is : (d : ℕ) → d < 10 → is_digit (48 + d) ≡ true
 unfolding is_digit

@@ -1,6 +1,5 @@
 -- The characters so far of a quoted string.
 use Rattle.std.proofs.Common.{◌≡◌, ℕ, suc, ◌-◌, ◌<◌, List, [], ◌∷◌, ◌++◌, true, false, Ok, Err, refl, ap, sym, ◌∙◌, arith}
-use Rattle.std.specs.List.{list_all}
 use Rattle.grammar.specs.Part.{◌>>=◌, exactly, turns, starts}
 use Rattle.grammar.proofs.QuotedRuns.{plain_is_no_backslash}
 use Rattle.grammar.proofs.TurnSteps.{turns_none, turns_more}

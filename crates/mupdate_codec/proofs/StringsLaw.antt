@@ -1,6 +1,6 @@
 -- Strings, names and locations are exact parts.
-use Rattle.std.proofs.Common.{◌≡◌, ℕ, ◌+◌, ◌-◌, ◌*◌, ◌<◌, ◌≤◌, List, [], ◌∷◌, ◌++◌, length, Bool, true, false, ◌&&◌, not, ◌==◌, refl, ap, eqb-true, arith, max, min}
-use Rattle.grammar.specs.Part.{Part, give, ◌then◌, map, byte, choose, exactly, optional, turns}
+use Rattle.std.proofs.Common.{◌≡◌, ℕ, ◌*◌, ◌<◌, ◌≤◌, List, [], ◌∷◌, ◌++◌, Bool, true, false, not, ◌==◌, refl, ap, eqb-true, arith, max}
+use Rattle.grammar.specs.Part.{Part, give, ◌then◌, map, byte, exactly, optional, turns}
 use Rattle.grammar.specs.Exact.{Good, Begins, StartsWith, any, among}
 use Rattle.grammar.specs.Words.{word}
 use Rattle.grammar.specs.Numbers.{value_of}
@@ -19,9 +19,9 @@ use Rattle.grammar.proofs.ToolLaws.{good_byte, good_behind, good_optional, begin
 use Rattle.mupdate_codec.specs.declared.limits.TheConstants.{STRING_LIMIT, NAME_BYTES, LOCATION_LEAST, LOCATION_MOST}
 use Rattle.grammar.specs.Quoted.{is_quoted_plain, is_quoted_special, is_no_quote}
 use Rattle.mupdate_codec.specs.Sizes.{sizes, size}
-use Rattle.mupdate_codec.specs.Strings.{mupdate_quoted_char, in_quotes, mupdate_quoted, header, mupdate_literal, either_form, mupdate_string, name, quoted_location, location}
+use Rattle.mupdate_codec.specs.Strings.{mupdate_quoted_char, in_quotes, header, either_form, mupdate_string, name, location}
 use Rattle.text_parts.specs.Locations.{located, short_names, location_of, clamped}
-use Rattle.text_parts.specs.Names.{names_from, start_of, quoted_names, names_of_size}
+use Rattle.text_parts.specs.Names.{start_of, quoted_names, names_of_size}
 use Rattle.text_parts.proofs.LevelLaw.{fits_start, lawful_names, apart_sized, apart_quote}
 use Rattle.text_parts.proofs.LocationsLaw.{is_bang, no_bang, starts_bang, good_location_of}
 use Rattle.mupdate_codec.proofs.SizesLaw.{lawful_sizes, apart_sizes}
@@ -43,10 +43,10 @@ module _ {A : Type 0} where
 
 -- the characters of a string in quotes
 
-abbrev escaped : List ℕ → Part (List ℕ)
+abbrev pub escaped : List ℕ → Part (List ℕ)
 escaped so_far = byte 92 then λ _. map (λ char. so_far ++ char) (exactly is_quoted_special 1)
 
-abbrev plain : List ℕ → Part (List ℕ)
+abbrev pub plain : List ℕ → Part (List ℕ)
 plain so_far = map (λ char. so_far ++ char) (exactly is_quoted_plain 1)
 
 starts_escaped : (so_far : List ℕ) → StartsWith (λ c. c == 92) (escaped so_far)
@@ -84,10 +84,10 @@ no_digit : (c : ℕ) → behind_digits c ≡ true → is_digit c ≡ false
 unfolding is_digit
 no_digit c h = not_true (is_digit c) (among_all (λ c. not (is_digit c)) (43 ∷ 125 ∷ []) refl c h)
 
-abbrev line_end : ℕ → Part ℕ
+abbrev pub line_end : ℕ → Part ℕ
 line_end n = byte 13 then λ _. map (λ _. n) (byte 10)
 
-abbrev behind_size : ℕ → Part ℕ
+abbrev pub behind_size : ℕ → Part ℕ
 behind_size n = optional 43 then λ _. byte 125 then λ _. line_end n
 
 begins_behind_size : (after : ℕ → Bool) (n : ℕ) → Begins behind_digits after (behind_size n)

@@ -1,13 +1,12 @@
 -- A printed string, name or location is a spelling of it.
-use Rattle.std.proofs.Common.{◌≡◌, ℕ, zero, suc, ◌+◌, ◌-◌, ◌*◌, ◌<◌, ◌≤◌, List, [], ◌∷◌, ◌++◌, length, Bool, true, false, ◌&&◌, cond, inl, inr, nat_le, nat_lt, None, refl, sym, ap, ◌∙◌, subst}
-use Rattle.std.proofs.Common.{append-nil, append_assoc, length-append, arith, leb-true, le-leb, max, min, ⊎_elim}
+use Rattle.std.proofs.Common.{◌≡◌, ℕ, zero, suc, ◌+◌, ◌≤◌, List, [], ◌∷◌, ◌++◌, length, Bool, true, false, cond, inl, inr, nat_le, nat_lt, None, refl, sym, ap, subst}
+use Rattle.std.proofs.Common.{append-nil, append_assoc, length-append, arith, leb-true, le-leb}
 use Rattle.std.proofs.lemmas.Bool.Decides.{nat_tests}
 use Rattle.std.specs.List.{list_all}
 use Rattle.mur_base.specs.Number.{is_digit}
-use Rattle.mur_base.specs.Names.{is_short_name_byte, mail_name_fault}
+use Rattle.mur_base.specs.Names.{mail_name_fault}
 use Rattle.mur_base.proofs.NamesFit.{name_fits}
 use Rattle.mur_base.specs.declared.home.Location.{Location}
-use Rattle.mur_base.specs.declared.limits.TheConstants.{SHORT_NAME_LIMIT}
 use Rattle.grammar.specs.Part.{Part, ◌then◌, map, byte, exactly, optional, turns}
 use Rattle.grammar.specs.Exact.{any}
 use Rattle.grammar.specs.Forms.{Law}
@@ -20,15 +19,14 @@ use Rattle.grammar.proofs.RepetitionLaw.{begins_any}
 use Rattle.grammar.proofs.Spelling.{spell_then, spell_map, spell_byte, spell_one, spell_exactly}
 use Rattle.mupdate_codec.specs.declared.limits.TheConstants.{STRING_LIMIT, NAME_BYTES, LOCATION_LEAST, LOCATION_MOST}
 use Rattle.grammar.specs.Quoted.{is_quoted_plain, is_no_quote, literal_text}
-use Rattle.text_parts.specs.Locations.{located, short_names, servers_of, location_of, location_text, clamped}
+use Rattle.text_parts.specs.Locations.{located, short_names, location_text, clamped}
 use Rattle.text_parts.specs.Names.{quoted_names, names_of_size}
 use Rattle.mupdate_codec.specs.Sizes.{sizes, size}
-use Rattle.mupdate_codec.specs.Strings.{mupdate_quoted_char, in_quotes, mupdate_quoted, header, mupdate_literal, mupdate_string, name, quoted_location}
+use Rattle.mupdate_codec.specs.Strings.{mupdate_quoted_char, in_quotes, header, mupdate_string, name}
 use Rattle.mupdate_codec.specs.Strings.{location, is_plain_quotable, plain_quoted_text, string_text, string_form, name_form, location_form}
 use Rattle.text_parts.proofs.LocationsLaw.{IsPlace, exactly_length, only_located}
 use Rattle.text_parts.proofs.NameComplete.{name_is_quoted, name_is_sized, some as name_is_some}
 use Rattle.text_parts.proofs.NameSound.{quoted_is_name, sized_is_name}
-use Rattle.grammar.proofs.QuotedRuns.{plain_no_quote}
 use Rattle.text_parts.proofs.AnyLaw.{all_any}
 use Rattle.mupdate_codec.proofs.StringsLaw.{good_string, good_name, good_location}
 
@@ -44,7 +42,7 @@ spell_quotes p s v l =
 
 -- headers
 
-header_bounds : (least most : ℕ) (bytes : List ℕ) (n : ℕ) → (header least most).lang bytes n → (least ≤ n) × (n ≤ most)
+pub header_bounds : (least most : ℕ) (bytes : List ℕ) (n : ℕ) → (header least most).lang bytes n → (least ≤ n) × (n ≤ most)
 header_bounds least most bytes n j =
     let k = j.goes_on in
     let digits = k.begins in

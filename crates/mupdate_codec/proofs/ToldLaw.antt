@@ -1,28 +1,16 @@
 -- Readings that tell another place at a stop read the same lines.
-use Rattle.std.proofs.Common.{◌≡◌, ℕ, zero, suc, ◌≤◌, List, [], ◌∷◌, ◌++◌, length, Result, Ok, Err, Bool, true, false, ◌==◌, cond, nat_lt, nat_eq, refl, sym, ap, ◌∙◌, subst}
+use Rattle.std.proofs.Common.{◌≡◌, ℕ, ◌≤◌, List, length, Result, Ok, Err, Bool, true, false, cond, nat_lt, nat_eq, refl, sym, ap, subst}
 use Rattle.std.proofs.Common.{length-append, arith, le_refl, le_trans}
 use Rattle.std.proofs.lemmas.Bool.Decides.{nat_tests}
-use Rattle.grammar.specs.Part.{Part, ◌>>=◌, ◌then◌, give, map, byte, choose, starts}
+use Rattle.grammar.specs.Part.{Part, ◌>>=◌, ◌then◌, give, map, byte}
 use Rattle.grammar.specs.Exact.{Good, any, at_end}
-use Rattle.grammar.specs.Forms.{Form, Law, preceded, constant, dispatch, followed, made, maybe, nothing, ◌and◌, ◌spaced◌}
+use Rattle.grammar.specs.Forms.{Form, Law, preceded, ◌spaced◌}
 use Rattle.grammar.proofs.Reading.{viable, ok_parts}
 use Rattle.grammar.proofs.SequenceLaw.{viable_end, follows_end}
-use Rattle.grammar.proofs.FormLaw.{law_behind, law_spaced}
-use Rattle.mupdate_codec.specs.declared.word.Verb.{Verb}
-use Rattle.mupdate_codec.specs.declared.word.Verb.TheVariants as verb
-use Rattle.mupdate_codec.specs.declared.word.Kind.{Kind}
-use Rattle.mupdate_codec.specs.declared.word.Kind.TheVariants as kind
-use Rattle.mupdate_codec.specs.Arguments.{exact, a_string, maybe_string, a_name, a_place, a_mailbox, ended_line}
-use Rattle.mupdate_codec.specs.Commands as of_commands
-use Rattle.mupdate_codec.specs.Commands.{command_line, command_word, command_verb_form, command_verbs}
-use Rattle.mupdate_codec.specs.Responses as of_responses
-use Rattle.mupdate_codec.specs.Responses.{response_line, response_word, kind_form, kinds}
+use Rattle.mupdate_codec.specs.Arguments.{exact, a_name, a_place, a_mailbox}
 use Rattle.mupdate_codec.specs.Strings.{mupdate_string, string_form, name_form, location_form}
-use Rattle.mupdate_codec.specs.Tags.{command_tag, response_tag}
 use Rattle.mupdate_codec.specs.Told.{loose_left, told_left, placed_by, placed_part, told_texts}
-use Rattle.grammar.proofs.NamesLaw.{law_table}
 use Rattle.grammar.proofs.ToolLaws.{good_byte}
-use Rattle.mupdate_codec.proofs.LinesLaw.{ends_word, ends_line, law_a_string, law_maybe_string, law_command_tag, law_response_tag}
 use Rattle.mupdate_codec.proofs.StringsPrinted.{law_string, law_name, law_location}
 
 -- what is told of a reading of so many bytes: its value, or a stop no nearer the end, which is at the end only where the reading's is

@@ -1,8 +1,8 @@
 -- Lines that tell the places of their names and locations are read as the same lines.
-use Rattle.std.proofs.Common.{◌≡◌, ℕ, List, [], ◌∷◌, refl}
-use Rattle.grammar.specs.Part.{Part, map, byte, give}
+use Rattle.std.proofs.Common.{ℕ, [], ◌∷◌, refl}
+use Rattle.grammar.specs.Part.{Part, map, byte}
 use Rattle.grammar.specs.Exact.{any}
-use Rattle.grammar.specs.Forms.{Form, Law, dispatch, followed}
+use Rattle.grammar.specs.Forms.{Form, dispatch, followed}
 use Rattle.grammar.proofs.NamesLaw.{law_table}
 use Rattle.grammar.proofs.SequenceLaw.{good_map}
 use Rattle.grammar.proofs.ToolLaws.{good_byte}
@@ -14,7 +14,7 @@ use Rattle.mupdate_codec.specs.declared.word.Verb.{Verb}
 use Rattle.mupdate_codec.specs.declared.word.Verb.TheVariants as verb
 use Rattle.mupdate_codec.specs.declared.word.Kind.{Kind}
 use Rattle.mupdate_codec.specs.declared.word.Kind.TheVariants as kind
-use Rattle.mupdate_codec.specs.Arguments.{exact, a_string, maybe_string, a_name, a_place, a_mailbox, ended_line}
+use Rattle.mupdate_codec.specs.Arguments.{exact, a_name, a_place, a_mailbox, ended_line}
 use Rattle.mupdate_codec.specs.Commands as of_commands
 use Rattle.mupdate_codec.specs.Commands.{command_line, command_word, command_verb_form, command_verbs}
 use Rattle.mupdate_codec.specs.Responses as of_responses

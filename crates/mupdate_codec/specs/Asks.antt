@@ -1,5 +1,5 @@
 -- The tags between the nodes of a cluster: that of a client's command is the number of its connection, `-`, and its own number in it.
-use Rattle.std.specs.Prelude.{◌≡◌, ℕ, ◌==◌, List, [], ◌∷◌, ◌++◌, Option, None, Some, if◌then◌else◌}
+use Rattle.std.specs.Prelude.{ℕ, ◌==◌, List, [], ◌∷◌, ◌++◌, Option, None, Some, if◌then◌else◌}
 use Rattle.mur_base.specs.Ascii.{dash}
 use Rattle.mur_base.specs.Number.{number_of}
 use Rattle.mur_base.specs.declared.point.AskId.{AskId}

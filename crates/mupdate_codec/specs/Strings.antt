@@ -1,16 +1,12 @@
 -- Strings, names and locations as arguments (RFC 3656, 2.2; RFC 5234, 3.6).
-use Rattle.std.specs.Prelude.{ℕ, ◌-◌, Bool, ◌&&◌, ◌==◌, nat_le, List, [], ◌∷◌, ◌++◌, length, max, min, if◌then◌else◌}
+use Rattle.std.specs.Prelude.{ℕ, Bool, ◌&&◌, ◌==◌, nat_le, List, [], ◌∷◌, ◌++◌, length, if◌then◌else◌}
 use Rattle.std.specs.List.{list_all}
 use Rattle.mur_base.specs.Ascii.{lf, cr, quote, plus, backslash, open_brace, close_brace}
-use Rattle.mur_base.specs.Names.{is_short_name_byte}
 use Rattle.mur_base.specs.declared.home.Location.{Location}
-use Rattle.mur_base.specs.declared.limits.TheConstants.{SHORT_NAME_LIMIT}
 use Rattle.grammar.specs.Part.{Part, ◌then◌, map, byte, choose, exactly, optional, turns}
 use Rattle.grammar.specs.Exact.{any}
 use Rattle.grammar.specs.Forms.{Form}
-use Rattle.grammar.specs.Words.{Words, word}
-use Rattle.grammar.specs.Runs.{run_upto}
-use Rattle.grammar.specs.Numbers.{decimal_text}
+use Rattle.grammar.specs.Words.{word}
 use Rattle.grammar.specs.Quoted.{is_quoted_plain, is_no_quote, escaped_char, plain_char, literal_text}
 use Rattle.text_parts.specs.Names.{quoted_names, names_of_size}
 use Rattle.text_parts.specs.Locations.{bang, located, short_names, location_of, location_text, clamped}

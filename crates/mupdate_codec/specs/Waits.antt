@@ -1,7 +1,7 @@
 -- Whether bytes begin a line, by its reading; and what is known of a line that has begun.
-use Rattle.std.specs.Prelude.{◌≡◌, ℕ, ◌<◌, ◌≤◌, Bool, true, false, ◌==◌, List, [], ◌∷◌, ◌++◌, length, take, Option, None, Some, Result, Ok, Err}
-use Rattle.mur_base.specs.Ascii.{space, lf}
-use Rattle.grammar.specs.Part.{Part, ◌then◌, ◌sp◌, give, map, byte}
+use Rattle.std.specs.Prelude.{◌≡◌, ℕ, ◌-◌, ◌≤◌, Bool, true, false, ◌==◌, List, [], ◌∷◌, ◌++◌, length, take, Option, None, Some, Result, Ok, Err}
+use Rattle.mur_base.specs.Ascii.{lf}
+use Rattle.grammar.specs.Part.{Part, ◌sp◌}
 use Rattle.grammar.specs.Words.{word}
 use Rattle.mupdate_codec.specs.declared.word.Verb.{Verb}
 use Rattle.mupdate_codec.specs.declared.word.Verb.TheVariants as verb
@@ -20,24 +20,33 @@ stops_at_end (Err left) = left == 0
 unfoldable pub goes_on : List ℕ → Bool
 goes_on bytes = stops_at_end ((command_line exact).part.at bytes)
 
--- a line that has begun, and how many bytes of a literal are to come, whose text may be any
-pub record HasBegunLine (bytes : List ℕ) (literal_left : ℕ) : Type 0 where
-  pub uncut : (front rest : List ℕ) → bytes ≡ front ++ lf ∷ rest → goes_on (front ++ lf ∷ []) ≡ true
-  pub skips : (text : List ℕ) → 0 < literal_left → length text ≤ literal_left → goes_on (bytes ++ text) ≡ true
-
 -- no bytes
 abbrev pub nowhere : {A : Type 0} → Part A
 nowhere = record { lang = λ s v. ⊥; at = λ bytes. Err (length bytes) }
 
--- the arguments of a command before the one that may be any string
-unfoldable pub before_any : Verb → Part ℕ
-before_any verb.Activate = byte space then λ _. name sp λ _. map (λ _. 0) location
-before_any verb.List = give 0
-before_any it = nowhere
+-- what stands behind the word of a command and a space, up to the end of the header of a literal that may be any text
+unfoldable pub up_to_any : Verb → Part ℕ
+up_to_any verb.Activate = name sp λ _. location sp λ _. header 0 STRING_LIMIT
+up_to_any verb.List = header 0 STRING_LIMIT
+up_to_any it = nowhere
 
--- the front of a line up to the end of the header of a literal that may be any text
+-- the front of a line up to the end of that header
 unfoldable pub head : Part ℕ
-head = word mupdate_tags sp λ _. command_verb_form.part then λ verb. before_any verb then λ _. byte space then λ _. header 0 STRING_LIMIT
+head = word mupdate_tags sp λ _. command_verb_form.part sp up_to_any
+
+-- how many octets are to come of a literal of so many, of which these have come
+abbrev pub yet_to_come : Result (ℕ × List ℕ) ℕ → ℕ
+yet_to_come (Ok x) = x.0 - length x.1
+yet_to_come (Err left) = 0
+
+-- how many octets are to come of a literal that may be any text and has begun
+unfoldable pub octets_left : List ℕ → ℕ
+octets_left bytes = yet_to_come (head.at bytes)
+
+-- a line that has begun, and how many octets are to come of a literal that may be any text
+pub record HasBegunLine (bytes : List ℕ) (left : ℕ) : Type 0 where
+  pub uncut : (front rest : List ℕ) → bytes ≡ front ++ lf ∷ rest → goes_on (front ++ lf ∷ []) ≡ true
+  pub left_is : left ≡ octets_left bytes
 
 -- an LF has come behind a line that has begun
 pub record Ended (bytes : List ℕ) : Type 0 where

@@ -1,11 +1,12 @@
 // The bytes of a MUPDATE connection, cut into lines in whatever pieces they come.
-ghost use Rattle.std.specs.Prelude.{◌≡◌, ◌≤◌, ◌<◌, ◌++◌, [], List, ℕ, length, take, IfOk, OnOk, OnErr, IfSome, IsNone, IsSomeAnd, is_none, None, Some, true, false};
-ghost use Rattle.std.specs.List.{concat};
+ghost use Rattle.std.specs.Prelude.{◌≡◌, ◌≤◌, ◌<◌, ◌++◌, [], ◌∷◌, List, ℕ, length, take, nat_eq, IfOk, OnOk, OnErr, IfSome, IsNone, IsSomeAnd, is_none, None, Some, true, false};
+ghost use Rattle.std.specs.List.{concat, ends_with};
+ghost use Rattle.mur_base.specs.Ascii.{lf, cr, close_brace};
 ghost use Rattle.grammar.specs.Gives.{Finds};
 ghost use Rattle.mupdate_codec.specs.Answers.{IsBegun};
 ghost use Rattle.mupdate_codec.specs.Commands.{IsCommandLine};
 ghost use Rattle.mupdate_codec.specs.Cut.{IsUncut, EndsLine, IsCut, Feeds};
-ghost use Rattle.mupdate_codec.specs.Waits.{goes_on, HasBegunLine, Ended, TakesSome, before_any, head};
+ghost use Rattle.mupdate_codec.specs.Waits.{HasBegunLine, Ended, TakesSome, up_to_any, head, octets_left};
 
 use crate::fault::LineFault;
 use crate::limits::STRING_LIMIT;
@@ -22,25 +23,26 @@ use std::alloc::Global;
 use std::marker::Model;
 use std::mem;
 
-/// Reads the arguments of a command before the one that may be any string.
-#[tactic(auto, unfolding(crate::specs::Waits::before_any))]
-fn before_any(verb: Verb, bytes: &[u8]) -> Result<&[u8], Stop>
-    ensures { Finds (λ rest. (0, rest.now)) result ((before_any verb).at bytes.now) }
+/// Reads what stands behind the word of a command and a space, up to the end of the header of a literal that may be any text, and
+/// gives how many octets that has.
+#[tactic(auto, unfolding(crate::specs::Waits::up_to_any))]
+fn up_to_any(verb: Verb, bytes: &[u8]) -> Result<(usize, &[u8]), Stop>
+    ensures { Finds (λ x. (x.0, x.1.now)) result ((up_to_any verb).at bytes.now) }
 {
     match verb {
         Verb::Activate => {
-            let rest = byte_of(b' ', bytes)?;
-            let (_, rest) = name_text(rest)?;
+            let (_, rest) = name_text(bytes)?;
             let rest = byte_of(b' ', rest)?;
             let (_, rest) = location_texts(rest)?;
-            Ok(rest)
+            let rest = byte_of(b' ', rest)?;
+            header_of(0, STRING_LIMIT, rest)
         }
-        Verb::List => Ok(bytes),
+        Verb::List => header_of(0, STRING_LIMIT, bytes),
         _ => Err(Stop { left: bytes.len() }),
     }
 }
 
-/// Reads the front of a line up to the header of a literal that may be any text, and gives how many bytes that has.
+/// Reads the front of a line up to the end of that header.
 #[tactic(auto, unfolding(crate::specs::Waits::head))]
 fn head_of(bytes: &[u8]) -> Result<(usize, &[u8]), Stop>
     ensures { Finds (λ x. (x.0, x.1.now)) result (head.at bytes.now) }
@@ -48,22 +50,26 @@ fn head_of(bytes: &[u8]) -> Result<(usize, &[u8]), Stop>
     let (_, rest) = tag_word_of(bytes)?;
     let rest = byte_of(b' ', rest)?;
     let (verb, rest) = table_of(Verb::Update, &VERBS, rest)?;
-    let rest = before_any(verb, rest)?;
     let rest = byte_of(b' ', rest)?;
-    let (size, rest) = header_of(0, STRING_LIMIT, rest)?;
-    Ok((size, rest))
+    up_to_any(verb, rest)
 }
 
-/// How many bytes behind these belong to a literal that may be any text.
-fn literal_behind(bytes: &[u8]) -> usize
-    ensures { (text : List ℕ) → 0 < result → length text ≤ result → goes_on (bytes.now ++ text) ≡ true }
+/// How many octets are to come of a literal that may be any text and has begun.
+#[tactic(auto, unfolding(crate::specs::Waits::octets_left))]
+fn octets_left(bytes: &[u8]) -> usize
+    ensures { result ≡ octets_left bytes.now }
 {
-    if let Ok((size, rest)) = head_of(bytes) {
-        if rest.is_empty() {
-            return size;
-        }
+    match head_of(bytes) {
+        Ok((size, rest)) => size.saturating_sub(rest.len()),
+        Err(_) => 0,
     }
-    0
+}
+
+/// Whether the bytes end as the header of a literal does.
+fn end_as_header(bytes: &[u8]) -> bool
+    ensures { result ≡ ends_with nat_eq bytes.now (close_brace ∷ cr ∷ lf ∷ []) }
+{
+    bytes.ends_with(b"}\r\n")
 }
 
 /// Whether the bytes begin a longer line.
@@ -81,17 +87,16 @@ fn waits(alloc: Global, bytes: &[u8]) -> Result<bool, Memory>
     }
 }
 
-/// How many bytes of a literal that may be any text are to come, where the bytes begin a longer line; none where they don't.
-fn left_behind(alloc: Global, bytes: &[u8]) -> Result<Option<usize>, Memory>
-    ensures more { IfOk result (λ left. IfSome left (λ n. IsBegun IsCommandLine bytes.now)) }
-    ensures skips { IfOk result (λ left. IfSome left (λ n. (text : List ℕ) → 0 < n → length text ≤ n → goes_on (bytes.now ++ text) ≡ true)) }
-    ensures ends { IfOk result (λ left. left ≡ None → ¬ IsBegun IsCommandLine bytes.now) }
+/// Whether a line goes on behind an LF. Only the bytes that end as a header are read.
+fn goes_on(alloc: Global, bytes: &[u8]) -> Result<bool, Memory>
+    requires ended { Ended bytes.now }
+    ensures more { IfOk result (λ more. more ≡ true → IsBegun IsCommandLine bytes.now) }
+    ensures ends { IfOk result (λ more. more ≡ false → ¬ IsBegun IsCommandLine bytes.now) }
 {
-    let more = waits(alloc, bytes)?;
-    if more {
-        Ok(Some(literal_behind(bytes)))
+    if end_as_header(bytes) {
+        waits(alloc, bytes)
     } else {
-        Ok(None)
+        Ok(false)
     }
 }
 
@@ -100,7 +105,7 @@ fn left_behind(alloc: Global, bytes: &[u8]) -> Result<Option<usize>, Memory>
 struct Begun {
     alloc: Global,
     bytes: Bytes,
-    /// How many bytes of a literal are still to come that may be any text.
+    /// How many octets are to come of a literal that may be any text.
     literal_left: usize,
 }
 
@@ -126,9 +131,9 @@ impl Begun {
         ensures none { IfOk result (λ line. line ≡ None → self.new.bytes ≡ self.old.bytes) }
         ensures holds { OnOk result (HasBegunLine self.new.bytes self.new.literal_left) }
     {
-        let left = left_behind(self.alloc, self.bytes.as_slice())?;
-        if let Some(left) = left {
-            self.literal_left = left;
+        let more = goes_on(self.alloc, self.bytes.as_slice())?;
+        if more {
+            self.literal_left = octets_left(self.bytes.as_slice());
             return Ok(None);
         }
         self.literal_left = 0;
@@ -193,9 +198,9 @@ impl Begun {
 /// Cuts the bytes of one connection into lines, in whatever pieces they come.
 ///
 /// Contracts see the bytes of the line that has begun, or `None` after want of memory, when the cutter is spent. A line ends
-/// with the first LF behind which no line goes on (`specs/Cut.antt`). Taking bytes costs time in proportion to them: a
-/// literal that may be any text is taken at once, other bytes are searched for an LF, and the front of a line is read again
-/// at each literal and at its end.
+/// with the first LF behind which no line goes on (`specs/Cut.antt`). Taking bytes costs a copy and one look at each: the octets
+/// of a literal that may be any text are taken at once, and other bytes are searched for an LF. A line goes on only behind an LF
+/// that ends the header of a literal, so the bytes up to another are never read.
 #[derive(Drop)]
 pub struct Cutter {
     begun: Begun,

@@ -1,8 +1,6 @@
-use Rattle.std.proofs.Common.{sym, take, arith, subst}
+use Rattle.std.proofs.Common.{take, arith}
 use Rattle.std.specs.List.{concat}
-use Rattle.std.specs.Option.{IsSomeAnd}
-use Rattle.mupdate_codec.specs.Cut.{IsCut}
-use Rattle.mupdate_codec.proofs.CutSteps.{cut_nothing, pieces_more, concat-more, left_is}
+use Rattle.mupdate_codec.proofs.CutSteps.{cut_nothing, pieces_more, concat-more}
 use Rattle.mupdate_codec.proofs.cutter.cut.Goals as goal
 
 pub loop-piece-init : goal.loop-piece-init

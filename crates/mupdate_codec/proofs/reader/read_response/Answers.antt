@@ -1,4 +1,4 @@
-use Rattle.std.proofs.Common.{ℕ, Ok, Err, inl, ap₂, subst, arith}
+use Rattle.std.proofs.Common.{ℕ, Ok, inl, ap₂, subst}
 use Rattle.mupdate_codec.specs.declared.command.MResponse.{MResponse}
 use Rattle.mupdate_codec.specs.declared.tag.Tag.{Tag}
 use Rattle.mupdate_codec.specs.Responses.{response_line}

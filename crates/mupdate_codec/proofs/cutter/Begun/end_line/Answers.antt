@@ -1,19 +1,18 @@
 use Rattle.std.proofs.Common.{sym, subst, ◌∙◌}
 use Rattle.mupdate_codec.specs.Cut.{EndsLine}
 use Rattle.mupdate_codec.specs.Waits.{HasBegunLine}
-use Rattle.mupdate_codec.proofs.CutLaw.{holds_nothing}
+use Rattle.mupdate_codec.proofs.BegunLaw.{holds_nothing}
 use Rattle.mupdate_codec.proofs.CutSteps.{ended_goes_on, ended_ends}
 use Rattle.mupdate_codec.proofs.cutter.Begun.end_line.Goals as goal
 
-pub returns-in-Some-clause-holds : goal.returns-in-Some-clause-holds
-returns-in-Some-clause-holds c =
-    let begun = rw (c.in-Some.is, c.as_slice.ensures) at c.in_ok-left.ensures.more in
-    let skips = rw (c.in-Some.is, c.as_slice.ensures) at c.in_ok-left.ensures.skips in
-    ended_goes_on c.args.self.now.bytes c.in-Some.left c.requires.ended begun skips
+pub returns-then-more-clause-holds : goal.returns-then-more-clause-holds
+returns-then-more-clause-holds c =
+    let begun = rw c.as_slice.ensures at (c.in_ok-more.ensures.more c.if-more.true) in
+    ended_goes_on c.args.self.now.bytes c.octets_left-self.result c.requires.ended begun (rw c.as_slice-then-more.ensures at c.octets_left-self.ensures)
 
 pub returns-clause-line : goal.returns-clause-line
 returns-clause-line c =
-    let none = rw c.as_slice.ensures at (c.in_ok-left.ensures.ends c.in_default.is) in (
+    let none = rw c.as_slice.ensures at (c.in_ok-more.ensures.ends c.if-more.false) in (
       c.replace.ensures.value,
       subst EndsLine (sym c.replace.ensures.value) (ended_ends c.args.self.now.bytes c.requires.ended none),
       c.replace.ensures.after ∙ c.new-next.ensures,

@@ -1,4 +1,4 @@
-use Rattle.std.proofs.Common.{None, ◌-◌, ◌<◌, length}
+use Rattle.std.proofs.Common.{None, ◌-◌, length}
 use Rattle.mupdate_codec.specs.Waits.{HasBegunLine, TakesSome}
 use Rattle.mupdate_codec.proofs.cutter.Begun.take.Given as goal
 

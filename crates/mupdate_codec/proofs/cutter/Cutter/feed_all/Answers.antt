@@ -1,4 +1,4 @@
-use Rattle.std.proofs.Common.{◌++◌, ◌+◌, ◌∷◌, [], sym, ap, ◌∙◌, subst, arith, append-nil}
+use Rattle.std.proofs.Common.{◌+◌, sym, subst, arith, append-nil}
 use Rattle.mupdate_codec.proofs.CutSteps.{IsCutSoFar, fed_on, fed_whole, fed_spent}
 use Rattle.mupdate_codec.proofs.cutter.Cutter.feed_all.Goals as goal
 
