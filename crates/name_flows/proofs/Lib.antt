@@ -1,0 +1,7 @@
+pub mod NameMaps
+pub mod AskedLaw
+pub mod OneStep
+pub mod HeardOthers
+pub mod HeardSame
+pub mod FindsSame
+pub mod HeardLaw

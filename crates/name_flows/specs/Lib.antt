@@ -1,0 +1,13 @@
+pub mod Running
+pub mod Lines
+pub mod Phases
+pub mod Steps
+pub mod Asked
+pub mod Creates
+pub mod Deletes
+pub mod Finds
+pub mod Link
+pub mod Listing
+pub mod Listed
+pub mod Heard
+pub mod OneName
