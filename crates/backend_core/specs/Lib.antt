@@ -11,4 +11,5 @@ pub mod Refusal
 pub mod Response
 pub mod Served
 pub mod Step
+pub mod Summaries
 pub mod OpenBox

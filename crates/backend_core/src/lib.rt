@@ -15,6 +15,7 @@ mod read;
 mod refusal;
 mod response;
 mod step;
+mod summaries;
 
 pub use backend::Backend;
 pub use held::Held;

@@ -12,12 +12,13 @@ use crate::flags::set_flags;
 use crate::look::look;
 use crate::read::read;
 use crate::response::Response;
+use crate::summaries::summaries;
 use link_msg::{FrontAsk, Op};
 use mur_base::Memory;
 use std::alloc::Global;
 
 /// Carries out what is asked, and gives the answer, if there is one. For want of memory the home is spent.
-#[tactic(auto, unfolding(crate::specs::Step::home_step, crate::specs::Step::op_step, crate::specs::Look::look_step))]
+#[tactic(auto, unfolding(crate::specs::Step::home_step, crate::specs::Step::op_step, crate::specs::Look::look_step, crate::specs::Summaries::summaries_step))]
 pub fn serve(alloc: Global, home: &mut Backend, ask: FrontAsk) -> Result<Option<Response>, Memory>
     ensures { IfOk result (λ response. responds home.new response ≡ home_step home.old ask) }
 {
@@ -33,6 +34,7 @@ pub fn serve(alloc: Global, home: &mut Backend, ask: FrontAsk) -> Result<Option<
         Op::Append(messages) => answered(append(alloc, home, &name, selected, messages)),
         Op::Look => answered(look(alloc, selected, home.held.get(&name))),
         Op::Read(uids, sees) => answered(read(alloc, home, &name, selected, &uids, sees)),
+        Op::Summaries(uids) => { answered(summaries(alloc, selected, &uids, home.held.get(&name))) }
         Op::Flags(uids, mode, flags) => {
             answered(set_flags(alloc, home, &name, selected, &uids, mode, &flags))
         }

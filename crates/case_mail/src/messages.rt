@@ -1,7 +1,7 @@
 // Searches and parts of messages, for keys and numbers that no client can spell.
 use case_base::{Fault, put_field, put_value, wide_number_of};
 use mail_fetch::part;
-use mail_message::{FlagSet, Item, Key, Keys, Message, Messages, Partial, Uids, date};
+use mail_message::{FlagSet, Item, Key, Keys, Message, Partial, Summaries, Uids, date};
 use mail_search::search;
 use mur_base::{Boxed, Bytes, Memory};
 use std::alloc::Global;
@@ -47,15 +47,15 @@ pub fn put_found(alloc: Global, key: &str, out: &mut Bytes) -> Result<(), Fault>
 }
 
 fn put_found_by(alloc: Global, keys: &Keys, out: &mut Bytes) -> Result<(), Fault> {
-    let mut messages = Messages::new(alloc);
-    messages.push(hello(alloc)?)?;
+    let mut messages = Summaries::new(alloc);
+    messages.push(hello(alloc)?.summary(alloc)?)?;
     put_found_in(alloc, keys, &messages, out)
 }
 
 fn put_found_in(
     alloc: Global,
     keys: &Keys,
-    messages: &Messages,
+    messages: &Summaries,
     out: &mut Bytes,
 ) -> Result<(), Fault> {
     let mut numbers = Uids::new(alloc);

@@ -15,6 +15,7 @@ pub fn op_of(alloc: Global, words: &[&str]) -> Result<Op, Fault> {
         ["append", count] => Ok(Op::Append(messages_of(alloc, count)?)),
         ["read", uids] => Ok(Op::Read(uids_of(alloc, uids)?, false)),
         ["fetch", uids] => Ok(Op::Read(uids_of(alloc, uids)?, true)),
+        ["summaries", uids] => Ok(Op::Summaries(uids_of(alloc, uids)?)),
         ["expunge"] => Ok(Op::Expunge(None)),
         ["flag", uids, name] => flag_op(alloc, uids, name),
         _ => Err(Fault::Unreadable("no operation")),

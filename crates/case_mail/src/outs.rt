@@ -1,7 +1,7 @@
 // What a home puts out, in words.
 use link_msg::{AnswerBody, LinkMsg, Out, Outcome};
-use mail_fetch::flags_part;
-use mail_message::{FlagSet, Message, Row, Snapshot};
+use mail_fetch::{date_part, flags_part, size_part};
+use mail_message::{FlagSet, Message, Row, Snapshot, Summary};
 use mur_base::{Bytes, Memory};
 use std::alloc::Global;
 
@@ -46,6 +46,7 @@ fn put_outcome(alloc: Global, outcome: &Outcome, text: &mut Bytes) -> Result<(),
         Outcome::Gone => text.extend_from_slice(b" gone"),
         Outcome::Uids(uids) => put_uids(alloc, uids.as_slice(), text),
         Outcome::Messages(messages) => put_messages(alloc, messages.as_slice(), text),
+        Outcome::Summaries(summaries) => put_summaries(alloc, summaries.as_slice(), text),
         Outcome::Rows(rows) => {
             text.extend_from_slice(b" rows")?;
             put_rows(alloc, rows.as_slice(), text)
@@ -65,6 +66,18 @@ fn put_messages(alloc: Global, messages: &[Message], text: &mut Bytes) -> Result
     text.extend_from_slice(b" messages")?;
     for message in messages {
         put_row(alloc, message.uid, &message.flags, text)?;
+    }
+    Ok(())
+}
+
+fn put_summaries(alloc: Global, summaries: &[Summary], text: &mut Bytes) -> Result<(), Memory> {
+    text.extend_from_slice(b" summaries")?;
+    for summary in summaries {
+        put_row(alloc, summary.uid, &summary.flags, text)?;
+        text.push(b' ')?;
+        text.extend_from_slice(date_part(alloc, summary.date)?.as_slice())?;
+        text.push(b' ')?;
+        text.extend_from_slice(size_part(alloc, summary.size)?.as_slice())?;
     }
     Ok(())
 }

@@ -9,7 +9,7 @@ use imap_types::Command;
 use link_msg::{AnswerBody, LinkMsg, Out};
 use mur_base::{Bytes, MailName, What, node_name};
 use mur_model::Setting;
-use session_core::{Asking, Awaited, Need, Session};
+use session_core::{Asking, Awaited, Need, OpResult, Session};
 use std::alloc::Global;
 
 /// What becomes of what a session asks.
@@ -121,17 +121,17 @@ impl Stage {
             awaited,
         } = asking;
         let input = home::asked(alloc, "f1", name, selected, op);
-        let body = answer_to(alloc, &mut self.home, input);
-        self.finished(alloc, &awaited, body)
+        let answer = answer_to(alloc, &mut self.home, input);
+        self.finished(alloc, &awaited, answer)
     }
 
     fn finished(
         &mut self,
         alloc: Global,
         awaited: &Awaited,
-        body: Result<AnswerBody, Fault>,
+        answer: Result<OpResult, Fault>,
     ) -> Result<Need, Fault> {
-        match self.session.finish(alloc, awaited, body?)? {
+        match self.session.finish(alloc, awaited, answer?)? {
             Some(need) => Ok(need),
             None => Err(Fault::Unreadable("an answer that doesn't fit")),
         }
@@ -154,18 +154,23 @@ fn answer_to(
     alloc: Global,
     home: &mut Backend,
     input: Result<BackInput, Fault>,
-) -> Result<AnswerBody, Fault> {
+) -> Result<OpResult, Fault> {
     let outs = home::outs_of(alloc, home, input?)?.into_vec();
-    match outs.into_iter().find_map(|out| body_of(out)) {
-        Some(body) => Ok(body),
+    match outs.into_iter().find_map(|out| result_of(out)) {
+        Some(answer) => Ok(answer),
         None => Err(Fault::Unreadable("no answer")),
     }
 }
 
-fn body_of(out: Out) -> Option<AnswerBody> {
+/// What an output answers, as a frontend takes it.
+fn result_of(out: Out) -> Option<OpResult> {
     match out {
         Out::Link(_to, message) => match message {
-            LinkMsg::Answer(answer) => Some(answer.body),
+            LinkMsg::Answer(answer) => match answer.body {
+                AnswerBody::Done(outcome, seen) => Some(OpResult::Done(outcome, seen)),
+                AnswerBody::NotNow => Some(OpResult::Missing),
+                _ => None,
+            },
             _ => None,
         },
         _ => None,

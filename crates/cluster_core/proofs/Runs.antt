@@ -2,6 +2,7 @@
 pub mod Unrolled
 pub mod StepsMade
 pub mod CarryOn
+pub mod UpsLaw
 pub mod FrontsOfStart
 pub mod StartLaw
 pub mod RoomLaw

@@ -5,9 +5,11 @@ use Rattle.link_msg.specs.declared.message.LinkMsg.{LinkMsg}
 use Rattle.mur_config.specs.declared.node.Link.{Link}
 use Rattle.schedule_text.specs.declared.event.Event.{Event}
 use Rattle.schedule_text.specs.declared.event.Event.TheVariants.{Deliver, Flow}
+use Rattle.cluster_core.specs.declared.layout.Layout.{Layout}
 use Rattle.cluster_core.specs.declared.world.World.{World}
 use Rattle.link_queue.specs.Links.{on_link}
-use Rattle.cluster_core.specs.World.{steps_by}
+use Rattle.mur_config.specs.declared.config.Config.{Config}
+use Rattle.cluster_core.specs.World.{ClusterState, start, layout_of, steps_by}
 
 -- a world in the middle of a flow, the deliveries that it made, and how many may follow
 pub record Flowing : Type 0 where
@@ -44,29 +46,39 @@ rounds (suc count) links flowing =
     rounds_by (next.left == flowing.left) next (rounds count links next)
 
 -- each round but the last makes a delivery, so as many rounds as there may be deliveries are enough
-unfoldable pub flow : World → ℕ → Flowing
-flow world count = rounds count world.pairs (record { world = world; made = []; left = count })
+unfoldable pub flow : Layout → World → ℕ → Flowing
+flow layout world count = rounds count layout.pairs (record { world = world; made = []; left = count })
 
 -- the single steps of an event
-unfoldable pub steps_of_event : World → Event → List Event
-steps_of_event world (Flow count) = (flow world count).made
-steps_of_event world event = event ∷ []
+unfoldable pub steps_of_event : Layout → World → Event → List Event
+steps_of_event layout world (Flow count) = (flow layout world count).made
+steps_of_event layout world event = event ∷ []
 
-unfoldable pub happens : World → Event → World
-happens world (Flow count) = (flow world count).world
-happens world event = steps_by world event
+unfoldable pub happens : Layout → World → Event → World
+happens layout world (Flow count) = (flow layout world count).world
+happens layout world event = steps_by world event
 
 -- the events one after another
-unfoldable pub run : World → List Event → World
-run world [] = world
-run world (event ∷ events) = run (happens world event) events
+unfoldable pub run : Layout → World → List Event → World
+run layout world [] = world
+run layout world (event ∷ events) = run layout (happens layout world event) events
 
 -- the single steps of a run
-unfoldable pub unrolled : World → List Event → List Event
-unrolled world [] = []
-unrolled world (event ∷ events) = steps_of_event world event ++ unrolled (happens world event) events
+unfoldable pub unrolled : Layout → World → List Event → List Event
+unrolled layout world [] = []
+unrolled layout world (event ∷ events) = steps_of_event layout world event ++ unrolled layout (happens layout world event) events
 
 -- a run by single steps
 unfoldable pub run_steps : World → List Event → World
 run_steps world [] = world
 run_steps world (event ∷ events) = run_steps (steps_by world event) events
+
+-- the world and the cluster after the events of a run, and the run's single steps
+abbrev pub run_of : Config → List Event → World
+run_of config events = run (layout_of config) (start config) events
+
+abbrev pub ran : Config → List Event → ClusterState
+ran config events = record { layout = layout_of config; world = run_of config events }
+
+abbrev pub steps_of_run : Config → List Event → List Event
+steps_of_run config events = unrolled (layout_of config) (start config) events

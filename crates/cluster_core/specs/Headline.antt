@@ -14,7 +14,7 @@ use Rattle.mur_config.specs.declared.config.Config.{Config}
 use Rattle.mur_config.specs.Nodes.{links_of}
 use Rattle.schedule_text.specs.declared.event.Event.{Event}
 use Rattle.cluster_core.specs.Headline.Closed.{GivesNoMore}
-use Rattle.cluster_core.specs.Flow.{run, run_steps, unrolled}
+use Rattle.cluster_core.specs.Flow.{run_of, run_steps, steps_of_run}
 use Rattle.cluster_core.specs.Headline.FlowLaw.{AreStepsOfAll}
 use Rattle.cluster_core.specs.Headline.HomeLaw.{KeepsOneHomeEach, RefusesForCause}
 use Rattle.cluster_core.specs.Headline.OneNode.{OneNodeWorksEach, ServesItsOwnEach}
@@ -26,11 +26,11 @@ use Rattle.cluster_core.specs.World.{start}
 -- has at most one writable home; a refusal of relocation comes only at a reserved name or an unreached node
 pub record IsOneServer (config : Config) (events : List Event) : Type 0 where
   -- the run is that of its single steps, and those are its events, but of a flow as many deliveries as it may make, or until none is left
-  pub by_steps : run (start config) events ≡ run_steps (start config) (unrolled (start config) events)
-  pub its_steps : AreStepsOfAll (links_of config.nodes) (start config) events (unrolled (start config) events)
-  pub one_node : OneNodeWorksEach (start config) (unrolled (start config) events)
-  pub own_clients : ServesItsOwnEach (start config) (unrolled (start config) events)
+  pub by_steps : run_of config events ≡ run_steps (start config) (steps_of_run config events)
+  pub its_steps : AreStepsOfAll (links_of config.nodes) (start config) events (steps_of_run config events)
+  pub one_node : OneNodeWorksEach (start config) (steps_of_run config events)
+  pub own_clients : ServesItsOwnEach (start config) (steps_of_run config events)
   pub one_store : IsToldByOneStore config events
   pub closed : GivesNoMore config events
   pub one_home : KeepsOneHomeEach config events
-  pub refusals : RefusesForCause (run (start config) events)
+  pub refusals : RefusesForCause (run_of config events)

@@ -10,6 +10,7 @@ use Rattle.backend_core.specs.declared.held.Held.{Held}
 use Rattle.mur_base.specs.Map.{value_at}
 use Rattle.cluster_core.specs.declared.cluster.HomeRow.{HomeRow}
 use Rattle.cluster_core.specs.declared.world.Client.{Client}
+use Rattle.cluster_core.specs.declared.layout.Layout.{Layout}
 use Rattle.cluster_core.specs.declared.world.World.{World}
 use Rattle.cluster_core.specs.World.{client_at, home_at}
 
@@ -49,9 +50,9 @@ unfoldable pub home_rows_of : World → List ℕ → List (List ℕ) → List Ho
 home_rows_of world name [] = []
 home_rows_of world name (node ∷ nodes) = row_if name node (value_at (slice_cmp nat_cmp) (held_at_node world node) name) ++ home_rows_of world name nodes
 
-unfoldable pub rows_of_all : World → List (List ℕ) → List HomeRow
-rows_of_all world [] = []
-rows_of_all world (name ∷ names) = home_rows_of world name world.backends ++ rows_of_all world names
+unfoldable pub rows_of_all : Layout → World → List (List ℕ) → List HomeRow
+rows_of_all layout world [] = []
+rows_of_all layout world (name ∷ names) = home_rows_of world name layout.backends ++ rows_of_all layout world names
 
 -- the names that some node has, in byte order, each once
 unfoldable pub names_at : World → List (List ℕ) → List (List ℕ) → List (List ℕ)
@@ -59,5 +60,5 @@ names_at world names [] = names
 names_at world names (node ∷ nodes) = names_at world (fold (insert_key (slice_cmp nat_cmp)) names (keys_of (held_at_node world node))) nodes
 
 -- the mailboxes of all nodes, in byte order of names, and each in the order of its nodes
-unfoldable pub home_rows : World → List HomeRow
-home_rows world = rows_of_all world (names_at world [] world.backends)
+unfoldable pub home_rows : Layout → World → List HomeRow
+home_rows layout world = rows_of_all layout world (names_at world [] layout.backends)

@@ -10,6 +10,7 @@ use Rattle.front_core.specs.Front.{new_front}
 use Rattle.node_step.specs.declared.input.NodeInput.{NodeInput}
 use Rattle.node_step.specs.declared.input.NodeInput.TheVariants.{Opened, Piece, Hung, From}
 use Rattle.link_msg.specs.declared.message.LinkMsg.{LinkMsg}
+use Rattle.link_msg.specs.declared.message.LinkMsg.TheVariants.{Up}
 use Rattle.link_msg.specs.declared.out.Out.{Out}
 use Rattle.link_msg.specs.declared.out.Out.TheVariants.{Client as to_client, Close, Link as to_node, Mark as mark, Told as tell}
 use Rattle.master_core.specs.Boot.{booted as master_booted}
@@ -18,6 +19,7 @@ use Rattle.mur_base.specs.declared.point.AskId.{AskId}
 use Rattle.mur_config.specs.declared.config.Config.{Config}
 use Rattle.mur_config.specs.declared.node.Kind.{Kind}
 use Rattle.mur_config.specs.declared.node.Kind.TheVariants.{Master, Frontend, Backend as backend_kind}
+use Rattle.mur_config.specs.declared.node.Link.{Link}
 use Rattle.mur_config.specs.declared.node.Node.{Node}
 use Rattle.mur_config.specs.Nodes.{links_of}
 use Rattle.mur_model.specs.declared.setting.Setting.{Setting}
@@ -30,12 +32,18 @@ use Rattle.schedule_text.specs.declared.event.Event.TheVariants.{Open, Data, Han
 use Rattle.cluster_core.specs.declared.world.Client.{Client}
 use Rattle.cluster_core.specs.declared.world.MarkKind.{MarkKind}
 use Rattle.cluster_core.specs.declared.world.MarkKind.TheVariants.{Home, Told}
+use Rattle.cluster_core.specs.declared.layout.Layout.{Layout}
 use Rattle.cluster_core.specs.declared.world.World.{World}
 use Rattle.link_queue.specs.Links.{on_link, sent, without_first}
 
+-- the cluster at one moment: how its nodes are linked, and what its steps change
+pub record ClusterState : Type 0 where
+  pub layout : Layout
+  pub world : World
+
 -- before any node
 abbrev pub no_world : World
-no_world = record { nodes = []; backends = []; pairs = []; clients = []; links = []; marks = []; steps = 0 }
+no_world = record { nodes = []; clients = []; links = []; marks = []; steps = 0 }
 
 abbrev pub first_name : List (List ℕ) → List ℕ
 first_name [] = []
@@ -72,11 +80,6 @@ with_node home setting world node =
 unfoldable pub with_nodes : List ℕ → Setting → World → List Node → World
 with_nodes home setting world [] = world
 with_nodes home setting world (node ∷ nodes) = with_nodes home setting (with_node home setting world node) nodes
-
--- every node, no connection, nothing on its way, no step
-unfoldable pub start : Config → World
-start config = with_nodes (home_of config) (setting_of config)
-    (record no_world { backends = backends_of config.nodes; pairs = links_of config.nodes }) config.nodes
 
 abbrev pub client_at : World → ℕ → Option Client
 client_at world conn = value_at nat_cmp world.clients conn
@@ -128,6 +131,25 @@ comes_to world node input (Some it) = acts world node (node_takes it input)
 
 abbrev pub comes : World → List ℕ → NodeInput → World
 comes world node input = comes_to world node input (node_at world node)
+
+-- a node is told that a link to it is up, which is no step
+abbrev pub told_up : World → Link → World
+told_up world link = comes world link.to (From link.from Up)
+
+unfoldable pub with_ups : World → List Link → World
+with_ups world [] = world
+with_ups world (link ∷ links) = with_ups (told_up world link) links
+
+-- every node, each of its links up; no connection, nothing on its way, no step
+unfoldable pub start : Config → World
+start config = with_ups (with_nodes (home_of config) (setting_of config) no_world config.nodes) (links_of config.nodes)
+
+-- how the nodes are linked, and which are backends: no step changes it
+abbrev pub layout_of : Config → Layout
+layout_of config = record { pairs = links_of config.nodes; backends = backends_of config.nodes }
+
+abbrev pub begun : Config → ClusterState
+begun config = record { layout = layout_of config; world = start config }
 
 abbrev pub with_client : World → List ℕ → ℕ → World
 with_client world node conn = record world { clients = with_entry nat_cmp world.clients conn (record { at = node; given = [] }) }

@@ -6,18 +6,19 @@ ghost use Rattle.mur_config.specs.Nodes.{AreNodes};
 ghost use Rattle.schedule_text.specs.declared.event.Event.{Event};
 ghost use Rattle.schedule_text.specs.Brings.{steps_of_all, bytes_of_all};
 ghost use Rattle.cluster_core.specs.Headline.AtRest.{NothingWaitsBehind};
-ghost use Rattle.cluster_core.specs.Flow.{happens, run, run_steps, steps_of_event};
+ghost use Rattle.cluster_core.specs.Flow.{happens, ran, run_steps, steps_of_event};
 ghost use Rattle.cluster_core.specs.Headline.FlowLaw.{AreItsSteps};
 ghost use Rattle.cluster_core.specs.Headline.{IsOneServer};
 ghost use Rattle.cluster_core.specs.History.{history_of};
 ghost use Rattle.cluster_core.specs.Headline.OneNode.{OneNodeWorksEach, ServesItsOwnBehind};
 ghost use Rattle.cluster_core.specs.Room.{HasRoom};
 ghost use Rattle.cluster_core.specs.Shown.{given_to, home_rows};
-ghost use Rattle.cluster_core.specs.World.{start};
+ghost use Rattle.cluster_core.specs.World.{begun};
 
 use crate::happens::happens;
 use crate::history::history;
 use crate::homes::home_rows;
+use crate::layout::Layout;
 use crate::start::{dated, start};
 use crate::world::World;
 use mur_base::{Items, MailName, Memory, NodeName, Phase, Point};
@@ -46,70 +47,74 @@ pub struct HomeRow {
 /// The mailboxes of all nodes, in byte order of their names.
 pub type HomeRows = Items<HomeRow>;
 
-/// The cluster, which takes one event at a time. Contracts see it as its `World`.
+/// The cluster, which takes one event at a time. Contracts see it as its layout and its world.
 #[derive(Drop)]
 pub struct Cluster {
     alloc: Global,
+    layout: Layout,
     world: World,
 }
 
 impl Model for Cluster {
-    ghost use Rattle.cluster_core.specs.declared.world.World.{World};
+    ghost use Rattle.cluster_core.specs.World.{ClusterState};
     ghost use Rattle.mail_message.specs.contracts.key.Key as key;
     ghost use Rattle.std.specs.Coded.{codes};
 
-    ghost Value = { World };
+    ghost Value = { ClusterState };
 
     ghost coded = { Prim.hlevel (codes, key.the_row.coded) };
 
-    ghost view = { λ cluster. cluster.world };
+    ghost view = { λ cluster. record { layout = cluster.layout; world = cluster.world } };
 }
 
 impl Cluster {
     /// The cluster before its first event.
     pub fn new(alloc: Global, config: &Config) -> Result<Cluster, Memory>
-        ensures start { IfOk result (λ cluster. cluster ≡ start config.now) }
+        ensures start { IfOk result (λ cluster. cluster ≡ begun config.now) }
         ensures nodes { AreNodes config.now.nodes }
         ensures date { IsDate config.now.date }
     {
         dated(config);
+        let layout = Layout::new(alloc, config)?;
+        let world = start(alloc, config, &layout)?;
         Ok(Cluster {
             alloc,
-            world: start(alloc, config)?,
+            layout,
+            world,
         })
     }
 
     /// Takes one event, in single steps, in each of which one node works, for its own clients alone. For want of memory the cluster is spent: drop it.
     #[tactic(auto, using(crate::proofs::Runs::Unrolled::event_made))]
     pub fn step(&mut self, event: Event) -> Result<(), Memory>
-        requires { HasRoom self.old event }
-        ensures event { OnOk result (self.new ≡ happens self.old event) }
-        ensures steps { OnOk result (self.new ≡ run_steps self.old (steps_of_event self.old event)) }
-        ensures its_steps { AreItsSteps self.old event }
-        ensures one_node { OneNodeWorksEach self.old (steps_of_event self.old event) }
-        ensures own_clients { ServesItsOwnBehind self.old event }
-        ensures at_rest { NothingWaitsBehind self.old event }
+        requires { HasRoom self.old.world event }
+        ensures event { OnOk result (self.new ≡ record self.old { world = happens self.old.layout self.old.world event }) }
+        ensures steps { OnOk result (self.new.world ≡ run_steps self.old.world (steps_of_event self.old.layout self.old.world event)) }
+        ensures its_steps { AreItsSteps self.old.layout self.old.world event }
+        ensures one_node { OneNodeWorksEach self.old.world (steps_of_event self.old.layout self.old.world event) }
+        ensures own_clients { ServesItsOwnBehind self.old.layout self.old.world event }
+        ensures at_rest { NothingWaitsBehind self.old.layout self.old.world event }
     {
-        happens(self.alloc, &mut self.world, event)
+        happens(self.alloc, &self.layout, &mut self.world, event)
     }
 
-    /// The whole cluster at this moment.
+    /// The world at this moment.
     pub fn world(&self) -> &World
-        ensures { result.now ≡ self.now }
+        ensures { result.now ≡ self.now.world }
     {
         &self.world
     }
 
     /// How many steps were taken.
     pub fn steps(&self) -> u64
-        ensures { result ≡ self.now.steps }
+        ensures { result ≡ self.now.world.steps }
     {
         self.world.steps
     }
 
     /// The history so far.
     pub fn history(&self, alloc: Global) -> Result<Points, Memory>
-        ensures { IfOk result (λ points. points ≡ history_of self.now) }
+        ensures { IfOk result (λ points. points ≡ history_of self.now.world) }
     {
         history(alloc, &self.world)
     }
@@ -117,7 +122,7 @@ impl Cluster {
     /// The bytes given to the client of a connection so far; none where there is no such connection.
     #[tactic(auto, unfolding(crate::specs::Shown::given_to))]
     pub fn sent(&self, conn: u64) -> &[u8]
-        ensures { result.now ≡ given_to self.now conn }
+        ensures { result.now ≡ given_to self.now.world conn }
     {
         match self.world.clients.get(&conn) {
             Some(client) => client.given.as_slice(),
@@ -127,9 +132,9 @@ impl Cluster {
 
     /// The mailboxes of all nodes.
     pub fn homes(&self, alloc: Global) -> Result<HomeRows, Memory>
-        ensures { IfOk result (λ rows. rows ≡ home_rows self.now) }
+        ensures { IfOk result (λ rows. rows ≡ home_rows self.now.layout self.now.world) }
     {
-        home_rows(alloc, &self.world)
+        home_rows(alloc, &self.layout, &self.world)
     }
 }
 
@@ -137,7 +142,7 @@ impl Cluster {
 pub fn run(alloc: Global, config: &Config, events: Events) -> Result<Cluster, Memory>
     requires steps { steps_of_all events < 2 ^ 64 }
     requires bytes { bytes_of_all events < 2 ^ 32 }
-    ensures ran { IfOk result (λ cluster. cluster ≡ run (start config.now) events) }
+    ensures ran { IfOk result (λ cluster. cluster ≡ ran config.now events) }
     ensures one_server { IsOneServer config.now events }
 {
     let mut cluster = Cluster::new(alloc, config)?;

@@ -1,46 +1,33 @@
 // A flow: deliveries in rounds over the links.
-ghost use Rattle.std.specs.Prelude.{◌≡◌, [], IfOk, OnOk};
+ghost use Rattle.std.specs.Prelude.{◌≡◌, [], OnOk};
 ghost use Rattle.schedule_text.specs.declared.event.Event.TheVariants.{Flow};
 ghost use Rattle.cluster_core.specs.Room.{HasRoom};
 ghost use Rattle.cluster_core.specs.Flow.{flow, round, turn_of_link};
 
 use crate::delivery::deliver;
+use crate::layout::Layout;
 use crate::world::World;
 use link_queue::is_empty;
-use mur_base::{Copied, Items, Memory};
-use mur_config::{Link, Links};
+use mur_base::Memory;
+use mur_config::Link;
 use std::alloc::Global;
 
 /// Makes so many deliveries, or fewer where nothing is on its way any more. For want of memory the world is spent.
 #[tactic(auto, unfolding(crate::specs::Flow::flow))]
-pub fn flow(alloc: Global, world: &mut World, count: u64) -> Result<(), Memory>
+pub fn flow(alloc: Global, layout: &Layout, world: &mut World, count: u64) -> Result<(), Memory>
     requires { HasRoom world.old (Flow count) }
-    ensures { OnOk result (world.new ≡ (flow world.old count).world) }
+    ensures { OnOk result (world.new ≡ (flow layout.now world.old count).world) }
 {
-    let pairs = copied_links(alloc, &world.pairs)?;
+    let pairs = layout.pairs.as_slice();
     let mut left = count;
     for _round in 0..count {
         let before = left;
-        round(alloc, world, pairs.as_slice(), &mut left)?;
+        round(alloc, world, pairs, &mut left)?;
         if left == before {
             return Ok(());
         }
     }
     Ok(())
-}
-
-// A copy, since each delivery changes the world that the links stand in.
-fn copied_links(alloc: Global, links: &Links) -> Result<Links, Memory>
-    ensures { IfOk result (λ copy. copy ≡ links.now) }
-{
-    let mut list = Items::new(alloc);
-    for link in links.as_slice() {
-        list.push(Link {
-            from: link.from.copy(alloc)?,
-            to: link.to.copy(alloc)?,
-        })?;
-    }
-    Ok(list)
 }
 
 #[tactic(auto, unfolding(crate::specs::Flow::round))]

@@ -9,6 +9,7 @@ ghost use Rattle.cluster_core.specs.Flow.{happens};
 use crate::coming::comes;
 use crate::delivery::deliver;
 use crate::flow::flow;
+use crate::layout::Layout;
 use crate::world::{Client, World};
 use mur_base::{Bytes, Copied, Memory, NodeName};
 use node_step::NodeInput;
@@ -17,12 +18,17 @@ use std::alloc::Global;
 
 /// Carries an event out; one of links that break or of disks is a step that changes nothing else. For want of memory the world is spent.
 #[tactic(auto, unfolding(crate::specs::Flow::happens, crate::specs::World::takes))]
-pub fn happens(alloc: Global, world: &mut World, event: Event) -> Result<(), Memory>
+pub fn happens(
+    alloc: Global,
+    layout: &Layout,
+    world: &mut World,
+    event: Event,
+) -> Result<(), Memory>
     requires { HasRoom world.old event }
-    ensures { OnOk result (world.new ≡ happens world.old event) }
+    ensures { OnOk result (world.new ≡ happens layout.now world.old event) }
 {
     match event {
-        Event::Flow(count) => flow(alloc, world, count),
+        Event::Flow(count) => flow(alloc, layout, world, count),
         Event::Open(node, conn) => open(alloc, world, node, conn),
         Event::Data(conn, bytes) => data(alloc, world, conn, bytes),
         Event::Hang(conn) => hang(alloc, world, conn),

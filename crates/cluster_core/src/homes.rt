@@ -10,6 +10,7 @@ ghost use Rattle.mur_base.specs.Map.{value_at};
 ghost use Rattle.cluster_core.specs.Shown.{held_at_node, home_row, row_if, home_rows_of, names_at, home_rows};
 
 use crate::cluster::{HomeRow, HomeRows};
+use crate::layout::Layout;
 use crate::world::World;
 use backend_core::{Backend, Held};
 use mur_base::{Copied, MailName, Memory, NodeName};
@@ -20,24 +21,24 @@ type MailNames = BTreeSet<MailName>;
 
 /// The mailboxes of all nodes, in byte order of their names, and each in the order of its nodes.
 #[tactic(auto, unfolding(crate::specs::Shown::home_rows, crate::specs::Shown::rows_of_all))]
-pub fn home_rows(alloc: Global, world: &World) -> Result<HomeRows, Memory>
-    ensures { IfOk result (λ rows. rows ≡ home_rows world.now) }
+pub fn home_rows(alloc: Global, layout: &Layout, world: &World) -> Result<HomeRows, Memory>
+    ensures { IfOk result (λ rows. rows ≡ home_rows layout.now world.now) }
 {
-    let names = names(alloc, world)?;
+    let names = names(alloc, layout, world)?;
     let mut rows = HomeRows::new(alloc);
     for name in names.iter() {
-        put_rows(alloc, world, name, &mut rows)?;
+        put_rows(alloc, layout, world, name, &mut rows)?;
     }
     Ok(rows)
 }
 
 /// The names that some node has.
 #[tactic(auto, unfolding(crate::specs::Shown::names_at))]
-fn names(alloc: Global, world: &World) -> Result<MailNames, Memory>
-    ensures { IfOk result (λ names. names.keys ≡ names_at world.now [] world.now.backends) }
+fn names(alloc: Global, layout: &Layout, world: &World) -> Result<MailNames, Memory>
+    ensures { IfOk result (λ names. names.keys ≡ names_at world.now [] layout.now.backends) }
 {
     let mut names = MailNames::new(alloc);
-    for node in world.backends.as_slice() {
+    for node in layout.backends.as_slice() {
         if let Some(home) = world.home(node) {
             put_names(alloc, home, &mut names)?;
         }
@@ -59,13 +60,14 @@ fn put_names(alloc: Global, home: &Backend, names: &mut MailNames) -> Result<(),
 #[tactic(auto, unfolding(crate::specs::Shown::home_rows_of))]
 fn put_rows(
     alloc: Global,
+    layout: &Layout,
     world: &World,
     name: &MailName,
     rows: &mut HomeRows,
 ) -> Result<(), Memory>
-    ensures { OnOk result (rows.new ≡ rows.old ++ home_rows_of world.now name.now world.now.backends) }
+    ensures { OnOk result (rows.new ≡ rows.old ++ home_rows_of world.now name.now layout.now.backends) }
 {
-    for node in world.backends.as_slice() {
+    for node in layout.backends.as_slice() {
         put_row(alloc, world, name, node, rows)?;
     }
     Ok(())

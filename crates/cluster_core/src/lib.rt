@@ -10,8 +10,10 @@ mod flow;
 mod happens;
 mod history;
 mod homes;
+mod layout;
 mod start;
 mod world;
 
 pub use cluster::{Cluster, HomeRow, HomeRows, Points, headline, run};
+pub use layout::Layout;
 pub use world::{Client, Mark, World};

@@ -1,17 +1,19 @@
 // The cluster before its first event.
 ghost use Rattle.std.specs.Prelude.{◌≡◌, ◌<◌, length, IfOk, OnOk};
 ghost use Rattle.imap_command.specs.Ruled.{IsDate};
-ghost use Rattle.mur_config.specs.Nodes.{AreNodes};
-ghost use Rattle.cluster_core.specs.World.{start, backends_of, first_name, setting_of, first_state, with_node, with_nodes};
+ghost use Rattle.cluster_core.specs.World.{start, layout_of, first_name, setting_of, first_state, told_up, with_node, with_nodes, with_ups};
 
+use crate::coming::comes;
+use crate::layout::Layout;
 use crate::world::World;
 use backend_core::Backend;
 use front_core::Front;
+use link_msg::LinkMsg;
 use master_core::Master;
 use mur_base::{Copied, Items, Location, Map, Memory, NodeName};
-use mur_config::{Config, Kind, Node};
+use mur_config::{Config, Kind, Link, Node};
 use mur_model::Setting;
-use node_step::NodeState;
+use node_step::{NodeInput, NodeState};
 use std::alloc::Global;
 
 /// The date of a configuration is one, which its type keeps. The call does nothing.
@@ -22,38 +24,42 @@ pub fn dated(config: &Config)
     let _text = config.date.as_bytes();
 }
 
-/// Every node as it begins: no connection, nothing on its way.
+/// Every node as it begins, with its links up: no connection, nothing on its way.
 #[tactic(auto, unfolding(crate::specs::World::start))]
-pub fn start(alloc: Global, config: &Config) -> Result<World, Memory>
-    ensures start { IfOk result (λ world. world ≡ start config.now) }
-    ensures nodes { AreNodes config.now.nodes }
+pub fn start(alloc: Global, config: &Config, layout: &Layout) -> Result<World, Memory>
+    requires { layout.now ≡ layout_of config.now }
+    ensures { IfOk result (λ world. world ≡ start config.now) }
 {
     let nodes = config.nodes.as_slice();
     let mut world = World {
         nodes: Map::new(alloc),
-        backends: backends_of(alloc, nodes)?,
-        pairs: config.nodes.links(alloc)?,
         clients: Map::new(alloc),
         links: Map::new(alloc),
         marks: Items::new(alloc),
         steps: 0,
     };
-    let home = first_name(alloc, &world.backends)?;
+    let home = first_name(alloc, &layout.backends)?;
     add_nodes(alloc, config, &home, &mut world, nodes)?;
+    links_up(alloc, &mut world, layout.pairs.as_slice())?;
     Ok(world)
 }
 
-#[tactic(auto, unfolding(crate::specs::World::backends_of, crate::specs::World::or_backend))]
-fn backends_of(alloc: Global, nodes: &[Node]) -> Result<Items<NodeName>, Memory>
-    ensures { IfOk result (λ names. names ≡ backends_of nodes.now) }
+/// Each node is told that each link to it is up, which is no step. For want of memory the world is spent.
+#[tactic(auto, unfolding(crate::specs::World::with_ups))]
+fn links_up(alloc: Global, world: &mut World, links: &[Link]) -> Result<(), Memory>
+    ensures { OnOk result (world.new ≡ with_ups world.old links.now) }
 {
-    let mut names = Items::new(alloc);
-    for node in nodes {
-        if node.kind == Kind::Backend {
-            names.push(node.name.copy(alloc)?)?;
-        }
+    for link in links {
+        link_up(alloc, world, link)?;
     }
-    Ok(names)
+    Ok(())
+}
+
+fn link_up(alloc: Global, world: &mut World, link: &Link) -> Result<(), Memory>
+    ensures { OnOk result (world.new ≡ told_up world.old link.now) }
+{
+    let sender = link.from.copy(alloc)?;
+    comes(alloc, world, &link.to, NodeInput::From(sender, LinkMsg::Up))
 }
 
 fn first_name(alloc: Global, names: &Items<NodeName>) -> Result<NodeName, Memory>

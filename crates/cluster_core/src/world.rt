@@ -7,7 +7,6 @@ use backend_core::Backend;
 use link_msg::{Counts, How, LinkMsg};
 use link_queue::Links;
 use mur_base::{AskId, Bytes, Items, Map, NodeName};
-use mur_config::Link;
 use node_step::NodeState;
 
 /// A client: the node that it connected to, and all bytes that it was given.
@@ -40,10 +39,6 @@ pub enum MarkKind {
 pub struct World {
     /// The nodes, by their names.
     pub nodes: Map<NodeName, NodeState>,
-    /// The backends in the configuration's order.
-    pub backends: Items<NodeName>,
-    /// The directed pairs of linked nodes in the order in which a flow goes over them.
-    pub pairs: Items<Link>,
     /// The clients, by the numbers of their connections.
     pub clients: Map<u64, Client>,
     /// The messages on their way.

@@ -19,7 +19,8 @@ use Rattle.mur_model.specs.declared.need.Awaited.{Awaited}
 use Rattle.mur_model.specs.declared.need.Need.{Need}
 use Rattle.mur_model.specs.declared.need.Need.TheVariants.{Reply, Leave, Home}
 use Rattle.session_core.specs.Begin.{begin}
-use Rattle.session_core.specs.Finish.{finish}
+use Rattle.session_core.specs.Finish.{finished_by}
+use Rattle.session_core.specs.Results.{turn_behind}
 
 module _ (setting : Setting) (home : List ℕ) (conn : ℕ) where
   need_counts : (c : Connection) (tag : Tag) (need : Need) → commands_of (turned_by_need home conn c tag need).connection ≤ commands_of c + 1
@@ -70,7 +71,7 @@ module _ (setting : Setting) (home : List ℕ) (conn : ℕ) where
       → commands_of (answer_by setting home conn c answer fits stage).connection ≤ commands_of c
   unfolding answer_by
   answer_counts_by c answer true (Asked tag awaited) is =
-      let behind = finish c.session awaited answer.body in
+      let behind = finished_by c.session (turn_behind c.session awaited answer.body) in
       behind_counts (record c { session = behind.session }) tag awaited behind.need is
   answer_counts_by c answer true Reading is = omega arith
   answer_counts_by c answer true Ended is = omega arith

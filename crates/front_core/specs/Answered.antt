@@ -12,7 +12,8 @@ use Rattle.front_core.specs.declared.connection.Stage.{Stage}
 use Rattle.front_core.specs.declared.connection.Stage.TheVariants.{Reading, Asked, Ended}
 use Rattle.mur_model.specs.declared.need.Need.{Need}
 use Rattle.mur_model.specs.declared.need.Need.TheVariants as needs
-use Rattle.session_core.specs.Finish.{Finished, finish}
+use Rattle.session_core.specs.Finish.{Finished, finished_by}
+use Rattle.session_core.specs.Results.{turn_behind}
 use Rattle.front_core.specs.Taken.{Turned, asks, inputs_come, behind_outs}
 
 -- the connection behind the answer of its command, before the inputs that waited
@@ -52,7 +53,7 @@ finished_in setting home conn connection tag behind =
 -- an answer to another command than the one that waits changes nothing
 unfoldable pub answer_by : Setting → List ℕ → ℕ → Connection → BackAnswer → Bool → Stage → Turned
 answer_by setting home conn connection answer true (Asked tag awaited) =
-    finished_in setting home conn connection tag (finish connection.session awaited answer.body)
+    finished_in setting home conn connection tag (finished_by connection.session (turn_behind connection.session awaited answer.body))
 answer_by setting home conn connection answer fits stage = unchanged connection
 
 unfoldable pub answer_comes : Setting → List ℕ → ℕ → Connection → BackAnswer → Turned

@@ -7,6 +7,7 @@ ghost use Rattle.front_core.specs.Room.{commands_of};
 
 use crate::connection::{Connection, Stage};
 use crate::desk::Desk;
+use crate::result::finished;
 use crate::taken::reply_bytes;
 use link_msg::{BackAnswer, How, Out, Outs};
 use mur_base::{AskId, Bytes, Memory};
@@ -25,7 +26,7 @@ impl Connection {
     {
         match &self.stage {
             Stage::Asked(tag, awaited) if answer.id.command == self.answered + 1 => {
-                match self.session.finish(desk.alloc, awaited, answer.body)? {
+                match finished(desk.alloc, &mut self.session, awaited, answer.body)? {
                     None => Ok(Outs::new(desk.alloc)),
                     Some(Need::Reply(reply)) => {
                         let text = reply_bytes(desk.alloc, tag, reply)?;

@@ -8,6 +8,7 @@ mod desk;
 mod front;
 mod piece;
 mod reader;
+mod result;
 mod taken;
 mod waiting;
 

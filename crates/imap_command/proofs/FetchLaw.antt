@@ -14,8 +14,8 @@ use Rattle.grammar.proofs.StartLaw.{starts_then, starts_byte}
 use Rattle.mur_base.specs.Number.{is_digit, digits_behind}
 use Rattle.mail_message.specs.declared.item.Item.{Item}
 use Rattle.mail_message.specs.declared.item.Item.TheVariants as item_is
-use Rattle.imap_command.specs.declared.items.ItemName.{ItemName}
-use Rattle.imap_command.specs.declared.items.ItemName.TheVariants as name
+use Rattle.imap_command.specs.declared.commands.fetch.ItemName.{ItemName}
+use Rattle.imap_command.specs.declared.commands.fetch.ItemName.TheVariants as name
 use Rattle.imap_command.specs.Fetch.{number64_most, octets, partial_at, partial_text, partial, fetch_item_rows, item_name_text, name_of, behind_name, item_of}
 use Rattle.imap_command.specs.Fetch.{item_name, item, single_rows, single_name_text, fast_items, single_name_of, behind_single, single_of, single}
 use Rattle.imap_command.specs.Fetch.{item_list, items, fetch_form}

@@ -7,8 +7,8 @@ use Rattle.mail_message.specs.declared.item.Item.{Item}
 use Rattle.mail_message.specs.declared.item.Item.TheVariants as item_is
 use Rattle.mail_message.specs.declared.item.Partial.{Partial}
 use Rattle.mail_message.specs.declared.set.SetPart.{SetPart}
-use Rattle.imap_command.specs.declared.items.ItemName.{ItemName}
-use Rattle.imap_command.specs.declared.items.ItemName.TheVariants as name
+use Rattle.imap_command.specs.declared.commands.fetch.ItemName.{ItemName}
+use Rattle.imap_command.specs.declared.commands.fetch.ItemName.TheVariants as name
 use Rattle.imap_command.specs.Sets.{set}
 
 -- the greatest number64, of 63 bits

@@ -1,18 +1,28 @@
-// The reader of what stands behind the name of a command: a function a command that has more arguments than a mailbox.
+// The reader of what stands behind the name of a command: a function a command that has more arguments than a mailbox, and a file where
+// its arguments are no other's.
 ghost use Rattle.std.specs.Prelude.{◌≡◌};
 ghost use Rattle.grammar.specs.Gives.{Gives};
 ghost use Rattle.imap_command.specs.Commands.{arguments, uid_arguments, copy_command, fetch_command, mailbox_command, search_command, store_command};
 
-use crate::append::append_of;
+pub mod append;
+pub mod authenticate;
+pub mod fetch;
+pub mod list;
+pub mod search;
+pub mod set_acl;
+pub mod status;
+pub mod store;
+
 use crate::arguments::{one_string_of, optional_string_of, two_strings_of};
-use crate::authenticate::authenticate_of;
-use crate::items::fetch_of;
-use crate::list::list_of;
-use crate::search::search_of;
-use crate::set_acl::set_acl_of;
+use crate::commands::append::append_of;
+use crate::commands::authenticate::authenticate_of;
+use crate::commands::fetch::fetch_of;
+use crate::commands::list::list_of;
+use crate::commands::search::search_of;
+use crate::commands::set_acl::set_acl_of;
+use crate::commands::status::status_of;
+use crate::commands::store::store_of;
 use crate::sets::set_of;
-use crate::status::status_of;
-use crate::store::store_of;
 use crate::verb::{MailboxVerb, UID_VERBS, UidVerb, Verb};
 use grammar::{ReadError, byte_of, several_of, table_of};
 use imap_text::Atom;

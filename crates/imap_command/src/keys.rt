@@ -8,9 +8,9 @@ ghost use Rattle.imap_command.specs.Keys.{keyword, size_form, key_text, behind_f
 ghost use Rattle.imap_command.specs.Keys.{more_keys, keys, separator};
 ghost use Rattle.imap_command.specs.Sets.{set as set_form};
 
+use crate::commands::fetch::NUMBER64_MOST;
 use crate::dates::{date_of, put_date};
 use crate::flags::lone_keyword_of;
-use crate::items::NUMBER64_MOST;
 use crate::sets::{SetStart, put_set, set_of};
 use grammar::{Only, ReadError, Stop, begins, byte_of, number_of, put_decimal, table_of};
 use imap_text::put_flag;

@@ -6,34 +6,26 @@
 //!
 //! A name that is left out has its own reader (`left_out`), which keeps the frame as it is; each other command begins with a verb.
 //! What stands behind the name of a command is a form of the crate `grammar`. Arguments that several commands have (a
-//! mailbox, two strings, a string that may be left out) are in `arguments`; others have a file in `src`, reader and printer,
+//! mailbox, two strings, a string that may be left out) are in `arguments`; others have a file in `src/commands`, reader and printer,
 //! one in `specs`, the form, and its law in `proofs`. A new command has its rows in `src/verb.rt` and `specs/Verbs.antt`, its
 //! lines in `src/commands.rt`, `src/printer.rt` and `specs/Commands.antt`, and a line in `proofs/CommandsLaw.antt`, which says
 //! both that it is read exactly and that it is spelled as it is printed. The names behind which just a mailbox stands are
 //! told apart by `MailboxVerb` (`src/verb.rt`), and have one reader, one form and one such line.
 #![tactic(auto)]
 
-mod append;
 mod arguments;
-mod authenticate;
 mod commands;
 mod dates;
 mod fault;
 mod flags;
-mod items;
 mod keys;
 mod laws;
 mod left_out;
-mod list;
 mod printer;
 mod reader;
 mod request;
 mod round_trip;
-mod search;
-mod set_acl;
 mod sets;
-mod status;
-mod store;
 mod verb;
 
 pub use fault::{Bad, ReadFault};

@@ -1,13 +1,14 @@
 -- An answer ends its connection exactly where the session behind it has ended.
-use Rattle.std.proofs.Common.{◌≡◌, ℕ, ◌==◌, Bool, true, false, ◌∙◌, if◌then◌else◌, List, [], ◌∷◌, ◌++◌, refl, sym, subst, codes}
+use Rattle.std.proofs.Common.{◌≡◌, ℕ, ◌==◌, Bool, true, false, ◌∙◌, if◌then◌else◌, List, [], ◌∷◌, ◌++◌, map, refl, sym, subst, codes}
 use Rattle.std.proofs.Common.{Option, None, Some}
 use Rattle.std.specs.Prelude.{All, ⊤}
 use Rattle.std.proofs.lemmas.List.Elements.{All-nil, All-cons, All-append}
 use Rattle.std.proofs.lemmas.List.Folds.{list_any_none}
-use Rattle.mail_message.specs.Boxes.{Content, messages_at, snapshot_of}
+use Rattle.mail_message.specs.Boxes.{Content, messages_at, snapshot_of, summary_of}
 use Rattle.mail_message.specs.declared.message.Message.{Message}
 use Rattle.mail_message.specs.declared.message.Row.{Row}
 use Rattle.mail_message.specs.declared.message.Snapshot.{Snapshot}
+use Rattle.mail_message.specs.declared.message.Summary.{Summary}
 use Rattle.mail_message.specs.declared.mode.Mode.TheVariants.{Add}
 use Rattle.mail_store.specs.Append.{append_fault}
 use Rattle.mail_store.specs.Expunge.{expunged}
@@ -15,7 +16,7 @@ use Rattle.mail_store.specs.Store.{stored, rows_stored, has_too_many_flags}
 use Rattle.mail_store.specs.declared.fault.StoreFault.{StoreFault}
 use Rattle.imap_types.specs.declared.command.Command.{Command}
 use Rattle.imap_types.specs.declared.command.StatusItem.{StatusItem}
-use Rattle.mur_model.specs.declared.fetch.Fetching.{Fetching}
+use Rattle.mur_model.specs.declared.commands.fetch.Fetching.{Fetching}
 use Rattle.mur_model.specs.Needed.{Needed, Refusal, Turned, Mailbox, Work, Make, Append as append_work, Status as status_work, Select as select_work, Viewed as viewed_work}
 use Rattle.mur_model.specs.declared.work.NewsFor.{NewsFor}
 use Rattle.mur_model.specs.declared.work.ViewWork.{ViewWork}
@@ -29,13 +30,13 @@ use Rattle.imap_types.specs.declared.reply.Verdict.{Verdict}
 use Rattle.imap_types.specs.declared.reply.Verdict.TheVariants.{No as no_reply}
 use Rattle.imap_types.specs.declared.request.Request.{Request}
 use Rattle.imap_types.specs.declared.request.Request.TheVariants.{Command as a_command, Unknown as unknown, TooBig as too_big}
-use Rattle.mur_model.specs.declared.search.Searching.{Searching}
-use Rattle.mur_model.specs.declared.select.Opening.{Opening}
+use Rattle.mur_model.specs.declared.commands.search.Searching.{Searching}
+use Rattle.mur_model.specs.declared.commands.select.Opening.{Opening}
 use Rattle.mur_model.specs.declared.session.Sess.{Sess}
 use Rattle.mur_model.specs.declared.session.Turn.{Turn}
 use Rattle.mur_model.specs.declared.setting.Setting.{Setting}
 use Rattle.mur_model.specs.declared.store.Store.{Store}
-use Rattle.mur_model.specs.declared.store_flags.FlagStore.{FlagStore}
+use Rattle.mur_model.specs.declared.commands.store.FlagStore.{FlagStore}
 use Rattle.mur_model.specs.declared.view.View.{View}
 use Rattle.mur_model.specs.Act.{act_by, act_of, work_on, worked_at, session_after}
 use Rattle.mur_model.specs.Act.{need_of}
@@ -106,7 +107,7 @@ fetch_ends view it before now =
     news_ends view (fetch_lines it view.rows now before) now it.by_uid _ _
     (each_fetch IsNoBye IsAny IsAny it (λ number message row changes one is. refl) view.rows now before (any_all now) (any_all before))
 
-pub search_ends : (view : View) (it : Searching) (messages : List Message) (now : List Row) → TurnEnds (search_told view it messages now)
+pub search_ends : (view : View) (it : Searching) (messages : List Summary) (now : List Row) → TurnEnds (search_told view it messages now)
 unfolding is_bye
 search_ends view it messages now =
     news_ends view (Search it.by_uid _ ∷ []) now it.by_uid [] _ (All-cons IsNoBye (Search it.by_uid _) [] refl (All-nil IsNoBye))
@@ -199,7 +200,7 @@ there_ends view view_work.Close box = left_ends view (codes "CLOSE")
 there_ends view (view_work.Expunge only) box = expunge_ends view only (rows_of (expunged box only))
 there_ends view (view_work.Store it) box = stored_ends view it box (has_too_many_flags (rows_stored box it.uids it.mode it.flags))
 there_ends view (view_work.Fetch it) box = fetched_ends view it box
-there_ends view (view_work.Search it) box = search_ends view it (messages_at box.messages (uids view.rows)) (rows_of box)
+there_ends view (view_work.Search it) box = search_ends view it (map summary_of (messages_at box.messages (uids view.rows))) (rows_of box)
 
 view_ends : (view : View) (work : ViewWork) (box : Option Content) → TurnEnds (viewed_on view work box).turn
 unfolding viewed_on

@@ -5,7 +5,7 @@ use Rattle.std.specs.Prelude.{All, IfSome, ⊤}
 use Rattle.std.proofs.lemmas.List.Elements.{All-nil, All-cons, All-append, All-map, All-from_recursion}
 use Rattle.mail_fetch.specs.Parts.{part_text}
 use Rattle.mail_fetch.proofs.PartLaws.{flags_is_part, item_is_part, uid_is_part}
-use Rattle.mail_message.specs.Boxes.{Content, messages_at, relabelled, snapshot_of}
+use Rattle.mail_message.specs.Boxes.{Content, messages_at, relabelled, snapshot_of, summary_of}
 use Rattle.mail_message.specs.FlagSets.{HasRuledKeywords}
 use Rattle.mail_message.specs.Keywords.{keyword_fault}
 use Rattle.mail_message.specs.Literals.{IsPart, IsPlain}
@@ -19,7 +19,7 @@ use Rattle.mail_store.specs.Expunge.{expunged}
 use Rattle.mail_store.specs.Store.{stored, rows_stored, has_too_many_flags}
 use Rattle.mail_store.specs.declared.fault.StoreFault.{StoreFault}
 use Rattle.imap_types.specs.declared.command.StatusItem.{StatusItem}
-use Rattle.mur_model.specs.declared.fetch.Fetching.{Fetching}
+use Rattle.mur_model.specs.declared.commands.fetch.Fetching.{Fetching}
 use Rattle.mur_model.specs.declared.work.NewsFor.{NewsFor}
 use Rattle.mur_model.specs.declared.work.NewsFor.TheVariants as news_for
 use Rattle.mur_model.specs.declared.work.ViewWork.{ViewWork}
@@ -33,9 +33,9 @@ use Rattle.imap_types.specs.declared.reply.ReplyLine.{ReplyLine}
 use Rattle.imap_types.specs.declared.reply.ReplyLine.TheVariants.{Bye, Closed, Exists, Flags, Listed, Search, UidNext, UidValidity}
 use Rattle.imap_types.specs.declared.reply.Bye.TheVariants.{Gone}
 use Rattle.imap_types.specs.declared.reply.Verdict.{Verdict}
-use Rattle.mur_model.specs.declared.search.Searching.{Searching}
-use Rattle.mur_model.specs.declared.select.Opening.{Opening}
-use Rattle.mur_model.specs.declared.store_flags.FlagStore.{FlagStore}
+use Rattle.mur_model.specs.declared.commands.search.Searching.{Searching}
+use Rattle.mur_model.specs.declared.commands.select.Opening.{Opening}
+use Rattle.mur_model.specs.declared.commands.store.FlagStore.{FlagStore}
 use Rattle.mur_model.specs.declared.view.View.{View}
 use Rattle.mur_model.specs.Act.{work_on}
 use Rattle.mur_model.specs.Append.{append_on, append_to, append_reply}
@@ -281,7 +281,7 @@ search_plain false = refl
 search_sound : (view : View) (it : Searching) (box : Content) → IsSoundBox box → SoundWorked (search_at view it box)
 unfolding IsSoundLine IsSoundVerdict
 search_sound view it box all =
-    let numbers = numbers_told it.by_uid view.rows (found_uids it view.rows (messages_at box.messages (uids view.rows))) in
+    let numbers = numbers_told it.by_uid view.rows (found_uids it view.rows (map summary_of (messages_at box.messages (uids view.rows)))) in
     record {
       left = tt;
       reply = news_sound view (Search it.by_uid numbers ∷ []) (rows_of box) it.by_uid [] _

@@ -9,14 +9,14 @@ use Rattle.mail_message.specs.Boxes.{relabelled}
 use Rattle.mail_message.specs.RowOrder.{row_at, is_row_of}
 use Rattle.mail_message.specs.declared.message.Message.{Message}
 use Rattle.mail_message.specs.declared.message.Row.{Row}
-use Rattle.mur_model.specs.declared.fetch.Fetching.{Fetching}
+use Rattle.mur_model.specs.declared.commands.fetch.Fetching.{Fetching}
 use Rattle.imap_types.specs.declared.reply.ReplyLine.{ReplyLine}
 use Rattle.imap_types.specs.declared.reply.ReplyLine.TheVariants.{Exists, Expunge, Fetch}
-use Rattle.mur_model.specs.declared.store_flags.FlagStore.{FlagStore}
+use Rattle.mur_model.specs.declared.commands.store.FlagStore.{FlagStore}
 use Rattle.mur_model.specs.Fetch.{items_told, number_in, fetch_reply_line, fetch_lines}
 use Rattle.mur_model.specs.News.{news, told_of, has_row, is_among, expunge_lines, rows_there, rows_behind}
 use Rattle.mur_model.specs.News.{exists_lines, changed_lines, changed_line, flag_parts}
-use Rattle.mur_model.specs.SameFlags.{is_same_flags}
+use Rattle.mail_message.specs.SameFlags.{is_same_flags}
 use Rattle.mur_model.specs.StoreFlags.{stored_line, stored_lines, own_lines}
 
 found_by : {X : Type 0} (Q : X → Type 0) (is : Bool) (item : X) (rest : Option X) → Q item → IfSome rest Q → IfSome (cond is (Some item) rest) Q

@@ -10,6 +10,8 @@ pub enum Op {
     /// The messages with these UIDs; where the flag is true they get `\Seen`, as a FETCH of `BODY[]` gives it to them
     /// (RFC 9051, 6.4.5).
     Read(Uids, bool),
+    /// The messages with these UIDs, but not their bodies.
+    Summaries(Uids),
     /// Other flags for the messages with these UIDs (RFC 9051, 6.4.6).
     Flags(Uids, Mode, FlagSet),
     /// The messages with `\Deleted` taken away: of these UIDs, or all (RFC 9051, 6.4.3 and 6.4.9).

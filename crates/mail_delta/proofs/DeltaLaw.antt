@@ -7,11 +7,11 @@ use Rattle.mail_message.specs.declared.message.Message.{Message}
 use Rattle.mail_message.specs.declared.message.Snapshot.{Snapshot}
 use Rattle.mail_message.specs.Boxes.{Content, row_of, size_of, snapshot_of, IsRising}
 use Rattle.mail_message.specs.RowOrder.{AreRising, row_at}
-use Rattle.mail_delta.specs.SameFlags.{have_same_flags}
+use Rattle.mail_message.specs.SameFlags.{is_same_flags}
 use Rattle.mail_delta.specs.Deltas.{rows_of, is_changed, is_same_row, is_gone, gone_of, delta_of, with_row, is_among, without_rows, applied}
 use Rattle.mail_delta.specs.declared.delta.Delta.{Delta}
 use Rattle.mail_delta.specs.Notes.{row_in}
-use Rattle.mail_delta.proofs.FlagLaw.{same_flags_decide}
+use Rattle.mail_message.proofs.FlagLaw.{same_flags_decide}
 use Rattle.mail_delta.proofs.Keyed.{passed, found-at, at-filter, rise-filter, rise-map, at-map, same-items}
 use Rattle.mail_delta.proofs.RowPuts.{uid_of, or_before, rising-with_rows, row_at-with_rows}
 
@@ -65,8 +65,8 @@ module _ (old now : List Row) (was : AreRising old) (is : AreRising now) where
       ap (λ n. not (is_same_row (row_at old n) row)) uid ∙ ap (λ o. not (is_same_row o row)) at
 
   same_by : (k : ℕ) (one row : Row) → row_at old k ≡ Some one → row_at now k ≡ Some row
-      → is_changed old row ≡ not (have_same_flags one.flags row.flags) → stays one ≡ true
-      → (b : Bool) → have_same_flags one.flags row.flags ≡ b
+      → is_changed old row ≡ not (is_same_flags one.flags row.flags) → stays one ≡ true
+      → (b : Bool) → is_same_flags one.flags row.flags ≡ b
       → or_before (cond (is_changed old row) (Some row) None) (cond (stays one) (Some one) None) ≡ Some row
   same_by k one row before after test stay true same =
       let flags : one.flags ≡ row.flags = (same_flags_decide one.flags row.flags).0 same in
@@ -86,7 +86,7 @@ module _ (old now : List Row) (was : AreRising old) (is : AreRising now) where
       let changed : is_changed old row ≡ true = old_at k row after None before in rw changed refl
   both_by k (Some one) (Some row) before after =
       same_by k one row before after (old_at k row after (Some one) before) (ap not (gone_at k one before (Some row) after))
-      (have_same_flags one.flags row.flags) refl
+      (is_same_flags one.flags row.flags) refl
 
   -- the old rows without those that are gone, and with the changed ones, are the rows now
   pub applied-rows : fold with_row (without_rows old (gone_of now old)) (filter (is_changed old) now) ≡ now

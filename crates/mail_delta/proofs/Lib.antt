@@ -1,4 +1,3 @@
-pub mod FlagLaw
 pub mod Keyed
 pub mod RowPuts
 pub mod DeltaLaw

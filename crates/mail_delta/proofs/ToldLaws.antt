@@ -16,7 +16,7 @@ use Rattle.mail_message.specs.RowOrder.{AreRising, row_at}
 use Rattle.mail_message.proofs.FoundUids.{IsOf, found_is}
 use Rattle.mail_delta.specs.Deltas.{rows_of, is_changed, is_same_row, is_gone, gone_of, delta_of}
 use Rattle.mail_delta.specs.Notes.{Notes, noted_or, row_in, row_before, changed_row, gone_uid, changed_in, gone_in, delta_by}
-use Rattle.mail_delta.proofs.FlagLaw.{flags_self}
+use Rattle.mail_message.proofs.FlagLaw.{flags_self}
 use Rattle.mail_delta.proofs.Keyed.{itself, passed, AreAbove, Rise, at, none-above, found-at, at-filter, rise-filter, rise-map, at-map, same-items}
 use Rattle.mail_delta.proofs.RowPuts.{uid_of}
 use Rattle.mail_delta.proofs.DeltaLaw.{rising-rows, row_at-rows}

@@ -8,7 +8,7 @@ use Rattle.mail_message.specs.declared.message.Snapshot.{Snapshot}
 use Rattle.mail_message.specs.Boxes.{Content, row_of, size_of}
 use Rattle.mail_message.specs.RowOrder.{row_at}
 use Rattle.mail_delta.specs.declared.delta.Delta.{Delta}
-use Rattle.mail_delta.specs.SameFlags.{have_same_flags}
+use Rattle.mail_message.specs.SameFlags.{is_same_flags}
 
 -- a row for each message of a mailbox
 abbrev pub rows_of : Content → List Row
@@ -17,7 +17,7 @@ rows_of box = map row_of box.messages
 -- there was a row, with the flags of this one
 abbrev pub is_same_row : Option Row → Row → Bool
 is_same_row None row = false
-is_same_row (Some old) row = have_same_flags old.flags row.flags
+is_same_row (Some old) row = is_same_flags old.flags row.flags
 
 -- the old rows don't have this one equally
 abbrev pub is_changed : List Row → Row → Bool

@@ -1,4 +1,3 @@
-pub mod SameFlags
 pub mod Deltas
 pub mod Notes
 pub mod Spans

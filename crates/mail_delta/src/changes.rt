@@ -7,7 +7,6 @@ ghost use Rattle.mail_message.specs.RowOrder.{AreRising};
 ghost use Rattle.mail_delta.specs.Deltas.{is_same_row, is_changed, gone_of, delta_of, applied};
 
 use crate::delta::Delta;
-use crate::same::have_same_flags;
 use mail_message::{MailBox, OrderedRows, Row, Rows, Snapshot, Uids};
 use mur_base::{Copied, Memory};
 use std::alloc::Global;
@@ -63,7 +62,7 @@ fn is_same_row(old: Option<&Row>, row: &Row) -> bool
     ensures { result ≡ is_same_row (option_copied old.entry) row.now }
 {
     match old {
-        Some(old) => have_same_flags(&old.flags, &row.flags),
+        Some(old) => old.flags.is_same(&row.flags),
         None => false,
     }
 }

@@ -9,7 +9,6 @@ mod log;
 mod mark;
 mod mirror;
 mod notes;
-mod same;
 mod span;
 
 pub use changes::{all_changes, changes_since};

@@ -8,7 +8,6 @@ ghost use Rattle.mail_message.specs.RowOrder.{AreRising};
 ghost use Rattle.mail_delta.specs.Deltas.{is_same_row};
 ghost use Rattle.mail_delta.specs.Notes.{row_in, with_note, with_later, with_earlier, changed_in, gone_in};
 
-use crate::same::have_same_flags;
 use mail_message::{MailBox, Message, OrderedRows, Row, Rows, Uids};
 use mur_base::{Copied, Map, Memory};
 use std::alloc::Global;
@@ -85,7 +84,7 @@ fn is_same(was: &Option<Row>, message: &Message) -> bool
     ensures { result ≡ is_same_row was.now (row_of message.now) }
 {
     match was {
-        Some(row) => have_same_flags(&row.flags, &message.flags),
+        Some(row) => row.flags.is_same(&message.flags),
         None => false,
     }
 }

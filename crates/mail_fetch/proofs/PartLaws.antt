@@ -19,7 +19,7 @@ use Rattle.mail_message.specs.Literals.IsPart.{plain, with_literal}
 use Rattle.mail_message.proofs.PlainTexts.{all_append, decimal_plain, keyword_plain, date_plain}
 use Rattle.mail_fetch.specs.Bodies.{octets_of, body_text}
 use Rattle.mail_fetch.specs.FlagText.{name_if_set, system_names, spaced_names, flags_text}
-use Rattle.mail_fetch.specs.Parts.{uid_text, part_text}
+use Rattle.mail_fetch.specs.Parts.{date_text, part_text, size_text, uid_text}
 
 counted_part : (name : List ℕ) (n : ℕ) → IsPlain name → IsPart (name ++ decimal n)
 counted_part name n one = plain (name ++ decimal n) (all_append is_within name (decimal n) one (decimal_plain n))
@@ -90,12 +90,11 @@ pub dated : (text date : List ℕ) → date_of text ≡ Some date → is_date te
 unfolding date_of
 dated text date h = dated_by (is_date text) text date h
 
-pub date_is_part : (message : Message) → is_date message.date ≡ true → IsPart (part_text InternalDate message)
-date_is_part message date =
-    plain (part_text InternalDate message) (all_append is_within message.date (quote ∷ []) (date_plain message.date date) refl)
+pub date_is_part : (date : List ℕ) → is_date date ≡ true → IsPart (date_text date)
+date_is_part date is = plain (date_text date) (all_append is_within date (quote ∷ []) (date_plain date is) refl)
 
-pub size_is_part : (message : Message) → IsPart (part_text Size message)
-size_is_part message = counted_part (codes "RFC822.SIZE ") (length message.body) refl
+pub size_is_part : (size : ℕ) → IsPart (size_text size)
+size_is_part size = counted_part (codes "RFC822.SIZE ") size refl
 
 -- ---- each item
 
@@ -103,7 +102,7 @@ pub item_is_part : (item : Item) (message : Message) → HasRuledKeywords messag
     → IsPart (part_text item message)
 item_is_part flags_item message ruled date counted = flags_is_part message.flags ruled
 item_is_part Uid message ruled date counted = uid_is_part message.uid
-item_is_part InternalDate message ruled date counted = date_is_part message date
-item_is_part Size message ruled date counted = size_is_part message
+item_is_part InternalDate message ruled date counted = date_is_part message.date date
+item_is_part Size message ruled date counted = size_is_part (length message.body)
 item_is_part (Body partial) message ruled date counted = body_is_part partial message.body counted
 item_is_part (BodyPeek partial) message ruled date counted = body_is_part partial message.body counted

@@ -11,10 +11,16 @@ use Rattle.std.specs.Prelude.{[], ◌∷◌}
 abbrev pub uid_text : ℕ → List ℕ
 uid_text uid = codes "UID " ++ decimal uid
 
+abbrev pub date_text : List ℕ → List ℕ
+date_text date = codes "INTERNALDATE " ++ quote ∷ date ++ quote ∷ []
+
+abbrev pub size_text : ℕ → List ℕ
+size_text size = codes "RFC822.SIZE " ++ decimal size
+
 abbrev pub part_text : Item → Message → List ℕ
 part_text Flags message = flags_text message.flags
 part_text Uid message = uid_text message.uid
-part_text InternalDate message = codes "INTERNALDATE " ++ quote ∷ message.date ++ quote ∷ []
-part_text Size message = codes "RFC822.SIZE " ++ decimal (length message.body)
+part_text InternalDate message = date_text message.date
+part_text Size message = size_text (length message.body)
 part_text (Body partial) message = body_text partial message.body
 part_text (BodyPeek partial) message = body_text partial message.body

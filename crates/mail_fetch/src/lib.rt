@@ -5,4 +5,4 @@ mod body;
 mod flags;
 mod item_text;
 
-pub use item_text::{PartBytes, flags_part, part, uid_part};
+pub use item_text::{PartBytes, date_part, flags_part, part, size_part, uid_part};

@@ -1,6 +1,7 @@
 mod DayLaws
 mod BoxLaws
 mod KeywordLaws
+pub mod FlagLaw
 pub mod PlainTexts
 mod RowLaws
 pub mod OtherLaws

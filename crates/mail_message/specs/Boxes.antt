@@ -7,6 +7,7 @@ use Rattle.std.specs.Ordering.{nat_cmp, match_ordering}
 use Rattle.mail_message.specs.declared.message.Message.{Message}
 use Rattle.mail_message.specs.declared.message.Row.{Row}
 use Rattle.mail_message.specs.declared.message.Snapshot.{Snapshot}
+use Rattle.mail_message.specs.declared.message.Summary.{Summary}
 use Rattle.mail_message.specs.declared.change.Change.{Change}
 use Rattle.mail_message.specs.declared.change.Change.TheVariants.{Put, SetFlags, Gone, NextUid}
 use Rattle.mail_message.specs.FlagSets.{Flags}
@@ -91,9 +92,13 @@ content_after_all box changes = fold content_after box changes
 abbrev pub size_of : List Message → ℕ
 size_of messages = min (sum_by (λ message. length message.body) messages) (2 ^ 64 - 1)
 
--- what a mailbox tells of a message without its body
+-- the UID and the flags of a message
 abbrev pub row_of : Message → Row
 row_of message = record { uid = message.uid; flags = message.flags }
+
+-- a message without its body, of which the number of octets is told (RFC 9051, 2.3.4)
+abbrev pub summary_of : Message → Summary
+summary_of message = record { uid = message.uid; flags = message.flags; date = message.date; size = length message.body }
 
 -- what a mailbox tells of itself
 abbrev pub snapshot_of : Content → Snapshot

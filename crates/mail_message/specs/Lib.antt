@@ -4,6 +4,7 @@ pub mod Days
 pub mod FirstAcl
 pub mod FlagNames
 pub mod FlagSets
+pub mod SameFlags
 pub mod Keywords
 pub mod Literals
 pub mod Partials

@@ -1,6 +1,7 @@
 // The flags of a message.
 ghost use Rattle.std.specs.Prelude.{◌≡◌, ◌↔◌, length, IfOk, IsTrue};
 ghost use Rattle.mail_message.specs.FlagSets.{no_flags, has_flag, with_flag, without_flag, flags_after, IsMade, limited};
+ghost use Rattle.mail_message.specs.SameFlags.{is_same_flags};
 
 use crate::flag_name::{FlagFault, FlagName};
 use crate::keyword::Keywords;
@@ -65,9 +66,9 @@ impl FlagSet {
 
     /// Whether the flags are the same as sets, whatever they were made of.
     pub fn is_same(&self, others: &FlagSet) -> bool
-        ensures { IsTrue result ↔ (self.now ≡ others.now) }
+        ensures { result ≡ is_same_flags self.now others.now }
     {
-        self.system == others.system && self.keywords.is_same(&others.keywords)
+        are_same(self, others)
     }
 
     /// The flags and this one. `TooMany` exactly where it would be a 17th keyword.
@@ -121,6 +122,16 @@ impl Copied for FlagSet {
             keywords: self.keywords.copy(alloc)?,
         })
     }
+}
+
+/// Whether flags are the same; sets of keywords are compared only if there are some.
+fn are_same(one: &FlagSet, others: &FlagSet) -> bool
+    ensures { IsTrue result ↔ (one.now ≡ others.now) }
+{
+    if one.keywords.len() == 0 && others.keywords.len() == 0 {
+        return one.system == others.system;
+    }
+    one.system == others.system && one.keywords.is_same(&others.keywords)
 }
 
 fn limited(system: SystemFlags, keywords: Keywords) -> Result<FlagSet, FlagFault>

@@ -29,7 +29,7 @@ pub use item::{FetchItems, Item, Partial};
 pub use key::{Key, Keys};
 pub use keyword::{Keyword, KeywordRule, Keywords};
 pub use mail_box::MailBox;
-pub use message::{Message, Messages, Row, Rows, Snapshot, Uids};
+pub use message::{Message, Messages, Row, Rows, Snapshot, Summaries, Summary, Uids};
 pub use mode::Mode;
 pub use ordered_rows::OrderedRows;
 pub use set::{SetEnd, SetPart, SetParts};

@@ -1,13 +1,13 @@
 // A mailbox's content.
-ghost use Rattle.std.specs.Prelude.{◌≡◌, ℕ, false, ◌+◌, ◌≤◌, ◌↔◌, length, IsTrue, IfOk, OnOk, OnErr};
+ghost use Rattle.std.specs.Prelude.{◌≡◌, ℕ, false, ◌+◌, ◌≤◌, ◌↔◌, length, map, IsTrue, IfOk, OnOk, OnErr};
 ghost use Rattle.std.specs.List.{filter, fold, list_any};
 ghost use Rattle.std.specs.Option.{option_copied};
 ghost use Rattle.mail_message.specs.Boxes.{empty_box, message_at, messages_after, next_after, content_after, content_after_all};
-ghost use Rattle.mail_message.specs.Boxes.{messages_at, snapshot_of, uids_of, without_uid, is_deleted, is_touched, IsRising};
+ghost use Rattle.mail_message.specs.Boxes.{messages_at, snapshot_of, summary_of, uids_of, without_uid, is_deleted, is_touched, IsRising};
 ghost use Rattle.mail_message.specs.Slots.{filled, HasPlaceFor, HasPlaces, KeepsPlaces};
 
 use crate::change::{Change, Changes};
-use crate::message::{Message, Messages, Snapshot, Uids};
+use crate::message::{Message, Messages, Snapshot, Summaries, Uids};
 use crate::slots::{Slots, clear_all, remove_all};
 use mur_base::limits::MAILBOX_MESSAGE_LIMIT;
 use mur_base::{Bytes, Copied, Memory};
@@ -92,6 +92,19 @@ impl MailBox {
             }
         }
         Ok(messages)
+    }
+
+    /// The messages with these UIDs without their bodies, in their order. UIDs that aren't there are passed over.
+    pub fn summaries(&self, alloc: Global, uids: &[u32]) -> Result<Summaries, Memory>
+        ensures { IfOk result (λ summaries. summaries ≡ map summary_of (messages_at self.now.messages uids.now)) }
+    {
+        let mut summaries = Summaries::new(alloc);
+        for uid in uids {
+            if let Some(message) = self.find(*uid) {
+                summaries.push(message.summary(alloc)?)?;
+            }
+        }
+        Ok(summaries)
     }
 
     /// What the box tells of itself, in one pass over its messages.

@@ -18,7 +18,7 @@ pub struct Message {
 
 impl Message {
     ghost use Rattle.std.specs.Prelude.{◌≡◌, IfOk};
-    ghost use Rattle.mail_message.specs.Boxes.{row_of, is_deleted};
+    ghost use Rattle.mail_message.specs.Boxes.{row_of, summary_of, is_deleted};
 
     /// Whether it has `\Deleted` (RFC 9051, 2.3.2).
     pub fn is_deleted(&self) -> bool
@@ -34,6 +34,18 @@ impl Message {
         Ok(Row {
             uid: self.uid,
             flags: self.flags.copy(alloc)?,
+        })
+    }
+
+    /// What is told of it without its body.
+    pub fn summary(&self, alloc: Global) -> Result<Summary, Memory>
+        ensures { IfOk result (λ summary. summary ≡ summary_of self.now) }
+    {
+        Ok(Summary {
+            uid: self.uid,
+            flags: self.flags.copy(alloc)?,
+            date: self.date,
+            size: self.body.len() as u64,
         })
     }
 }
@@ -73,6 +85,20 @@ impl Copied for Row {
         })
     }
 }
+
+/// A message without its body.
+#[derive(Drop)]
+pub struct Summary {
+    pub uid: u32,
+    pub flags: FlagSet,
+    /// Its internal date (RFC 9051, 2.3.3).
+    pub date: DateText,
+    /// Bytes of its body (RFC 9051, 2.3.4).
+    pub size: u64,
+}
+
+/// Summaries of messages, in the order in which they are told.
+pub type Summaries = Items<Summary>;
 
 /// What a mailbox tells of itself at one moment.
 #[derive(Drop)]

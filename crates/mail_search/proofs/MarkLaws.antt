@@ -7,7 +7,7 @@ use Rattle.mail_message.specs.declared.key.Key.{Key}
 use Rattle.mail_message.specs.declared.key.Key.TheVariants.{Uid, Numbers, Not, Or, Group, rolls-Uid, rolls-Numbers, rolls-Not, rolls-Or}
 use Rattle.mail_message.specs.declared.key.Key.TheOpen.{Key-F}
 use Rattle.mail_message.specs.declared.key.Key.TheFolds.{fold-roll-Key}
-use Rattle.mail_message.specs.declared.message.Message.{Message}
+use Rattle.mail_message.specs.declared.message.Summary.{Summary}
 use Rattle.mail_message.specs.Sets.{set_holds}
 use Rattle.mail_search.specs.Matching.{Test, matches_by, key_matches, all_match}
 use Rattle.mail_search.specs.Search.{Numbered, marks, both, either}
@@ -28,40 +28,40 @@ second-zip f (x ∷ xs) (n ∷ ns) same = ap (λ ys. f n ∷ ys) (second-zip f x
 
 -- ---- marks by what stands in a key
 
-uid-matches : (set : List SetPart) (message : Message) (number : ℕ) → key_matches (Uid set) message number ≡ set_holds set message.uid
+uid-matches : (set : List SetPart) (message : Summary) (number : ℕ) → key_matches (Uid set) message number ≡ set_holds set message.uid
 uid-matches set message number =
     ap (λ (test : Test). test message number) (ap key_matches (sym (rolls-Uid set)) ∙ fold-roll-Key Test matches_by (Key-F.Uid set))
 
-number-matches : (set : List SetPart) (message : Message) (number : ℕ) → key_matches (Numbers set) message number ≡ set_holds set number
+number-matches : (set : List SetPart) (message : Summary) (number : ℕ) → key_matches (Numbers set) message number ≡ set_holds set number
 number-matches set message number =
     ap (λ (test : Test). test message number) (ap key_matches (sym (rolls-Numbers set)) ∙ fold-roll-Key Test matches_by (Key-F.Numbers set))
 
-not-matches : (key : Key) (message : Message) (number : ℕ) → key_matches (Not key) message number ≡ not (key_matches key message number)
+not-matches : (key : Key) (message : Summary) (number : ℕ) → key_matches (Not key) message number ≡ not (key_matches key message number)
 not-matches key message number =
     ap (λ (test : Test). test message number) (ap key_matches (sym (rolls-Not key)) ∙ fold-roll-Key Test matches_by (Key-F.Not key))
 
-or-matches : (one other : Key) (message : Message) (number : ℕ)
+or-matches : (one other : Key) (message : Summary) (number : ℕ)
     → key_matches (Or one other) message number ≡ (key_matches one message number || key_matches other message number)
 or-matches one other message number =
     ap (λ (test : Test). test message number) (ap key_matches (sym (rolls-Or one other)) ∙ fold-roll-Key Test matches_by (Key-F.Or one other))
 
-same-marks : (one other : Test) → ((message : Message) (number : ℕ) → one message number ≡ other message number)
+same-marks : (one other : Test) → ((message : Summary) (number : ℕ) → one message number ≡ other message number)
     → (rows : Numbered) → marks one rows ≡ marks other rows
 same-marks one other same [] = refl
 same-marks one other same (row ∷ rows) = let first = same row.0 row.1 in let rest = same-marks one other same rows in cc
 
-uids_held : (set : List SetPart) (messages : List Message)
-    → map (set_holds set) (map (λ (message : Message). message.uid) messages) ≡ map (λ (message : Message). set_holds set message.uid) messages
+uids_held : (set : List SetPart) (messages : List Summary)
+    → map (set_holds set) (map (λ (message : Summary). message.uid) messages) ≡ map (λ (message : Summary). set_holds set message.uid) messages
 uids_held set [] = refl
 uids_held set (message ∷ messages) = ap (λ rest. set_holds set message.uid ∷ rest) (uids_held set messages)
 
-pub uid-marks : (set : List SetPart) (messages : List Message) (numbers : List ℕ) → length numbers ≡ length messages
-    → map (set_holds set) (map (λ (message : Message). message.uid) messages) ≡ marks (key_matches (Uid set)) (zip messages numbers)
+pub uid-marks : (set : List SetPart) (messages : List Summary) (numbers : List ℕ) → length numbers ≡ length messages
+    → map (set_holds set) (map (λ (message : Summary). message.uid) messages) ≡ marks (key_matches (Uid set)) (zip messages numbers)
 uid-marks set messages numbers same =
-    uids_held set messages ∙ sym (first-zip (λ (message : Message). set_holds set message.uid) messages numbers same)
+    uids_held set messages ∙ sym (first-zip (λ (message : Summary). set_holds set message.uid) messages numbers same)
     ∙ sym (same-marks _ _ (uid-matches set) (zip messages numbers))
 
-pub number-marks : (set : List SetPart) (messages : List Message) (numbers : List ℕ) → length numbers ≡ length messages
+pub number-marks : (set : List SetPart) (messages : List Summary) (numbers : List ℕ) → length numbers ≡ length messages
     → map (set_holds set) numbers ≡ marks (key_matches (Numbers set)) (zip messages numbers)
 number-marks set messages numbers same =
     sym (second-zip (set_holds set) messages numbers same) ∙ sym (same-marks _ _ (number-matches set) (zip messages numbers))
@@ -90,7 +90,7 @@ both_marked : (one other : Test) (rows : Numbered)
 both_marked one other [] = refl
 both_marked one other (row ∷ rows) = ap (λ rest. (one row.0 row.1 && other row.0 row.1) ∷ rest) (both_marked one other rows)
 
-pub no-marks : (messages : List Message) (numbers : List ℕ) → length numbers ≡ length messages
+pub no-marks : (messages : List Summary) (numbers : List ℕ) → length numbers ≡ length messages
     → map (λ _. true) messages ≡ marks (all_match []) (zip messages numbers)
 no-marks messages numbers same = sym (first-zip (λ _. true) messages numbers same)
 

@@ -1,17 +1,17 @@
 -- What a search key matches (RFC 9051, 6.4.4).
-use Rattle.std.specs.Prelude.{ℕ, Bool, true, not, ◌||◌, nat_lt, List, length}
+use Rattle.std.specs.Prelude.{ℕ, Bool, true, not, ◌||◌, nat_lt, List}
 use Rattle.std.specs.List.{list_all}
 use Rattle.mail_message.specs.declared.key.Key.{Key}
 use Rattle.mail_message.specs.declared.key.Key.TheOpen.{Key-F}
 use Rattle.mail_message.specs.declared.key.Key.TheFolds.{fold-Key}
-use Rattle.mail_message.specs.declared.message.Message.{Message}
+use Rattle.mail_message.specs.declared.message.Summary.{Summary}
 use Rattle.mail_message.specs.FlagSets.{has_flag}
 use Rattle.mail_message.specs.Days.{day_of, is_before, is_same_day}
 use Rattle.mail_message.specs.Sets.{set_holds}
 
 -- a test of a message that has a sequence number
 abbrev pub Test : Type 0
-Test = Message → ℕ → Bool
+Test = Summary → ℕ → Bool
 
 -- what a key matches, where the tests of the keys in it stand in their places
 abbrev pub matches_by : Key-F Test → Test
@@ -33,8 +33,8 @@ matches_by Key-F.Unseen message number = not message.flags.system.seen
 matches_by (Key-F.Keyword flag) message number = has_flag message.flags flag
 matches_by (Key-F.Unkeyword flag) message number = not (has_flag message.flags flag)
 -- messages with a size larger than the number of octets, and smaller than it
-matches_by (Key-F.Larger size) message number = nat_lt size (length message.body)
-matches_by (Key-F.Smaller size) message number = nat_lt (length message.body) size
+matches_by (Key-F.Larger size) message number = nat_lt size message.size
+matches_by (Key-F.Smaller size) message number = nat_lt message.size size
 -- messages whose internal date, disregarding time and timezone, is earlier than the date, within it, and within or later than it
 matches_by (Key-F.Before day) message number = is_before (day_of message.date) day
 matches_by (Key-F.On day) message number = is_same_day (day_of message.date) day

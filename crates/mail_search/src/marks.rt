@@ -6,7 +6,7 @@ ghost use Rattle.mail_search.specs.Search.{marks, both, either, marked};
 
 use crate::matching::key_matches;
 use crate::spans::marks_of_set;
-use mail_message::{Key, Message, Uids};
+use mail_message::{Key, Summary, Uids};
 use mur_base::Memory;
 use std::alloc::Global;
 
@@ -16,7 +16,7 @@ use std::alloc::Global;
 pub fn marks_of(
     alloc: Global,
     key: &Key,
-    messages: &[Message],
+    messages: &[Summary],
     numbers: &[u32],
 ) -> Result<Vec<bool>, Memory>
     requires { length numbers.now ≡ length messages.now }
@@ -41,7 +41,7 @@ pub fn marks_of(
 pub fn marks_of_all(
     alloc: Global,
     keys: &[Key],
-    messages: &[Message],
+    messages: &[Summary],
     numbers: &[u32],
 ) -> Result<Vec<bool>, Memory>
     requires { length numbers.now ≡ length messages.now }
@@ -58,7 +58,7 @@ pub fn marks_of_all(
 fn marks_by(
     alloc: Global,
     key: &Key,
-    messages: &[Message],
+    messages: &[Summary],
     numbers: &[u32],
 ) -> Result<Vec<bool>, Memory>
     requires { length numbers.now ≡ length messages.now }
@@ -71,7 +71,7 @@ fn marks_by(
     Ok(made)
 }
 
-fn all_marked(alloc: Global, messages: &[Message]) -> Result<Vec<bool>, Memory>
+fn all_marked(alloc: Global, messages: &[Summary]) -> Result<Vec<bool>, Memory>
     ensures { IfOk result (λ made. made.items ≡ map (λ _. true) messages.now) }
 {
     let mut made = Vec::with_capacity(alloc, messages.len())?;
@@ -109,7 +109,7 @@ fn either(alloc: Global, one: &[bool], other: &[bool]) -> Result<Vec<bool>, Memo
     )
 }
 
-fn uids_of(alloc: Global, messages: &[Message]) -> Result<Vec<u32>, Memory>
+fn uids_of(alloc: Global, messages: &[Summary]) -> Result<Vec<u32>, Memory>
     ensures { IfOk result (λ uids. uids.items ≡ map (λ message. message.uid) messages.now) }
 {
     let mut uids = Vec::with_capacity(alloc, messages.len())?;
@@ -120,7 +120,7 @@ fn uids_of(alloc: Global, messages: &[Message]) -> Result<Vec<u32>, Memory>
 }
 
 /// The UIDs of the messages that have a mark.
-pub fn marked(alloc: Global, messages: &[Message], marks: &[bool]) -> Result<Uids, Memory>
+pub fn marked(alloc: Global, messages: &[Summary], marks: &[bool]) -> Result<Uids, Memory>
     requires { length marks.now ≡ length messages.now }
     ensures { IfOk result (λ uids. uids ≡ marked (zip messages.now marks.now)) }
 {

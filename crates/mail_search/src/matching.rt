@@ -3,7 +3,7 @@ ghost use Rattle.std.specs.Prelude.{◌≡◌};
 ghost use Rattle.mail_message.specs.Sets.{set_holds};
 ghost use Rattle.mail_search.specs.Matching.{key_matches, all_match};
 
-use mail_message::{Key, Message, SetPart};
+use mail_message::{Key, SetPart, Summary};
 
 /// Whether a number is in a set: the one meaning of sets of sequence numbers and of UIDs (RFC 9051, 9: sequence-set). A range
 /// stands in either order; where `*` stands in a part it holds nothing, so a number is put in its place first. It takes no memory,
@@ -17,7 +17,7 @@ pub fn set_holds(set: &[SetPart], number: u32) -> bool
 /// Whether a key matches a message that has this sequence number (RFC 9051, 6.4.4). It takes no memory and goes no deeper than
 /// keys nest.
 #[cycle(keys)]
-pub fn key_matches(key: &Key, message: &Message, number: u32) -> bool
+pub fn key_matches(key: &Key, message: &Summary, number: u32) -> bool
     ensures { result ≡ key_matches key.now message.now number }
 {
     match key {
@@ -34,8 +34,8 @@ pub fn key_matches(key: &Key, message: &Message, number: u32) -> bool
         Key::Unseen => !message.flags.system().seen,
         Key::Keyword(flag) => message.flags.has(flag),
         Key::Unkeyword(flag) => !message.flags.has(flag),
-        Key::Larger(size) => message.body.len() as u64 > *size,
-        Key::Smaller(size) => (message.body.len() as u64) < *size,
+        Key::Larger(size) => message.size > *size,
+        Key::Smaller(size) => message.size < *size,
         Key::Before(day) => message.date.day().is_before(*day),
         Key::On(day) => message.date.day() == *day,
         Key::Since(day) => !message.date.day().is_before(*day),
@@ -51,7 +51,7 @@ pub fn key_matches(key: &Key, message: &Message, number: u32) -> bool
 
 /// Whether all of some keys match a message that has this sequence number.
 #[cycle(keys)]
-pub fn all_match(keys: &[Key], message: &Message, number: u32) -> bool
+pub fn all_match(keys: &[Key], message: &Summary, number: u32) -> bool
     ensures { result ≡ all_match keys.now message.now number }
 {
     for key in keys {

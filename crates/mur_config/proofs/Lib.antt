@@ -1,7 +1,6 @@
 mod NodesLaw
 pub mod LinksLaw
 pub mod NodesApart
-pub mod OncePairs
 mod Texts
 mod NamesLaw
 mod ValuesLaw

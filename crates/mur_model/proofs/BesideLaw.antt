@@ -16,7 +16,7 @@ use Rattle.mur_model.specs.declared.beside.Walked.{Walked}
 use Rattle.mur_model.specs.declared.news.Told.{Told}
 use Rattle.mur_model.specs.Beside.{same_until, from_place, one_gone, one_kept, walked, told_walked}
 use Rattle.mur_model.specs.News.{news, is_among, expunge_lines, rows_there, changed_line}
-use Rattle.mur_model.specs.SameFlags.{is_same_flags}
+use Rattle.mail_message.specs.SameFlags.{is_same_flags}
 use Rattle.mur_model.proofs.InPlaceLaw.{Below, less, found, are_in_place, lines_in_place, told_is}
 
 and_false : (b : Bool) → (b && false) ≡ false

@@ -11,7 +11,7 @@ use Rattle.mur_model.specs.declared.news.Told.{Told}
 use Rattle.mur_model.specs.ClientView.{Known, without_number, known_after, known_after_all, Agrees, uids}
 use Rattle.mur_model.specs.News.{news, told_of, has_row, is_among, expunge_lines, rows_there, rows_behind}
 use Rattle.mur_model.specs.News.{exists_lines, changed_lines, changed_line, fresh_rows, fresh_row, flag_parts}
-use Rattle.mur_model.specs.SameFlags.{is_same_flags}
+use Rattle.mail_message.specs.SameFlags.{is_same_flags}
 use Rattle.std.proofs.lemmas.Bool.Decides.{nat_tests}
 use Rattle.mail_message.specs.RowOrder.{row_at}
 

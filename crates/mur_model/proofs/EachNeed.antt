@@ -14,7 +14,7 @@ use Rattle.mur_base.specs.declared.user.User.{User}
 use Rattle.imap_types.specs.declared.command.Command.{Command}
 use Rattle.imap_types.specs.declared.command.Command.TheVariants as command
 use Rattle.imap_types.specs.declared.command.StatusItem.{StatusItem}
-use Rattle.mur_model.specs.declared.fetch.Fetching.{Fetching}
+use Rattle.mur_model.specs.declared.commands.fetch.Fetching.{Fetching}
 use Rattle.mur_model.specs.Needed.{Needed, Refusal, Turned, Mailbox, Work, Make, Append as append_work, Status as status_work, Select as select_work, at_mailbox, no_such_number, read_only}
 use Rattle.mur_model.specs.declared.work.NewsFor.{NewsFor}
 use Rattle.mur_model.specs.declared.work.NewsFor.TheVariants as news_for
@@ -25,13 +25,13 @@ use Rattle.imap_types.specs.declared.reply.NoText.{NoText}
 use Rattle.imap_types.specs.declared.reply.NoText.TheVariants.{AuthenticationFailed, Cannot, NonExistent, NoPerm, TryCreate}
 use Rattle.imap_types.specs.declared.reply.Verdict.{Verdict}
 use Rattle.imap_types.specs.declared.reply.Verdict.TheVariants.{No as no_reply, Bad as bad_reply}
-use Rattle.mur_model.specs.declared.search.Searching.{Searching}
-use Rattle.mur_model.specs.declared.select.Opening.{Opening}
+use Rattle.mur_model.specs.declared.commands.search.Searching.{Searching}
+use Rattle.mur_model.specs.declared.commands.select.Opening.{Opening}
 use Rattle.mur_model.specs.declared.session.Sess.{Sess}
 use Rattle.mur_model.specs.declared.session.Sess.TheVariants.{Off, In, Selected as selected, Ended}
 use Rattle.mur_model.specs.declared.setting.Setting.{Setting}
 use Rattle.mur_model.specs.declared.view.View.{View}
-use Rattle.mur_model.specs.Act.{idled, need_begun, need_in, need_of, need_off, need_selected, need_unselected, wants_selected}
+use Rattle.mur_model.specs.Act.{idled, need_begun, need_in, need_of, need_off, need_selected, need_taken}
 use Rattle.mur_model.specs.Append.{append, append_as, append_by, new_message}
 use Rattle.mur_model.specs.AtOnce.{capability, enable, is_done, logout}
 use Rattle.mur_model.specs.Close.{left_by}
@@ -48,6 +48,7 @@ use Rattle.mur_model.specs.Rights.{has_rights, may_create, user_named}
 use Rattle.mur_model.specs.Select.{opening, select, select_as, select_by, unselected}
 use Rattle.mur_model.specs.Status.{status, status_as, status_by}
 use Rattle.mur_model.specs.StoreFlags.{store, store_named}
+use Rattle.mur_model.specs.Traits.{is_in, traits_of}
 
 -- what is answered whatever mailboxes there are, in a session that has begun and in one that has not
 pub record OfAnswers (Of : Needed → Type 0) : Type 0 where
@@ -140,20 +141,26 @@ each_plain {Of} of users response =
     either Of (bytes_eq response (codes "*")) (Refusal (bad_reply Syntax)) (authenticate_with users (decoded response)) (of.bad Syntax)
     (each_plain_with of users (decoded response))
 
--- a command of a session that hasn't begun
-pub each_off : {Of : Needed → Type 0} (of : OfAnswers Of) (setting : Setting) (it : Command) → Of (need_off setting it)
+each_off_taken : {Of : Needed → Type 0} (of : OfAnswers Of) (setting : Setting) (it : Command) → Of (need_off setting it)
 unfolding need_off
-each_off of setting command.Capability = of.capability
-each_off of setting command.Noop = of.completed (codes "NOOP") refl
-each_off of setting command.Logout = of.logout
-each_off of setting (command.Login user password) = each_login of setting.users (codes "LOGIN") user password refl
-each_off of setting (command.Authenticate (Some response)) = each_plain of setting.users response
-each_off of setting (command.Authenticate None) = of.bad Syntax
-each_off of setting (command.SetAcl text id mode rights) = of.bad Syntax
-each_off of setting (command.DeleteAcl text id) = of.bad Syntax
-each_off of setting (command.GetAcl text) = of.bad Syntax
-each_off of setting (command.MyRights text) = of.bad Syntax
-each_off of setting it = of.bad State
+each_off_taken of setting command.Capability = of.capability
+each_off_taken of setting command.Noop = of.completed (codes "NOOP") refl
+each_off_taken of setting command.Logout = of.logout
+each_off_taken of setting (command.Login user password) = each_login of setting.users (codes "LOGIN") user password refl
+each_off_taken of setting (command.Authenticate (Some response)) = each_plain of setting.users response
+each_off_taken of setting (command.Authenticate None) = of.bad Syntax
+each_off_taken of setting it = of.bad Syntax
+
+either_taken : {Of : Needed → Type 0} (of : OfAnswers Of) (setting : Setting) (session : Sess) (it : Command) → Of (need_taken setting session it)
+    → Of (need_of setting session it)
+unfolding need_of
+either_taken {Of} of setting session it is =
+    either Of (is_in session (traits_of it).states) (need_taken setting session it) (Refusal (bad_reply State)) is (of.bad State)
+
+-- a command of a session that hasn't begun
+pub each_off : {Of : Needed → Type 0} (of : OfAnswers Of) (setting : Setting) (it : Command) → Of (need_of setting Off it)
+unfolding need_taken
+each_off of setting it = either_taken of setting Off it (each_off_taken of setting it)
 
 -- ---- commands of a session that has begun
 
@@ -214,8 +221,6 @@ each_begun : {setting : Setting} {Asked : Command → Type 0} {Of : Needed → T
 unfolding need_begun create create_meant append status select
 each_begun of user is_selected command.Capability asked = of.answers.capability
 each_begun of user is_selected command.Logout asked = of.answers.logout
-each_begun of user is_selected (command.Login name password) asked = of.answers.bad State
-each_begun of user is_selected (command.Authenticate response) asked = of.answers.bad State
 each_begun of user is_selected (command.Enable names) asked = of.enable
 each_begun of user is_selected (command.Create text) asked =
     let meant = without_separator text in
@@ -239,18 +244,13 @@ each_begun of user is_selected it asked = of.answers.bad Syntax
 each_idled : {Of : Needed → Type 0} (of : OfAnswers Of) (line : List ℕ) (done : Needed) → Of done → Of (idled line done)
 each_idled {Of} of line done is = either Of (is_done line) done (Refusal (bad_reply Syntax)) is (of.bad Syntax)
 
-each_unselected : {setting : Setting} {Asked : Command → Type 0} {Of : Needed → Type 0} (of : OfBegun setting Asked Of) (user : List ℕ) (it : Command)
-    → Asked it → Of (need_unselected setting user it)
-each_unselected {setting} {Asked} {Of} of user it asked =
-    either Of (wants_selected it) (Refusal (bad_reply State)) (need_begun setting user false it) (of.answers.bad State) (each_begun of user false it asked)
-
 each_in : {setting : Setting} {Asked : Command → Type 0} {Of : Needed → Type 0} (of : OfBegun setting Asked Of) (user : List ℕ) (it : Command)
     → Asked it → Of (need_in setting user it)
 unfolding need_in
 each_in of user command.Noop asked = of.answers.completed (codes "NOOP") refl
 each_in of user (command.Idle (Some line)) asked = each_idled of.answers line _ (of.answers.completed (codes "IDLE") refl)
-each_in of user (command.Idle None) asked = each_unselected of user (command.Idle None) asked
-each_in of user it asked = each_unselected of user it asked
+each_in of user (command.Idle None) asked = each_begun of user false (command.Idle None) asked
+each_in of user it asked = each_begun of user false it asked
 
 -- ---- commands of a session that has a mailbox selected
 
@@ -290,14 +290,18 @@ each_selected {setting} {Asked} {Of} {view} of viewed (command.Search by_uid key
     (viewed.search _) (of.answers.bad no_message)
 each_selected {view = view} of viewed it asked = each_begun of view.user true it asked
 
+each_taken : {setting : Setting} {Asked : Command → Type 0} {Of : Needed → Type 0} (of : OfBegun setting Asked Of) (session : Sess)
+    → ((view : View) → session ≡ selected view → OfViewed Asked Of view) → (it : Command) → Asked it → Of (need_taken setting session it)
+unfolding need_taken
+each_taken {setting} of Off viewed it asked = each_off_taken of.answers setting it
+each_taken of (In user) viewed it asked = each_in of user it asked
+each_taken of (selected view) viewed it asked = each_selected of (viewed view refl) it asked
+each_taken of Ended viewed it asked = of.answers.bad State
+
 -- what a command of any session needs
 pub each_need : {setting : Setting} {Asked : Command → Type 0} {Of : Needed → Type 0} (of : OfBegun setting Asked Of) (session : Sess)
     → ((view : View) → session ≡ selected view → OfViewed Asked Of view) → (it : Command) → Asked it → Of (need_of setting session it)
-unfolding need_of
-each_need {setting} of Off viewed it asked = each_off of.answers setting it
-each_need of (In user) viewed it asked = each_in of user it asked
-each_need of (selected view) viewed it asked = each_selected of (viewed view refl) it asked
-each_need of Ended viewed it asked = of.answers.bad State
+each_need {setting} of session viewed it asked = either_taken of.answers setting session it (each_taken of session viewed it asked)
 
 -- where each work has the property, whatever is asked, these leaves are enough
 pub record OfWorks (Of : Needed → Type 0) : Type 0 where

@@ -12,7 +12,7 @@ use Rattle.mail_message.specs.declared.item.Item.TheVariants as item
 use Rattle.mail_message.specs.declared.message.Message.{Message}
 use Rattle.mail_message.specs.declared.message.Row.{Row}
 use Rattle.mail_store.specs.Named.{set_of}
-use Rattle.mur_model.specs.declared.fetch.Fetching.{Fetching}
+use Rattle.mur_model.specs.declared.commands.fetch.Fetching.{Fetching}
 use Rattle.imap_types.specs.declared.reply.ReplyLine.{ReplyLine}
 use Rattle.imap_types.specs.declared.reply.ReplyLine.TheVariants.{Fetch}
 use Rattle.imap_types.specs.declared.reply.Verdict.TheVariants.{Ok as ok_reply}
@@ -22,7 +22,7 @@ use Rattle.mur_model.specs.FetchRows.{asks_rows, is_in_row, row_line, row_lines,
 use Rattle.mur_model.specs.News.{has_row, news}
 use Rattle.mur_model.specs.Selected.{rows_of, with_news}
 use Rattle.mur_model.specs.StoreFlags.{code_for}
-use Rattle.mur_model.proofs.FlagLaw.{flags_self}
+use Rattle.mail_message.proofs.FlagLaw.{flags_self}
 use Rattle.mail_message.proofs.FoundUids.{IsOf, found_is}
 
 -- ---- the items
@@ -110,7 +110,7 @@ lines_same it rows messages (uid ∷ uids) are =
 
 -- ---- the UIDs of those whose flags are told
 
-told_same : (it : Fetching) (message : Message) (asked : Bool) → list_any is_flags it.items ≡ asked → tells_flags it message (Some (row_of message)) ≡ asked
+pub told_same : (it : Fetching) (message : Message) (asked : Bool) → list_any is_flags it.items ≡ asked → tells_flags it message (Some (row_of message)) ≡ asked
 told_same it message true are = rw are refl
 told_same it message false are = rw (are, flags_self message.flags) refl
 
@@ -133,7 +133,7 @@ uids_same it messages (uid ∷ uids) asked are =
 
 -- ---- what is told
 
-told_by : (view : View) (it : Fetching) (now : List Row) (lines others : List ReplyLine) (uids more : List ℕ) → lines ≡ others → uids ≡ more
+pub told_by : (view : View) (it : Fetching) (now : List Row) (lines others : List ReplyLine) (uids more : List ℕ) → lines ≡ others → uids ≡ more
     → with_news view lines (news view.rows now it.by_uid (set_of uids)) (ok_reply (code_for it.by_uid now it.uids) (fetch_name it.by_uid))
     ≡ with_news view others (news view.rows now it.by_uid (set_of more)) (ok_reply (code_for it.by_uid now it.uids) (fetch_name it.by_uid))
 told_by view it now lines others uids more same alike = rw (same, alike) refl

@@ -9,7 +9,6 @@ mod BesideLaw
 mod StoreLaw
 mod PartLaw
 mod StoredLaw
-mod FlagLaw
 mod ViewedLaw
 mod KeysLaw
 mod BeginsLaw
@@ -17,4 +16,5 @@ pub mod EachNeed
 pub mod OwnView
 mod ActedLaw
 pub mod FetchRowsLaw
+pub mod FetchSummariesLaw
 pub mod SearchRowsLaw

@@ -2,7 +2,7 @@
 use Rattle.std.proofs.Common.{◌≡◌, ◌∙◌, ℕ, Bool, true, false, not, ◌&&◌, ◌||◌, List, [], ◌∷◌, ◌++◌, map, Option, None, Some, refl, sym, ap, subst}
 use Rattle.std.specs.List.{filter, list_all, zip}
 use Rattle.std.specs.Option.{option_map, option_to_list}
-use Rattle.mail_message.specs.Boxes.{Content, message_at, messages_at, row_of}
+use Rattle.mail_message.specs.Boxes.{Content, message_at, messages_at, row_of, summary_of}
 use Rattle.mail_message.specs.Date.{date_of, is_date, is_calendar, is_clock, is_zone, is_day, is_month, is_below}
 use Rattle.mail_message.specs.RowOrder.{row_at}
 use Rattle.mail_message.specs.declared.key.Key.{Key, roll-Key}
@@ -11,16 +11,17 @@ use Rattle.mail_message.specs.declared.key.Key.TheOpen.{Key-F}
 use Rattle.mail_message.specs.declared.key.Key.TheFolds.{fold-roll-Key, ind-Key, map-Key}
 use Rattle.mail_message.specs.declared.message.Message.{Message}
 use Rattle.mail_message.specs.declared.message.Row.{Row}
+use Rattle.mail_message.specs.declared.message.Summary.{Summary}
 use Rattle.mail_search.specs.Matching.{Test, all_match, key_matches, matches_by}
 use Rattle.mail_search.specs.Search.{Numbered, found}
 use Rattle.imap_types.specs.declared.reply.ReplyLine.TheVariants.{Search}
 use Rattle.imap_types.specs.declared.reply.Verdict.TheVariants.{Ok as ok_reply}
-use Rattle.mur_model.specs.declared.search.Searching.{Searching}
+use Rattle.mur_model.specs.declared.commands.search.Searching.{Searching}
 use Rattle.mur_model.specs.declared.view.View.{View}
 use Rattle.mur_model.specs.ClientView.{uids}
 use Rattle.mur_model.specs.News.{news}
 use Rattle.mur_model.specs.Search.{found_uids, number_at, numbers_told, search_name, search_told}
-use Rattle.mur_model.specs.SearchRows.{are_keys_in_rows, bare_message, bare_at, in_row_by, is_key_in_row, no_date, rows_searched}
+use Rattle.mur_model.specs.SearchRows.{are_keys_in_rows, bare_at, bare_summary, in_row_by, is_key_in_row, no_date, rows_searched}
 use Rattle.mur_model.specs.Selected.{rows_of, with_news}
 use Rattle.mur_model.specs.StoreFlags.{code_for}
 use Rattle.mur_model.proofs.FetchRowsLaw.{and_left, and_right, row_found}
@@ -40,13 +41,13 @@ group_in_rows keys = ap is_key_in_row (sym (rolls-Group keys)) ∙ fold-roll-Key
 
 -- ---- a key
 
--- a message without its date and body
-abbrev bared : Message → Message
-bared message = bare_message (row_of message)
+-- a message without its date and size
+abbrev bared : Summary → Summary
+bared message = bare_summary (record { uid = message.uid; flags = message.flags })
 
 -- a key that rows tell takes no notice of those
 abbrev IsAlike : Key → Type 0
-IsAlike key = is_key_in_row key ≡ true → (message : Message) (number : ℕ) → key_matches key (bared message) number ≡ key_matches key message number
+IsAlike key = is_key_in_row key ≡ true → (message : Summary) (number : ℕ) → key_matches key (bared message) number ≡ key_matches key message number
 
 -- a key with a proof of it
 abbrev Shown : Type 0
@@ -58,7 +59,7 @@ keys_of shown = map (λ (it : Shown). it.0) shown
 -- the same of a key, by the tests of those in it
 abbrev IsAlikeBy : Key-F Key → Type 0
 IsAlikeBy layer =
-    in_row_by (map-Key Key Bool is_key_in_row layer) ≡ true → (message : Message) (number : ℕ)
+    in_row_by (map-Key Key Bool is_key_in_row layer) ≡ true → (message : Summary) (number : ℕ)
     → matches_by (map-Key Key Test key_matches layer) (bared message) number ≡ matches_by (map-Key Key Test key_matches layer) message number
 
 both : (one other two more : Bool) → one ≡ other → two ≡ more → (one && two) ≡ (other && more)
@@ -67,7 +68,7 @@ both one other two more same alike = rw (same, alike) refl
 either : (one other two more : Bool) → one ≡ other → two ≡ more → (one || two) ≡ (other || more)
 either one other two more same alike = rw (same, alike) refl
 
-group_alike : (shown : List Shown) → list_all (λ (key : Bool). key) (map is_key_in_row (keys_of shown)) ≡ true → (message : Message) (number : ℕ)
+group_alike : (shown : List Shown) → list_all (λ (key : Bool). key) (map is_key_in_row (keys_of shown)) ≡ true → (message : Summary) (number : ℕ)
     → list_all (λ (test : Test). test (bared message) number) (map key_matches (keys_of shown))
     ≡ list_all (λ (test : Test). test message number) (map key_matches (keys_of shown))
 group_alike [] are message number = refl
@@ -97,7 +98,7 @@ rolled_alike layer alike are message number =
 key_alike : (key : Key) → IsAlike key
 key_alike = ind-Key IsAlike (λ layer shown is. rolled_alike layer (subst IsAlikeBy is (layer_alike shown)))
 
-keys_alike : (keys : List Key) → are_keys_in_rows keys ≡ true → (message : Message) (number : ℕ)
+keys_alike : (keys : List Key) → are_keys_in_rows keys ≡ true → (message : Summary) (number : ℕ)
     → all_match keys (bared message) number ≡ all_match keys message number
 keys_alike [] are message number = refl
 keys_alike (key ∷ keys) are message number =
@@ -106,12 +107,13 @@ keys_alike (key ∷ keys) are message number =
 
 -- ---- messages
 
-bared_by : (message : Option Message) (row : Option Row) (before : List Message) (bares : List Message) → row ≡ option_map row_of message
-    → bares ≡ map bared before → option_to_list (option_map bare_message row) ++ bares ≡ map bared (option_to_list message ++ before)
+bared_by : (message : Option Message) (row : Option Row) (before : List Message) (bares : List Summary) → row ≡ option_map row_of message
+    → bares ≡ map bared (map summary_of before)
+    → option_to_list (option_map bare_summary row) ++ bares ≡ map bared (map summary_of (option_to_list message ++ before))
 bared_by None row before bares found same = rw (found, same) refl
 bared_by (Some message) row before bares found same = rw (found, same) refl
 
-bared_at : (messages : List Message) (uids : List ℕ) → bare_at (map row_of messages) uids ≡ map bared (messages_at messages uids)
+bared_at : (messages : List Message) (uids : List ℕ) → bare_at (map row_of messages) uids ≡ map bared (map summary_of (messages_at messages uids))
 bared_at messages [] = refl
 bared_at messages (uid ∷ uids) =
     bared_by (message_at messages uid) (row_at (map row_of messages) uid) (messages_at messages uids) (bare_at (map row_of messages) uids)
@@ -120,18 +122,18 @@ bared_at messages (uid ∷ uids) =
 -- ---- what is found
 
 abbrev uids_in : List Key → Numbered → List ℕ
-uids_in keys rows = map (λ (row : Message × ℕ). row.0.uid) (filter (λ (row : Message × ℕ). all_match keys row.0 row.1) rows)
+uids_in keys rows = map (λ (row : Summary × ℕ). row.0.uid) (filter (λ (row : Summary × ℕ). all_match keys row.0 row.1) rows)
 
-found_by : (keys : List Key) (message : Message) (number : ℕ) (rest others : Numbered) (is : Bool) → all_match keys message number ≡ is
+found_by : (keys : List Key) (message : Summary) (number : ℕ) (rest others : Numbered) (is : Bool) → all_match keys message number ≡ is
     → all_match keys (bared message) number ≡ is → uids_in keys rest ≡ uids_in keys others
     → uids_in keys ((message, number) ∷ rest) ≡ uids_in keys ((bared message, number) ∷ others)
 found_by keys message number rest others true one other same = rw (one, other, same) refl
 found_by keys message number rest others false one other same = rw (one, other, same) refl
 
-abbrev numbers_in : List Row → List Message → List ℕ
-numbers_in rows messages = map (λ (message : Message). number_at rows message.uid) messages
+abbrev numbers_in : List Row → List Summary → List ℕ
+numbers_in rows messages = map (λ (message : Summary). number_at rows message.uid) messages
 
-found_alike : (keys : List Key) (rows : List Row) (messages : List Message) → are_keys_in_rows keys ≡ true
+found_alike : (keys : List Key) (rows : List Row) (messages : List Summary) → are_keys_in_rows keys ≡ true
     → found keys messages (numbers_in rows messages) ≡ found keys (map bared messages) (numbers_in rows (map bared messages))
 found_alike keys rows [] are = refl
 found_alike keys rows (message ∷ messages) are =
@@ -141,10 +143,11 @@ found_alike keys rows (message ∷ messages) are =
 
 -- what is told of the messages of a mailbox that stays as it is
 pub rows_search : (view : View) (it : Searching) (box : Content) → are_keys_in_rows it.keys ≡ true
-    → search_told view it (messages_at box.messages (uids view.rows)) (rows_of box) ≡ rows_searched view it (rows_of box)
+    → search_told view it (map summary_of (messages_at box.messages (uids view.rows))) (rows_of box) ≡ rows_searched view it (rows_of box)
 rows_search view it box are =
-    let same : found_uids it view.rows (messages_at box.messages (uids view.rows)) ≡ found_uids it view.rows (bare_at (rows_of box) (uids view.rows)) =
-    found_alike it.keys view.rows (messages_at box.messages (uids view.rows)) are
+    let before : List Summary = map summary_of (messages_at box.messages (uids view.rows)) in
+    let same : found_uids it view.rows before ≡ found_uids it view.rows (bare_at (rows_of box) (uids view.rows)) =
+    found_alike it.keys view.rows before are
     ∙ ap (found_uids it view.rows) (sym (bared_at box.messages (uids view.rows))) in
     ap (λ (all : List ℕ). with_news view (Search it.by_uid (numbers_told it.by_uid view.rows all) ∷ []) (news view.rows (rows_of box) it.by_uid [])
     (ok_reply (code_for it.by_uid (rows_of box) (uids view.rows)) (search_name it.by_uid))) same

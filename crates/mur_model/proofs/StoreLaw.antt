@@ -6,7 +6,7 @@ use Rattle.mail_store.specs.Store.{stored, rows_stored, IsStoredBy}
 use Rattle.mail_store.specs.declared.fault.StoreFault.{StoreFault}
 use Rattle.mail_store.specs.declared.fault.StoreFault.TheVariants.{Memory}
 use Rattle.mur_model.specs.declared.session.Turn.{Turn}
-use Rattle.mur_model.specs.declared.store_flags.FlagStore.{FlagStore}
+use Rattle.mur_model.specs.declared.commands.store.FlagStore.{FlagStore}
 use Rattle.mur_model.specs.declared.view.View.{View}
 use Rattle.mur_model.specs.Left.{IsLeft, box_after}
 use Rattle.mur_model.specs.Selected.{rows_of}

@@ -32,6 +32,7 @@ use Rattle.mur_model.specs.Select.{select, select_on}
 use Rattle.mur_model.specs.Status.{status, status_on}
 use Rattle.mur_model.specs.Store.{box_at, is_spent, IsFree}
 use Rattle.mur_model.specs.StoreFlags.{store}
+use Rattle.mur_model.specs.Traits.{is_in, traits_of}
 use Rattle.mur_model.specs.Viewing.{viewed_on}
 
 -- the refusal of a command that is read and that no state has, or that lacks the line which it waits for (see Waits)
@@ -41,16 +42,6 @@ not_yet = Refusal (bad_reply Syntax)
 -- the refusal of a command that nothing carries out
 abbrev pub cannot_yet : Needed
 cannot_yet = Refusal (no_reply Cannot)
-
--- a command that wants a mailbox to be selected
-unfoldable pub wants_selected : Command → Bool
-wants_selected command.Close = true
-wants_selected command.Unselect = true
-wants_selected (command.Expunge only) = true
-wants_selected (command.Store by_uid set mode is_silent flags) = true
-wants_selected (command.Fetch by_uid set items) = true
-wants_selected (command.Search by_uid keys) = true
-wants_selected it = false
 
 abbrev pub nothing_new : Needed
 nothing_new = Turned (replied (completed (codes "NOOP")))
@@ -62,12 +53,7 @@ need_off setting command.Noop = nothing_new
 need_off setting command.Logout = logout
 need_off setting (command.Login user password) = login setting.users (codes "LOGIN") user password
 need_off setting (command.Authenticate (Some response)) = authenticate setting.users response
-need_off setting (command.Authenticate None) = not_yet
-need_off setting (command.SetAcl text id mode rights) = not_yet
-need_off setting (command.DeleteAcl text id) = not_yet
-need_off setting (command.GetAcl text) = not_yet
-need_off setting (command.MyRights text) = not_yet
-need_off setting it = Refusal (bad_reply State)
+need_off setting it = not_yet
 
 -- an IDLE ends with DONE, and with no other line (RFC 9051, 6.3.13)
 abbrev pub idled : List ℕ → Needed → Needed
@@ -77,8 +63,6 @@ idled line done = if is_done line then done else Refusal (bad_reply Syntax)
 unfoldable pub need_begun : Setting → List ℕ → Bool → Command → Needed
 need_begun setting user is_selected command.Capability = capability
 need_begun setting user is_selected command.Logout = logout
-need_begun setting user is_selected (command.Login name password) = Refusal (bad_reply State)
-need_begun setting user is_selected (command.Authenticate response) = Refusal (bad_reply State)
 need_begun setting user is_selected (command.Enable names) = enable
 need_begun setting user is_selected (command.Create text) = create setting user text
 need_begun setting user is_selected (command.Append text flags date body) = append setting user text (new_message setting flags date body)
@@ -92,14 +76,11 @@ need_begun setting user is_selected (command.Xfer text server partition) = canno
 need_begun setting user is_selected (command.LeftOut line) = Refusal (no_reply Cannot)
 need_begun setting user is_selected it = not_yet
 
-abbrev pub need_unselected : Setting → List ℕ → Command → Needed
-need_unselected setting user it = if wants_selected it then Refusal (bad_reply State) else need_begun setting user false it
-
 -- a command of a session of this user, with no mailbox selected
 unfoldable pub need_in : Setting → List ℕ → Command → Needed
 need_in setting user command.Noop = nothing_new
 need_in setting user (command.Idle (Some line)) = idled line (Turned (replied (completed (codes "IDLE"))))
-need_in setting user it = need_unselected setting user it
+need_in setting user it = need_begun setting user false it
 
 -- a command of a session that has this view
 unfoldable pub need_selected : Setting → View → Command → Needed
@@ -113,12 +94,16 @@ need_selected setting view (command.Fetch by_uid set items) = fetch view by_uid 
 need_selected setting view (command.Search by_uid keys) = search view by_uid keys
 need_selected setting view it = need_begun setting view.user true it
 
--- what a command needs of the store
+-- a command that the state of its session has
+unfoldable pub need_taken : Setting → Sess → Command → Needed
+need_taken setting Off it = need_off setting it
+need_taken setting (In user) it = need_in setting user it
+need_taken setting (selected view) it = need_selected setting view it
+need_taken setting Ended it = Refusal (bad_reply State)
+
+-- what a command needs of the store: it is refused where the state of its session doesn't have it
 unfoldable pub need_of : Setting → Sess → Command → Needed
-need_of setting Off it = need_off setting it
-need_of setting (In user) it = need_in setting user it
-need_of setting (selected view) it = need_selected setting view it
-need_of setting Ended it = Refusal (bad_reply State)
+need_of setting session it = if is_in session (traits_of it).states then need_taken setting session it else Refusal (bad_reply State)
 
 -- what work leaves of the mailbox that stands there; a CREATE gives it the serial as its UIDVALIDITY, if one is left
 unfoldable pub work_on : List ℕ → Work → ℕ → Bool → Option Content → Worked

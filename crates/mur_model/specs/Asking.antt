@@ -2,7 +2,8 @@
 use Rattle.std.specs.Prelude.{ℕ, ⊤, Bool, true, false, List, [], ◌∷◌, Option, None, Some, IsSome}
 use Rattle.imap_types.specs.declared.op.Op.{Op}
 use Rattle.imap_types.specs.declared.op.Op.TheVariants.{Look, Create as create_op, Append as append_op, Expunge as expunge_op, Flags as flags_op, Read as read_op}
-use Rattle.mur_model.specs.declared.fetch.Fetching.{Fetching}
+use Rattle.imap_types.specs.declared.op.Op.TheVariants.{Summaries as summaries_op}
+use Rattle.mur_model.specs.declared.commands.fetch.Fetching.{Fetching}
 use Rattle.mur_model.specs.declared.need.Asking.{Asking}
 use Rattle.mur_model.specs.declared.need.Awaited.{Awaited}
 use Rattle.mur_model.specs.declared.need.Awaited.TheVariants as awaited
@@ -16,17 +17,19 @@ use Rattle.mur_model.specs.declared.work.ViewWork.TheVariants.{News, Close, Expu
 use Rattle.mur_model.specs.ClientView.{uids as uids_of}
 use Rattle.mur_model.specs.Fetch.{sees}
 use Rattle.mur_model.specs.FetchRows.{asks_rows}
+use Rattle.mur_model.specs.FetchSummaries.{asks_summaries}
 use Rattle.mur_model.specs.Needed.{Work, Make, Append, Status, Select, Viewed}
 use Rattle.mur_model.specs.SearchRows.{are_keys_in_rows}
 
--- what rows tell needs no message
-unfoldable pub fetch_op : View → Fetching → Bool → Op
-fetch_op view it true = Look
-fetch_op view it false = read_op it.uids (sees view it)
+-- what rows tell needs no message, and what summaries tell no body
+unfoldable pub fetch_op : View → Fetching → Bool → Bool → Op
+fetch_op view it true summaries = Look
+fetch_op view it false true = summaries_op it.uids
+fetch_op view it false false = read_op it.uids (sees view it)
 
 unfoldable pub search_op : View → Bool → Op
 search_op view true = Look
-search_op view false = read_op (uids_of view.rows) false
+search_op view false = summaries_op (uids_of view.rows)
 
 -- the operation of a command of a selected session
 unfoldable pub view_op : View → ViewWork → Op
@@ -34,7 +37,7 @@ view_op view (News why) = Look
 view_op view Close = expunge_op None
 view_op view (Expunge only) = expunge_op only
 view_op view (Store it) = flags_op it.uids it.mode it.flags
-view_op view (Fetch it) = fetch_op view it (asks_rows it)
+view_op view (Fetch it) = fetch_op view it (asks_rows it) (asks_summaries it)
 view_op view (Search it) = search_op view (are_keys_in_rows it.keys)
 
 -- an ask for which no selected mailbox matters names no UIDVALIDITY

@@ -6,7 +6,7 @@ use Rattle.imap_types.specs.declared.reply.ReplyLine.TheVariants.{Expunge}
 use Rattle.mur_model.specs.declared.beside.Walked.{Walked}
 use Rattle.mur_model.specs.declared.news.Told.{Told}
 use Rattle.mur_model.specs.News.{changed_line, exists_lines, is_among}
-use Rattle.mur_model.specs.SameFlags.{is_same_flags}
+use Rattle.mail_message.specs.SameFlags.{is_same_flags}
 
 -- how many rows of a view the mailbox has first, with the flags that were told
 abbrev pub same_until : List Row → List Row → ℕ

@@ -5,13 +5,13 @@ pub mod Login
 pub mod Plain
 pub mod AtOnce
 pub mod Waits
+pub mod Traits
 pub mod Create
 pub mod Append
 pub mod Status
 pub mod Act
 pub mod Answer
 pub mod History
-pub mod SameFlags
 pub mod News
 pub mod Beside
 pub mod ClientView
@@ -28,6 +28,7 @@ pub mod Keys
 pub mod Search
 pub mod Fetch
 pub mod FetchRows
+pub mod FetchSummaries
 pub mod SearchRows
 pub mod Viewing
 pub mod Asking

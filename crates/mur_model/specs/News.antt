@@ -9,7 +9,7 @@ use Rattle.mail_fetch.specs.Parts.{uid_text}
 use Rattle.mail_message.specs.declared.message.Row.{Row}
 use Rattle.mail_message.specs.RowOrder.{row_at}
 use Rattle.mur_model.specs.declared.news.Told.{Told}
-use Rattle.mur_model.specs.SameFlags.{is_same_flags}
+use Rattle.mail_message.specs.SameFlags.{is_same_flags}
 use Rattle.imap_types.specs.declared.reply.ReplyLine.{ReplyLine}
 use Rattle.imap_types.specs.declared.reply.ReplyLine.TheVariants.{Exists, Expunge, Fetch}
 

@@ -1,4 +1,4 @@
--- SEARCH and UID SEARCH by keys that ask for neither date nor body of a message (RFC 9051, 6.4.4): the rows of a mailbox tell what is found.
+-- SEARCH and UID SEARCH by keys that ask for neither date nor size of a message (RFC 9051, 6.4.4): the rows of a mailbox tell what is found.
 use Rattle.std.specs.Prelude.{ℕ, Bool, true, false, ◌&&◌, List, [], ◌∷◌, ◌++◌, codes}
 use Rattle.std.specs.List.{list_all}
 use Rattle.std.specs.Option.{option_map, option_to_list}
@@ -6,15 +6,15 @@ use Rattle.mail_message.specs.RowOrder.{row_at}
 use Rattle.mail_message.specs.declared.key.Key.{Key}
 use Rattle.mail_message.specs.declared.key.Key.TheOpen.{Key-F}
 use Rattle.mail_message.specs.declared.key.Key.TheFolds.{fold-Key}
-use Rattle.mail_message.specs.declared.message.Message.{Message}
 use Rattle.mail_message.specs.declared.message.Row.{Row}
-use Rattle.mur_model.specs.declared.search.Searching.{Searching}
+use Rattle.mail_message.specs.declared.message.Summary.{Summary}
+use Rattle.mur_model.specs.declared.commands.search.Searching.{Searching}
 use Rattle.mur_model.specs.declared.session.Turn.{Turn}
 use Rattle.mur_model.specs.declared.view.View.{View}
 use Rattle.mur_model.specs.ClientView.{uids}
 use Rattle.mur_model.specs.Search.{search_told}
 
--- a key asks for neither date nor body, where this is so of the keys in it
+-- a key asks for neither date nor size, where this is so of the keys in it
 abbrev pub in_row_by : Key-F Bool → Bool
 in_row_by (Key-F.Larger size) = false
 in_row_by (Key-F.Smaller size) = false
@@ -38,13 +38,13 @@ abbrev pub no_date : List ℕ
 no_date = codes " 1-Jan-1970 00:00:00 +0000"
 
 -- a message of which the row alone is known
-abbrev pub bare_message : Row → Message
-bare_message row = record { uid = row.uid; flags = row.flags; date = no_date; body = [] }
+abbrev pub bare_summary : Row → Summary
+bare_summary row = record { uid = row.uid; flags = row.flags; date = no_date; size = 0 }
 
 -- for each UID in its turn such a message, if its row is there
-abbrev pub bare_at : List Row → List ℕ → List Message
+abbrev pub bare_at : List Row → List ℕ → List Summary
 bare_at rows [] = []
-bare_at rows (uid ∷ uids) = option_to_list (option_map bare_message (row_at rows uid)) ++ bare_at rows uids
+bare_at rows (uid ∷ uids) = option_to_list (option_map bare_summary (row_at rows uid)) ++ bare_at rows uids
 
 -- what is told where a mailbox has these rows now
 abbrev pub rows_searched : View → Searching → List Row → Turn

@@ -20,7 +20,7 @@ use Rattle.imap_types.specs.declared.reply.NoText.TheVariants.{NonExistent, NoPe
 use Rattle.imap_types.specs.declared.reply.ReplyLine.{ReplyLine}
 use Rattle.imap_types.specs.declared.reply.ReplyLine.TheVariants.{Closed, Exists, Flags, Listed, Permanent, UidNext, UidValidity}
 use Rattle.imap_types.specs.declared.reply.Verdict.TheVariants.{Ok as ok_reply, No as no_reply}
-use Rattle.mur_model.specs.declared.select.Opening.{Opening}
+use Rattle.mur_model.specs.declared.commands.select.Opening.{Opening}
 use Rattle.mur_model.specs.declared.session.Sess.TheVariants.{In, Selected}
 use Rattle.mur_model.specs.declared.session.Turn.{Turn}
 use Rattle.mur_model.specs.declared.setting.Setting.{Setting}

@@ -1,5 +1,5 @@
 -- Commands that wait for one line more of their client: AUTHENTICATE without a response (RFC 9051, 6.2.2), and IDLE (RFC 9051, 6.3.13).
-use Rattle.std.specs.Prelude.{ℕ, Bool, true, false, ◌||◌, List, Option, None, Some, codes}
+use Rattle.std.specs.Prelude.{ℕ, Bool, true, false, ◌||◌, if◌then◌else◌, List, [], Option, None, Some, codes}
 use Rattle.imap_types.specs.declared.command.Command.{Command}
 use Rattle.imap_types.specs.declared.command.Command.TheVariants.{Authenticate, Idle, Login}
 use Rattle.mur_model.specs.Needed.{Needed, Turned}
@@ -10,6 +10,7 @@ use Rattle.mur_model.specs.declared.wait.Wait.{Wait}
 use Rattle.mur_model.specs.declared.wait.Wait.TheVariants.{Authenticate as response, Idle as done}
 use Rattle.mur_model.specs.Login.{login}
 use Rattle.mur_model.specs.Plain.{authenticate}
+use Rattle.mur_model.specs.Traits.{may_be, traits_of}
 
 -- the command with its line, without the CRLF behind it
 unfoldable pub with_line : Wait → List ℕ → Command
@@ -18,14 +19,11 @@ with_line done line = Idle (Some line)
 
 -- whether the session of what waits has begun
 unfoldable pub waits_begun : Wait → Bool
-waits_begun response = false
-waits_begun done = true
+waits_begun wait = may_be true (traits_of (with_line wait [])).states
 
 -- what a command waits for, in a session that has begun, or that has not
 unfoldable pub wait_of : Bool → Command → Option Wait
-wait_of false (Authenticate None) = Some response
-wait_of true (Idle None) = Some done
-wait_of begun it = None
+wait_of begun it = if may_be begun (traits_of it).states then (traits_of it).waits else None
 
 unfoldable pub begins_session : Option Sess → Bool
 begins_session (Some (In user)) = true

@@ -6,14 +6,14 @@ ghost use Rattle.mur_model.specs.Acting.{IsActed, IsWorked};
 ghost use Rattle.mur_model.specs.Left.{replied};
 ghost use Rattle.mur_model.specs.Needed.{Mailbox};
 
-use crate::append::append_at;
 use crate::beginning::begin;
-use crate::create::make;
+use crate::commands::append::append_at;
+use crate::commands::create::make;
+use crate::commands::select::select_at;
+use crate::commands::status::status_at;
 use crate::need::{Asking, Awaited, Begun, Need};
-use crate::select::select_at;
 use crate::session::{Sess, Turn};
 use crate::setting::Setting;
-use crate::status::status_at;
 use crate::store::Store;
 use crate::viewing::viewed_at;
 use crate::work::ViewWork;

@@ -4,7 +4,7 @@ ghost use Rattle.mail_message.specs.declared.message.Row.{Row as row_type};
 ghost use Rattle.mur_model.specs.Beside.{from_place, one_gone, one_kept, same_until, told_walked, walked};
 ghost use Rattle.mur_model.specs.News.{changed_line, is_among};
 
-use crate::news::{Told, is_among, is_same_flags, number_of, put_changed_line, put_exists};
+use crate::news::{Told, is_among, number_of, put_changed_line, put_exists};
 use crate::selected::put_all;
 use imap_types::{ReplyLine, ReplyLines};
 use mail_message::{OrderedRows, Row};
@@ -32,7 +32,7 @@ pub fn same_until(rows: &[Row], now: &[Row]) -> usize
         let Some(it) = now.get(at) else {
             return at;
         };
-        if it.uid != row.uid || !is_same_flags(&row.flags, &it.flags) {
+        if it.uid != row.uid || !row.flags.is_same(&it.flags) {
             return at;
         }
     }
@@ -151,7 +151,7 @@ fn put_kept_line(
 ) -> Result<(), Memory>
     ensures { OnOk result (lines.new ≡ lines.old ++ changed_line (is_among told.now.keys row.now.uid) number row.now (Some it.now)) }
 {
-    if is_same_flags(&row.flags, &it.flags) {
+    if row.flags.is_same(&it.flags) {
         return Ok(());
     }
     let is_told = is_among(told, row.uid);

@@ -3,44 +3,39 @@
 #![tactic(auto)]
 
 mod acting;
-mod append;
 mod at_once;
 mod beginning;
 mod beside;
-mod close;
-mod create;
-mod expunge;
-mod fetch;
-mod fetch_rows;
+mod commands;
 mod keys;
-mod login;
 mod named_rows;
 mod need;
 mod news;
-mod noop;
-mod plain;
 mod rights;
-mod search;
-mod search_rows;
-mod select;
 mod selected;
 mod session;
 mod setting;
-mod status;
 mod store;
-mod store_flags;
+mod traits;
 mod view;
 mod viewing;
 mod wait;
 mod work;
 
 pub use acting::act;
-pub use append::append_reply;
 pub use beginning::begin;
-pub use close::left_by;
-pub use expunge::expunge_told;
-pub use fetch::{Fetching, fetch_told, sees};
-pub use fetch_rows::{asks_rows, rows_told};
+pub use commands::append::append_reply;
+pub use commands::close::left_by;
+pub use commands::expunge::expunge_told;
+pub use commands::fetch::{Fetching, fetch_told, sees};
+pub use commands::fetch_rows::{asks_rows, rows_told};
+pub use commands::fetch_summaries::{asks_summaries, summaries_told};
+pub use commands::noop::news_told;
+pub use commands::search::{Searching, search_told};
+pub use commands::search_rows::{are_keys_in_rows, rows_searched};
+pub use commands::select::{Opening, select_told, unselected};
+pub use commands::status::status_reply;
+pub use commands::store::{FlagStore, store_refused, store_told};
 pub use imap_types::{
     Answer, Atoms, Attribute, BadText, Bye, Code, Command, FlagNames, NoText, Op, Parts, Reply,
     ReplyLine, ReplyLines, Request, StatusCount, StatusCounts, StatusItem, StatusItems, Tag,
@@ -49,16 +44,11 @@ pub use imap_types::{
 pub use named_rows::uids_of;
 pub use need::{Asking, Awaited, Begun, Need};
 pub use news::Told;
-pub use noop::news_told;
-pub use search::{Searching, search_told};
-pub use search_rows::{are_keys_in_rows, rows_searched};
-pub use select::{Opening, select_told, unselected};
 pub use selected::gone;
 pub use session::{Sess, Turn};
 pub use setting::Setting;
-pub use status::status_reply;
 pub use store::{Pair, Store};
-pub use store_flags::{FlagStore, store_refused, store_told};
+pub use traits::{States, Traits, traits_of};
 pub use view::View;
 pub use wait::{Wait, begun_behind, wait_of, waits_begun, with_line};
 pub use work::{NewsFor, ViewWork};

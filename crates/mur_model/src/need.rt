@@ -5,7 +5,7 @@ ghost use Rattle.mur_model.specs.Need.{begun_of};
 ghost use Rattle.mur_model.specs.Needed.{at_mailbox, no_such_number, read_only, Refusal, Turned};
 ghost use Rattle.mur_model.specs.declared.need.Need.TheVariants.{Home as home};
 
-use crate::select::Opening;
+use crate::commands::select::Opening;
 use crate::session::{Sess, Turn};
 use crate::view::View;
 use crate::work::ViewWork;

@@ -1,18 +1,17 @@
 // What a client is told of its view (RFC 9051, 7.4 and 7.5).
-ghost use Rattle.std.specs.Prelude.{◌≡◌, ◌≤◌, ◌++◌, ◌↔◌, length, IfOk, OnOk, IsTrue};
+ghost use Rattle.std.specs.Prelude.{◌≡◌, ◌≤◌, ◌++◌, length, IfOk, OnOk};
 ghost use Rattle.mail_message.specs.RowOrder.{AreRising};
 ghost use Rattle.mail_store.specs.Named.{set_of};
 ghost use Rattle.mur_model.specs.ClientView.{Known, Agrees, known_after_all, uids};
 ghost use Rattle.mur_model.specs.News.{is_among, news, told_of, expunge_lines, rows_there, rows_behind, is_above};
 ghost use Rattle.mur_model.specs.News.{fresh_rows, exists_lines, changed_lines, changed_line, flag_parts};
 ghost use Rattle.mur_model.specs.Beside.{same_until};
-ghost use Rattle.mur_model.specs.SameFlags.{is_same_flags};
 ghost use Rattle.std.specs.Option.{option_copied};
 
 use crate::beside::{same_until, told_unchanged, told_walked, walk};
 use imap_types::{Parts, ReplyLine, ReplyLines};
 use mail_fetch::{flags_part, uid_part};
-use mail_message::{FlagSet, OrderedRows, Row, Rows};
+use mail_message::{OrderedRows, Row, Rows};
 use mail_store::set_of;
 use mur_base::{Copied, Memory};
 use std::alloc::Global;
@@ -231,22 +230,6 @@ fn put_changed(
     Ok(())
 }
 
-pub fn is_same_flags(one: &FlagSet, other: &FlagSet) -> bool
-    ensures { result ≡ is_same_flags one.now other.now }
-{
-    are_same(one, other)
-}
-
-/// Whether flags are the same; sets of keywords are compared where there are some.
-fn are_same(one: &FlagSet, other: &FlagSet) -> bool
-    ensures { IsTrue result ↔ (one.now ≡ other.now) }
-{
-    if one.keywords().len() == 0 && other.keywords().len() == 0 {
-        return one.system() == other.system();
-    }
-    one.is_same(other)
-}
-
 #[tactic(auto, unfolding(crate::specs::News::is_among))]
 pub fn is_among(uids: &BTreeSet<u32>, uid: u32) -> bool
     ensures { result ≡ is_among uids.now.keys uid }
@@ -266,7 +249,7 @@ pub fn put_changed_line(
 {
     match it {
         Some(it) => {
-            if !is_told && !is_same_flags(&row.flags, &it.flags) {
+            if !is_told && !row.flags.is_same(&it.flags) {
                 lines.push(ReplyLine::Fetch(number, flag_parts(alloc, true, it)?))?;
             }
             Ok(())

@@ -4,11 +4,12 @@ ghost use Rattle.mur_model.specs.Login.{login};
 ghost use Rattle.mur_model.specs.Plain.{authenticate};
 ghost use Rattle.mur_model.specs.Waits.{begins, begins_by, begins_session, begun_behind, wait_of, waits_begun, with_line};
 
-use crate::login::login;
+use crate::commands::authenticate::authenticate;
+use crate::commands::login::login;
 use crate::need::Begun;
-use crate::plain::authenticate;
 use crate::session::Sess;
 use crate::setting::Setting;
+use crate::traits::traits_of;
 use imap_types::Command;
 use mur_base::{Bytes, Memory};
 use std::alloc::Global;
@@ -34,7 +35,7 @@ pub fn with_line(wait: Wait, line: Bytes) -> Command
 }
 
 /// Whether the session of what waits has begun.
-#[tactic(auto, unfolding(crate::specs::Waits::waits_begun))]
+#[tactic(auto, unfolding(crate::specs::Waits::waits_begun, crate::specs::Waits::with_line, crate::specs::Traits::may_be, crate::specs::Traits::traits_of))]
 pub fn waits_begun(wait: Wait) -> bool
     ensures { result ≡ waits_begun wait }
 {
@@ -46,11 +47,11 @@ pub fn waits_begun(wait: Wait) -> bool
 pub fn wait_of(begun: bool, command: &Command) -> Option<Wait>
     ensures { result ≡ wait_of begun command.now }
 {
-    match (begun, command) {
-        (false, Command::Authenticate(None)) => Some(Wait::Authenticate),
-        (true, Command::Idle(None)) => Some(Wait::Idle),
-        _ => None,
+    let traits = traits_of(command);
+    if !traits.states.may_be(begun) {
+        return None;
     }
+    traits.waits
 }
 
 /// Whether the session behind a command has begun.

@@ -1,7 +1,7 @@
 // What a command of a selected session does at its mailbox (RFC 9051, 6.4).
-use crate::fetch::Fetching;
-use crate::search::Searching;
-use crate::store_flags::FlagStore;
+use crate::commands::fetch::Fetching;
+use crate::commands::search::Searching;
+use crate::commands::store::FlagStore;
 use mail_message::Uids;
 
 /// What tells only the news of a mailbox.

@@ -55,7 +55,7 @@ back_takes home (Piece conn bytes) = idle (node.Back home)
 back_takes home (Hung conn) = idle (node.Back home)
 back_takes home (From name message) = back_by home (back_input name message)
 
--- the master takes everything, and lets nothing out yet
+-- the master takes everything, and lets nothing out
 unfoldable pub takes : NodeState → NodeInput → Acted
 takes (node.Front front) input = front_takes front input
 takes (node.Back home) input = back_takes home input

@@ -16,6 +16,7 @@ use Rattle.mur_model.specs.Left.{store_after}
 use Rattle.session_core.specs.Append.{reply_to_append, reply_to_appended, reply_to_uids}
 use Rattle.mur_model.specs.Asking.{asked_for}
 use Rattle.session_core.specs.Finish.{turn_of}
+use Rattle.session_core.specs.Results.{result_of, turn_by}
 use Rattle.backend_core.specs.OpenBox.{open_content}
 use Rattle.serve_law.proofs.HomeStore.{IsAtHome, opened, changed_alike, kept_alike}
 use Rattle.serve_law.proofs.ServedAlike.{ServesAlike, apart, not_refused}
@@ -33,7 +34,7 @@ fault_by : (store : Store) (home : Backend) (name : List ℕ) (message : Message
           Some (append_within_limits held.content (message ∷ []) fault).response.body;
       counts = (append_within_limits held.content (message ∷ []) fault).response.counts;
     })
-unfolding append_within_limits append_to_box store_after asked_for turn_of reply_to_append reply_to_appended reply_to_uids MayWork
+unfolding append_within_limits append_to_box store_after asked_for turn_by result_of turn_of reply_to_append reply_to_appended reply_to_uids MayWork
 fault_by store home name message held (Some fault) is = record {
   free = tt;
   body = _;

@@ -9,14 +9,16 @@ use Rattle.mur_model.specs.declared.store.Store.{Store}
 use Rattle.mur_model.specs.declared.view.View.{View}
 use Rattle.mur_model.specs.Left.{store_after}
 use Rattle.mur_model.specs.Viewing.{work_there}
-use Rattle.session_core.specs.Viewed.{viewed_done, viewed_told, viewed_turn}
+use Rattle.session_core.specs.Finish.{turn_of}
+use Rattle.session_core.specs.Results.{result_of, turn_by}
+use Rattle.session_core.specs.Viewed.{viewed_done, viewed_in, viewed_told, viewed_turn}
 use Rattle.serve_law.proofs.HomeStore.{IsAtHome, changed_alike}
 use Rattle.serve_law.proofs.ServedAlike.{apart}
 use Rattle.serve_law.proofs.ViewedAlike.{DoesAlike, operates, ViewsAlike}
 
 closes : (store : Store) (home : Backend) (name : List ℕ) (view : View) (held : Held) → IsAtHome store home name held
     → DoesAlike store home name view Close (λ content. expunge_to content None) held
-unfolding viewed_turn viewed_told viewed_done store_after work_there
+unfolding turn_by result_of turn_of viewed_in viewed_turn viewed_told viewed_done store_after work_there
 closes store home name view held at = record {
   shown = refl;
   still = changed_alike store home name held (expunged held.content None) at;

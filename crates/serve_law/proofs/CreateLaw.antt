@@ -22,6 +22,7 @@ use Rattle.mur_model.specs.Store.{box_at, with_new_box, is_spent, IsFree}
 use Rattle.mur_model.specs.Asking.{asked_for}
 use Rattle.session_core.specs.Create.{reply_to_create, reply_to_created}
 use Rattle.session_core.specs.Finish.{turn_of}
+use Rattle.session_core.specs.Results.{result_of, turn_by}
 use Rattle.backend_core.specs.OpenBox.{open_box, open_content}
 use Rattle.serve_law.proofs.HomeStore.{AreSerialsTo, IsAtHome, IsStoreOf}
 use Rattle.serve_law.proofs.HomeStore.IsStoreOf.{is_missing, is_there}
@@ -74,7 +75,7 @@ CreatesAlike store home name found =
 make_by : (store : Store) (home : Backend) (name : List ℕ) (spent : Bool) → nat_eq home.last_serial (2 ^ 32 - 1) ≡ spent
     → box_at store name ≡ None → held_at home name ≡ None → AreSerialsTo store.given home.last_serial
     → ServesAlike store home name Make (make_box name (home.last_serial + 1) spent) (make_at_home home name spent)
-unfolding make_at_home make_box store_after asked_for turn_of reply_to_create reply_to_created MayWork
+unfolding make_at_home make_box store_after asked_for turn_by result_of turn_of reply_to_create reply_to_created MayWork
 make_by store home name true e box none given = record {
   free = λ _. λ _. next_is_free store home name given;
   body = _;
@@ -106,7 +107,7 @@ creates_missing store home name box none given =
 -- a name that is there
 pub creates_alike : (store : Store) (home : Backend) (name : List ℕ) (held : Held) → IsAtHome store home name held
     → AreSerialsTo store.given home.last_serial → CreatesAlike store home name (Some held)
-unfolding create_step created_in create_on store_after asked_for turn_of reply_to_create reply_to_created MayWork open_box
+unfolding create_step created_in create_on store_after asked_for turn_by result_of turn_of reply_to_create reply_to_created MayWork open_box
 creates_alike store home name held is given = rw is.is_open (record {
   free = λ _. λ _. next_is_free store home name given;
   body = _;

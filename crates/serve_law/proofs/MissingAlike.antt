@@ -11,6 +11,7 @@ use Rattle.backend_core.specs.Read.{read_step}
 use Rattle.backend_core.specs.Response.{not_now}
 use Rattle.backend_core.specs.Served.{served}
 use Rattle.backend_core.specs.Step.{home_step, op_step}
+use Rattle.backend_core.specs.Summaries.{summaries_at, summaries_step}
 use Rattle.link_msg.specs.declared.answer.AnswerBody.TheVariants.{NotNow}
 use Rattle.link_msg.specs.declared.ask.FrontAsk.{FrontAsk}
 use Rattle.mur_model.specs.Act.{MayWork, work_on}
@@ -18,6 +19,7 @@ use Rattle.mur_model.specs.Append.{append_on}
 use Rattle.mur_model.specs.Asking.{asked_for, fetch_op, search_op, view_op}
 use Rattle.mur_model.specs.Fetch.{sees}
 use Rattle.mur_model.specs.FetchRows.{asks_rows}
+use Rattle.mur_model.specs.FetchSummaries.{asks_summaries}
 use Rattle.mur_model.specs.Left.{Worked, kept, store_after}
 use Rattle.mur_model.specs.Needed.{Work, Make, Append as append_work, Status as status_work, Select as select_work, Viewed as viewed_work}
 use Rattle.mur_model.specs.SearchRows.{are_keys_in_rows}
@@ -26,7 +28,7 @@ use Rattle.mur_model.specs.Status.{status_on}
 use Rattle.mur_model.specs.Store.{box_at}
 use Rattle.mur_model.specs.ClientView.{uids}
 use Rattle.mur_model.specs.Viewing.{viewed_on}
-use Rattle.mur_model.specs.declared.fetch.Fetching.{Fetching}
+use Rattle.mur_model.specs.declared.commands.fetch.Fetching.{Fetching}
 use Rattle.mur_model.specs.declared.session.Sess.{Sess}
 use Rattle.mur_model.specs.declared.store.Store.{Store}
 use Rattle.mur_model.specs.declared.view.View.{View}
@@ -34,7 +36,9 @@ use Rattle.mur_model.specs.declared.work.ViewWork.{ViewWork}
 use Rattle.mur_model.specs.declared.work.ViewWork.TheVariants.{News, Close, Expunge, Store as store_work, Fetch, Search}
 use Rattle.mur_model.proofs.OwnView.{IsOfWork}
 use Rattle.session_core.specs.Append.{reply_to_append}
+use Rattle.session_core.specs.declared.result.OpResult.TheVariants.{Missing}
 use Rattle.session_core.specs.Finish.{turn_of}
+use Rattle.session_core.specs.Results.{result_of, turn_by}
 use Rattle.session_core.specs.Select.{select_turn}
 use Rattle.session_core.specs.Status.{reply_to_status}
 use Rattle.session_core.specs.Viewed.{viewed_in, viewed_turn}
@@ -44,17 +48,18 @@ use Rattle.serve_law.proofs.ServedAlike.{ServesAlike}
 
 -- what a home that hasn't the name answers to the operation of a command
 
-fetch_lacks : (home : Backend) (ask : FrontAsk) (view : View) (it : Fetching) (rows : Bool) → held_at home ask.name ≡ None
-    → op_step home ask (fetch_op view it rows) ≡ answers home not_now
-unfolding op_step fetch_op look_step look_at read_step served
-fetch_lacks home ask view it true none = ap (look_step home ask.selected) none
-fetch_lacks home ask view it false none = ap (read_step home ask.name ask.selected it.uids (sees view it)) none
+fetch_lacks : (home : Backend) (ask : FrontAsk) (view : View) (it : Fetching) (rows summaries : Bool) → held_at home ask.name ≡ None
+    → op_step home ask (fetch_op view it rows summaries) ≡ answers home not_now
+unfolding op_step fetch_op look_step look_at summaries_step summaries_at read_step served
+fetch_lacks home ask view it true summaries none = ap (look_step home ask.selected) none
+fetch_lacks home ask view it false true none = ap (summaries_step home ask.selected it.uids) none
+fetch_lacks home ask view it false false none = ap (read_step home ask.name ask.selected it.uids (sees view it)) none
 
 search_lacks : (home : Backend) (ask : FrontAsk) (view : View) (rows : Bool) → held_at home ask.name ≡ None
     → op_step home ask (search_op view rows) ≡ answers home not_now
-unfolding op_step search_op look_step look_at read_step served
+unfolding op_step search_op look_step look_at summaries_step summaries_at
 search_lacks home ask view true none = ap (look_step home ask.selected) none
-search_lacks home ask view false none = ap (read_step home ask.name ask.selected (uids view.rows) false) none
+search_lacks home ask view false none = ap (summaries_step home ask.selected (uids view.rows)) none
 
 view_lacks : (home : Backend) (ask : FrontAsk) (view : View) (it : ViewWork) → held_at home ask.name ≡ None
     → op_step home ask (view_op view it) ≡ answers home not_now
@@ -63,7 +68,7 @@ view_lacks home ask view (News why) none = ap (look_step home ask.selected) none
 view_lacks home ask view Close none = ap (expunge_step home ask.name ask.selected None) none
 view_lacks home ask view (Expunge only) none = ap (expunge_step home ask.name ask.selected only) none
 view_lacks home ask view (store_work it) none = ap (flags_step home ask.name ask.selected it.uids it.mode it.flags) none
-view_lacks home ask view (Fetch it) none = fetch_lacks home ask view it (asks_rows it) none
+view_lacks home ask view (Fetch it) none = fetch_lacks home ask view it (asks_rows it) (asks_summaries it) none
 view_lacks home ask view (Search it) none = search_lacks home ask view (are_keys_in_rows it.keys) none
 
 work_lacks : (home : Backend) (ask : FrontAsk) (name : List ℕ) (work : Work) → work ≢ Make → held_at home ask.name ≡ None
@@ -79,7 +84,7 @@ work_lacks home ask name (viewed_work view it) ne none = view_lacks home ask vie
 record IsMissed (store : Store) (name : List ℕ) (work : Work) (serial : ℕ) (worked : Worked) : Type 0 where
   free : MayWork store name serial work
   stays : worked.left ≡ kept
-  shown : (session : Sess) → IsOfWork session work → turn_of session (asked_for name work).awaited NotNow ≡ Some worked.turn
+  shown : (session : Sess) → IsOfWork session work → turn_of session (asked_for name work).awaited Missing ≡ Some worked.turn
 
 misses : (store : Store) (name : List ℕ) (work : Work) (serial : ℕ) (spent : Bool) → work ≢ Make
     → IsMissed store name work serial (work_on name work serial spent None)
@@ -88,12 +93,12 @@ misses store name Make serial spent ne = absurd (ne refl)
 misses store name (append_work message) serial spent ne = record { free = tt; stays = refl; shown = λ session own. refl }
 misses store name (status_work shown items) serial spent ne = record { free = tt; stays = refl; shown = λ session own. refl }
 misses store name (select_work it) serial spent ne = record { free = tt; stays = refl; shown = λ session own. refl }
-misses store name (viewed_work view it) serial spent ne = record { free = tt; stays = refl; shown = λ session own. ap (λ s. viewed_in s it NotNow) own }
+misses store name (viewed_work view it) serial spent ne = record { free = tt; stays = refl; shown = λ session own. ap (λ s. viewed_in s it Missing) own }
 
 pub misses_alike : (store : Store) (home : Backend) (ask : FrontAsk) (work : Work) (spent : Bool) → work ≢ Make → ask.op ≡ (asked_for ask.name work).op
     → box_at store ask.name ≡ None → held_at home ask.name ≡ None
     → ServesAlike store home ask.name work (work_on ask.name work (home.last_serial + 1) spent None) (home_step home ask)
-unfolding home_step store_after
+unfolding home_step store_after turn_by result_of
 misses_alike store home ask work spent ne op box none =
     let name : List ℕ = ask.name in
     let is = misses store name work (home.last_serial + 1) spent ne in

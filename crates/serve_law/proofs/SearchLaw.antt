@@ -4,38 +4,33 @@ use Rattle.backend_core.specs.declared.backend.Backend.{Backend}
 use Rattle.backend_core.specs.declared.held.Held.{Held}
 use Rattle.backend_core.specs.HomeStep.{held_at}
 use Rattle.backend_core.specs.Look.{look_step}
-use Rattle.backend_core.specs.Read.{read_step, read_to, read_in}
+use Rattle.backend_core.specs.Summaries.{summaries_step}
 use Rattle.mur_model.specs.declared.work.ViewWork.TheVariants.{Search}
 use Rattle.mur_model.specs.Needed.{Viewed as viewed_work}
-use Rattle.mur_model.specs.declared.search.Searching.{Searching}
+use Rattle.mur_model.specs.declared.commands.search.Searching.{Searching}
 use Rattle.mur_model.specs.declared.store.Store.{Store}
 use Rattle.mur_model.specs.declared.view.View.{View}
 use Rattle.mur_model.specs.ClientView.{uids}
-use Rattle.mur_model.specs.Left.{store_after, kept}
+use Rattle.mur_model.specs.Left.{kept}
 use Rattle.mur_model.specs.Search.{search_at}
 use Rattle.mur_model.specs.SearchRows.{are_keys_in_rows, rows_searched}
 use Rattle.mur_model.specs.Selected.{rows_of}
 use Rattle.mur_model.specs.Viewing.{viewed_on, work_there}
 use Rattle.mur_model.proofs.SearchRowsLaw.{rows_search}
 use Rattle.mur_model.specs.Asking.{search_op}
-use Rattle.session_core.specs.Viewed.{viewed_done, viewed_told, viewed_turn}
+use Rattle.session_core.specs.Viewed.{viewed_done}
 use Rattle.backend_core.specs.OpenBox.{open_content}
-use Rattle.serve_law.proofs.HomeStore.{IsAtHome, kept_alike}
+use Rattle.serve_law.proofs.HomeStore.{IsAtHome}
 use Rattle.serve_law.proofs.ServedAlike.{ServesAlike}
-use Rattle.serve_law.proofs.ViewedAlike.{DoesAlike, operates, LooksAlike, looks_alike, ViewsAlike}
+use Rattle.serve_law.proofs.ViewedAlike.{LooksAlike, looks_alike, SummariesAlike, summaries_alike, ViewsAlike}
 use Rattle.backend_core.specs.Step.{op_step}
 use Rattle.imap_types.specs.declared.op.Op.{Op}
 use Rattle.mur_base.specs.declared.point.AskId.{AskId}
 
-does_search : (store : Store) (home : Backend) (name : List ℕ) (view : View) (it : Searching) (held : Held) → IsAtHome store home name held
-    → DoesAlike store home name view (Search it) (λ content. read_to content (uids view.rows) false) held
-unfolding viewed_turn viewed_told viewed_done store_after read_in work_there
-does_search store home name view it held at = record {
-  shown = refl;
-  still = kept_alike store home name held at;
-  gives = λ given. given;
-  unless = λ _. refl;
-}
+-- a search among messages without their bodies
+search_summaries : (view : View) (it : Searching) → SummariesAlike view (Search it) (uids view.rows)
+unfolding work_there viewed_done
+search_summaries view it box = ((search_at view it box).turn, refl, refl)
 
 -- a search by keys that rows tell
 search_look : (view : View) (it : Searching) → are_keys_in_rows it.keys ≡ true → LooksAlike view (Search it)
@@ -44,12 +39,6 @@ search_look view it are box = (rows_searched view it (rows_of box), searched, re
   where
     searched : search_at view it box ≡ record { left = kept; turn = rows_searched view it (rows_of box) }
     searched = rw (rows_search view it box are) refl
-
-search_views : (store : Store) (home : Backend) (name : List ℕ) (view : View) (it : Searching) (held : Held) → IsAtHome store home name held
-    → ViewsAlike store home name view (Search it) (Some held) (read_step home name (Some view.serial) (uids view.rows) false (Some held))
-unfolding read_step
-search_views store home name view it held at =
-    operates store home name view (Search it) (λ content. read_to content (uids view.rows) false) held (does_search store home name view it held at) at
 
 search_rows_views : (store : Store) (home : Backend) (name : List ℕ) (view : View) (it : Searching) (held : Held)
     → are_keys_in_rows it.keys ≡ true → IsAtHome store home name held
@@ -66,5 +55,5 @@ searches store home id user name view it op true held are is =
     subst (λ f. ViewsAlike store home name view (Search it) f (look_step home (Some view.serial) f)) (sym is.at)
     (search_rows_views store home name view it held are is)
 searches store home id user name view it op false held are is =
-    subst (λ f. ViewsAlike store home name view (Search it) f (read_step home name (Some view.serial) (uids view.rows) false f)) (sym is.at)
-    (search_views store home name view it held is)
+    subst (λ f. ViewsAlike store home name view (Search it) f (summaries_step home (Some view.serial) (uids view.rows) f)) (sym is.at)
+    (summaries_alike store home name view (Search it) (uids view.rows) held (search_summaries view it) is)

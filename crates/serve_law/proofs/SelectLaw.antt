@@ -8,13 +8,14 @@ use Rattle.backend_core.specs.Response.{done}
 use Rattle.link_msg.specs.declared.outcome.Outcome.TheVariants.{None as nothing}
 use Rattle.mail_message.specs.Boxes.{snapshot_of}
 use Rattle.mur_model.specs.Needed.{Select as select_work}
-use Rattle.mur_model.specs.declared.select.Opening.{Opening}
+use Rattle.mur_model.specs.declared.commands.select.Opening.{Opening}
 use Rattle.mur_model.specs.declared.store.Store.{Store}
 use Rattle.mur_model.specs.Act.{MayWork}
 use Rattle.mur_model.specs.Left.{store_after}
 use Rattle.mur_model.specs.Select.{select_on}
 use Rattle.mur_model.specs.Asking.{asked_for}
 use Rattle.session_core.specs.Finish.{turn_of}
+use Rattle.session_core.specs.Results.{result_of, turn_by}
 use Rattle.session_core.specs.Select.{select_done, select_turn}
 use Rattle.backend_core.specs.OpenBox.{open_content}
 use Rattle.serve_law.proofs.HomeStore.{IsAtHome, opened}
@@ -27,7 +28,7 @@ SelectsAlike store home name it found =
 
 seen : (store : Store) (home : Backend) (name : List ℕ) (it : Opening) (held : Held) → IsAtHome store home name held
     → ServesAlike store home name (select_work it) (select_on it name (Some held.content)) (answers home (done nothing (snapshot_of held.content)))
-unfolding select_on store_after asked_for turn_of select_turn select_done MayWork
+unfolding select_on store_after asked_for turn_by result_of turn_of select_turn select_done MayWork
 seen store home name it held is = record {
   free = tt;
   body = _;

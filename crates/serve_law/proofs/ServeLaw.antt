@@ -17,6 +17,7 @@ use Rattle.mur_model.specs.declared.store.Store.{Store}
 use Rattle.mur_model.specs.declared.view.View.{View}
 use Rattle.mur_model.specs.Act.{worked_at, work_on}
 use Rattle.mur_model.specs.FetchRows.{asks_rows}
+use Rattle.mur_model.specs.FetchSummaries.{asks_summaries}
 use Rattle.mur_model.specs.SearchRows.{are_keys_in_rows}
 use Rattle.mur_model.specs.Create.{create_on}
 use Rattle.mur_model.specs.Store.{box_at, is_spent}
@@ -65,7 +66,7 @@ views store home id user name view (store_work it) held is =
     subst (λ f. ViewsAlike store home name view (store_work it) f (flags_step home name (Some view.serial) it.uids it.mode it.flags f)) (sym is.at)
     (store_views store home name view it held is)
 views store home id user name view (Fetch it) held is =
-    fetches store home id user name view it (fetch_op view it (asks_rows it)) (asks_rows it) held refl is
+    fetches store home id user name view it (fetch_op view it (asks_rows it) (asks_summaries it)) (asks_rows it) (asks_summaries it) held refl refl is
 views store home id user name view (Search it) held is =
     searches store home id user name view it (search_op view (are_keys_in_rows it.keys)) (are_keys_in_rows it.keys) held refl is
 

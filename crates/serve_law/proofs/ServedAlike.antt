@@ -13,7 +13,7 @@ use Rattle.mur_model.specs.Act.{MayWork}
 use Rattle.mur_model.specs.Left.{Worked, store_after, kept}
 use Rattle.mur_model.specs.Asking.{asked_for}
 use Rattle.mur_model.proofs.OwnView.{IsOfWork}
-use Rattle.session_core.specs.Finish.{turn_of}
+use Rattle.session_core.specs.Results.{turn_behind}
 use Rattle.backend_core.specs.Refusal.{refusal, refusal_in, is_other}
 use Rattle.mail_message.specs.Boxes.{snapshot_of}
 use Rattle.backend_core.specs.Look.{look_step, look_at, look_unless}
@@ -29,7 +29,7 @@ pub record ServesAlike (store : Store) (home : Backend) (name : List ℕ) (work 
   pub free : MayWork store name (home.last_serial + 1) work
   pub body : AnswerBody
   pub is_body : step.body ≡ Some body
-  pub shown : (session : Sess) → IsOfWork session work → turn_of session (asked_for name work).awaited body ≡ Some worked.turn
+  pub shown : (session : Sess) → IsOfWork session work → turn_behind session (asked_for name work).awaited body ≡ Some worked.turn
   pub still : IsStoreOf (store_after store name worked.left) step.home name
   pub gives : AreSerialsTo store.given home.last_serial → AreSerialsTo (store_after store name worked.left).given (step.home).last_serial
   pub unless : step.counts ≡ IfAnswered → worked.left ≡ kept

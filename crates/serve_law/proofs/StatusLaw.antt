@@ -15,6 +15,7 @@ use Rattle.mur_model.specs.Left.{store_after}
 use Rattle.mur_model.specs.Status.{status_on}
 use Rattle.mur_model.specs.Asking.{asked_for}
 use Rattle.session_core.specs.Finish.{turn_of}
+use Rattle.session_core.specs.Results.{result_of, turn_by}
 use Rattle.session_core.specs.Status.{reply_to_status, reply_to_counted}
 use Rattle.backend_core.specs.OpenBox.{open_content}
 use Rattle.serve_law.proofs.HomeStore.{IsAtHome, opened}
@@ -28,7 +29,7 @@ LooksAlike store home name shown items found =
 seen : (store : Store) (home : Backend) (name shown : List ℕ) (items : List StatusItem) (held : Held) → IsAtHome store home name held
     → ServesAlike store home name (status_work shown items) (status_on shown items (Some held.content))
     (answers home (done nothing (snapshot_of held.content)))
-unfolding status_on store_after asked_for turn_of reply_to_status reply_to_counted MayWork
+unfolding status_on store_after asked_for turn_by result_of turn_of reply_to_status reply_to_counted MayWork
 seen store home name shown items held is = record {
   free = tt;
   body = _;

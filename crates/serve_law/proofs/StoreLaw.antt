@@ -7,12 +7,14 @@ use Rattle.backend_core.specs.HomeStep.{with_content}
 use Rattle.mail_store.specs.Store.{rows_stored, stored, has_too_many_flags}
 use Rattle.mur_model.specs.declared.work.ViewWork.TheVariants.{Store as store_work}
 use Rattle.mur_model.specs.declared.store.Store.{Store}
-use Rattle.mur_model.specs.declared.store_flags.FlagStore.{FlagStore}
+use Rattle.mur_model.specs.declared.commands.store.FlagStore.{FlagStore}
 use Rattle.mur_model.specs.declared.view.View.{View}
 use Rattle.mur_model.specs.Left.{store_after}
 use Rattle.mur_model.specs.StoreFlags.{stored_at}
 use Rattle.mur_model.specs.Viewing.{work_there}
-use Rattle.session_core.specs.Viewed.{viewed_done, viewed_told, viewed_turn}
+use Rattle.session_core.specs.Finish.{turn_of}
+use Rattle.session_core.specs.Results.{result_of, turn_by}
+use Rattle.session_core.specs.Viewed.{viewed_done, viewed_in, viewed_told, viewed_turn}
 use Rattle.serve_law.proofs.HomeStore.{IsAtHome, changed_alike, kept_alike}
 use Rattle.serve_law.proofs.ServedAlike.{apart}
 use Rattle.serve_law.proofs.ViewedAlike.{AnswersAlike, operates, ViewsAlike}
@@ -22,7 +24,7 @@ stores_by : (store : Store) (home : Backend) (name : List ℕ) (view : View) (it
     → AnswersAlike store home name view (store_work it) (stored_at view it held.content is_full)
     (with_content home name held (flags_unless held.content it.uids it.mode it.flags is_full).content)
     (flags_unless held.content it.uids it.mode it.flags is_full).response
-unfolding viewed_turn viewed_told viewed_done store_after flags_unless
+unfolding turn_by result_of turn_of viewed_in viewed_turn viewed_told viewed_done store_after flags_unless
 stores_by store home name view it held true at = record {
   shown = refl;
   still = kept_alike store home name held at;

@@ -9,7 +9,9 @@ use Rattle.backend_core.specs.Look.{look_step, look_at, look_unless}
 use Rattle.backend_core.specs.Refusal.{refusal, refusal_in, is_other}
 use Rattle.backend_core.specs.Response.{done, no_snapshot}
 use Rattle.backend_core.specs.Served.{served, served_unless}
+use Rattle.backend_core.specs.Summaries.{summaries_at, summaries_in, summaries_step, summaries_unless}
 use Rattle.link_msg.specs.declared.counts.Counts.TheVariants.{IfAnswered}
+use Rattle.link_msg.specs.declared.outcome.Outcome.{Outcome}
 use Rattle.link_msg.specs.declared.outcome.Outcome.TheVariants.{None as nothing, Gone as gone_there}
 use Rattle.mail_message.specs.Boxes.{Content, snapshot_of}
 use Rattle.mur_base.specs.declared.home.Phase.TheVariants.{Open as open_here}
@@ -24,7 +26,10 @@ use Rattle.mur_model.specs.Selected.{gone}
 use Rattle.mur_model.specs.Viewing.{found_gone, viewed_on, work_there}
 use Rattle.mur_model.specs.Asking.{asked_for}
 use Rattle.mur_model.proofs.OwnView.{IsOfWork}
+use Rattle.mur_model.specs.declared.need.Awaited.TheVariants.{Viewed}
+use Rattle.mur_model.specs.declared.session.Sess.TheVariants.{Selected}
 use Rattle.session_core.specs.Finish.{turn_of}
+use Rattle.session_core.specs.Results.{result_of, turn_by, turn_behind}
 use Rattle.session_core.specs.Viewed.{viewed_done, viewed_in, viewed_told, viewed_turn}
 use Rattle.backend_core.specs.OpenBox.{open_content}
 use Rattle.serve_law.proofs.HomeStore.{AreSerialsTo, IsAtHome, IsStoreOf, opened}
@@ -36,7 +41,7 @@ use Rattle.serve_law.proofs.ServedAlike.{ServesAlike}
 -- an answer that comes of work at the mailbox of a view
 pub record AnswersAlike (store : Store) (home : Backend) (name : List ℕ) (view : View) (it : ViewWork) (worked : Worked) (behind : Backend) (response : Response)
     : Type 0 where
-  pub shown : viewed_turn view it response.body ≡ Some worked.turn
+  pub shown : turn_behind (Selected view) (Viewed it) response.body ≡ Some worked.turn
   pub still : IsStoreOf (store_after store name worked.left) behind name
   pub gives : AreSerialsTo store.given home.last_serial → AreSerialsTo (store_after store name worked.left).given behind.last_serial
   pub unless : response.counts ≡ IfAnswered → worked.left ≡ kept
@@ -44,19 +49,19 @@ pub record AnswersAlike (store : Store) (home : Backend) (name : List ℕ) (view
 serves_as : (store : Store) (home : Backend) (name : List ℕ) (view : View) (it : ViewWork) (worked : Worked) (behind : Backend) (response : Response)
     → AnswersAlike store home name view it worked behind response
     → ServesAlike store home name (viewed_work view it) worked (answers behind response)
-unfolding asked_for turn_of viewed_in IsOfWork MayWork
+unfolding asked_for IsOfWork MayWork
 serves_as store home name view it worked behind response same = record {
   free = tt;
   body = response.body;
   is_body = refl;
-  shown = λ session own. ap (λ s. viewed_in s it response.body) own ∙ same.shown;
+  shown = λ session own. ap (λ s. turn_behind s (Viewed it) response.body) own ∙ same.shown;
   still = same.still;
   gives = same.gives;
   unless = same.unless;
 }
 
-tells_gone : (view : View) (it : ViewWork) → viewed_turn view it (done gone_there no_snapshot).body ≡ Some gone
-unfolding viewed_turn viewed_told
+tells_gone : (view : View) (it : ViewWork) → turn_behind (Selected view) (Viewed it) (done gone_there no_snapshot).body ≡ Some gone
+unfolding turn_by result_of turn_of viewed_in viewed_turn viewed_told
 tells_gone view it = refl
 
 -- the home has another mailbox of the name
@@ -129,15 +134,15 @@ operates store home name view it operation held does at =
 
 -- ---- a look
 
--- what is told of the rows of a mailbox that stays as it is
-looks : (store : Store) (home : Backend) (name : List ℕ) (view : View) (it : ViewWork) (held : Held) (turn : Turn)
+-- what is told of a mailbox that stays as it is
+tells_of : (store : Store) (home : Backend) (name : List ℕ) (view : View) (it : ViewWork) (held : Held) (outcome : Outcome) (turn : Turn)
     → work_there view it held.content ≡ record { left = kept; turn = turn }
-    → viewed_done view it nothing (snapshot_of held.content) ≡ Some turn → IsAtHome store home name held
-    → ServesAlike store home name (viewed_work view it) (work_there view it held.content) (answers home (done nothing (snapshot_of held.content)))
-unfolding viewed_turn viewed_told store_after
-looks store home name view it held turn is shown at =
-    subst (λ w. ServesAlike store home name (viewed_work view it) w (answers home (done nothing (snapshot_of held.content)))) (sym is)
-    (serves_as store home name view it (record { left = kept; turn = turn }) home (done nothing (snapshot_of held.content))
+    → viewed_told view it outcome (snapshot_of held.content) ≡ Some turn → IsAtHome store home name held
+    → ServesAlike store home name (viewed_work view it) (work_there view it held.content) (answers home (done outcome (snapshot_of held.content)))
+unfolding turn_by result_of turn_of viewed_in viewed_turn store_after
+tells_of store home name view it held outcome turn is shown at =
+    subst (λ w. ServesAlike store home name (viewed_work view it) w (answers home (done outcome (snapshot_of held.content)))) (sym is)
+    (serves_as store home name view it (record { left = kept; turn = turn }) home (done outcome (snapshot_of held.content))
     (record { shown = shown; still = is_there held at; gives = λ given. given; unless = λ _. refl }))
 
 abbrev pub LooksAlike : View → ViewWork → Type 0
@@ -148,11 +153,28 @@ LooksAlike view it =
 pub looks_alike : (store : Store) (home : Backend) (name : List ℕ) (view : View) (it : ViewWork) (held : Held)
     → LooksAlike view it → IsAtHome store home name held
     → ServesAlike store home name (viewed_work view it) (viewed_on view it (open_content (Some held))) (look_step home (Some view.serial) (Some held))
-unfolding look_step look_at look_unless
+unfolding look_step look_at look_unless viewed_told
 looks_alike store home name view it held alike at =
     let shown = alike held.content in
     at_open store home name view it held (λ r. answers home (look_unless held.content r)) (λ _. refl)
-    (looks store home name view it held shown.0 shown.1 shown.2 at) at
+    (tells_of store home name view it held nothing shown.0 shown.1 shown.2 at) at
+
+-- ---- messages without their bodies
+
+abbrev pub SummariesAlike : View → ViewWork → List ℕ → Type 0
+SummariesAlike view it uids =
+    (box : Content)
+    → (turn : Turn) × (work_there view it box ≡ record { left = kept; turn = turn }) × (viewed_done view it (summaries_in box uids) (snapshot_of box) ≡ Some turn)
+
+pub summaries_alike : (store : Store) (home : Backend) (name : List ℕ) (view : View) (it : ViewWork) (uids : List ℕ) (held : Held)
+    → SummariesAlike view it uids → IsAtHome store home name held
+    → ServesAlike store home name (viewed_work view it) (viewed_on view it (open_content (Some held)))
+    (summaries_step home (Some view.serial) uids (Some held))
+unfolding summaries_step summaries_at summaries_unless viewed_told
+summaries_alike store home name view it uids held alike at =
+    let shown = alike held.content in
+    at_open store home name view it held (λ r. answers home (summaries_unless held.content uids r)) (λ _. refl)
+    (tells_of store home name view it held (summaries_in held.content uids) shown.0 shown.1 shown.2 at) at
 
 abbrev pub ViewsAlike : Store → Backend → List ℕ → View → ViewWork → Option Held → HomeStep → Type 0
 ViewsAlike store home name view it found step = ServesAlike store home name (viewed_work view it) (viewed_on view it (open_content found)) step

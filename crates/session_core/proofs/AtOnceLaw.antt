@@ -6,9 +6,9 @@ use Rattle.mur_model.specs.Needed.{Needed, Refusal, Turned, Mailbox}
 use Rattle.imap_types.specs.declared.reply.Reply.{Reply}
 use Rattle.imap_types.specs.declared.reply.ReplyLine.{ReplyLine}
 use Rattle.mur_model.specs.declared.session.Sess.{Sess}
-use Rattle.mur_model.specs.declared.session.Sess.TheVariants.{Selected}
+use Rattle.mur_model.specs.declared.session.Sess.TheVariants.{Off, Selected}
 use Rattle.mur_model.specs.declared.setting.Setting.{Setting}
-use Rattle.mur_model.specs.Act.{need_of, need_off}
+use Rattle.mur_model.specs.Act.{need_of}
 use Rattle.mur_model.specs.ClientView.{Known, known_after, known_after_all}
 use Rattle.mur_model.proofs.EachNeed.{OfAnswers, OfWorks, each_by_works, each_off, of_refusals}
 
@@ -36,7 +36,7 @@ at_once : OfAnswers IsAtOnce
 unfolding IsAtOnce LeavesQuietly known_after
 at_once = of_refusals (λ verdict. tt) (λ name plain known. refl) (λ name user plain. tt) (λ known. refl) tt
 
-pub off-needs : (setting : Setting) (it : Command) → IsAtOnce (need_off setting it)
+pub off-needs : (setting : Setting) (it : Command) → IsAtOnce (need_of setting Off it)
 off-needs setting it = each_off at_once setting it
 
 quiet_answers : OfAnswers IsQuiet

@@ -11,7 +11,8 @@ use Rattle.mur_model.specs.declared.session.Sess.{Sess}
 use Rattle.mur_model.specs.declared.session.Sess.TheVariants.{Off, In, Selected, Ended}
 use Rattle.mur_model.specs.declared.session.Turn.{Turn}
 use Rattle.mur_model.specs.declared.setting.Setting.{Setting}
-use Rattle.mur_model.specs.Act.{need_of, need_off, need_in, need_selected}
+use Rattle.mur_model.specs.Act.{need_of}
+use Rattle.mur_model.specs.Traits.{is_in}
 use Rattle.mur_model.specs.declared.need.Need.{Need}
 use Rattle.session_core.specs.Begin.{begin, HasBegun, MayNeed}
 use Rattle.session_core.specs.Finish.{Finished, finished_by}
@@ -46,10 +47,10 @@ at_once_fits session (Turned turn) at_once = told_fits session turn.reply turn.s
 at_once_fits session (Mailbox name work) at_once = absurd at_once
 
 pub may_need : (setting : Setting) (session : Sess) (it : Command) → Fits (begin setting session it)
-unfolding IsAtOnce HasBegun need_of
-may_need setting Off it = at_once_fits Off (need_off setting it) (off-needs setting it)
-may_need setting (In user) it = begun_fits (In user) (need_in setting user it) tt
-may_need setting (Selected view) it = begun_fits (Selected view) (need_selected setting view it) tt
+unfolding IsAtOnce HasBegun need_of is_in
+may_need setting Off it = at_once_fits Off (need_of setting Off it) (off-needs setting it)
+may_need setting (In user) it = begun_fits (In user) (need_of setting (In user) it) tt
+may_need setting (Selected view) it = begun_fits (Selected view) (need_of setting (Selected view) it) tt
 may_need setting Ended it = at_once_fits Ended (Refusal (bad_reply State)) tt
 
 pub may_need_behind : (session : Sess) (turn : Option Turn)

@@ -2,32 +2,34 @@
 use Rattle.std.proofs.Common.{◌≡◌, ℕ, zero, suc, ◌+◌, Bool, true, false, not, ◌&&◌, if◌then◌else◌, List, [], ◌∷◌, ◌++◌, length}
 use Rattle.std.proofs.Common.{Option, None, Some, sym, ap, ◌∙◌, subst}
 use Rattle.std.specs.Option.{IfSome}
-use Rattle.link_msg.specs.declared.answer.AnswerBody.{AnswerBody}
-use Rattle.link_msg.specs.declared.answer.AnswerBody.TheVariants.{Done, NotNow}
+use Rattle.session_core.specs.declared.result.OpResult.{OpResult}
+use Rattle.session_core.specs.declared.result.OpResult.TheVariants.{Done, Missing}
 use Rattle.link_msg.specs.declared.outcome.Outcome.{Outcome}
-use Rattle.link_msg.specs.declared.outcome.Outcome.TheVariants.{None as nothing, Messages, Rows, Limit as full, Gone}
+use Rattle.link_msg.specs.declared.outcome.Outcome.TheVariants.{None as nothing, Messages, Summaries, Rows, Limit as full, Gone}
 use Rattle.mail_message.specs.declared.item.Item.{Item}
 use Rattle.mail_message.specs.declared.message.Message.{Message}
 use Rattle.mail_message.specs.declared.message.Row.{Row}
 use Rattle.mail_message.specs.declared.message.Snapshot.{Snapshot}
+use Rattle.mail_message.specs.declared.message.Summary.{Summary}
 use Rattle.mail_message.specs.RowOrder.{row_at}
-use Rattle.mur_model.specs.declared.fetch.Fetching.{Fetching}
+use Rattle.mur_model.specs.declared.commands.fetch.Fetching.{Fetching}
 use Rattle.mur_model.specs.declared.work.ViewWork.{ViewWork}
 use Rattle.mur_model.specs.declared.work.ViewWork.TheVariants.{Store, Fetch, Search}
 use Rattle.imap_types.specs.declared.reply.Reply.{Reply}
 use Rattle.imap_types.specs.declared.reply.ReplyLine.{ReplyLine}
 use Rattle.imap_types.specs.declared.reply.ReplyLine.TheVariants.{Expunge, Fetch as fetch_told}
-use Rattle.mur_model.specs.declared.search.Searching.{Searching}
+use Rattle.mur_model.specs.declared.commands.search.Searching.{Searching}
 use Rattle.mur_model.specs.declared.session.Sess.{Sess}
 use Rattle.mur_model.specs.declared.session.Sess.TheVariants.{Off, In, Selected, Ended}
 use Rattle.mur_model.specs.declared.session.Turn.{Turn}
-use Rattle.mur_model.specs.declared.store_flags.FlagStore.{FlagStore}
+use Rattle.mur_model.specs.declared.commands.store.FlagStore.{FlagStore}
 use Rattle.mur_model.specs.declared.view.View.{View}
 use Rattle.mur_model.specs.ClientView.{uids}
 use Rattle.mur_model.specs.Fetch.{fetch_reply_line, fetch_lines, items_told, number_in}
 use Rattle.mur_model.specs.FetchRows.{row_line, row_lines}
+use Rattle.mur_model.specs.FetchSummaries.{summary_line, summary_lines}
 use Rattle.mur_model.specs.News.{changed_line, changed_lines, exists_lines, flag_parts, is_among, news, rows_behind}
-use Rattle.mur_model.specs.SameFlags.{is_same_flags}
+use Rattle.mail_message.specs.SameFlags.{is_same_flags}
 use Rattle.mur_model.specs.Search.{search_reply_line}
 use Rattle.mur_model.specs.SearchRows.{bare_at}
 use Rattle.mur_model.specs.StoreFlags.{own_lines, stored_line, stored_lines}
@@ -110,6 +112,18 @@ rows_none items rows now (uid ∷ uids) =
     both_none (row_line items (number_in rows uid) (row_at now uid)) (row_lines items rows now uids)
     (row_none items (number_in rows uid) (row_at now uid)) (rows_none items rows now uids)
 
+summary_none : (items : List Item) (summary : Summary) (number : Option ℕ) → HasNoExpunge (summary_line items summary number)
+unfolding HasNoExpunge
+summary_none items summary None = tt
+summary_none items summary (Some number) = tt
+
+summaries_none : (items : List Item) (rows : List Row) (summaries : List Summary) → HasNoExpunge (summary_lines items rows summaries)
+unfolding HasNoExpunge
+summaries_none items rows [] = tt
+summaries_none items rows (summary ∷ summaries) =
+    both_none (summary_line items summary (number_in rows summary.uid)) (summary_lines items rows summaries)
+    (summary_none items summary (number_in rows summary.uid)) (summaries_none items rows summaries)
+
 line_none : (by_uid : Bool) (number : ℕ) (row : Option Row) → HasNoExpunge (stored_line by_uid number row)
 unfolding HasNoExpunge
 line_none by_uid number None = tt
@@ -130,7 +144,7 @@ unless_none false lines none = none
 own_none : (it : FlagStore) (changes rows : List Row) → HasNoExpunge (own_lines it changes rows)
 own_none it changes rows = unless_none it.is_silent (stored_lines it.by_uid changes 1 rows) (stored_none it.by_uid changes 1 rows)
 
-search_none : (it : Searching) (rows : List Row) (messages : List Message) → HasNoExpunge (search_reply_line it rows messages ∷ [])
+search_none : (it : Searching) (rows : List Row) (messages : List Summary) → HasNoExpunge (search_reply_line it rows messages ∷ [])
 unfolding HasNoExpunge
 search_none it rows messages = tt
 
@@ -152,12 +166,15 @@ done_none view (Store it) full seen by = behind_none view.rows seen.rows it.by_u
 done_none view (Fetch it) nothing seen by =
     behind_none view.rows seen.rows it.by_uid _ (row_lines (items_told it false) view.rows seen.rows it.uids) by
     (rows_none (items_told it false) view.rows seen.rows it.uids)
+done_none view (Fetch it) (Summaries summaries) seen by =
+    behind_none view.rows seen.rows it.by_uid _ (summary_lines (items_told it false) view.rows summaries) by
+    (summaries_none (items_told it false) view.rows summaries)
 done_none view (Fetch it) (Messages before) seen by =
     behind_none view.rows seen.rows it.by_uid _ (fetch_lines it view.rows seen.rows before) by (fetch_none it view.rows seen.rows before)
 done_none view (Search it) nothing seen by =
-    let messages : List Message = bare_at seen.rows (uids view.rows) in
+    let messages : List Summary = bare_at seen.rows (uids view.rows) in
     behind_none view.rows seen.rows it.by_uid [] (search_reply_line it view.rows messages ∷ []) by (search_none it view.rows messages)
-done_none view (Search it) (Messages found) seen by =
+done_none view (Search it) (Summaries found) seen by =
     behind_none view.rows seen.rows it.by_uid [] (search_reply_line it view.rows found ∷ []) by (search_none it view.rows found)
 done_none view (Store it) outcome seen by = tt
 done_none view (Fetch it) outcome seen by = tt
@@ -170,21 +187,20 @@ unfolding viewed_told HasNoExpunge
 gone_or_none view work Gone seen by = tt
 gone_or_none view work outcome seen by = done_none view work outcome seen by
 
-view_none : (view : View) (work : ViewWork) (body : AnswerBody) → IsByNumbers (Viewed work) → IfSome (viewed_turn view work body) TurnHasNone
+view_none : (view : View) (work : ViewWork) (result : OpResult) → IsByNumbers (Viewed work) → IfSome (viewed_turn view work result) TurnHasNone
 unfolding viewed_turn HasNoExpunge
 view_none view work (Done outcome seen) by = gone_or_none view work outcome seen by
-view_none view work NotNow by = tt
-view_none view work body by = tt
+view_none view work Missing by = tt
 
-viewed_in_none : (session : Sess) (work : ViewWork) (body : AnswerBody) → IsByNumbers (Viewed work) → IfSome (viewed_in session work body) TurnHasNone
+viewed_in_none : (session : Sess) (work : ViewWork) (result : OpResult) → IsByNumbers (Viewed work) → IfSome (viewed_in session work result) TurnHasNone
 unfolding viewed_in
-viewed_in_none (Selected view) work body by = view_none view work body by
-viewed_in_none session work body by = tt
+viewed_in_none (Selected view) work result by = view_none view work result by
+viewed_in_none session work result by = tt
 
-turn_none : (session : Sess) (awaited : Awaited) (body : AnswerBody) → IsByNumbers awaited → IfSome (turn_of session awaited body) TurnHasNone
+turn_none : (session : Sess) (awaited : Awaited) (result : OpResult) → IsByNumbers awaited → IfSome (turn_of session awaited result) TurnHasNone
 unfolding turn_of IsByNumbers
-turn_none session (Viewed work) body by = viewed_in_none session work body by
-turn_none session awaited body by = absurd by
+turn_none session (Viewed work) result by = viewed_in_none session work result by
+turn_none session awaited result by = absurd by
 
 told_none : (session : Sess) (reply : Reply) (later : Option Sess) → HasNoExpunge reply.lines → TellsNoExpunge (told_reply session reply later).need
 unfolding told_with TellsNoExpunge
@@ -199,9 +215,9 @@ unfolding finished_by
 finished_none session None none = tt
 finished_none session (Some turn) none = told_none session turn.reply turn.session none
 
-pub finish_tells_none : (before session : Sess) (awaited : Awaited) (body : AnswerBody) (turn : Option Turn) (need : Option Need)
-    → turn ≡ turn_of before awaited body → record { session = session; need = need } ≡ finished_by before turn → IsByNumbers awaited
+pub finish_tells_none : (before session : Sess) (awaited : Awaited) (result : OpResult) (turn : Option Turn) (need : Option Need)
+    → turn ≡ turn_of before awaited result → record { session = session; need = need } ≡ finished_by before turn → IsByNumbers awaited
     → IfSome need TellsNoExpunge
-finish_tells_none before session awaited body turn need same is by =
+finish_tells_none before session awaited result turn need same is by =
     subst (λ (f : Finished). IfSome f.need TellsNoExpunge) (sym (is ∙ ap (finished_by before) same))
-    (finished_none before (turn_of before awaited body) (turn_none before awaited body by))
+    (finished_none before (turn_of before awaited result) (turn_none before awaited result by))

@@ -6,36 +6,38 @@ use Rattle.std.specs.Result.{IfOk}
 use Rattle.std.proofs.lemmas.Grind.{common_steps}
 use Rattle.std.proofs.lemmas.List.{length-map}
 use Rattle.std.specs.Option.{IfSome, option_map}
-use Rattle.link_msg.specs.declared.answer.AnswerBody.{AnswerBody}
-use Rattle.link_msg.specs.declared.answer.AnswerBody.TheVariants.{Done, NotNow}
+use Rattle.session_core.specs.declared.result.OpResult.{OpResult}
+use Rattle.session_core.specs.declared.result.OpResult.TheVariants.{Done, Missing}
 use Rattle.link_msg.specs.declared.outcome.Outcome.{Outcome}
-use Rattle.link_msg.specs.declared.outcome.Outcome.TheVariants.{None as nothing, Messages, Rows, Uids, Exists, Limit as full, Gone}
+use Rattle.link_msg.specs.declared.outcome.Outcome.TheVariants.{None as nothing, Messages, Summaries, Rows, Uids, Exists, Limit as full, Gone}
 use Rattle.mail_message.specs.declared.item.Item.{Item}
 use Rattle.mail_message.specs.declared.message.Message.{Message}
 use Rattle.mail_message.specs.declared.message.Row.{Row}
 use Rattle.mail_message.specs.declared.message.Snapshot.{Snapshot}
+use Rattle.mail_message.specs.declared.message.Summary.{Summary}
 use Rattle.mail_message.specs.RowOrder.{row_at}
 use Rattle.mur_base.specs.declared.memory.Memory.{Memory}
 use Rattle.imap_types.specs.declared.command.Command.{Command}
 use Rattle.imap_types.specs.declared.command.StatusItem.{StatusItem}
 use Rattle.mur_model.specs.Needed.{Needed, Refusal, Turned, Mailbox}
 use Rattle.mur_model.specs.declared.setting.Setting.{Setting}
-use Rattle.mur_model.specs.declared.fetch.Fetching.{Fetching}
+use Rattle.mur_model.specs.declared.commands.fetch.Fetching.{Fetching}
 use Rattle.mur_model.specs.declared.work.ViewWork.{ViewWork}
 use Rattle.mur_model.specs.declared.work.ViewWork.TheVariants.{News, Close, Expunge, Store, Fetch, Search}
 use Rattle.imap_types.specs.declared.reply.Reply.{Reply}
 use Rattle.imap_types.specs.declared.reply.ReplyLine.{ReplyLine}
-use Rattle.mur_model.specs.declared.search.Searching.{Searching}
-use Rattle.mur_model.specs.declared.select.Opening.{Opening}
+use Rattle.mur_model.specs.declared.commands.search.Searching.{Searching}
+use Rattle.mur_model.specs.declared.commands.select.Opening.{Opening}
 use Rattle.mur_model.specs.declared.session.Sess.{Sess}
 use Rattle.mur_model.specs.declared.session.Sess.TheVariants.{Off, In, Selected, Ended}
 use Rattle.mur_model.specs.declared.session.Turn.{Turn}
-use Rattle.mur_model.specs.declared.store_flags.FlagStore.{FlagStore}
+use Rattle.mur_model.specs.declared.commands.store.FlagStore.{FlagStore}
 use Rattle.mur_model.specs.declared.view.View.{View}
 use Rattle.mur_model.specs.Act.{need_of, session_after}
 use Rattle.mur_model.specs.ClientView.{Agrees, Known, known_after, known_after_all, uids}
 use Rattle.mur_model.specs.Fetch.{fetch_reply_line, fetch_lines, items_told, number_in}
 use Rattle.mur_model.specs.FetchRows.{row_line, row_lines}
+use Rattle.mur_model.specs.FetchSummaries.{summary_line, summary_lines}
 use Rattle.mur_model.specs.Left.{replied}
 use Rattle.mur_model.specs.News.{news}
 use Rattle.mur_model.specs.Search.{search_reply_line}
@@ -105,6 +107,17 @@ rows_still items rows now (uid ∷ uids) known =
     both_still (row_line items (number_in rows uid) (row_at now uid)) (row_lines items rows now uids)
     (row_still items (number_in rows uid) (row_at now uid)) (rows_still items rows now uids) known
 
+summary_still : (items : List Item) (summary : Summary) (number : Option ℕ) → AreStill (summary_line items summary number)
+unfolding known_after
+summary_still items summary None known = refl
+summary_still items summary (Some number) known = refl
+
+summaries_still : (items : List Item) (rows : List Row) (summaries : List Summary) → AreStill (summary_lines items rows summaries)
+summaries_still items rows [] known = refl
+summaries_still items rows (summary ∷ summaries) known =
+    both_still (summary_line items summary (number_in rows summary.uid)) (summary_lines items rows summaries)
+    (summary_still items summary (number_in rows summary.uid)) (summaries_still items rows summaries) known
+
 -- what the client knows behind a reply, and the session behind it
 abbrev Leaves : Known → Sess → Reply → Option Sess → Type 0
 Leaves known session reply later = Knows (known_after_all known reply.lines) (session_after session later)
@@ -130,7 +143,7 @@ news_leave known view lines now expunges told_already still agrees =
 none_still : AreStill []
 none_still known = refl
 
-search_still : (it : Searching) (rows : List Row) (messages : List Message) → AreStill (search_reply_line it rows messages ∷ [])
+search_still : (it : Searching) (rows : List Row) (messages : List Summary) → AreStill (search_reply_line it rows messages ∷ [])
 unfolding known_after
 search_still it rows messages known = refl
 
@@ -147,12 +160,15 @@ viewed_leaves known session view (Store it) full seen agrees = news_leave known 
 viewed_leaves known session view (Fetch it) nothing seen agrees =
     news_leave known view (row_lines (items_told it false) view.rows seen.rows it.uids) seen.rows it.by_uid _
     (rows_still (items_told it false) view.rows seen.rows it.uids) agrees
+viewed_leaves known session view (Fetch it) (Summaries summaries) seen agrees =
+    news_leave known view (summary_lines (items_told it false) view.rows summaries) seen.rows it.by_uid _
+    (summaries_still (items_told it false) view.rows summaries) agrees
 viewed_leaves known session view (Fetch it) (Messages before) seen agrees =
     news_leave known view (fetch_lines it view.rows seen.rows before) seen.rows it.by_uid _ (fetch_still it view.rows seen.rows before) agrees
 viewed_leaves known session view (Search it) nothing seen agrees =
-    let messages : List Message = bare_at seen.rows (uids view.rows) in
+    let messages : List Summary = bare_at seen.rows (uids view.rows) in
     news_leave known view (search_reply_line it view.rows messages ∷ []) seen.rows it.by_uid [] (search_still it view.rows messages) agrees
-viewed_leaves known session view (Search it) (Messages found) seen agrees =
+viewed_leaves known session view (Search it) (Summaries found) seen agrees =
     news_leave known view (search_reply_line it view.rows found ∷ []) seen.rows it.by_uid [] (search_still it view.rows found) agrees
 viewed_leaves known session view work outcome seen agrees = tt
 
@@ -162,12 +178,11 @@ unfolding viewed_told Knows
 outcome_leaves known session view work Gone seen agrees = tt
 outcome_leaves known session view work outcome seen agrees = viewed_leaves known session view work outcome seen agrees
 
-view_leaves : (known : Known) (session : Sess) (view : View) (work : ViewWork) (body : AnswerBody) → Agrees known (uids view.rows)
-    → IfSome (viewed_turn view work body) (TurnLeaves known session)
+view_leaves : (known : Known) (session : Sess) (view : View) (work : ViewWork) (result : OpResult) → Agrees known (uids view.rows)
+    → IfSome (viewed_turn view work result) (TurnLeaves known session)
 unfolding viewed_turn Knows
 view_leaves known session view work (Done outcome seen) agrees = outcome_leaves known session view work outcome seen agrees
-view_leaves known session view work NotNow agrees = tt
-view_leaves known session view work body agrees = tt
+view_leaves known session view work Missing agrees = tt
 
 -- a mailbox that is selected: as many messages as its EXISTS says
 
@@ -194,18 +209,17 @@ unfolding select.select_done
 select_done_leaves session name it nothing seen = selected_leaves session it name seen
 select_done_leaves session name it outcome seen = tt
 
-select_leaves : (session : Sess) (name : List ℕ) (it : Opening) (body : AnswerBody) → IfSome (select.select_turn name it body) (TurnLeaves [] session)
+select_leaves : (session : Sess) (name : List ℕ) (it : Opening) (result : OpResult) → IfSome (select.select_turn name it result) (TurnLeaves [] session)
 unfolding select.select_turn Knows
 select_leaves session name it (Done outcome seen) = select_done_leaves session name it outcome seen
-select_leaves session name it NotNow = tt
-select_leaves session name it body = tt
+select_leaves session name it Missing = tt
 
 -- the replies of other commands
 
 abbrev HasStill : Reply → Type 0
 HasStill reply = AreStill reply.lines
 
-created_still : (body : AnswerBody) → IfSome (create.reply_to_create body) HasStill
+created_still : (result : OpResult) → IfSome (create.reply_to_create result) HasStill
 unfolding create.reply_to_create create.reply_to_created
 created_still (Done outcome seen) = by outcome
   where
@@ -214,9 +228,9 @@ created_still (Done outcome seen) = by outcome
     by Exists = none_still
     by full = none_still
     by outcome = tt
-created_still body = tt
+created_still Missing = tt
 
-appended_still : (body : AnswerBody) → IfSome (append.reply_to_append body) HasStill
+appended_still : (result : OpResult) → IfSome (append.reply_to_append result) HasStill
 unfolding append.reply_to_append append.reply_to_appended append.reply_to_uids reply_with_uid
 appended_still (Done outcome seen) = by outcome
   where
@@ -229,39 +243,37 @@ appended_still (Done outcome seen) = by outcome
     by (Uids uids) = uids_still seen.serial uids
     by full = none_still
     by outcome = tt
-appended_still NotNow = none_still
-appended_still body = tt
+appended_still Missing = none_still
 
-counted_still : (shown : List ℕ) (items : List StatusItem) (body : AnswerBody) → IfSome (status.reply_to_status shown items body) HasStill
+counted_still : (shown : List ℕ) (items : List StatusItem) (result : OpResult) → IfSome (status.reply_to_status shown items result) HasStill
 unfolding status.reply_to_status status.reply_to_counted reply_with_counts known_after
 counted_still shown items (Done outcome seen) = by outcome
   where
     by : (outcome : Outcome) → IfSome (status.reply_to_counted shown items outcome seen) HasStill
     by nothing = λ known. refl
     by outcome = tt
-counted_still shown items NotNow = none_still
-counted_still shown items body = tt
+counted_still shown items Missing = none_still
 
 replied_leave : (known : Known) (session : Sess) (reply : Option Reply) → IfSome reply HasStill → Knows known session
     → IfSome (option_map replied reply) (TurnLeaves known session)
 replied_leave known session None still knows = tt
 replied_leave known session (Some reply) still knows = still_leaves known session reply still knows
 
-viewed_in_leaves : (known : Known) (session : Sess) (work : ViewWork) (body : AnswerBody) → Knows known session
-    → IfSome (viewed_in session work body) (TurnLeaves known session)
+viewed_in_leaves : (known : Known) (session : Sess) (work : ViewWork) (result : OpResult) → Knows known session
+    → IfSome (viewed_in session work result) (TurnLeaves known session)
 unfolding viewed_in Knows
-viewed_in_leaves known (Selected view) work body knows = view_leaves known (Selected view) view work body knows
-viewed_in_leaves known session work body knows = tt
+viewed_in_leaves known (Selected view) work result knows = view_leaves known (Selected view) view work result knows
+viewed_in_leaves known session work result knows = tt
 
-turn_leaves : (known : Known) (session : Sess) (awaited : Awaited) (body : AnswerBody) → Knows known session
-    → IfSome (turn_of session awaited body) (TurnLeaves (known_before awaited known) session)
+turn_leaves : (known : Known) (session : Sess) (awaited : Awaited) (result : OpResult) → Knows known session
+    → IfSome (turn_of session awaited result) (TurnLeaves (known_before awaited known) session)
 unfolding turn_of known_before
-turn_leaves known session awaits.Create body knows = replied_leave known session (create.reply_to_create body) (created_still body) knows
-turn_leaves known session awaits.Append body knows = replied_leave known session (append.reply_to_append body) (appended_still body) knows
-turn_leaves known session (awaits.Status shown items) body knows =
-    replied_leave known session (status.reply_to_status shown items body) (counted_still shown items body) knows
-turn_leaves known session (awaits.Select name it) body knows = select_leaves session name it body
-turn_leaves known session (awaits.Viewed work) body knows = viewed_in_leaves known session work body knows
+turn_leaves known session awaits.Create result knows = replied_leave known session (create.reply_to_create result) (created_still result) knows
+turn_leaves known session awaits.Append result knows = replied_leave known session (append.reply_to_append result) (appended_still result) knows
+turn_leaves known session (awaits.Status shown items) result knows =
+    replied_leave known session (status.reply_to_status shown items result) (counted_still shown items result) knows
+turn_leaves known session (awaits.Select name it) result knows = select_leaves session name it result
+turn_leaves known session (awaits.Viewed work) result knows = viewed_in_leaves known session work result knows
 
 -- the same of what is needed
 
@@ -314,9 +326,9 @@ some_knows : (known : Known) (finished : Finished) (session : Sess) (need : Opti
     → IfSome finished.need (KnowsBehind known finished.session) → IfSome need (KnowsBehind known session)
 some_knows known finished session need is knows = subst (λ (f : Finished). IfSome f.need (KnowsBehind known f.session)) (sym is) knows
 
-pub finish_knows : (before session : Sess) (awaited : Awaited) (body : AnswerBody) (turn : Option Turn) (need : Option Need)
-    → turn ≡ turn_of before awaited body → record { session = session; need = need } ≡ finished_by before turn
+pub finish_knows : (before session : Sess) (awaited : Awaited) (result : OpResult) (turn : Option Turn) (need : Option Need)
+    → turn ≡ turn_of before awaited result → record { session = session; need = need } ≡ finished_by before turn
     → (known : Known) → Knows known before → IfSome need (KnowsBehind (known_before awaited known) session)
-finish_knows before session awaited body turn need same is known knows =
-    some_knows (known_before awaited known) (finished_by before (turn_of before awaited body)) session need (is ∙ ap (finished_by before) same)
-    (finished_leaves (known_before awaited known) before (turn_of before awaited body) (turn_leaves known before awaited body knows))
+finish_knows before session awaited result turn need same is known knows =
+    some_knows (known_before awaited known) (finished_by before (turn_of before awaited result)) session need (is ∙ ap (finished_by before) same)
+    (finished_leaves (known_before awaited known) before (turn_of before awaited result) (turn_leaves known before awaited result knows))

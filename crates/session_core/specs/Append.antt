@@ -1,8 +1,7 @@
 -- APPEND (RFC 9051, 6.3.12) as a frontend has it: what it replies to the answer of the home.
--- A home that hasn't the mailbox makes it a missing one.
 use Rattle.std.specs.Prelude.{ℕ, List, [], ◌∷◌, Option, None, Some}
-use Rattle.link_msg.specs.declared.answer.AnswerBody.{AnswerBody}
-use Rattle.link_msg.specs.declared.answer.AnswerBody.TheVariants.{Done, NotNow}
+use Rattle.session_core.specs.declared.result.OpResult.{OpResult}
+use Rattle.session_core.specs.declared.result.OpResult.TheVariants.{Done, Missing}
 use Rattle.link_msg.specs.declared.outcome.Outcome.{Outcome}
 use Rattle.link_msg.specs.declared.outcome.Outcome.TheVariants.{Uids, Limit as full}
 use Rattle.mail_message.specs.declared.message.Snapshot.{Snapshot}
@@ -22,7 +21,6 @@ reply_to_appended (Uids uids) seen = reply_to_uids seen.serial uids
 reply_to_appended full seen = Some (refused Limit)
 reply_to_appended outcome seen = None
 
-unfoldable pub reply_to_append : AnswerBody → Option Reply
+unfoldable pub reply_to_append : OpResult → Option Reply
 reply_to_append (Done outcome seen) = reply_to_appended outcome seen
-reply_to_append NotNow = Some (refused TryCreate)
-reply_to_append body = None
+reply_to_append Missing = Some (refused TryCreate)

@@ -1,7 +1,7 @@
 -- CREATE (RFC 9051, 6.3.4) as a frontend has it: what it replies to the answer of the home.
 use Rattle.std.specs.Prelude.{Option, None, Some, codes}
-use Rattle.link_msg.specs.declared.answer.AnswerBody.{AnswerBody}
-use Rattle.link_msg.specs.declared.answer.AnswerBody.TheVariants.{Done}
+use Rattle.session_core.specs.declared.result.OpResult.{OpResult}
+use Rattle.session_core.specs.declared.result.OpResult.TheVariants.{Done, Missing}
 use Rattle.link_msg.specs.declared.outcome.Outcome.{Outcome}
 use Rattle.link_msg.specs.declared.outcome.Outcome.TheVariants.{None as nothing, Exists, Limit as full}
 use Rattle.imap_types.specs.declared.reply.NoText.TheVariants.{AlreadyExists, Limit}
@@ -15,6 +15,6 @@ reply_to_created full = Some (refused Limit)
 reply_to_created outcome = None
 
 -- no reply is made of an answer that a CREATE can't have
-unfoldable pub reply_to_create : AnswerBody → Option Reply
+unfoldable pub reply_to_create : OpResult → Option Reply
 reply_to_create (Done outcome seen) = reply_to_created outcome
-reply_to_create body = None
+reply_to_create Missing = None

@@ -1,7 +1,7 @@
--- What comes of the home's answer for a session: nothing of one that doesn't fit what was asked.
+-- What comes of an operation's result for a session: nothing of one that doesn't fit what was asked.
 use Rattle.std.specs.Prelude.{Option, None, Some}
 use Rattle.std.specs.Option.{option_map}
-use Rattle.link_msg.specs.declared.answer.AnswerBody.{AnswerBody}
+use Rattle.session_core.specs.declared.result.OpResult.{OpResult}
 use Rattle.mur_model.specs.declared.session.Sess.{Sess}
 use Rattle.mur_model.specs.declared.session.Turn.{Turn}
 use Rattle.mur_model.specs.Left.{replied}
@@ -15,12 +15,12 @@ use Rattle.session_core.specs.Select.{select_turn}
 use Rattle.session_core.specs.Status.{reply_to_status}
 use Rattle.session_core.specs.Viewed.{viewed_in}
 
-unfoldable pub turn_of : Sess → Awaited → AnswerBody → Option Turn
-turn_of session Create body = option_map replied (reply_to_create body)
-turn_of session Append body = option_map replied (reply_to_append body)
-turn_of session (Status shown items) body = option_map replied (reply_to_status shown items body)
-turn_of session (Select name it) body = select_turn name it body
-turn_of session (Viewed work) body = viewed_in session work body
+unfoldable pub turn_of : Sess → Awaited → OpResult → Option Turn
+turn_of session Create result = option_map replied (reply_to_create result)
+turn_of session Append result = option_map replied (reply_to_append result)
+turn_of session (Status shown items) result = option_map replied (reply_to_status shown items result)
+turn_of session (Select name it) result = select_turn name it result
+turn_of session (Viewed work) result = viewed_in session work result
 
 -- a session behind an answer, and what it needs; nothing where the answer doesn't fit
 pub record Finished : Type 0 where
@@ -33,5 +33,5 @@ finished_by session (Some turn) =
     let behind = told_reply session turn.reply turn.session in
     record { session = behind.session; need = Some behind.need }
 
-abbrev pub finish : Sess → Awaited → AnswerBody → Finished
-finish session awaited body = finished_by session (turn_of session awaited body)
+abbrev pub finish : Sess → Awaited → OpResult → Finished
+finish session awaited result = finished_by session (turn_of session awaited result)

@@ -5,6 +5,7 @@ pub mod Finish
 pub mod Need
 pub mod Numbers
 pub mod Relocated
+pub mod Results
 pub mod Select
 pub mod Status
 pub mod Viewed

@@ -1,8 +1,7 @@
 -- STATUS (RFC 9051, 6.3.11) as a frontend has it: what it replies to the answer of the home.
--- A home that hasn't the mailbox makes it a missing one.
 use Rattle.std.specs.Prelude.{ℕ, List, Option, None, Some}
-use Rattle.link_msg.specs.declared.answer.AnswerBody.{AnswerBody}
-use Rattle.link_msg.specs.declared.answer.AnswerBody.TheVariants.{Done, NotNow}
+use Rattle.session_core.specs.declared.result.OpResult.{OpResult}
+use Rattle.session_core.specs.declared.result.OpResult.TheVariants.{Done, Missing}
 use Rattle.link_msg.specs.declared.outcome.Outcome.{Outcome}
 use Rattle.link_msg.specs.declared.outcome.Outcome.TheVariants.{None as nothing}
 use Rattle.mail_message.specs.declared.message.Snapshot.{Snapshot}
@@ -16,7 +15,6 @@ unfoldable pub reply_to_counted : List ℕ → List StatusItem → Outcome → S
 reply_to_counted shown items nothing seen = Some (reply_with_counts shown items seen)
 reply_to_counted shown items outcome seen = None
 
-unfoldable pub reply_to_status : List ℕ → List StatusItem → AnswerBody → Option Reply
+unfoldable pub reply_to_status : List ℕ → List StatusItem → OpResult → Option Reply
 reply_to_status shown items (Done outcome seen) = reply_to_counted shown items outcome seen
-reply_to_status shown items NotNow = Some (refused NonExistent)
-reply_to_status shown items body = None
+reply_to_status shown items Missing = Some (refused NonExistent)

@@ -2,21 +2,14 @@
 //! bytes.
 #![tactic(auto)]
 
-mod append;
 mod beginning;
-mod close;
-mod create;
-mod expunge;
-mod fetch;
+mod commands;
 mod finishing;
-mod news;
 mod relocation;
-mod search;
-mod select;
+mod result;
 mod session;
-mod status;
-mod store;
 mod viewed;
 
 pub use mur_model::{Asking, Awaited, Need};
+pub use result::OpResult;
 pub use session::Session;

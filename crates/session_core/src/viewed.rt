@@ -1,49 +1,49 @@
-// The commands of a selected session (RFC 9051, 6.4): what comes of the answer.
+// The commands of a selected session (RFC 9051, 6.4): what comes of the result.
 ghost use Rattle.std.specs.Prelude.{◌≡◌, IfOk};
 ghost use Rattle.session_core.specs.Viewed.{viewed_done, viewed_in, viewed_told, viewed_turn};
 
-use crate::close::close_done;
-use crate::expunge::expunge_done;
-use crate::fetch::fetch_done;
-use crate::news::news_done;
-use crate::search::search_done;
-use crate::store::store_done;
-use link_msg::{AnswerBody, Outcome};
+use crate::commands::close::close_done;
+use crate::commands::expunge::expunge_done;
+use crate::commands::fetch::fetch_done;
+use crate::commands::noop::news_done;
+use crate::commands::search::search_done;
+use crate::commands::store::store_done;
+use crate::result::OpResult;
+use link_msg::Outcome;
 use mail_message::Snapshot;
 use mur_base::Memory;
 use mur_model::{Sess, Turn, View, ViewWork, gone};
 use std::alloc::Global;
 
-/// What comes of the answer to a command of a session that has a mailbox selected still; nothing of one that it can't have.
+/// What comes of the result of a command of a session that has a mailbox selected still; nothing of one that it can't have.
 #[tactic(auto, unfolding(crate::specs::Viewed::viewed_in))]
 pub fn viewed_in(
     alloc: Global,
     sess: &Sess,
     work: &ViewWork,
-    body: AnswerBody,
+    op_result: OpResult,
 ) -> Result<Option<Turn>, Memory>
-    ensures { IfOk result (λ turn. turn ≡ viewed_in sess.now work.now body) }
+    ensures { IfOk result (λ turn. turn ≡ viewed_in sess.now work.now op_result) }
 {
     match sess {
-        Sess::Selected(view) => viewed_turn(alloc, view, work, body),
+        Sess::Selected(view) => viewed_turn(alloc, view, work, op_result),
         _ => Ok(None),
     }
 }
 
-/// What comes of the answer to a command of a selected session; nothing of one that it can't have.
+/// What comes of the result of a command of a selected session; nothing of one that it can't have.
 #[tactic(auto, unfolding(crate::specs::Viewed::viewed_turn))]
 fn viewed_turn(
     alloc: Global,
     view: &View,
     work: &ViewWork,
-    body: AnswerBody,
+    op_result: OpResult,
 ) -> Result<Option<Turn>, Memory>
-    ensures { IfOk result (λ turn. turn ≡ viewed_turn view.now work.now body) }
+    ensures { IfOk result (λ turn. turn ≡ viewed_turn view.now work.now op_result) }
 {
-    match body {
-        AnswerBody::Done(outcome, seen) => viewed_told(alloc, view, work, outcome, seen),
-        AnswerBody::NotNow => Ok(Some(gone(alloc)?)),
-        _ => Ok(None),
+    match op_result {
+        OpResult::Done(outcome, seen) => viewed_told(alloc, view, work, outcome, seen),
+        OpResult::Missing => Ok(Some(gone(alloc)?)),
     }
 }
 

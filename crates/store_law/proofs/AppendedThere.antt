@@ -23,7 +23,8 @@ use Rattle.mur_model.specs.declared.session.Sess.{Sess}
 use Rattle.mur_model.specs.declared.session.Sess.TheVariants.{Off, In, Selected as selected, Ended}
 use Rattle.mur_model.specs.declared.setting.Setting.{Setting}
 use Rattle.mur_model.specs.declared.store.Store.{Store}
-use Rattle.mur_model.specs.Act.{need_of, need_off, need_in, need_selected, need_begun, wants_selected, work_on, act_by, act_of}
+use Rattle.mur_model.specs.Act.{need_of, need_off, need_in, need_selected, need_begun, need_taken, work_on, act_by, act_of}
+use Rattle.mur_model.specs.Traits.{is_in, may_be, traits_of}
 use Rattle.mur_model.specs.Append.{new_message, append, append_as, append_by, append_on, append_reply, append_to}
 use Rattle.mur_model.specs.Left.{store_after}
 use Rattle.mur_model.specs.Rights.{has_rights}
@@ -94,7 +95,7 @@ module _ (setting : Setting) (store : Store) (rises : (name : List ℕ) → IfSo
       → (act_of setting store session (append_command text flags date body) given).reply.verdict ≡ ok_reply code command
       → HasAppendedAt setting flags date body code (act_of setting store session (append_command text flags date body) given).store
       (name_meant session text)
-  unfolding act_of act_by need_of need_off need_in need_selected need_begun wants_selected name_meant
+  unfolding act_of act_by need_of need_taken need_off need_in need_selected need_begun is_in may_be traits_of name_meant
   session_there Off text given is = cc
   session_there (In user) text given is = append_there (In user) given user text is
   session_there (selected view) text given is = append_there (selected view) given view.user text is

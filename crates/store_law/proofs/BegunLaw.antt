@@ -12,10 +12,11 @@ use Rattle.mur_model.specs.declared.session.Sess.{Sess}
 use Rattle.mur_model.specs.declared.session.Sess.TheVariants.{Off, In, Selected as selected, Ended}
 use Rattle.mur_model.specs.declared.setting.Setting.{Setting}
 use Rattle.mur_model.specs.declared.store.Store.{Store}
-use Rattle.mur_model.specs.Act.{act_by, act_of, need_of, need_off}
+use Rattle.mur_model.specs.Act.{act_by, act_of, need_of, need_off, need_taken}
 use Rattle.mur_model.specs.Login.{begun_by, login, login_as, login_by, login_failed}
 use Rattle.mur_model.specs.Plain.{acts_as, authenticate, authenticate_as, authenticate_by, authenticate_with, cut_at_nul, decoded}
 use Rattle.mur_model.specs.Rights.{user_named}
+use Rattle.mur_model.specs.Traits.{is_in, may_be, traits_of}
 use Rattle.mur_model.specs.Waits.{begins, begins_by, begins_session, begun_behind}
 use Rattle.store_law.specs.Begun.{has_begun, IsReadSo, BeginsAsRead}
 use Rattle.store_law.proofs.StaysBegun.{stays_begun}
@@ -77,11 +78,13 @@ plain_is users response =
     (plain_with_is users (decoded response))
 
 off_is : (setting : Setting) (store : Store) (serial : ℕ) (it : Command)
-    → has_begun (act_by store Off serial (need_off setting it)).session ≡ begins setting it
-unfolding need_off act_by has_begun begins
+    → has_begun (act_by store Off serial (need_of setting Off it)).session ≡ begins setting it
+unfolding need_of need_taken need_off is_in may_be traits_of act_by has_begun begins
 off_is setting store serial (command.Login user password) = login_is setting.users (codes "LOGIN") user password store serial
 off_is setting store serial (command.Authenticate (Some response)) = plain_is setting.users response store serial
 off_is setting store serial (command.Authenticate None) = refl
+off_is setting store serial (command.Idle None) = refl
+off_is setting store serial (command.Idle (Some line)) = refl
 off_is setting store serial it = refl
 
 read_so : (begun : Bool) (session : Sess) → has_begun session ≡ begun → IsReadSo begun session
@@ -92,7 +95,7 @@ read_so begun (selected view) e = e
 read_so begun Ended e = tt
 
 pub begins_as_read : (setting : Setting) → BeginsAsRead setting
-unfolding act_of need_of begun_behind has_begun IsReadSo act_by
+unfolding act_of need_of is_in begun_behind has_begun IsReadSo act_by
 begins_as_read setting = λ store session it serial. by store session it serial
   where
     by : (store : Store) (session : Sess) (it : Command) (serial : ℕ)

@@ -26,12 +26,12 @@ use Rattle.mur_model.specs.declared.work.ViewWork.{ViewWork}
 use Rattle.mur_model.specs.declared.work.ViewWork.TheVariants as view_work
 use Rattle.imap_types.specs.declared.reply.BadText.TheVariants.{State, Syntax}
 use Rattle.imap_types.specs.declared.reply.Verdict.TheVariants.{Bad as bad_reply}
-use Rattle.mur_model.specs.declared.select.Opening.{Opening}
+use Rattle.mur_model.specs.declared.commands.select.Opening.{Opening}
 use Rattle.mur_model.specs.declared.session.Sess.{Sess}
 use Rattle.mur_model.specs.declared.session.Sess.TheVariants.{Off, In, Selected as selected, Ended}
 use Rattle.mur_model.specs.declared.setting.Setting.{Setting}
 use Rattle.mur_model.specs.declared.view.View.{View}
-use Rattle.mur_model.specs.Act.{idled, need_begun, need_in, need_of, need_off, need_selected, need_unselected, wants_selected}
+use Rattle.mur_model.specs.Act.{idled, need_begun, need_in, need_of, need_off, need_selected, need_taken}
 use Rattle.mur_model.specs.Append.{append, append_as, append_by, new_message}
 use Rattle.mur_model.specs.AtOnce.{is_done}
 use Rattle.mur_model.specs.Close.{left_by}
@@ -48,7 +48,8 @@ use Rattle.mur_model.specs.Rights.{has_rights, may_create, user_named}
 use Rattle.mur_model.specs.Select.{opening, select, select_as, select_by}
 use Rattle.mur_model.specs.Status.{status, status_as, status_by}
 use Rattle.mur_model.specs.StoreFlags.{store, store_named}
-use Rattle.store_law.specs.NoneLost.{Expunges, IsAbout, MayChange, MayLabel}
+use Rattle.mur_model.specs.Traits.{Nothing, Labels, effect_of, is_in, traits_of}
+use Rattle.store_law.specs.NoneLost.{Expunges, IsAbout, IsNamed, MayBecome, MayChange, MayLabel}
 
 -- all messages are meant, or those of some UIDs
 abbrev pub IsMeant : Option (List ℕ) → ℕ → Type 0
@@ -195,16 +196,12 @@ module _ (session : Sess) (it : Command) where
   idled_fits : (line : List ℕ) (done : Needed) → Fits session it done → Fits session it (idled line done)
   idled_fits line done is = either (is_done line) done (Refusal (bad_reply Syntax)) (λ so. is) tt
 
-  unselected_fits : (setting : Setting) (user : List ℕ) (asked : Command) → Fits session it (need_unselected setting user asked)
-  unselected_fits setting user asked =
-      either (wants_selected asked) (Refusal (bad_reply State)) (need_begun setting user false asked) (λ so. tt) (begun_fits setting user false asked)
-
   in_fits : (setting : Setting) (user : List ℕ) (asked : Command) → Fits session it (need_in setting user asked)
   unfolding need_in
   in_fits setting user command.Noop = tt
   in_fits setting user (command.Idle (Some line)) = idled_fits line (Turned (replied (completed (codes "IDLE")))) tt
-  in_fits setting user (command.Idle None) = unselected_fits setting user (command.Idle None)
-  in_fits setting user asked = unselected_fits setting user asked
+  in_fits setting user (command.Idle None) = begun_fits setting user false (command.Idle None)
+  in_fits setting user asked = begun_fits setting user false asked
 
 -- ---- commands of a session that has this view
 
@@ -214,17 +211,17 @@ unfolding MayChange
 may_change view it P about writable box uid same meant = (refl, sym same, writable, about uid meant)
 
 expunge_fits : (view : View) (only : Option (List SetPart)) → Fits (selected view) (command.Expunge only) (expunge view only)
-unfolding Expunges IsAbout
+unfolding Expunges IsAbout IsNamed effect_of
 expunge_fits view None =
     either (selected view) (command.Expunge None) view.is_writable (expunge_named view None) read_only
-    (λ writable. (may_change view (command.Expunge None) (IsMeant None) (λ uid meant. tt) writable, tt)) tt
+    (λ writable. (may_change view (command.Expunge None) (IsMeant None) (λ uid meant. tt) writable, refl)) tt
 expunge_fits view (Some set) =
     either (selected view) (command.Expunge (Some set)) view.is_writable (expunge_named view (Some set)) read_only
-    (λ writable. (may_change view (command.Expunge (Some set)) (Contains (named_uids true set view.rows)) (λ uid meant. meant) writable, tt)) tt
+    (λ writable. (may_change view (command.Expunge (Some set)) (Contains (named_uids true set view.rows)) (λ uid meant. meant) writable, refl)) tt
 
 store_fits : (view : View) (by_uid : Bool) (set : List SetPart) (mode : Mode) (is_silent : Bool) (flags : Flags)
     → Fits (selected view) (command.Store by_uid set mode is_silent flags) (store view by_uid set mode is_silent flags)
-unfolding MayLabel IsAbout
+unfolding MayLabel MayBecome IsAbout IsNamed effect_of
 store_fits view by_uid set mode is_silent flags =
     let it : Command = command.Store by_uid set mode is_silent flags in
     let named = store_named view by_uid set mode is_silent flags in
@@ -257,22 +254,29 @@ once_asked told (item ∷ items) is =
     let seen : Bool = list_any (same_item item) told in
     once_by told item items seen (once_asked (if seen then told else told ++ item ∷ []) items is)
 
+-- a FETCH of a body
+seen_becomes : (body : Bool) (old : Flags) → body ≡ true
+    → MayBecome (if body then Labels (λ flags. with_flag flags (System Seen)) else Nothing) old (with_flag old (System Seen))
+unfolding MayBecome
+seen_becomes true old is = refl
+seen_becomes false old is = cc
+
 fetch_fits : (view : View) (by_uid : Bool) (set : List SetPart) (items : List Item)
     → Fits (selected view) (command.Fetch by_uid set items) (if names_messages view by_uid set then fetch_named view by_uid set items else no_such_number)
-unfolding MayLabel IsAbout
+unfolding MayLabel MayBecome IsAbout IsNamed effect_of
 fetch_fits view by_uid set items =
     either (selected view) (command.Fetch by_uid set items) (names_messages view by_uid set) (fetch_named view by_uid set items) no_such_number
     (λ so. (
       may_change view (command.Fetch by_uid set items) (Contains (named_uids by_uid set view.rows)) (λ uid meant. meant),
-      λ body old. (once_asked [] items body, refl),
+      λ body old. seen_becomes (list_any is_body items) old (once_asked [] items body),
     )) tt
 
 close_fits : (view : View)
     → Fits (selected view) command.Close (if view.is_writable then at_mailbox view view_work.Close else Turned (left_by view (codes "CLOSE")))
-unfolding Expunges IsAbout
+unfolding Expunges IsAbout IsNamed effect_of
 close_fits view =
     either (selected view) command.Close view.is_writable (at_mailbox view view_work.Close) (Turned (left_by view (codes "CLOSE")))
-    (λ writable. (may_change view command.Close (IsMeant None) (λ uid meant. tt) writable, tt)) tt
+    (λ writable. (may_change view command.Close (IsMeant None) (λ uid meant. tt) writable, refl)) tt
 
 selected_fits : (setting : Setting) (view : View) (it : Command) → Fits (selected view) it (need_selected setting view it)
 unfolding need_selected
@@ -291,9 +295,14 @@ selected_fits setting view (command.Search by_uid keys) =
     (at_mailbox view (view_work.Search (record { by_uid = by_uid; keys = placed }))) no_such_number (λ so. tt) tt
 selected_fits setting view it = begun_fits (selected view) it setting view.user true it
 
+taken_fits : (setting : Setting) (session : Sess) (it : Command) → Fits session it (need_taken setting session it)
+unfolding need_taken
+taken_fits setting Off it = off_fits Off it setting it
+taken_fits setting (In user) it = in_fits (In user) it setting user it
+taken_fits setting (selected view) it = selected_fits setting view it
+taken_fits setting Ended it = tt
+
 pub need_fits : (setting : Setting) (session : Sess) (it : Command) → Fits session it (need_of setting session it)
 unfolding need_of
-need_fits setting Off it = off_fits Off it setting it
-need_fits setting (In user) it = in_fits (In user) it setting user it
-need_fits setting (selected view) it = selected_fits setting view it
-need_fits setting Ended it = tt
+need_fits setting session it =
+    either session it (is_in session (traits_of it).states) (need_taken setting session it) (Refusal (bad_reply State)) (λ so. taken_fits setting session it) tt

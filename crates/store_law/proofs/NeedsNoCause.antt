@@ -18,13 +18,13 @@ use Rattle.mur_model.specs.declared.work.NewsFor.TheVariants as news_for
 use Rattle.mur_model.specs.declared.work.ViewWork.TheVariants as view_work
 use Rattle.imap_types.specs.declared.reply.BadText.TheVariants.{State, Syntax}
 use Rattle.imap_types.specs.declared.reply.Verdict.TheVariants.{Bad as bad_reply}
-use Rattle.mur_model.specs.declared.select.Opening.{Opening}
+use Rattle.mur_model.specs.declared.commands.select.Opening.{Opening}
 use Rattle.mur_model.specs.declared.session.Sess.{Sess}
 use Rattle.mur_model.specs.declared.session.Sess.TheVariants.{Off, In, Selected as selected, Ended}
 use Rattle.mur_model.specs.declared.session.Turn.{Turn}
 use Rattle.mur_model.specs.declared.setting.Setting.{Setting}
 use Rattle.mur_model.specs.declared.view.View.{View}
-use Rattle.mur_model.specs.Act.{idled, need_begun, need_in, need_of, need_off, need_selected, need_unselected, wants_selected}
+use Rattle.mur_model.specs.Act.{idled, need_begun, need_in, need_of, need_off, need_selected, need_taken}
 use Rattle.mur_model.specs.Append.{append, append_as, append_by, new_message}
 use Rattle.mur_model.specs.AtOnce.{is_done}
 use Rattle.mur_model.specs.Close.{left_by}
@@ -41,6 +41,7 @@ use Rattle.mur_model.specs.Rights.{has_rights, may_create, user_named}
 use Rattle.mur_model.specs.Select.{opening, select, select_as, select_by}
 use Rattle.mur_model.specs.Status.{status, status_as, status_by}
 use Rattle.mur_model.specs.StoreFlags.{store_named}
+use Rattle.mur_model.specs.Traits.{is_in, traits_of}
 use Rattle.store_law.specs.Refusals.{wants_cause}
 
 -- what is answered wants no cause
@@ -163,17 +164,12 @@ idled_is : (line : List ℕ) (done : Needed) → NeedWantsNone done → NeedWant
 unfolding wants_cause
 idled_is line done is = either (is_done line) done (Refusal (bad_reply Syntax)) is refl
 
-unselected_is : (setting : Setting) (user : List ℕ) (it : Command) → NeedWantsNone (need_unselected setting user it)
-unfolding wants_cause
-unselected_is setting user it =
-    either (wants_selected it) (Refusal (bad_reply State)) (need_begun setting user false it) refl (begun_is setting user false it)
-
 in_is : (setting : Setting) (user : List ℕ) (it : Command) → NeedWantsNone (need_in setting user it)
 unfolding need_in wants_cause
 in_is setting user command.Noop = refl
 in_is setting user (command.Idle (Some line)) = idled_is line (Turned (replied (completed (codes "IDLE")))) refl
-in_is setting user (command.Idle None) = unselected_is setting user (command.Idle None)
-in_is setting user it = unselected_is setting user it
+in_is setting user (command.Idle None) = begun_is setting user false (command.Idle None)
+in_is setting user it = begun_is setting user false it
 
 expunge_is : (view : View) (only : Option (List SetPart)) → NeedWantsNone (expunge view only)
 unfolding wants_cause
@@ -211,9 +207,14 @@ selected_is setting view (command.Search by_uid keys) =
     tt refl
 selected_is setting view it = begun_is setting view.user true it
 
+taken_is : (setting : Setting) (session : Sess) (it : Command) → NeedWantsNone (need_taken setting session it)
+unfolding need_taken wants_cause
+taken_is setting Off it = off_is setting it
+taken_is setting (In user) it = in_is setting user it
+taken_is setting (selected view) it = selected_is setting view it
+taken_is setting Ended it = refl
+
 pub need_is : (setting : Setting) (session : Sess) (it : Command) → NeedWantsNone (need_of setting session it)
 unfolding need_of wants_cause
-need_is setting Off it = off_is setting it
-need_is setting (In user) it = in_is setting user it
-need_is setting (selected view) it = selected_is setting view it
-need_is setting Ended it = refl
+need_is setting session it =
+    either (is_in session (traits_of it).states) (need_taken setting session it) (Refusal (bad_reply State)) (taken_is setting session it) refl

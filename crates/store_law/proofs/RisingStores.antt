@@ -25,7 +25,7 @@ use Rattle.mail_store.specs.Store.{flag_changes, has_too_many_flags, rows_stored
 use Rattle.mail_store.specs.declared.fault.StoreFault.{StoreFault}
 use Rattle.mail_store.proofs.TouchedLaws.{next-flags, next-gone}
 use Rattle.mur_base.specs.declared.point.Point.{Point}
-use Rattle.mur_model.specs.declared.fetch.Fetching.{Fetching}
+use Rattle.mur_model.specs.declared.commands.fetch.Fetching.{Fetching}
 use Rattle.mur_model.specs.Needed.{Needed, Refusal, Turned, Mailbox, Work, Make, Append as append_work, Status as status_work, Select as select_work, Viewed as viewed_work}
 use Rattle.mur_model.specs.declared.work.ViewWork.{ViewWork}
 use Rattle.mur_model.specs.declared.work.ViewWork.TheVariants as view_work
@@ -34,7 +34,7 @@ use Rattle.imap_types.specs.declared.request.Request.TheVariants.{Command as a_c
 use Rattle.mur_model.specs.declared.session.Sess.{Sess}
 use Rattle.mur_model.specs.declared.setting.Setting.{Setting}
 use Rattle.mur_model.specs.declared.store.Store.{Store}
-use Rattle.mur_model.specs.declared.store_flags.FlagStore.{FlagStore}
+use Rattle.mur_model.specs.declared.commands.store.FlagStore.{FlagStore}
 use Rattle.mur_model.specs.declared.view.View.{View}
 use Rattle.mur_model.specs.Act.{act_by, act_of, need_of, work_on}
 use Rattle.mur_model.specs.Answer.{answer_of}

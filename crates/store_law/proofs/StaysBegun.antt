@@ -9,19 +9,19 @@ use Rattle.mail_store.specs.Store.{stored, rows_stored, has_too_many_flags}
 use Rattle.mail_store.specs.declared.fault.StoreFault.{StoreFault}
 use Rattle.imap_types.specs.declared.command.Command.{Command}
 use Rattle.imap_types.specs.declared.command.StatusItem.{StatusItem}
-use Rattle.mur_model.specs.declared.fetch.Fetching.{Fetching}
+use Rattle.mur_model.specs.declared.commands.fetch.Fetching.{Fetching}
 use Rattle.mur_model.specs.Needed.{Needed, Refusal, Turned, Mailbox, Work, Make, Append as append_work, Status as status_work, Select as select_work, Viewed as viewed_work}
 use Rattle.mur_model.specs.declared.work.ViewWork.{ViewWork}
 use Rattle.mur_model.specs.declared.work.ViewWork.TheVariants as view_work
 use Rattle.imap_types.specs.declared.reply.NoText.{NoText}
 use Rattle.imap_types.specs.declared.reply.NoText.TheVariants.{NonExistent}
-use Rattle.mur_model.specs.declared.select.Opening.{Opening}
+use Rattle.mur_model.specs.declared.commands.select.Opening.{Opening}
 use Rattle.mur_model.specs.declared.session.Sess.{Sess}
 use Rattle.mur_model.specs.declared.session.Sess.TheVariants.{Off, In, Selected as selected, Ended}
 use Rattle.mur_model.specs.declared.session.Turn.{Turn}
 use Rattle.mur_model.specs.declared.setting.Setting.{Setting}
 use Rattle.mur_model.specs.declared.store.Store.{Store}
-use Rattle.mur_model.specs.declared.store_flags.FlagStore.{FlagStore}
+use Rattle.mur_model.specs.declared.commands.store.FlagStore.{FlagStore}
 use Rattle.mur_model.specs.declared.view.View.{View}
 use Rattle.mur_model.specs.Act.{act_by, need_of, session_after, work_on, worked_at}
 use Rattle.mur_model.specs.Append.{append_on, append_to}

@@ -1,31 +1,28 @@
 -- No command loses a message of the store, or a flag of one, but where that is what the command is for (RFC 9051, 2.3.1.1 and 2.3.2).
 use Rattle.std.specs.Prelude.{◌≡◌, ◌≢◌, ◌⊎◌, ⊤, ℕ, true, List, Option, None, Some, IfSome}
-use Rattle.std.specs.List.{Contains, list_any}
+use Rattle.std.specs.List.{Contains}
 use Rattle.mail_store.specs.Kept.{IsLaterContent}
 use Rattle.mail_message.specs.Boxes.{Content, message_at, relabelled}
-use Rattle.mail_message.specs.FlagSets.{Flags, flags_after, with_flag}
-use Rattle.mail_message.specs.declared.flag_name.FlagName.TheVariants.{System}
+use Rattle.mail_message.specs.FlagSets.{Flags}
 use Rattle.mail_message.specs.declared.message.Message.{Message}
 use Rattle.mail_message.specs.declared.message.Row.{Row}
-use Rattle.mail_message.specs.declared.system_flags.SystemFlag.TheVariants.{Seen}
 use Rattle.imap_types.specs.declared.command.Command.{Command}
-use Rattle.imap_types.specs.declared.command.Command.TheVariants as command
 use Rattle.mur_model.specs.declared.session.Sess.{Sess}
 use Rattle.mur_model.specs.declared.session.Sess.TheVariants.{Off, In, Selected as selected, Ended}
 use Rattle.mur_model.specs.declared.setting.Setting.{Setting}
 use Rattle.mur_model.specs.declared.store.Store.{Store}
 use Rattle.mur_model.specs.Act.{act_of}
-use Rattle.mur_model.specs.Fetch.{is_body}
 use Rattle.mur_model.specs.NamedRows.{named_uids}
 use Rattle.mur_model.specs.Store.{box_at}
+use Rattle.mur_model.specs.Traits.{Change, Each, Labels, Named, Removes, These, effect_of}
+
+unfoldable pub IsNamed : List Row → Named → ℕ → Type 0
+IsNamed rows Each uid = ⊤
+IsNamed rows (These by_uid set) uid = Contains (named_uids by_uid set rows) uid
 
 -- the command is about the message of a UID, among those that its client was told: it names it, or is about all (RFC 9051, 6.4.9)
 unfoldable pub IsAbout : List Row → Command → ℕ → Type 0
-IsAbout rows (command.Expunge None) uid = ⊤
-IsAbout rows (command.Expunge (Some set)) uid = Contains (named_uids true set rows) uid
-IsAbout rows (command.Store by_uid set mode is_silent flags) uid = Contains (named_uids by_uid set rows) uid
-IsAbout rows (command.Fetch by_uid set items) uid = Contains (named_uids by_uid set rows) uid
-IsAbout rows it uid = ⊤
+IsAbout rows it uid = IsNamed rows (effect_of it).named uid
 
 -- the session has this mailbox selected, to be changed (RFC 9051, 6.3.2): an EXAMINE doesn't, nor is it one of the name with another UIDVALIDITY;
 -- and the command is about the message of the UID
@@ -38,16 +35,15 @@ MayChange Ended it name box uid = ⊥
 
 -- the commands that take messages away (RFC 9051, 6.4.1, 6.4.3 and 6.4.9)
 unfoldable pub Expunges : Command → Type 0
-Expunges command.Close = ⊤
-Expunges (command.Expunge only) = ⊤
-Expunges it = ⊥
+Expunges it = (effect_of it).change ≡ Removes
 
--- the flags that a command may make of a message's old ones: a STORE what it says, a FETCH of a body adds \Seen, which a peek doesn't
--- (RFC 9051, 6.4.5 and 6.4.6)
+unfoldable pub MayBecome : Change → Flags → Flags → Type 0
+MayBecome (Labels after) old new = new ≡ after old
+MayBecome change old new = ⊥
+
+-- the flags that a command may make of a message's old ones: a STORE what it says, a FETCH of a body adds \Seen (RFC 9051, 6.4.5 and 6.4.6)
 unfoldable pub MayLabel : Command → Flags → Flags → Type 0
-MayLabel (command.Store by_uid set mode is_silent flags) old new = new ≡ flags_after mode old flags
-MayLabel (command.Fetch by_uid set items) old new = (list_any is_body items ≡ true) × (new ≡ with_flag old (System Seen))
-MayLabel it old new = ⊥
+MayLabel it old new = MayBecome (effect_of it).change old new
 
 -- by what is found at a message's UID behind a command: nothing, only where it had \Deleted and was expunged; else it with its date and its body,
 -- and with its flags, unless they are those that the command makes of them

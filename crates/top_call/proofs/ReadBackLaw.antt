@@ -5,11 +5,12 @@ use Rattle.std.specs.Ordering.{nat_cmp}
 use Rattle.mur_base.specs.Map.{IsInOrder}
 use Rattle.mur_config.specs.declared.config.Config.{Config}
 use Rattle.schedule_text.specs.declared.event.Event.{Event}
+use Rattle.cluster_core.specs.declared.layout.Layout.{Layout}
 use Rattle.cluster_core.specs.declared.world.World.{World}
-use Rattle.cluster_core.specs.Flow.{run, unrolled}
+use Rattle.cluster_core.specs.Flow.{run_of, steps_of_run}
 use Rattle.cluster_core.specs.History.{history_of}
 use Rattle.cluster_core.specs.Shown.{home_rows}
-use Rattle.cluster_core.specs.World.{start}
+use Rattle.cluster_core.specs.World.{layout_of, start}
 use Rattle.top_call.specs.Output.{output_of, lines_of, client_lines, point_line, box_line, end_line}
 use Rattle.top_call.specs.ReadBack.{TellsClient, IsPointLine, IsBoxLine, TellsRun}
 use Rattle.top_call.specs.Replay.{replay_text}
@@ -18,25 +19,26 @@ use Rattle.cluster_core.proofs.Runs.Unrolled.{by_steps}
 use Rattle.top_call.proofs.FoundLaw.{clients_found}
 use Rattle.top_call.proofs.LinesRead.{tells_each, client_read, point_line_read, box_line_read, end_line_read}
 
-output_read : (world : World) → IsInOrder nat_cmp world.clients → TellsRun (output_of world) world
+output_read : (layout : Layout) (world : World) → IsInOrder nat_cmp world.clients
+    → TellsRun (output_of (record { layout = layout; world = world })) layout world
 unfolding output_of lines_of
-output_read world ordered = record {
+output_read layout world ordered = record {
   to_text = flat_map client_lines world.clients;
   point_text = flat_map point_line (history_of world);
-  box_text = flat_map box_line (home_rows world);
+  box_text = flat_map box_line (home_rows layout world);
   end_text = end_line world.steps (length (history_of world));
   whole = refl;
   clients = tells_each TellsClient client_lines client_read world.clients;
   found = clients_found world ordered;
   points = tells_each IsPointLine point_line point_line_read (history_of world);
-  boxes = tells_each IsBoxLine box_line box_line_read (home_rows world);
+  boxes = tells_each IsBoxLine box_line box_line_read (home_rows layout world);
   ends = end_line_read world.steps (length (history_of world));
 }
 
-pub run_read : (config : Config) (events : List Event) → TellsRun (replay_text config events) (run (start config) events)
+pub run_read : (config : Config) (events : List Event) → TellsRun (replay_text config events) (layout_of config) (run_of config events)
 run_read config events =
-    output_read (run (start config) events)
-    (subst (λ (world : World). IsInOrder nat_cmp world.clients) (sym (by_steps (start config) events))
-    (clients_in_order config (unrolled (start config) events)))
+    output_read (layout_of config) (run_of config events)
+    (subst (λ (world : World). IsInOrder nat_cmp world.clients) (sym (by_steps (layout_of config) (start config) events))
+    (clients_in_order config (steps_of_run config events)))
 
 pub ruleset by_reading = (run_read)

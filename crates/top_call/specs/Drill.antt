@@ -12,11 +12,11 @@ use Rattle.drill_gen.specs.Summary.{summary_line}
 use Rattle.drill_gen.specs.declared.lines.LineKind.{LineKind}
 use Rattle.drill_gen.specs.declared.lines.LineKind.TheVariants.{Ok, No, Bad, Bye}
 use Rattle.drill_gen.specs.declared.summary.Summary.{Summary}
-use Rattle.cluster_core.specs.Flow.{run}
+use Rattle.cluster_core.specs.Flow.{ran}
 use Rattle.cluster_core.specs.Headline.{IsOneServer}
 use Rattle.cluster_core.specs.History.{history_of}
 use Rattle.cluster_core.specs.Shown.{home_rows}
-use Rattle.cluster_core.specs.World.{start}
+use Rattle.cluster_core.specs.World.{ClusterState}
 use Rattle.cluster_core.specs.declared.cluster.HomeRow.{HomeRow}
 use Rattle.cluster_core.specs.declared.world.Client.{Client}
 use Rattle.cluster_core.specs.declared.world.World.{World}
@@ -40,22 +40,22 @@ is_open_row row = is_open_phase row.phase
 
 -- the counts of a run: its steps, the points of its history, the tagged lines and the BYE lines that clients were given, and the open
 -- mailboxes
-unfoldable pub summary_of : ℕ → ℕ → World → Summary
-summary_of number size world = record {
+unfoldable pub summary_of : ℕ → ℕ → ClusterState → Summary
+summary_of number size now = record {
   number = number;
   size = size;
-  steps = world.steps;
-  points = length (history_of world);
-  ok = count_of Ok (kinds_given world);
-  no = count_of No (kinds_given world);
-  bad = count_of Bad (kinds_given world);
-  bye = count_of Bye (kinds_given world);
-  boxes = length (filter is_open_row (home_rows world));
+  steps = now.world.steps;
+  points = length (history_of now.world);
+  ok = count_of Ok (kinds_given now.world);
+  no = count_of No (kinds_given now.world);
+  bad = count_of Bad (kinds_given now.world);
+  bye = count_of Bye (kinds_given now.world);
+  boxes = length (filter is_open_row (home_rows now.layout now.world));
 }
 
 -- the line of the run of a drill
 abbrev pub drill_text : ℕ → ℕ → List ℕ
-drill_text number size = summary_line (summary_of number size (run (start drill_config) (drill_events number size)))
+drill_text number size = summary_line (summary_of number size (ran drill_config (drill_events number size)))
 
 -- the headline holds of the drill's run, and the call ended as it wrote the line of this run
 pub record DidDrill (number size : ℕ) (before now : HostFacts) (status : Status) : Type 0 where

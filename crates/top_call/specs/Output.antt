@@ -12,6 +12,7 @@ use Rattle.cluster_core.specs.declared.world.Client.{Client}
 use Rattle.cluster_core.specs.declared.world.World.{World}
 use Rattle.cluster_core.specs.History.{history_of}
 use Rattle.cluster_core.specs.Shown.{home_rows}
+use Rattle.cluster_core.specs.World.{ClusterState}
 use Rattle.schedule_text.specs.Cuts.{cuts_of}
 use Rattle.schedule_text.specs.Text.{text_of, name_text_of}
 
@@ -81,5 +82,5 @@ lines_of world points rows =
     flat_map client_lines world.clients
     ++ (flat_map point_line points ++ (flat_map box_line rows ++ end_line world.steps (length points)))
 
-unfoldable pub output_of : World → List ℕ
-output_of world = lines_of world (history_of world) (home_rows world)
+unfoldable pub output_of : ClusterState → List ℕ
+output_of now = lines_of now.world (history_of now.world) (home_rows now.layout now.world)

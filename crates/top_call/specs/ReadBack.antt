@@ -10,6 +10,7 @@ use Rattle.mur_base.specs.declared.home.Phase.{Phase}
 use Rattle.mur_base.specs.declared.home.Phase.TheVariants.{Creating, Open as open_here, Closing, Receiving, Ready, Pointer}
 use Rattle.cluster_core.specs.declared.cluster.HomeRow.{HomeRow}
 use Rattle.cluster_core.specs.declared.world.Client.{Client}
+use Rattle.cluster_core.specs.declared.layout.Layout.{Layout}
 use Rattle.cluster_core.specs.declared.world.World.{World}
 use Rattle.cluster_core.specs.History.{history_of}
 use Rattle.cluster_core.specs.Shown.{given_to, home_rows}
@@ -105,7 +106,7 @@ pub record IsEndLine (steps points : ℕ) (line : List ℕ) : Type 0 where
 
 -- the text of a run: what the clients were given, the history, the mailboxes at the nodes that have them, how many steps and points. Each
 -- client is the one that its number finds
-pub record TellsRun (text : List ℕ) (world : World) : Type 0 where
+pub record TellsRun (text : List ℕ) (layout : Layout) (world : World) : Type 0 where
   pub to_text : List ℕ
   pub point_text : List ℕ
   pub box_text : List ℕ
@@ -114,5 +115,5 @@ pub record TellsRun (text : List ℕ) (world : World) : Type 0 where
   pub clients : TellsEach TellsClient world.clients to_text
   pub found : All (λ (client : ℕ × Client). given_to world client.0 ≡ (client.1).given) world.clients
   pub points : TellsEach IsPointLine (history_of world) point_text
-  pub boxes : TellsEach IsBoxLine (home_rows world) box_text
+  pub boxes : TellsEach IsBoxLine (home_rows layout world) box_text
   pub ends : IsEndLine world.steps (length (history_of world)) end_text

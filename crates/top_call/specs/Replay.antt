@@ -11,8 +11,8 @@ use Rattle.mur_edge.specs.declared.host.Asked.{Asked}
 use Rattle.mur_edge.specs.declared.host.Asked.TheVariants.{Source, Out}
 use Rattle.mur_config.specs.declared.config.Config.{Config as Configuration}
 use Rattle.schedule_text.specs.declared.event.Event.{Event}
-use Rattle.cluster_core.specs.Flow.{run}
-use Rattle.cluster_core.specs.World.{start}
+use Rattle.cluster_core.specs.Flow.{ran, run_of}
+use Rattle.cluster_core.specs.World.{layout_of}
 use Rattle.mur_config.specs.Config.{config_of}
 use Rattle.mur_config.specs.Rules.{config_rule_number as config_rule}
 use Rattle.mur_config.specs.declared.fault.ConfigFault.{ConfigFault}
@@ -154,7 +154,7 @@ EndsWriting text before now Read = ⊥
 
 -- the text of the run of a configuration's cluster
 abbrev pub replay_text : Configuration → List Event → List ℕ
-replay_text config events = output_of (run (start config) events)
+replay_text config events = output_of (ran config events)
 
 -- the configuration was right, and the call ended at the schedule
 pub record EndsBehindConfig (names : Names) (before now : HostFacts) (status : Status) : Type 0 where
@@ -174,7 +174,7 @@ pub record EndsBehindRun (names : Names) (before now : HostFacts) (status : Stat
   pub configured : HasConfig names.config config before configured_at
   pub scheduled : HasEvents config names.schedule events configured_at between
   pub one_server : IsOneServer config events
-  pub tells : TellsRun (replay_text config events) (run (start config) events)
+  pub tells : TellsRun (replay_text config events) (layout_of config) (run_of config events)
   pub ended : EndsWriting (replay_text config events) between now status
 
 -- a replay ends at the configuration, else at the schedule, else as it writes the text of the run

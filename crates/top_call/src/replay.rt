@@ -1,8 +1,8 @@
 // `replay CONFIG SCHEDULE`: reads both files, runs the cluster and writes the text of the run.
 ghost use Rattle.std.specs.Prelude.{◌≡◌, IfOk};
-ghost use Rattle.cluster_core.specs.Flow.{run};
+ghost use Rattle.cluster_core.specs.Flow.{run_of};
 ghost use Rattle.cluster_core.specs.Headline.{IsOneServer};
-ghost use Rattle.cluster_core.specs.World.{start};
+ghost use Rattle.cluster_core.specs.World.{layout_of};
 ghost use Rattle.schedule_text.specs.ScheduleFits.{HasCountRoom};
 ghost use Rattle.top_call.specs.Output.{lines_of, output_of};
 ghost use Rattle.top_call.specs.ReadBack.{TellsRun};
@@ -110,7 +110,7 @@ fn refused(fault: SchedFault) -> Status
 fn write_run<H: Host>(alloc: Global, host: &mut H, config: Config, events: Events) -> Status
     requires room { HasCountRoom events }
     ensures one_server { IsOneServer config events }
-    ensures tells { TellsRun (replay_text config events) (run (start config) events) }
+    ensures tells { TellsRun (replay_text config events) (layout_of config) (run_of config events) }
     ensures did { EndsWriting (replay_text config events) (H.facts host.old) (H.facts host.new) result }
     ensures counts { CountsStatus result (H.facts host.old).faults (H.facts host.new).faults }
 {

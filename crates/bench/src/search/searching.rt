@@ -3,7 +3,7 @@ use super::load::Load;
 use super::message::message;
 use crate::fault::Fault;
 use crate::times::Work;
-use mail_message::{Keys, Messages, Uids};
+use mail_message::{Keys, Summaries, Uids};
 use mail_search::search;
 use std::alloc::Global;
 
@@ -15,7 +15,7 @@ pub const MESSAGES: u32 = 20_000;
 pub struct Searching {
     alloc: Global,
     load: Load,
-    messages: Messages,
+    messages: Summaries,
     numbers: Uids,
     keys: Keys,
 }
@@ -25,7 +25,7 @@ impl Searching {
         Searching {
             alloc,
             load,
-            messages: Messages::new(alloc),
+            messages: Summaries::new(alloc),
             numbers: Uids::new(alloc),
             keys: Keys::new(alloc),
         }
@@ -35,7 +35,8 @@ impl Searching {
 impl Work for Searching {
     fn prepare(&mut self) -> Result<(), Fault> {
         for uid in 1..=MESSAGES {
-            self.messages.push(message(self.alloc, uid)?)?;
+            self.messages
+                .push(message(self.alloc, uid)?.summary(self.alloc)?)?;
             self.numbers.push(uid)?;
         }
         self.keys.push(self.load.key(self.alloc)?)?;

@@ -1,5 +1,5 @@
 -- After every step the clients are in the order of their connections.
-use Rattle.std.proofs.Common.{ℕ, List, [], ◌∷◌, ◌++◌, Option, None, Some}
+use Rattle.std.proofs.Common.{ℕ, List, [], ◌∷◌, ◌++◌, Option, None, Some, sym, subst}
 use Rattle.std.specs.Ordering.{nat_cmp}
 use Rattle.std.specs.List.Sorted.{IsStrictlySortedBy}
 use Rattle.std.proofs.lemmas.Cmp.{nat_cmp_total}
@@ -14,7 +14,6 @@ use Rattle.mur_base.specs.Map.{with_value, IsInOrder}
 use Rattle.mur_base.proofs.MapOrder.{with_entry-in_order, with_value-in_order}
 use Rattle.mur_config.specs.declared.config.Config.{Config}
 use Rattle.mur_config.specs.declared.node.Node.{Node}
-use Rattle.mur_config.specs.Nodes.{links_of}
 use Rattle.mur_model.specs.declared.setting.Setting.{Setting}
 use Rattle.schedule_text.specs.declared.event.Event.{Event}
 use Rattle.schedule_text.specs.declared.event.Event.TheVariants.{Open, Data, Hang, Deliver}
@@ -22,8 +21,9 @@ use Rattle.cluster_core.specs.declared.world.Client.{Client}
 use Rattle.cluster_core.specs.declared.world.World.{World}
 use Rattle.cluster_core.specs.Flow.{run_steps}
 use Rattle.link_queue.specs.Links.{on_link}
-use Rattle.cluster_core.specs.World.{no_world, start, with_node, with_nodes, home_of, setting_of, backends_of, client_at, node_at, given_more, carry, carry_all}
+use Rattle.cluster_core.specs.World.{no_world, start, with_node, with_nodes, home_of, setting_of, client_at, node_at, given_more, carry, carry_all}
 use Rattle.cluster_core.specs.World.{with_state, comes_to, with_client, opens, client_does, taken_from_link, deliver_first, takes, stepped, steps_by}
+use Rattle.cluster_core.proofs.Runs.UpsLaw.{started}
 
 abbrev pub IsOrdered : World → Type 0
 IsOrdered world = IsInOrder nat_cmp world.clients
@@ -91,10 +91,9 @@ with_nodes-ordered home setting world (node ∷ nodes) is =
     with_nodes-ordered home setting (with_node home setting world node) nodes is
 
 start-ordered : (config : Config) → IsOrdered (start config)
-unfolding start IsStrictlySortedBy
+unfolding IsStrictlySortedBy
 start-ordered config =
-    with_nodes-ordered (home_of config) (setting_of config) (record no_world { backends = backends_of config.nodes; pairs = links_of config.nodes })
-    config.nodes tt
+    subst IsOrdered (sym (started config)) (with_nodes-ordered (home_of config) (setting_of config) no_world config.nodes tt)
 
 pub clients_in_order : (config : Config) (events : List Event) → IsOrdered (run_steps (start config) events)
 clients_in_order config events = run_steps-ordered (start config) events (start-ordered config)

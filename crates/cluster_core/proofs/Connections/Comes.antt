@@ -74,8 +74,6 @@ looks_put world node it at = record {
   nodes = same_put (slice_cmp nat_cmp) names_apart world.nodes node it at;
   clients = λ any. refl;
   places = λ whom here placed. placed;
-  backends = refl;
-  pairs = refl;
   marks = refl;
   steps = omega arith;
 }

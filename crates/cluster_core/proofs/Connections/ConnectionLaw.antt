@@ -33,8 +33,6 @@ pub record Story : Type 0 where
 -- what a step of one connection keeps of a world
 pub record KeepsOthers (conn : ℕ) (world next : World) : Type 0 where
   pub nodes : next.nodes ≡ world.nodes
-  pub backends : next.backends ≡ world.backends
-  pub pairs : next.pairs ≡ world.pairs
   pub steps : next.steps ≡ world.steps
   pub clients : (other : ℕ) → other ≢ conn → client_at next other ≡ client_at world other
   pub places : (whom : About) → whom ≢ of_connection conn → PlacesStay whom world.links next.links
@@ -42,8 +40,6 @@ pub record KeepsOthers (conn : ℕ) (world next : World) : Type 0 where
 pub keeps_all : (conn : ℕ) (world : World) → KeepsOthers conn world world
 keeps_all conn world = record {
   nodes = refl;
-  backends = refl;
-  pairs = refl;
   steps = refl;
   clients = λ other ne. refl;
   places = λ whom ne here placed. placed;
@@ -52,8 +48,6 @@ keeps_all conn world = record {
 pub keeps_on : (conn : ℕ) (one two three : World) → KeepsOthers conn one two → KeepsOthers conn two three → KeepsOthers conn one three
 keeps_on conn one two three first second = record {
   nodes = second.nodes ∙ first.nodes;
-  backends = second.backends ∙ first.backends;
-  pairs = second.pairs ∙ first.pairs;
   steps = second.steps ∙ first.steps;
   clients = λ other ne. second.clients other ne ∙ first.clients other ne;
   places = λ whom ne here placed. second.places whom ne here (first.places whom ne here placed);

@@ -108,8 +108,6 @@ end_carried node world conn client text at = given_there world conn client text 
 pub given_keeps : (world : World) (conn : ℕ) (client : Client) (text : List ℕ) → KeepsOthers conn world (given_world world conn client text)
 given_keeps world conn client text = record {
   nodes = refl;
-  backends = refl;
-  pairs = refl;
   steps = refl;
   clients = λ other ne. value_at-with_value-other nat_cmp numbers_apart world.clients conn other (record client { given = client.given ++ text }) ne;
   places = λ whom ne here placed. placed;
@@ -118,8 +116,6 @@ given_keeps world conn client text = record {
 pub marked_keeps : (conn : ℕ) (world : World) (ask : AskId) (how : How) → KeepsOthers conn world (marked_world world ask how)
 marked_keeps conn world ask how = record {
   nodes = refl;
-  backends = refl;
-  pairs = refl;
   steps = refl;
   clients = λ other ne. refl;
   places = λ whom ne here placed. placed;
@@ -376,8 +372,6 @@ asked_here setting front home conn inputs waiting held connection before told wo
       made = record {
         others = keeps_on conn before world next was.made.others (record {
           nodes = refl;
-          backends = refl;
-          pairs = refl;
           steps = refl;
           clients = λ other ne. refl;
           places = λ whom ne. others_sent world.links front home (Ask ask) whom (λ e. ne (sym e));

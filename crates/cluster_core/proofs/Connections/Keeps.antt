@@ -60,8 +60,6 @@ step_keeps config heard world event law =
       nodes = λ any. refl;
       clients = λ any. refl;
       places = λ whom here placed. placed;
-      backends = refl;
-      pairs = refl;
       marks =
           refl;
       steps = omega arith;

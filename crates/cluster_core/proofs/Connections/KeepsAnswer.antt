@@ -36,7 +36,8 @@ use Rattle.mur_model.specs.Act.{session_after}
 use Rattle.mur_model.proofs.HistoryGrows.{same_lists, item_more}
 use Rattle.mur_model.proofs.Numbered.{with_item, with_item-same, with_item-other, length_with_item}
 use Rattle.mur_model.specs.Asking.{asked_for}
-use Rattle.session_core.specs.Finish.{finished_by, turn_of}
+use Rattle.session_core.specs.Finish.{finished_by}
+use Rattle.session_core.specs.Results.{turn_behind}
 use Rattle.mur_model.specs.Need.{told_with}
 use Rattle.cluster_core.specs.declared.world.Client.{Client}
 use Rattle.cluster_core.specs.declared.world.World.{World}
@@ -279,7 +280,7 @@ replied_stands setting front home conn all passed held request connection tag tu
 -- the answer that fits is replied to
 pub fits : (setting : Setting) (home : List ℕ) (conn : ℕ) (connection : Connection) (tag : Tag) (name : List ℕ) (work : Work) (answer : BackAnswer) (turn : Turn)
     → (answer.id).command ≡ connection.answered + 1 → connection.stage ≡ Asked tag (asked_for name work).awaited
-    → turn_of connection.session (asked_for name work).awaited answer.body ≡ Some turn
+    → turn_behind connection.session (asked_for name work).awaited answer.body ≡ Some turn
     → answer_comes setting home conn connection answer ≡ replied_turn setting home conn connection tag turn
 unfolding answer_comes answer_by
 fits setting home conn connection tag name work answer turn number stage shown =

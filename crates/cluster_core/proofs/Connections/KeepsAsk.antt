@@ -37,7 +37,7 @@ use Rattle.mur_model.proofs.HistoryGrows.{same_lists, item_more}
 use Rattle.mur_model.proofs.Numbered.{with_item, with_item-same, with_item-other}
 use Rattle.mur_model.specs.Asking.{asked_for}
 use Rattle.mur_model.proofs.OwnView.{IsOfNeeded, work_own}
-use Rattle.session_core.specs.Finish.{turn_of}
+use Rattle.session_core.specs.Results.{turn_behind}
 use Rattle.node_step.specs.declared.input.NodeInput.TheVariants.{From}
 use Rattle.node_step.specs.declared.node.NodeState.TheVariants as state
 use Rattle.cluster_core.specs.declared.world.World.{World}
@@ -137,7 +137,7 @@ record IsAnswered (config : Config) (heard : ℕ → Heard) (world : World) (law
       (having_said law.story.talk conn reply serial) law.story.told course
   others : (other : ℕ) → other ≢ conn → course.sessions other ≡ law.story.course.sessions other
   mine : course.sessions conn ≡ session_after (law.story.course.sessions conn) turn.session
-  shown : turn_of (law.story.course.sessions conn) (asked_for name work).awaited body ≡ Some turn
+  shown : turn_behind (law.story.course.sessions conn) (asked_for name work).awaited body ≡ Some turn
   ends : TurnEnds turn
   tagged : reply.tag ≡ tag
   replied : reply.reply ≡ turn.reply
@@ -242,7 +242,7 @@ ask_kept config heard later world law from to tag name work ask rest answered it
         home = law.home;
         backend = answered.backend;
         home_is = now;
-        nodes = nodes_alike config world next law.home same_fronts refl refl law.nodes;
+        nodes = nodes_alike config world next law.home same_fronts law.nodes;
         story = story;
         names = λ other. ⊎_elim
             (λ (e : other ≡ name). subst (λ n. NameIs next answered.course.store law.home n) (sym e)
@@ -317,7 +317,7 @@ ask_keeps config heard after world law from to ask rest first same =
     (subst (λ n. IsPlaced (of_connection conn) next.links (Some (record { from = to; to = n; message = Answer answer }))) (sym there.0)
     (sent_alone (without_first world.links from to) to from (Answer answer) (of_connection conn) refl tells.without))
     (answered_so done.body done.turn (said_after config heard world law conn from to it.tag it.name it.work ask done knows.said_is)
-    (ap (λ s. turn_of s (asked_for it.name it.work).awaited done.body) knows.session_is ∙ done.shown)
+    (ap (λ s. turn_behind s (asked_for it.name it.work).awaited done.body) knows.session_is ∙ done.shown)
     (done.mine ∙ ap (λ s. session_after s done.turn.session) (sym knows.session_is)) done.ends
     (ap (λ h. is_answered h answer) its_home
     ∙ ap (λ i. is_answered home (record { id = i; body = done.body })) (sym (ap (λ (a : FrontAsk). a.id) knows.ask_is))))))

@@ -70,7 +70,7 @@ front_keeps config heard after origin law links conn node front was connection o
         home = law.home;
         backend = law.backend;
         home_is = homes_beside origin node front later at law.home ∙ law.home_is;
-        nodes = nodes_with_front config origin next law.home node front later at refl made.others.backends made.others.pairs refl refl law.nodes;
+        nodes = nodes_with_front config origin next law.home node front later at refl refl refl law.nodes;
         story = story;
         names = λ name. name_stays origin next law.story.course.store story.course.store law.home name
             (λ any. ap (λ h. value_at (slice_cmp nat_cmp) (held_by h) name) (homes_beside origin node front later at any)) (ap (λ (s : Store). box_at s name) same_store) (law.names name);

@@ -82,8 +82,6 @@ pub record AreNodesOf (config : Config) (world : World) (home : List ℕ) : Type
   pub home_no_front : front_at world home ≡ None
   pub fronts : (node : List ℕ) (front : Front) → front_at world node ≡ Some front → (front.home ≡ home) × (front.setting ≡ setting_of config)
   pub frontends : (node : List ℕ) → is_some (front_at world node) ≡ is_frontend config node
-  pub backends : world.backends ≡ backends_of config.nodes
-  pub pairs : world.pairs ≡ links_of config.nodes
   pub home_for : IsHomeFor config home
 
 pub record KeepsLaw (config : Config) (heard : ℕ → Heard) (world : World) : Type 0 where
@@ -216,8 +214,6 @@ pub record LooksAlike (world next : World) : Type 0 where
   pub nodes : (node : List ℕ) → node_at next node ≡ node_at world node
   pub clients : (conn : ℕ) → client_at next conn ≡ client_at world conn
   pub places : (whom : About) → PlacesStay whom world.links next.links
-  pub backends : next.backends ≡ world.backends
-  pub pairs : next.pairs ≡ world.pairs
   pub marks : next.marks ≡ world.marks
   pub steps : world.steps ≤ next.steps
 
@@ -227,8 +223,6 @@ looks_same world = record {
   nodes = λ any. refl;
   clients = λ any. refl;
   places = λ whom here placed. placed;
-  backends = refl;
-  pairs = refl;
   marks = refl;
   steps = omega arith;
 }

@@ -124,7 +124,7 @@ joined_keeps config heard world node conn law none new =
         home = law.home;
         backend = law.backend;
         home_is = law.home_is;
-        nodes = nodes_alike config world next law.home (λ any. refl) refl refl law.nodes;
+        nodes = nodes_alike config world next law.home (λ any. refl) law.nodes;
         story = law.story;
         names = λ name. name_stays world next law.story.course.store law.story.course.store law.home name (λ any. refl) refl (law.names name);
         serials = law.serials;
@@ -213,7 +213,7 @@ front_keeps_open config heard world node conn front law at new =
         home = law.home;
         backend = law.backend;
         home_is = homes_beside world node front later at law.home ∙ law.home_is;
-        nodes = nodes_with_front config world next law.home node front later at refl refl refl refl refl law.nodes;
+        nodes = nodes_with_front config world next law.home node front later at refl refl refl law.nodes;
         story = law.story;
         names = λ name. name_stays world next law.story.course.store law.story.course.store law.home name
             (λ any. ap (λ h. value_at (slice_cmp nat_cmp) (held_by h) name) (homes_beside world node front later at any)) refl (law.names name);

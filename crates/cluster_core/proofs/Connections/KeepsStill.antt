@@ -30,13 +30,11 @@ use Rattle.imap_talk.proofs.RequestsOf.{requests_of}
 use Rattle.cluster_core.proofs.Histories.Told.{IsTold, told_later}
 
 pub nodes_alike : (config : Config) (world next : World) (home : List ℕ) → ((node : List ℕ) → front_at next node ≡ front_at world node)
-    → next.backends ≡ world.backends → next.pairs ≡ world.pairs → AreNodesOf config world home → AreNodesOf config next home
-nodes_alike config world next home fronts backends pairs nodes = record {
+    → AreNodesOf config world home → AreNodesOf config next home
+nodes_alike config world next home fronts nodes = record {
   home_no_front = fronts home ∙ nodes.home_no_front;
   fronts = λ node front at. nodes.fronts node front (sym (fronts node) ∙ at);
   frontends = λ node. ap is_some (fronts node) ∙ nodes.frontends node;
-  backends = backends ∙ nodes.backends;
-  pairs = pairs ∙ nodes.pairs;
   home_for = nodes.home_for;
 }
 
@@ -47,7 +45,7 @@ still_kept config heard after world next alike same law = record {
     home = law.home;
     backend = law.backend;
     home_is = ap as_back (alike.nodes law.home) ∙ law.home_is;
-    nodes = nodes_alike config world next law.home (λ node. ap as_front (alike.nodes node)) alike.backends alike.pairs law.nodes;
+    nodes = nodes_alike config world next law.home (λ node. ap as_front (alike.nodes node)) law.nodes;
     story = law.story;
     names = λ name. name_stays world next law.story.course.store law.story.course.store law.home name
         (λ node. ap (λ n. value_at (slice_cmp nat_cmp) (held_by (as_back n)) name) (alike.nodes node)) refl (law.names name);
@@ -85,9 +83,9 @@ fronts_at_other world node front next other at same any = ⊎_elim
 
 -- the nodes with another state of one frontend
 pub nodes_with_front : (config : Config) (world next : World) (asked : List ℕ) (node : List ℕ) (front later : Front) → front_at world node ≡ Some front
-    → next.nodes ≡ with_value (slice_cmp nat_cmp) world.nodes node (state.Front later) → next.backends ≡ world.backends
-    → next.pairs ≡ world.pairs → later.home ≡ front.home → later.setting ≡ front.setting → AreNodesOf config world asked → AreNodesOf config next asked
-nodes_with_front config world next asked node front later at changed backends pairs home setting nodes =
+    → next.nodes ≡ with_value (slice_cmp nat_cmp) world.nodes node (state.Front later)
+    → later.home ≡ front.home → later.setting ≡ front.setting → AreNodesOf config world asked → AreNodesOf config next asked
+nodes_with_front config world next asked node front later at changed home setting nodes =
     let put : World = with_state world node (state.Front later) in
     let here : (any : List ℕ) → front_at next any ≡ front_at put any = λ any. ap (λ n. as_front (value_at (slice_cmp nat_cmp) n any)) changed in
     record {
@@ -105,8 +103,6 @@ nodes_with_front config world next asked node front later at changed backends pa
           ∙ ap (λ n. is_some (front_at world n)) (sym e))
           (λ (ne : any ≢ node). ap is_some (front_other world node any (state.Front later) ne))
           (same_or_other (slice_cmp nat_cmp) names_apart any node) ∙ nodes.frontends any;
-      backends = backends ∙ nodes.backends;
-      pairs = pairs ∙ nodes.pairs;
       home_for = nodes.home_for;
     }
   where

@@ -13,15 +13,16 @@ use Rattle.node_step.specs.declared.node.NodeState.{NodeState}
 use Rattle.node_step.specs.NodeStep.{takes as node_takes}
 use Rattle.schedule_text.specs.declared.event.Event.{Event}
 use Rattle.schedule_text.specs.declared.event.Event.TheVariants.{Deliver, Flow}
+use Rattle.cluster_core.specs.declared.layout.Layout.{Layout}
 use Rattle.cluster_core.specs.declared.world.World.{World}
-use Rattle.cluster_core.specs.Flow.{Flowing, delivered, turn_by, turn_of_link, round, rounds_by, rounds, flow, steps_of_event, happens, unrolled, run_steps}
+use Rattle.cluster_core.specs.Flow.{Flowing, delivered, turn_by, turn_of_link, round, rounds_by, rounds, flow, steps_of_event, happens, unrolled, run_steps, steps_of_run}
 use Rattle.cluster_core.specs.Headline.FlowLaw.{DeliversFirst, IsFlow, AreStepsOf, AreStepsOfAll, AreItsSteps}
 use Rattle.cluster_core.specs.Headline.FlowLaw.AreStepsOfAll.{no_event, an_event}
 use Rattle.link_queue.specs.Links.{on_link}
-use Rattle.cluster_core.specs.World.{node_at, comes_to, taken_from_link, deliver_first, takes, stepped, steps_by, start}
+use Rattle.cluster_core.specs.World.{node_at, comes_to, taken_from_link, deliver_first, takes, stepped, steps_by, start, layout_of}
 use Rattle.cluster_core.proofs.Nodes.LinkedNodes.{AreApart, pairs_apart}
 use Rattle.cluster_core.proofs.Nodes.OneNodeLaw.{carry_all_sends}
-use Rattle.cluster_core.proofs.Nodes.OnPairs.{IsIdle, all_empty, pairs_stay}
+use Rattle.cluster_core.proofs.Nodes.OnPairs.{IsIdle, all_empty}
 use Rattle.cluster_core.proofs.Runs.Unrolled.{event_made, run_steps-append}
 use Rattle.link_queue.proofs.Wires.{same_itself, on_link-taken}
 
@@ -202,66 +203,61 @@ rounds_rest zero links flowing h some = absurd (some (omega (arith, h)))
 rounds_rest (suc n) links flowing h some =
     rest_by n links flowing (rounds n links (round flowing links)) _ refl h some (λ fewer left. rounds_rest n links (round flowing links) fewer left)
 
-flow_flows : (world : World) (count : ℕ) → All AreApart world.pairs → IsFlowing world.pairs world count (flow world count)
+flow_flows : (layout : Layout) (world : World) (count : ℕ) → All AreApart layout.pairs → IsFlowing layout.pairs world count (flow layout world count)
 unfolding flow run_steps
-flow_flows world count apart =
-    rounds_flow world.pairs world count apart count (record { world = world; made = []; left = count })
+flow_flows layout world count apart =
+    rounds_flow layout.pairs world count apart count (record { world = world; made = []; left = count })
     (record { steps = refl; counts = omega arith; each = λ before step later e. absurd (not_none before step later e) })
 
-flow_rests : (world : World) (count : ℕ) → (flow world count).left ≢ 0 → All (IsIdle (flow world count).world) world.pairs
+flow_rests : (layout : Layout) (world : World) (count : ℕ) → (flow layout world count).left ≢ 0
+    → All (IsIdle (flow layout world count).world) layout.pairs
 unfolding flow
-flow_rests world count some = rounds_rest count world.pairs (record { world = world; made = []; left = count }) (omega arith) some
-
-flow_is : (config : Config) (steps : List Event) (count : ℕ) (world : World) → world ≡ run_steps (start config) steps
-    → IsFlowing (links_of config.nodes) world count (flow world count)
-flow_is config steps count world there =
-    let pairs : world.pairs ≡ links_of config.nodes = ap (λ (w : World). w.pairs) there ∙ pairs_stay config steps in
-    subst (λ links. IsFlowing links world count (flow world count)) pairs
-    (flow_flows world count (subst (λ links. All AreApart links) (sym pairs) (pairs_apart config.nodes)))
+flow_rests layout world count some = rounds_rest count layout.pairs (record { world = world; made = []; left = count }) (omega arith) some
 
 is_flow : (config : Config) (steps : List Event) (count : ℕ) (world : World) → AreNodes config.nodes → world ≡ run_steps (start config) steps
-    → IsFlow (links_of config.nodes) count world (flow world count).made
+    → IsFlow (links_of config.nodes) count world (flow (layout_of config) world count).made
 is_flow config steps count world are there =
-    let pairs : world.pairs ≡ links_of config.nodes = ap (λ (w : World). w.pairs) there ∙ pairs_stay config steps in
-    let made = (flow world count).made in
-    let flows = flow_is config steps count world there in
-    let ends : (flow world count).world ≡ run_steps (start config) (steps ++ made) =
-    flows.steps ∙ ap (λ w. run_steps w made) there ∙ sym (run_steps-append (start config) steps made) in
+    let ran = flow (layout_of config) world count in
+    let flows = flow_flows (layout_of config) world count (pairs_apart config.nodes) in
+    let ends : ran.world ≡ run_steps (start config) (steps ++ ran.made) =
+    flows.steps ∙ ap (λ w. run_steps w ran.made) there ∙ sym (run_steps-append (start config) steps ran.made) in
     record {
       at_most = omega (arith, flows.counts);
       each = flows.each;
       fewer = λ fewer from to.
-          let some : (flow world count).left ≢ 0 = λ none. omega (arith, flows.counts, fewer, none) in
-          let idle = subst (λ links. All (IsIdle (flow world count).world) links) pairs (flow_rests world count some) in
+          let some : ran.left ≢ 0 = λ none. omega (arith, flows.counts, fewer, none) in
           ap (λ (w : World). on_link w.links from to) (sym flows.steps ∙ ends)
-          ∙ all_empty config (steps ++ made) are (subst (λ w. All (IsIdle w) (links_of config.nodes)) ends idle) from to;
+          ∙ all_empty config (steps ++ ran.made) are
+          (subst (λ w. All (IsIdle w) (links_of config.nodes)) ends (flow_rests (layout_of config) world count some)) from to;
     }
 
 are_steps : (config : Config) (steps : List Event) (world : World) (event : Event) → AreNodes config.nodes → world ≡ run_steps (start config) steps
-    → AreStepsOf (links_of config.nodes) world event (steps_of_event world event)
+    → AreStepsOf (links_of config.nodes) world event (steps_of_event (layout_of config) world event)
 unfolding steps_of_event
 are_steps config steps world (Flow count) are there = is_flow config steps count world are there
 are_steps config steps world event are there = refl
 
 -- behind whatever steps
-pub are_its_steps : (world : World) (event : Event) → AreItsSteps world event
-are_its_steps world event = λ config steps are there. are_steps config steps world event are there
+pub are_its_steps : (layout : Layout) (world : World) (event : Event) → AreItsSteps layout world event
+are_its_steps layout world event = λ config steps are laid there.
+    subst (λ l. AreStepsOf (links_of config.nodes) world event (steps_of_event l world event)) (sym laid) (are_steps config steps world event are there)
 
 all_from : (config : Config) (steps : List Event) (world : World) (events : List Event) → AreNodes config.nodes → world ≡ run_steps (start config) steps
-    → AreStepsOfAll (links_of config.nodes) world events (unrolled world events)
+    → AreStepsOfAll (links_of config.nodes) world events (unrolled (layout_of config) world events)
 unfolding unrolled
 all_from config steps world [] are there = no_event world
 all_from config steps world (event ∷ events) are there =
-    let its = steps_of_event world event in
-    let made = event_made world event in
-    let later : happens world event ≡ run_steps (start config) (steps ++ its) =
+    let its = steps_of_event (layout_of config) world event in
+    let next = happens (layout_of config) world event in
+    let made = event_made (layout_of config) world event in
+    let later : next ≡ run_steps (start config) (steps ++ its) =
     made ∙ ap (λ w. run_steps w its) there ∙ sym (run_steps-append (start config) steps its) in
-    an_event world event events its (unrolled (happens world event) events) (are_steps config steps world event are there)
-    (subst (λ w. AreStepsOfAll (links_of config.nodes) w events (unrolled (happens world event) events)) made
-    (all_from config (steps ++ its) (happens world event) events are later))
+    an_event world event events its (unrolled (layout_of config) next events) (are_steps config steps world event are there)
+    (subst (λ w. AreStepsOfAll (links_of config.nodes) w events (unrolled (layout_of config) next events)) made
+    (all_from config (steps ++ its) next events are later))
 
 -- the steps of a run are those of its events
 pub are_steps_of_all : (config : Config) (events : List Event) → AreNodes config.nodes
-    → AreStepsOfAll (links_of config.nodes) (start config) events (unrolled (start config) events)
+    → AreStepsOfAll (links_of config.nodes) (start config) events (steps_of_run config events)
 unfolding run_steps
 are_steps_of_all config events are = all_from config [] (start config) events are refl

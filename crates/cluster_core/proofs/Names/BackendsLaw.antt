@@ -61,9 +61,8 @@ all_backends (node ∷ nodes) pairs =
     (all_behind node nodes (backends_of nodes) (all_named (λ n. node.name ≢ n) nodes (head_apart node nodes pairs))
     (all_backends nodes (tail_apart node nodes pairs)))
 
-pub are_backends : (config : Config) (world : World) (home : List ℕ) → AreNodes config.nodes → AreNodesOf config world home
-    → All (IsBackend config) world.backends
-are_backends config world home are nodes = subst (All (IsBackend config)) (sym nodes.backends) (all_backends config.nodes are.names)
+pub are_backends : (config : Config) → AreNodes config.nodes → All (IsBackend config) (backends_of config.nodes)
+are_backends config are = all_backends config.nodes are.names
 
 -- a name that is open is so at the home that is asked
 open_at_home : (world : World) (store : Store) (home name node : List ℕ) → NameIs world store home name → IsOpenAt world name node → node ≡ home

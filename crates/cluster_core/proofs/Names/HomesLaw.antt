@@ -14,7 +14,7 @@ use Rattle.mur_model.specs.declared.store.Store.{Store}
 use Rattle.cluster_core.specs.declared.world.World.{World}
 use Rattle.cluster_core.specs.Headline.OneStore.{or_else, box_among, box_of_home, HasBoxesOf}
 use Rattle.cluster_core.specs.Shown.{held_by, row_if, home_rows_of}
-use Rattle.cluster_core.specs.World.{home_at}
+use Rattle.cluster_core.specs.World.{backends_of, home_at, layout_of}
 use Rattle.cluster_core.proofs.Connections.KeepsLaw.{AreNodesOf}
 use Rattle.cluster_core.proofs.Connections.NameLaw.{NameIs, lacks_elsewhere, node_has, open_store, store_at}
 
@@ -25,9 +25,6 @@ pub record AreNamesOf (config : Config) (world : World) (store : Store) (home : 
   pub names : (name : List ℕ) → NameIs world store home name
 
 module _ (config : Config) (world : World) (store : Store) (home : List ℕ) (backend : Backend) (are : AreNamesOf config world store home backend) where
-  pub first_home : world.backends ≡ home ∷ are.nodes.home_for.rest
-  first_home = are.nodes.backends ∙ are.nodes.home_for.names
-
   pub lacks : (node name : List ℕ) → home ≢ node → node_has world node name ≡ None
   lacks node name ne = lacks_elsewhere world store home name node (λ e. ne (sym e)) (are.names name)
 
@@ -43,15 +40,15 @@ module _ (config : Config) (world : World) (store : Store) (home : List ℕ) (ba
   or_none (Some content) = refl
 
   -- the mailbox of a name is the home's
-  box_here : (name : List ℕ) → box_of_home world name ≡ open_content (value_at (slice_cmp nat_cmp) backend.held name)
+  box_here : (name : List ℕ) → box_of_home (layout_of config) world name ≡ open_content (value_at (slice_cmp nat_cmp) backend.held name)
   unfolding box_of_home box_among
   box_here name =
-      ap (box_among world name) first_home
+      ap (box_among world name) are.nodes.home_for.names
       ∙ ap (λ h. or_else (open_content (value_at (slice_cmp nat_cmp) (held_by h) name)) (box_among world name are.nodes.home_for.rest)) are.home_is
       ∙ ap (or_else (open_content (value_at (slice_cmp nat_cmp) backend.held name))) (boxes_none name are.nodes.home_for.rest are.nodes.home_for.others)
       ∙ or_none (open_content (value_at (slice_cmp nat_cmp) backend.held name))
 
-  pub has_boxes : HasBoxesOf store world
+  pub has_boxes : HasBoxesOf (layout_of config) store world
   has_boxes = λ name. open_store store backend name (store_at world store home name backend are.home_is (are.names name)) ∙ sym (box_here name)
 
   rows_none : (name : List ℕ) (names : List (List ℕ)) → All (λ n. home ≢ n) names → home_rows_of world name names ≡ []
@@ -62,10 +59,10 @@ module _ (config : Config) (world : World) (store : Store) (home : List ℕ) (ba
       ∙ rows_none name names (All-tail (λ n. home ≢ n) node names all)
 
   -- the rows of a name are the home's
-  pub rows_here : (name : List ℕ) → home_rows_of world name world.backends ≡ row_if name home (value_at (slice_cmp nat_cmp) backend.held name)
+  pub rows_here : (name : List ℕ) → home_rows_of world name (backends_of config.nodes) ≡ row_if name home (value_at (slice_cmp nat_cmp) backend.held name)
   unfolding home_rows_of
   rows_here name =
-      ap (home_rows_of world name) first_home
+      ap (home_rows_of world name) are.nodes.home_for.names
       ∙ ap (λ h. row_if name home (value_at (slice_cmp nat_cmp) (held_by h) name) ++ home_rows_of world name are.nodes.home_for.rest) are.home_is
       ∙ ap (λ r. row_if name home (value_at (slice_cmp nat_cmp) backend.held name) ++ r)
       (rows_none name are.nodes.home_for.rest are.nodes.home_for.others)

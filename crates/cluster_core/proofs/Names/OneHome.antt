@@ -16,7 +16,7 @@ use Rattle.cluster_core.specs.Flow.{run_steps}
 use Rattle.cluster_core.specs.Headline.HomeLaw.{is_writable_home, HasOneHomeEach, KeepsOneHomeEach}
 use Rattle.cluster_core.specs.Headline.Homes.{numbers_shown, numbers_of, ShowsBoxesOf}
 use Rattle.cluster_core.specs.Shown.{home_rows}
-use Rattle.cluster_core.specs.World.{start}
+use Rattle.cluster_core.specs.World.{start, layout_of}
 use Rattle.cluster_core.proofs.Names.BackendsLaw.{opens_at_one}
 use Rattle.cluster_core.proofs.Names.ShownHomes.{shows_boxes}
 use Rattle.cluster_core.proofs.OneServer.ToldSoFar.{kept_all, names_of}
@@ -38,11 +38,11 @@ few None = omega arith
 few (Some box) = omega arith
 
 -- as many as the store has mailboxes of the name
-one_home : (config : Config) (store : Store) (world : World) → ShowsBoxesOf config store world → HasOneHomeEach world
+one_home : (config : Config) (store : Store) (world : World) → ShowsBoxesOf config store world → HasOneHomeEach (layout_of config) world
 one_home config store world shows = λ name. omega (
   arith,
-  count_kept (is_writable_home name) (home_rows world),
-  length-map (filter (is_writable_home name) (home_rows world)) numbers_shown,
+  count_kept (is_writable_home name) (home_rows (layout_of config) world),
+  length-map (filter (is_writable_home name) (home_rows (layout_of config) world)) numbers_shown,
   ap length (shows.open_homes name),
   few (box_at store name),
 )

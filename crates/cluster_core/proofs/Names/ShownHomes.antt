@@ -26,8 +26,9 @@ use Rattle.cluster_core.specs.Headline.HomeLaw.{is_writable_home}
 use Rattle.cluster_core.specs.Headline.Homes.{numbers_shown, numbers_of, IsHeldAt, ShowsBoxesOf}
 use Rattle.backend_core.specs.OpenBox.{open_box, open_content}
 use Rattle.cluster_core.specs.Shown.{held_at_node, held_by, home_row, row_if, home_rows_of, rows_of_all, names_at, home_rows}
+use Rattle.cluster_core.specs.World.{backends_of, layout_of}
 use Rattle.cluster_core.proofs.Names.BackendsLaw.{are_backends}
-use Rattle.cluster_core.proofs.Names.HomesLaw.{AreNamesOf, first_home, rows_here}
+use Rattle.cluster_core.proofs.Names.HomesLaw.{AreNamesOf, rows_here}
 use Rattle.cluster_core.proofs.Connections.NameLaw.{open_store, store_at}
 use Rattle.cluster_core.proofs.Names.NamesHeld.{is_name, names_cons, same_bytes, once_among, names_rise, nothing_rises, one_here, first_listed, bytes_itself}
 use Rattle.cluster_core.proofs.Names.NamesHeld.{key_has}
@@ -54,7 +55,7 @@ module _ (config : Config) (world : World) (store : Store) (home : List ℕ) (ba
     (name : List ℕ) where
   -- the homes of the name among the rows of these names
   abbrev homes_among : List (List ℕ) → List HomeRow
-  homes_among names = filter (is_writable_home name) (rows_of_all world names)
+  homes_among names = filter (is_writable_home name) (rows_of_all (layout_of config) world names)
 
   -- the same of one name alone
   abbrev homes_of : List ℕ → List HomeRow
@@ -63,7 +64,7 @@ module _ (config : Config) (world : World) (store : Store) (home : List ℕ) (ba
   homes_first : (other : List ℕ) (names : List (List ℕ)) → homes_among (other ∷ names) ≡ homes_of other ++ homes_among names
   unfolding rows_of_all
   homes_first other names =
-      filter_both (is_writable_home name) (home_rows_of world other world.backends) (rows_of_all world names)
+      filter_both (is_writable_home name) (home_rows_of world other (backends_of config.nodes)) (rows_of_all (layout_of config) world names)
       ∙ ap (λ rows. filter (is_writable_home name) rows ++ homes_among names) (rows_here config world store home backend are other)
 
   not_first : (other : List ℕ) (names : List (List ℕ)) → bytes_eq other name ≡ false → homes_among (other ∷ names) ≡ homes_among names
@@ -101,30 +102,30 @@ module _ (config : Config) (world : World) (store : Store) (home : List ℕ) (ba
   once_listed (other ∷ names) some few = once_by other names (bytes_eq other name) refl some few (once_listed names)
 
   -- a name that the home has is listed
-  is_listed : (held : Held) → value_at (slice_cmp nat_cmp) backend.held name ≡ Some held → 1 ≤ count_by (is_name name) (names_at world [] world.backends)
+  is_listed : (held : Held) → value_at (slice_cmp nat_cmp) backend.held name ≡ Some held → 1 ≤ count_by (is_name name) (names_at world [] (backends_of config.nodes))
   is_listed held at =
-      subst (λ all. 1 ≤ count_by (is_name name) (names_at world [] all)) (sym (first_home config world store home backend are))
+      subst (λ all. 1 ≤ count_by (is_name name) (names_at world [] all)) (sym are.nodes.home_for.names)
       (first_listed world name home are.nodes.home_for.rest
       (subst (λ h. 1 ≤ count_by (is_name name) (keys_of (held_by h))) (sym are.home_is) (key_has name backend.held held at)))
 
   unlisted : (found : Option Held) → value_at (slice_cmp nat_cmp) backend.held name ≡ found
-      → count_by (is_name name) (names_at world [] world.backends) ≡ 0
+      → count_by (is_name name) (names_at world [] (backends_of config.nodes)) ≡ 0
       → filter (is_writable_home name) (row_if name home found) ≡ []
   unlisted None at none = refl
   unlisted (Some held) at none = absurd (omega (arith, none, is_listed held at))
 
-  homes_by : (count : ℕ) → count_by (is_name name) (names_at world [] world.backends) ≡ count
-      → homes_among (names_at world [] world.backends) ≡ homes_of name
+  homes_by : (count : ℕ) → count_by (is_name name) (names_at world [] (backends_of config.nodes)) ≡ count
+      → homes_among (names_at world [] (backends_of config.nodes)) ≡ homes_of name
   homes_by zero e =
-      none_among (names_at world [] world.backends) e ∙ sym (unlisted (value_at (slice_cmp nat_cmp) backend.held name) refl e)
+      none_among (names_at world [] (backends_of config.nodes)) e ∙ sym (unlisted (value_at (slice_cmp nat_cmp) backend.held name) refl e)
   homes_by (suc more) e =
-      once_listed (names_at world [] world.backends) (omega (arith, e))
-      (once_among name (names_at world [] world.backends) (names_rise world world.backends [] nothing_rises))
+      once_listed (names_at world [] (backends_of config.nodes)) (omega (arith, e))
+      (once_among name (names_at world [] (backends_of config.nodes)) (names_rise world (backends_of config.nodes) [] nothing_rises))
 
   -- the homes of a name are those of the one backend that has it
-  pub homes_here : filter (is_writable_home name) (home_rows world) ≡ homes_of name
+  pub homes_here : filter (is_writable_home name) (home_rows (layout_of config) world) ≡ homes_of name
   unfolding home_rows
-  homes_here = homes_by (count_by (is_name name) (names_at world [] world.backends)) refl
+  homes_here = homes_by (count_by (is_name name) (names_at world [] (backends_of config.nodes))) refl
 
 numbers_by : (name node : List ℕ) (phase : Phase) (content : Content)
     → map numbers_shown (filter (is_writable_home name) (row_if name node (Some (record { phase = phase; content = content }))))
@@ -162,12 +163,12 @@ rows_at config world name (node ∷ nodes) are =
     (row_at config world name node found (All-head (IsBackend config) node nodes are) refl)
     (rows_at config world name nodes (All-tail (IsBackend config) node nodes are))
 
-all_at : (config : Config) (world : World) (names : List (List ℕ)) → All (IsBackend config) world.backends
-    → All (IsHeldAt config world) (rows_of_all world names)
+all_at : (config : Config) (world : World) (names : List (List ℕ)) → All (IsBackend config) (backends_of config.nodes)
+    → All (IsHeldAt config world) (rows_of_all (layout_of config) world names)
 unfolding rows_of_all
 all_at config world [] are = All-nil (IsHeldAt config world)
 all_at config world (name ∷ names) are =
-    All-append (IsHeldAt config world) (home_rows_of world name world.backends) (rows_of_all world names) (rows_at config world name world.backends are)
+    All-append (IsHeldAt config world) (home_rows_of world name (backends_of config.nodes)) (rows_of_all (layout_of config) world names) (rows_at config world name (backends_of config.nodes) are)
     (all_at config world names are)
 
 pub shows_boxes : (config : Config) (world : World) (store : Store) (home : List ℕ) (backend : Backend) → AreNodes config.nodes
@@ -178,5 +179,5 @@ shows_boxes config world store home backend are names = record {
       ∙ same_numbers name home (value_at (slice_cmp nat_cmp) backend.held name)
       ∙ ap (λ box. map numbers_of (option_to_list box))
       (sym (open_store store backend name (store_at world store home name backend names.home_is (names.names name))));
-  rows = all_at config world (names_at world [] world.backends) (are_backends config world home are names.nodes);
+  rows = all_at config world (names_at world [] (backends_of config.nodes)) (are_backends config are);
 }

@@ -18,6 +18,7 @@ use Rattle.mur_model.specs.declared.setting.Setting.{Setting}
 use Rattle.node_step.specs.NodeStep.{as_front}
 use Rattle.cluster_core.specs.declared.world.World.{World}
 use Rattle.cluster_core.specs.World.{no_world, or_backend, backends_of, home_of, setting_of, first_state, with_node, with_nodes, start, front_at}
+use Rattle.cluster_core.proofs.Runs.UpsLaw.{started}
 use Rattle.cluster_core.proofs.Runs.FrontsOfStart.{frontends_at_start}
 use Rattle.cluster_core.proofs.Runs.StartLaw.{first_backend, home_no_front, others_apart, start_keeps_for}
 use Rattle.cluster_core.proofs.Connections.KeepsLaw.{IsHomeFor, KeepsLaw}
@@ -84,12 +85,11 @@ unfolding as_front
 no_front_yet is = cc
 
 front_node : (config : Config) (name : List ℕ) → is_some (front_at (start config) name) ≡ true → HasNode config.nodes Frontend name
-unfolding start
 front_node config name is = ⊎_elim
     (λ none. absurd (no_front_yet none))
     (λ has. has)
-    (front_among (home_of config) (setting_of config)
-    (record no_world { backends = backends_of config.nodes; pairs = links_of config.nodes }) config.nodes name is)
+    (front_among (home_of config) (setting_of config) no_world config.nodes name
+    (ap (λ w. is_some (front_at w name)) (sym (started config)) ∙ is))
 
 -- the home is a backend
 

@@ -31,8 +31,7 @@ use Rattle.cluster_core.specs.World.{client_does, taken_from_link, deliver_first
 use Rattle.cluster_core.proofs.Connections.Keeps.{step_keeps}
 use Rattle.cluster_core.proofs.Connections.KeepsLaw.{KeepsLaw}
 use Rattle.cluster_core.proofs.Nodes.LinkedNodes.{start_keeps}
-use Rattle.cluster_core.proofs.Nodes.OneNodeLaw.{pairs_kept}
-use Rattle.cluster_core.proofs.Runs.StartLaw.{nodes_pairs, start_links}
+use Rattle.cluster_core.proofs.Runs.StartLaw.{start_links}
 
 -- two nodes are linked, in both directions
 abbrev Joined : List Link → List ℕ → List ℕ → Type 0
@@ -158,20 +157,6 @@ nothing_on pairs links none from to = inl (rw none refl)
 on_pairs : (config : Config) (steps : List Event) → AreNodes config.nodes → AreOn (links_of config.nodes) (run_steps (start config) steps).links
 on_pairs config steps are =
     run_on config (λ conn. nobody) (start config) steps (start_keeps config are) (nothing_on (links_of config.nodes) (start config).links (start_links config))
-
--- the pairs are those of the configuration
-
-start_pairs : (config : Config) → (start config).pairs ≡ links_of config.nodes
-unfolding start
-start_pairs config = nodes_pairs _ _ _ config.nodes
-
-run_pairs : (world : World) (steps : List Event) → (run_steps world steps).pairs ≡ world.pairs
-unfolding run_steps
-run_pairs world [] = refl
-run_pairs world (event ∷ steps) = run_pairs (steps_by world event) steps ∙ pairs_kept world event
-
-pub pairs_stay : (config : Config) (steps : List Event) → (run_steps (start config) steps).pairs ≡ links_of config.nodes
-pairs_stay config steps = run_pairs (start config) steps ∙ start_pairs config
 
 -- nothing is on its way on this link
 abbrev pub IsIdle : World → Link → Type 0

@@ -37,8 +37,6 @@ pub record Sends (node : List ℕ) (before after : World) : Type 0 where
   clients : (conn : ℕ) → node_of (client_at after conn) ≡ node_of (client_at before conn)
   pub others : (from to : List ℕ) → from ≢ node → on_link after.links from to ≡ on_link before.links from to
   goes : (to : List ℕ) → WasSent (on_link before.links node to) (on_link after.links node to)
-  backends : after.backends ≡ before.backends
-  pairs : after.pairs ≡ before.pairs
 
 none_sent : (before after : List LinkMsg) → after ≡ before → WasSent before after
 none_sent before after same = record { more = []; behind = same ∙ sym (append-nil before) }
@@ -55,8 +53,6 @@ sends_nothing node world = record {
   clients = λ conn. refl;
   others = λ from to ne. refl;
   goes = λ to. none_sent (on_link world.links node to) (on_link world.links node to) refl;
-  backends = refl;
-  pairs = refl;
 }
 
 sends_more : (node : List ℕ) (one two three : World) → Sends node one two → Sends node two three → Sends node one three
@@ -65,8 +61,6 @@ sends_more node one two three first second = record {
   clients = λ conn. second.clients conn ∙ first.clients conn;
   others = λ from to ne. second.others from to ne ∙ first.others from to ne;
   goes = λ to. sent_on (on_link one.links node to) (on_link two.links node to) (on_link three.links node to) (first.goes to) (second.goes to);
-  backends = second.backends ∙ first.backends;
-  pairs = second.pairs ∙ first.pairs;
 }
 
 elsewhere_none : (from node to other : List ℕ) (message : LinkMsg) → from ≢ node → cond (same_link from to node other) (message ∷ []) [] ≡ []
@@ -91,8 +85,6 @@ given_sends node world conn bytes (Some client) there = record {
   clients = stays_there world conn client (record client { given = client.given ++ bytes }) there refl;
   others = λ from to ne. refl;
   goes = λ to. none_sent (on_link world.links node to) (on_link world.links node to) refl;
-  backends = refl;
-  pairs = refl;
 }
 
 marked_sends : (node : List ℕ) (world : World) (ask : AskId) (kind : MarkKind) → Sends node world (marked world ask kind)
@@ -101,8 +93,6 @@ marked_sends node world ask kind = record {
   clients = λ conn. refl;
   others = λ from to ne. refl;
   goes = λ to. none_sent (on_link world.links node to) (on_link world.links node to) refl;
-  backends = refl;
-  pairs = refl;
 }
 
 carry_sends : (node : List ℕ) (world : World) (out : Out) → Sends node world (carry node world out)
@@ -117,8 +107,6 @@ carry_sends node world (to_node other message) = record {
   others = λ from to ne. on_link-sent world.links node other from to message
       ∙ ap (λ m. on_link world.links from to ++ m) (elsewhere_none from node to other message ne) ∙ append-nil (on_link world.links from to);
   goes = λ to. record { more = cond (same_link node to node other) (message ∷ []) []; behind = on_link-sent world.links node other node to message };
-  backends = refl;
-  pairs = refl;
 }
 
 pub carry_all_sends : (node : List ℕ) (world : World) (outs : List Out) → Sends node world (carry_all node world outs)
@@ -136,8 +124,6 @@ works_and_sends event node one two three works out = record {
   stays = λ from to ne. out.others from to ne ∙ works.stays from to ne;
   sends = λ to. sent_on (leaves_on event node to (on_link one.links node to)) (on_link two.links node to) (on_link three.links node to) (works.sends to)
       (out.goes to);
-  backends = out.backends ∙ works.backends;
-  pairs = out.pairs ∙ works.pairs;
 }
 
 -- an event that takes no message
@@ -154,8 +140,6 @@ idle event node world clients none there = record {
   stays = λ from to ne. sym (none from to (on_link world.links from to));
   sends = λ to. none_sent (leaves_on event node to (on_link world.links node to)) (on_link world.links node to)
       (sym (none node to (on_link world.links node to)));
-  backends = refl;
-  pairs = refl;
 }
 
 -- a message is taken at the node that it goes to
@@ -166,8 +150,6 @@ takes_first from to world = record {
   stays = λ one other ne. on_link-taken world.links from to one other;
   sends = λ other. none_sent (leaves_on (Deliver from to) to other (on_link world.links to other))
       (on_link (without_first world.links from to) to other) (on_link-taken world.links from to to other);
-  backends = refl;
-  pairs = refl;
 }
 
 nothing_first : (links : Links LinkMsg) (from to one other : List ℕ) (same : Bool) → same_link one other from to ≡ same → on_link links from to ≡ []
@@ -185,8 +167,6 @@ takes_nothing from to world none = record {
   stays = λ one other ne. nothing_first world.links from to one other (same_link one other from to) refl none;
   sends = λ other. none_sent (leaves_on (Deliver from to) to other (on_link world.links to other)) (on_link world.links to other)
       (nothing_first world.links from to to other (same_link to other from to) refl none);
-  backends = refl;
-  pairs = refl;
 }
 
 -- what a node does itself
@@ -197,8 +177,6 @@ state_changes event node before world it works = record {
   clients = works.clients;
   stays = works.stays;
   sends = works.sends;
-  backends = works.backends;
-  pairs = works.pairs;
 }
 
 comes_works : (event : Event) (node : List ℕ) (before world : World) (input : NodeInput) (found : Option NodeState) → OnlyWorks event node before world
@@ -288,8 +266,6 @@ before_counting event (Some node) world after works = record {
   clients = works.clients;
   stays = works.stays;
   sends = works.sends;
-  backends = works.backends;
-  pairs = works.pairs;
 }
 
 one_node_works : (world : World) (event : Event) → OneNodeWorks event world (steps_by world event)
@@ -298,14 +274,6 @@ one_node_works world event = record {
   works = before_counting event (worker world event) world (steps_by world event)
       (subst (λ at. WorksBy event at (stepped world) (steps_by world event)) (same_worker world event) (takes_works (stepped world) event));
 }
-
-pairs_by : (event : Event) (at : Option (List ℕ)) (before after : World) → WorksBy event at before after → after.pairs ≡ before.pairs
-pairs_by event None before after works = ap (λ (w : World). w.pairs) works
-pairs_by event (Some node) before after works = works.pairs
-
--- which links there are stays
-pub pairs_kept : (world : World) (event : Event) → (steps_by world event).pairs ≡ world.pairs
-pairs_kept world event = pairs_by event (worker world event) world (steps_by world event) (one_node_works world event).works
 
 pub one_more_step : (world : World) (before : List Event) (event : Event) → run_steps world (before ++ event ∷ []) ≡ steps_by (run_steps world before) event
 unfolding run_steps

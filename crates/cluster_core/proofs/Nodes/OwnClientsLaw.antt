@@ -15,6 +15,7 @@ use Rattle.mur_config.specs.Nodes.{AreNodes}
 use Rattle.schedule_text.specs.declared.event.Event.{Event}
 use Rattle.schedule_text.specs.declared.event.Event.TheVariants.{Open, Data, Hang, Deliver}
 use Rattle.cluster_core.specs.declared.world.Client.{Client}
+use Rattle.cluster_core.specs.declared.layout.Layout.{Layout}
 use Rattle.cluster_core.specs.declared.world.World.{World}
 use Rattle.cluster_core.specs.Flow.{run_steps, steps_of_event}
 use Rattle.imap_talk.specs.Heard.{Heard, nobody}
@@ -167,8 +168,8 @@ pub serves_its_own_each : (config : Config) (steps : List Event) → AreNodes co
 serves_its_own_each config steps are = serves_each config (λ conn. nobody) (start config) steps (start_keeps config are)
 
 -- and of an event behind a run
-pub serves_its_own_behind : (world : World) (event : Event) → ServesItsOwnBehind world event
-serves_its_own_behind world event = λ config steps are e.
-    subst (λ w. ServesItsOwnEach w (steps_of_event world event)) (sym e)
-    (serves_each config (λ conn. heard_from config conn nobody steps) (run_steps (start config) steps) (steps_of_event world event)
+pub serves_its_own_behind : (layout : Layout) (world : World) (event : Event) → ServesItsOwnBehind layout world event
+serves_its_own_behind layout world event = λ config steps are e.
+    subst (λ w. ServesItsOwnEach w (steps_of_event layout world event)) (sym e)
+    (serves_each config (λ conn. heard_from config conn nobody steps) (run_steps (start config) steps) (steps_of_event layout world event)
     ((run_keeps config (λ conn. nobody) (start config) steps (start_keeps config are)).at steps [] (sym (append-nil steps))).law)

@@ -4,6 +4,7 @@ use Rattle.std.proofs.lemmas.List.{append-nil}
 use Rattle.mur_config.specs.declared.config.Config.{Config}
 use Rattle.mur_config.specs.Nodes.{AreNodes}
 use Rattle.schedule_text.specs.declared.event.Event.{Event}
+use Rattle.cluster_core.specs.declared.layout.Layout.{Layout}
 use Rattle.cluster_core.specs.declared.world.World.{World}
 use Rattle.cluster_core.specs.Headline.AtRest.{NothingWaits, NothingWaitsBehind}
 use Rattle.cluster_core.specs.Flow.{run_steps, steps_of_event}
@@ -35,9 +36,9 @@ behind_steps config steps are =
     let all = run_keeps config (λ conn. nobody) (start config) steps (start_keeps config are) in
     at_rest config steps (run_steps (start config) steps) (all.at steps [] (sym (append-nil steps))).law
 
-pub nothing_waits : (world : World) (event : Event) → NothingWaitsBehind world event
-nothing_waits world event = λ config steps are e.
-    let more = steps_of_event world event in
+pub nothing_waits : (layout : Layout) (world : World) (event : Event) → NothingWaitsBehind layout world event
+nothing_waits layout world event = λ config steps are e.
+    let more = steps_of_event layout world event in
     let there : run_steps (start config) (steps ++ more) ≡ run_steps world more = run_steps-append (start config) steps more
     ∙ ap (λ w. run_steps w more) (sym e) in
     subst (λ w. NothingWaits config (steps ++ more) w) there (behind_steps config (steps ++ more) are)

@@ -13,11 +13,11 @@ use Rattle.cluster_core.specs.declared.world.Mark.{Mark}
 use Rattle.cluster_core.specs.declared.world.MarkKind.{MarkKind}
 use Rattle.cluster_core.specs.declared.world.MarkKind.TheVariants.{Home, Told}
 use Rattle.cluster_core.specs.declared.world.World.{World}
-use Rattle.cluster_core.specs.Flow.{run, unrolled}
+use Rattle.cluster_core.specs.Flow.{run_of, steps_of_run}
 use Rattle.cluster_core.specs.Headline.{IsOneServer}
 use Rattle.cluster_core.specs.History.{next_of, counts_as, untold_as, points_by, points_of, history_of}
 use Rattle.cluster_core.specs.Headline.HomeLaw.{HasRelocationCause, RefusesForCause}
-use Rattle.cluster_core.specs.World.{start}
+use Rattle.cluster_core.specs.World.{start, layout_of}
 use Rattle.cluster_core.proofs.Flows.FlowRests.{are_steps_of_all}
 use Rattle.cluster_core.proofs.OneServer.ClosedLaw.{gives_no_more}
 use Rattle.cluster_core.proofs.Nodes.OneNodeLaw.{one_node_each}
@@ -48,12 +48,12 @@ refuses world = have_causes world.marks
 
 pub one_server : (config : Config) (events : List Event) → AreNodes config.nodes → IsDate config.date → IsOneServer config events
 one_server config events are date_is = record {
-  by_steps = by_steps (start config) events;
+  by_steps = by_steps (layout_of config) (start config) events;
   its_steps = are_steps_of_all config events are;
-  one_node = one_node_each (start config) (unrolled (start config) events);
-  own_clients = serves_its_own_each config (unrolled (start config) events) are;
+  one_node = one_node_each (start config) (steps_of_run config events);
+  own_clients = serves_its_own_each config (steps_of_run config events) are;
   one_store = told_by_one_store config events are date_is;
   closed = gives_no_more config events are;
   one_home = keeps_one_home_each config events are;
-  refusals = refuses (run (start config) events);
+  refusals = refuses (run_of config events);
 }

@@ -22,7 +22,7 @@ use Rattle.mur_model.proofs.HistoryGrows.{one_up_to}
 use Rattle.schedule_text.specs.declared.event.Event.{Event}
 use Rattle.cluster_core.specs.declared.world.Mark.{Mark}
 use Rattle.cluster_core.specs.declared.world.World.{World}
-use Rattle.cluster_core.specs.Flow.{run_steps, unrolled}
+use Rattle.cluster_core.specs.Flow.{run_steps, steps_of_run}
 use Rattle.imap_talk.specs.Heard.{Heard, nobody, bytes_heard, frames_heard}
 use Rattle.cluster_core.specs.Heard.{heard_from}
 use Rattle.cluster_core.specs.History.{history_of}
@@ -31,7 +31,7 @@ use Rattle.cluster_core.specs.Headline.OneStore.{first_course, HasBoxesOf, IsAns
 use Rattle.imap_talk.specs.Requests.{AreRequests}
 use Rattle.store_law.specs.Serials.{GivesLowSerials}
 use Rattle.cluster_core.specs.Shown.{given_to}
-use Rattle.cluster_core.specs.World.{start, setting_of}
+use Rattle.cluster_core.specs.World.{start, setting_of, layout_of}
 use Rattle.store_law.proofs.BegunLaw.{begins_as_read}
 use Rattle.store_law.proofs.AppendedThere.{keeps_appended}
 use Rattle.cluster_core.proofs.Connections.ConnectionLaw.{Story, told_of}
@@ -202,7 +202,7 @@ told_so_far config talk before later are date_is now last =
       last = legal.last;
       legal = legal.legal;
       refusals = have_causes (setting_of config) first_course (told_of law.story) (history_of world) legal.last legal.legal;
-      one_content = subst (λ s. HasBoxesOf s world) (sym legal.same_store)
+      one_content = subst (λ s. HasBoxesOf (layout_of config) s world) (sym legal.same_store)
           (has_boxes config world law.story.course.store law.home law.backend (names_of config heard world law));
       homes_shown = subst (λ s. ShowsBoxesOf config s world) (sym legal.same_store)
           (shows_boxes config world law.story.course.store law.home law.backend are (names_of config heard world law));
@@ -231,12 +231,12 @@ told_at config talk steps before later e are date_is now last =
     (subst (λ s. KeepsLaw config (λ conn. heard_from config conn nobody s) (run_steps (start config) s)) e last))
 
 pub kept_all : (config : Config) (events : List Event) (are : AreNodes config.nodes)
-    → KeepsAll config (told_of (start_keeps config are).story) (λ conn. nobody) (start config) (unrolled (start config) events)
-kept_all config events are = run_keeps config (λ conn. nobody) (start config) (unrolled (start config) events) (start_keeps config are)
+    → KeepsAll config (told_of (start_keeps config are).story) (λ conn. nobody) (start config) (steps_of_run config events)
+kept_all config events are = run_keeps config (λ conn. nobody) (start config) (steps_of_run config events) (start_keeps config are)
 
 pub told_by_one_store : (config : Config) (events : List Event) → AreNodes config.nodes → IsDate config.date → IsToldByOneStore config events
 told_by_one_store config events are date_is =
-    let steps : List Event = unrolled (start config) events in
+    let steps : List Event = steps_of_run config events in
     let all = kept_all config events are in
     let last = (all.at steps [] (sym (append-nil steps))).law in
     record {

@@ -12,12 +12,13 @@ use Rattle.mur_config.specs.declared.node.Kind.{Kind}
 use Rattle.mur_config.specs.declared.node.Kind.TheVariants.{Master, Frontend, Backend as backend_kind}
 use Rattle.mur_config.specs.declared.node.Node.{Node}
 use Rattle.mur_config.proofs.NodesApart.{head_apart, tail_apart}
-use Rattle.mur_config.specs.Nodes.{AreNodes, is_node_named, is_node_of_kind, is_of_kind, node_named, links_of, count_of_kind}
+use Rattle.mur_config.specs.Nodes.{AreNodes, is_node_named, is_node_of_kind, is_of_kind, node_named, count_of_kind}
 use Rattle.mur_model.specs.declared.setting.Setting.{Setting}
 use Rattle.node_step.specs.NodeStep.{as_front}
 use Rattle.cluster_core.specs.declared.world.World.{World}
 use Rattle.cluster_core.specs.Heard.{is_frontend_node, is_frontend}
 use Rattle.cluster_core.specs.World.{no_world, backends_of, home_of, setting_of, first_state, with_node, with_nodes, start, node_at, front_at, or_backend}
+use Rattle.cluster_core.proofs.Runs.UpsLaw.{started}
 
 -- a node of another name
 abbrev IsOther : List ℕ → Node → Type 0
@@ -81,17 +82,15 @@ frontends_come home setting (node ∷ nodes) world name pairs none =
     front_by home setting world node nodes name (is_node_named name node) refl none pairs
     (λ next n. frontends_come home setting nodes next name (tail_apart node nodes pairs) n)
 
-no_front_yet : (name : List ℕ) (home : List (List ℕ)) (pairs : _) → front_at (record no_world { backends = home; pairs = pairs }) name ≡ None
+no_front_yet : (name : List ℕ) → front_at no_world name ≡ None
 unfolding as_front
-no_front_yet name home pairs = refl
+no_front_yet name = refl
 
 -- at first there is a frontend of a name where the configuration has one
 pub frontends_at_start : (config : Config) → AreNodes config.nodes → (name : List ℕ) → is_some (front_at (start config) name) ≡ is_frontend config name
-unfolding start
 frontends_at_start config are name =
-    frontends_come (home_of config) (setting_of config) config.nodes
-    (record no_world { backends = backends_of config.nodes; pairs = links_of config.nodes }) name are.names
-    (no_front_yet name (backends_of config.nodes) (links_of config.nodes))
+    ap (λ w. is_some (front_at w name)) (started config)
+    ∙ frontends_come (home_of config) (setting_of config) config.nodes no_world name are.names (no_front_yet name)
 
 -- ---- the first backend
 

@@ -27,12 +27,13 @@ use Rattle.schedule_text.specs.declared.event.Event.TheVariants.{Open, Data, Han
 use Rattle.schedule_text.specs.Brings.{steps_of, bytes_brought}
 use Rattle.cluster_core.specs.declared.world.Client.{Client}
 use Rattle.cluster_core.specs.declared.world.World.{World}
-use Rattle.cluster_core.specs.World.{start, first_state, with_node, with_nodes, client_at, node_at, front_at, with_state, acts, comes_to, with_client, opens}
+use Rattle.cluster_core.specs.World.{no_world, home_of, setting_of, start, first_state, with_node, with_nodes, client_at, node_at, front_at, with_state, acts, comes_to, with_client, opens}
 use Rattle.cluster_core.specs.World.{client_does, taken_from_link, deliver_first, takes, stepped, steps_by}
 use Rattle.link_queue.specs.Links.{on_link}
 use Rattle.cluster_core.specs.Room.{HaveCommands, HasRoom}
 use Rattle.cluster_core.proofs.Histories.InTime.{takes_adds}
 use Rattle.cluster_core.proofs.Nodes.OneNodeLaw.{carry_all_sends}
+use Rattle.cluster_core.proofs.Runs.UpsLaw.{started}
 
 pub more_commands : (world : World) (m n : ℕ) → m ≤ n → HaveCommands world m → HaveCommands world n
 more_commands world m n h have q front is conn connection at = omega (arith, h, have q front is conn connection at)
@@ -131,8 +132,8 @@ unfolding as_front
 nobody_yet q front is = cc
 
 pub start_commands : (config : Config) → HaveCommands (start config) 0
-unfolding start
-start_commands config = nodes_commands _ _ _ config.nodes nobody_yet
+start_commands config = subst (λ w. HaveCommands w 0) (sym (started config))
+    (nodes_commands (home_of config) (setting_of config) no_world config.nodes nobody_yet)
 
 nodes_steps : (home : List ℕ) (setting : Setting) (world : World) (nodes : List Node) → (with_nodes home setting world nodes).steps ≡ world.steps
 unfolding with_nodes
@@ -140,8 +141,7 @@ nodes_steps home setting world [] = refl
 nodes_steps home setting world (node ∷ nodes) = nodes_steps home setting (with_node home setting world node) nodes
 
 pub start_steps : (config : Config) → (start config).steps ≡ 0
-unfolding start
-start_steps config = nodes_steps _ _ _ config.nodes
+start_steps config = ap (λ (w : World). w.steps) (started config) ∙ nodes_steps (home_of config) (setting_of config) no_world config.nodes
 
 -- what single events require, from the room for them
 pub one_step : (event : Event) → 1 ≤ steps_of event

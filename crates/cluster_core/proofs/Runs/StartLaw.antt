@@ -18,7 +18,7 @@ use Rattle.mur_config.specs.declared.config.Config.{Config}
 use Rattle.mur_config.specs.declared.node.Kind.{Kind}
 use Rattle.mur_config.specs.declared.node.Kind.TheVariants.{Master, Frontend, Backend as backend_kind}
 use Rattle.mur_config.specs.declared.node.Node.{Node}
-use Rattle.mur_config.specs.Nodes.{AreNodes, count_of_kind, is_node_of_kind, is_of_kind, links_of}
+use Rattle.mur_config.specs.Nodes.{AreNodes, count_of_kind, is_node_of_kind, is_of_kind}
 use Rattle.mur_model.specs.declared.setting.Setting.{Setting}
 use Rattle.mur_model.specs.Store.{is_spent}
 use Rattle.mur_model.proofs.HistoryGrows.{one_up_to}
@@ -32,6 +32,7 @@ use Rattle.link_queue.specs.Links.{Links, on_link}
 use Rattle.cluster_core.specs.Headline.OneStore.{first_course}
 use Rattle.cluster_core.specs.World.{no_world, first_name, or_backend, backends_of, home_of, setting_of, first_state, with_node, with_nodes, start}
 use Rattle.cluster_core.specs.World.{node_at, front_at, home_at}
+use Rattle.cluster_core.proofs.Runs.UpsLaw.{started}
 use Rattle.cluster_core.proofs.Runs.FrontsOfStart.{frontends_at_start}
 use Rattle.mur_config.proofs.NodesApart.{head_apart, tail_apart}
 use Rattle.cluster_core.proofs.Connections.KeepsLaw.{IsHomeFor, KeepsLaw}
@@ -94,16 +95,6 @@ unfolding with_nodes
 fresh_nodes home setting world [] fresh = fresh
 fresh_nodes home setting world (node ∷ nodes) fresh =
     fresh_nodes home setting (with_node home setting world node) nodes (fresh_node home setting world node fresh)
-
-pub backends_stay : (home : List ℕ) (setting : Setting) (world : World) (nodes : List Node) → (with_nodes home setting world nodes).backends ≡ world.backends
-unfolding with_nodes
-backends_stay home setting world [] = refl
-backends_stay home setting world (node ∷ nodes) = backends_stay home setting (with_node home setting world node) nodes
-
-pub nodes_pairs : (home : List ℕ) (setting : Setting) (world : World) (nodes : List Node) → (with_nodes home setting world nodes).pairs ≡ world.pairs
-unfolding with_nodes
-nodes_pairs home setting world [] = refl
-nodes_pairs home setting world (node ∷ nodes) = nodes_pairs home setting (with_node home setting world node) nodes
 
 -- a backend that is there
 record HasBack (found : Option NodeState) : Type 0 where
@@ -223,10 +214,9 @@ pub first_backend : (nodes : List Node) → AreNodes nodes → HasFirst (backend
 first_backend nodes are = has_first (backends_of nodes) (omega (arith, backend_count nodes, are.backends.0))
 
 fresh_start : (config : Config) → IsFresh (home_of config) (setting_of config) (start config)
-unfolding start
-fresh_start config = fresh_nodes (home_of config) (setting_of config)
-    (record no_world { backends = backends_of config.nodes; pairs = links_of config.nodes }) config.nodes
-    (record { nodes = λ name it at. cc; clients = refl; links = refl; marks = refl; steps = refl })
+fresh_start config = subst (IsFresh (home_of config) (setting_of config)) (sym (started config))
+    (fresh_nodes (home_of config) (setting_of config) no_world config.nodes
+    (record { nodes = λ name it at. cc; clients = refl; links = refl; marks = refl; steps = refl }))
 
 fresh_front : (home : List ℕ) (setting : Setting) (world : World) (name : List ℕ) (front : Front) → IsFresh home setting world
     → front_at world name ≡ Some front → front ≡ new_front name home setting
@@ -281,20 +271,21 @@ fits_none : Fit (λ conn. 0) []
 unfolding Fit
 fits_none = tt
 
-pub home_no_front : (config : Config) → AreNodes config.nodes → front_at (start config) (home_of config) ≡ None
-unfolding start
-home_no_front config are =
+-- the first backend is there
+home_at_start : (config : Config) → AreNodes config.nodes → HasHome (start config) (home_of config)
+home_at_start config are =
     let first = first_backend config.nodes are in
-    let origin : World = record no_world { backends = backends_of config.nodes; pairs = links_of config.nodes } in
-    let has = home_comes (home_of config) (setting_of config) config.nodes origin first.rest (home_of config) are.names first.is in
+    subst (λ w. HasHome w (home_of config)) (sym (started config))
+    (home_comes (home_of config) (setting_of config) config.nodes no_world first.rest (home_of config) are.names first.is)
+
+pub home_no_front : (config : Config) → AreNodes config.nodes → front_at (start config) (home_of config) ≡ None
+home_no_front config are =
+    let has = home_at_start config are in
     back_no_front (node_at (start config) (home_of config)) has.backend has.at
 
 pub start_keeps_for : (config : Config) → AreNodes config.nodes → IsHomeFor config (home_of config) → KeepsLaw config (λ conn. nobody) (start config)
-unfolding start
 start_keeps_for config are home_for =
-    let first = first_backend config.nodes are in
-    let origin : World = record no_world { backends = backends_of config.nodes; pairs = links_of config.nodes } in
-    let has = home_comes (home_of config) (setting_of config) config.nodes origin first.rest (home_of config) are.names first.is in
+    let has = home_at_start config are in
     let fresh = fresh_start config in
     let fresh_one = fresh_front (home_of config) (setting_of config) (start config) in
     let free = fresh_home (home_of config) (setting_of config) (start config) (home_of config) has.backend fresh has.at in
@@ -309,8 +300,6 @@ start_keeps_for config are home_for =
           ap (λ (f : Front). f.setting) (fresh_one node front fresh at) ∙ setting_new_front node (home_of config) (setting_of config),
         );
         frontends = frontends_at_start config are;
-        backends = backends_stay (home_of config) (setting_of config) origin config.nodes;
-        pairs = nodes_pairs (home_of config) (setting_of config) origin config.nodes;
         home_for = home_for;
       };
       story = record { talk = record { requests = λ conn. []; answers = λ conn. []; serials = λ conn. [] }; told = λ conn. []; course = first_course };

@@ -4,6 +4,7 @@ use Rattle.link_msg.specs.declared.message.LinkMsg.{LinkMsg}
 use Rattle.mur_config.specs.declared.node.Link.{Link}
 use Rattle.schedule_text.specs.declared.event.Event.{Event}
 use Rattle.schedule_text.specs.declared.event.Event.TheVariants.{Open, Data, Hang, Deliver, Cut, Join, Crash, Arm, Start, Flow, Heal}
+use Rattle.cluster_core.specs.declared.layout.Layout.{Layout}
 use Rattle.cluster_core.specs.declared.world.World.{World}
 use Rattle.cluster_core.specs.Flow.{Flowing, delivered, turn_by, turn_of_link, round, rounds_by, rounds, flow, steps_of_event, happens, run, unrolled, run_steps}
 use Rattle.link_queue.specs.Links.{on_link}
@@ -48,27 +49,28 @@ rounds_made start (suc count) links flowing e =
     either_made start (nat_eq (round flowing links).left flowing.left) (round flowing links) (rounds count links (round flowing links)) next
     (rounds_made start count links (round flowing links) next)
 
-flow_made : (world : World) (count : ℕ) → (flow world count).world ≡ run_steps world (flow world count).made
+flow_made : (layout : Layout) (world : World) (count : ℕ) → (flow layout world count).world ≡ run_steps world (flow layout world count).made
 unfolding flow run_steps
-flow_made world count = rounds_made world count world.pairs (record { world = world; made = []; left = count }) refl
+flow_made layout world count = rounds_made world count layout.pairs (record { world = world; made = []; left = count }) refl
 
-pub event_made : (world : World) (event : Event) → happens world event ≡ run_steps world (steps_of_event world event)
+pub event_made : (layout : Layout) (world : World) (event : Event) → happens layout world event ≡ run_steps world (steps_of_event layout world event)
 unfolding happens steps_of_event run_steps
-event_made world (Flow count) = flow_made world count
-event_made world (Open node conn) = refl
-event_made world (Data conn bytes) = refl
-event_made world (Hang conn) = refl
-event_made world (Deliver from to) = refl
-event_made world (Cut from to k l) = refl
-event_made world (Join from to) = refl
-event_made world (Crash node c k) = refl
-event_made world (Arm node a c k) = refl
-event_made world (Start node) = refl
-event_made world Heal = refl
+event_made layout world (Flow count) = flow_made layout world count
+event_made layout world (Open node conn) = refl
+event_made layout world (Data conn bytes) = refl
+event_made layout world (Hang conn) = refl
+event_made layout world (Deliver from to) = refl
+event_made layout world (Cut from to k l) = refl
+event_made layout world (Join from to) = refl
+event_made layout world (Crash node c k) = refl
+event_made layout world (Arm node a c k) = refl
+event_made layout world (Start node) = refl
+event_made layout world Heal = refl
 
-pub by_steps : (world : World) (events : List Event) → run world events ≡ run_steps world (unrolled world events)
+pub by_steps : (layout : Layout) (world : World) (events : List Event) → run layout world events ≡ run_steps world (unrolled layout world events)
 unfolding run unrolled run_steps
-by_steps world [] = refl
-by_steps world (event ∷ events) =
-    by_steps (happens world event) events ∙ ap (λ w. run_steps w (unrolled (happens world event) events)) (event_made world event)
-    ∙ sym (run_steps-append world (steps_of_event world event) (unrolled (happens world event) events))
+by_steps layout world [] = refl
+by_steps layout world (event ∷ events) =
+    let next = happens layout world event in
+    by_steps layout next events ∙ ap (λ w. run_steps w (unrolled layout next events)) (event_made layout world event)
+    ∙ sym (run_steps-append world (steps_of_event layout world event) (unrolled layout next events))

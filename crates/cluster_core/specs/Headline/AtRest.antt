@@ -7,6 +7,7 @@ use Rattle.mur_config.specs.Nodes.{AreNodes}
 use Rattle.imap_types.specs.declared.request.Request.{Request}
 use Rattle.imap_types.specs.declared.request.Answer.{Answer}
 use Rattle.schedule_text.specs.declared.event.Event.{Event}
+use Rattle.cluster_core.specs.declared.layout.Layout.{Layout}
 use Rattle.cluster_core.specs.declared.world.World.{World}
 use Rattle.cluster_core.specs.Flow.{run_steps, steps_of_event}
 use Rattle.cluster_core.specs.Heard.{heard}
@@ -30,6 +31,6 @@ abbrev pub NothingWaits : Config → List Event → World → Type 0
 NothingWaits config steps world = AreEmpty world → (conn : ℕ) → has_closed (heard config conn steps) ≡ false → IsAnswered config conn steps world
 
 -- whatever steps led here, in whatever configuration: nothing waits behind this event
-abbrev pub NothingWaitsBehind : World → Event → Type 0
-NothingWaitsBehind world event = (config : Config) (steps : List Event) → AreNodes config.nodes → world ≡ run_steps (start config) steps
-    → NothingWaits config (steps ++ steps_of_event world event) (run_steps world (steps_of_event world event))
+abbrev pub NothingWaitsBehind : Layout → World → Event → Type 0
+NothingWaitsBehind layout world event = (config : Config) (steps : List Event) → AreNodes config.nodes → world ≡ run_steps (start config) steps
+    → NothingWaits config (steps ++ steps_of_event layout world event) (run_steps world (steps_of_event layout world event))

@@ -6,11 +6,12 @@ use Rattle.mur_config.specs.declared.node.Link.{Link}
 use Rattle.mur_config.specs.Nodes.{AreNodes, links_of}
 use Rattle.schedule_text.specs.declared.event.Event.{Event}
 use Rattle.schedule_text.specs.declared.event.Event.TheVariants.{Deliver, Flow}
+use Rattle.cluster_core.specs.declared.layout.Layout.{Layout}
 use Rattle.cluster_core.specs.declared.world.World.{World}
 use Rattle.cluster_core.specs.Flow.{run_steps, steps_of_event}
 use Rattle.link_queue.specs.Links.{on_link}
 use Rattle.cluster_core.specs.Headline.OneStore.{AreEmpty}
-use Rattle.cluster_core.specs.World.{start}
+use Rattle.cluster_core.specs.World.{start, layout_of}
 
 -- a step that delivers the first message on one of these links
 pub record DeliversFirst (links : List Link) (before : World) (step : Event) (after : World) : Type 0 where
@@ -40,6 +41,6 @@ pub data AreStepsOfAll (links : List Link) : World → List Event → List Event
       → AreStepsOfAll links (run_steps world steps) events more → AreStepsOfAll links world (event ∷ events) (steps ++ more)
 
 -- whatever steps led here, in whatever configuration: the steps of this event are so
-abbrev pub AreItsSteps : World → Event → Type 0
-AreItsSteps world event = (config : Config) (steps : List Event) → AreNodes config.nodes → world ≡ run_steps (start config) steps
-    → AreStepsOf (links_of config.nodes) world event (steps_of_event world event)
+abbrev pub AreItsSteps : Layout → World → Event → Type 0
+AreItsSteps layout world event = (config : Config) (steps : List Event) → AreNodes config.nodes → layout ≡ layout_of config
+    → world ≡ run_steps (start config) steps → AreStepsOf (links_of config.nodes) world event (steps_of_event layout world event)

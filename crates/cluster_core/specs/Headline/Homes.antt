@@ -15,6 +15,7 @@ use Rattle.cluster_core.specs.declared.world.World.{World}
 use Rattle.cluster_core.specs.Headline.Backends.{IsBackend}
 use Rattle.cluster_core.specs.Headline.HomeLaw.{is_writable_home}
 use Rattle.cluster_core.specs.Shown.{held_at_node, home_rows}
+use Rattle.cluster_core.specs.World.{layout_of}
 
 -- what is printed of a mailbox: its UIDVALIDITY, its UIDNEXT and how many messages it has
 pub record Numbers : Type 0 where
@@ -39,5 +40,5 @@ pub record IsHeldAt (config : Config) (world : World) (row : HomeRow) : Type 0 w
 -- each name has one writable home where the store has a mailbox of it, with that mailbox's numbers, and none where it has none
 pub record ShowsBoxesOf (config : Config) (store : Store) (world : World) : Type 0 where
   pub open_homes : (name : List ℕ)
-      → map numbers_shown (filter (is_writable_home name) (home_rows world)) ≡ map numbers_of (option_to_list (box_at store name))
-  pub rows : All (IsHeldAt config world) (home_rows world)
+      → map numbers_shown (filter (is_writable_home name) (home_rows (layout_of config) world)) ≡ map numbers_of (option_to_list (box_at store name))
+  pub rows : All (IsHeldAt config world) (home_rows (layout_of config) world)

@@ -6,6 +6,7 @@ use Rattle.mur_config.specs.Nodes.{AreNodes}
 use Rattle.schedule_text.specs.declared.event.Event.{Event}
 use Rattle.schedule_text.specs.declared.event.Event.TheVariants.{Open, Data, Hang, Deliver}
 use Rattle.cluster_core.specs.declared.world.Client.{Client}
+use Rattle.cluster_core.specs.declared.layout.Layout.{Layout}
 use Rattle.cluster_core.specs.declared.world.World.{World}
 use Rattle.cluster_core.specs.Flow.{run_steps, steps_of_event}
 use Rattle.link_queue.specs.Links.{same_link, on_link}
@@ -40,14 +41,12 @@ pub record WasSent (before after : List LinkMsg) : Type 0 where
   pub behind : after ≡ before ++ more
 
 -- every other node is as it was, and each client where it was; on each link stands what the event left there, and behind it, on a
--- link that begins at this node, what it sent; and which backends and links there are stays
+-- link that begins at this node, what it sent
 pub record OnlyWorks (event : Event) (node : List ℕ) (before after : World) : Type 0 where
   pub nodes : (other : List ℕ) → other ≢ node → node_at after other ≡ node_at before other
   pub clients : (conn : ℕ) → node_of (client_at after conn) ≡ connected event conn (node_of (client_at before conn))
   pub stays : (from to : List ℕ) → from ≢ node → on_link after.links from to ≡ leaves_on event from to (on_link before.links from to)
   pub sends : (to : List ℕ) → WasSent (leaves_on event node to (on_link before.links node to)) (on_link after.links node to)
-  pub backends : after.backends ≡ before.backends
-  pub pairs : after.pairs ≡ before.pairs
 
 -- where no node works, nothing changes but the count of steps
 abbrev pub WorksBy : Event → Option (List ℕ) → World → World → Type 0
@@ -74,6 +73,6 @@ ServesItsOwnEach world steps = (before : List Event) (event : Event) (later : Li
     → ServesItsOwn event (run_steps world before) (run_steps world (before ++ event ∷ []))
 
 -- and so it does in those of this event, whatever steps led here, in whatever configuration
-abbrev pub ServesItsOwnBehind : World → Event → Type 0
-ServesItsOwnBehind world event = (config : Config) (steps : List Event) → AreNodes config.nodes → world ≡ run_steps (start config) steps
-    → ServesItsOwnEach world (steps_of_event world event)
+abbrev pub ServesItsOwnBehind : Layout → World → Event → Type 0
+ServesItsOwnBehind layout world event = (config : Config) (steps : List Event) → AreNodes config.nodes → world ≡ run_steps (start config) steps
+    → ServesItsOwnEach world (steps_of_event layout world event)

@@ -18,11 +18,12 @@ use Rattle.mur_model.specs.declared.store.Store.{Store}
 use Rattle.mur_model.specs.History.{Course, Talk, TalkGoesOn, IsLegal}
 use Rattle.mur_model.specs.Store.{empty_store, box_at}
 use Rattle.schedule_text.specs.declared.event.Event.{Event}
+use Rattle.cluster_core.specs.declared.layout.Layout.{Layout}
 use Rattle.cluster_core.specs.declared.world.World.{World}
 use Rattle.store_law.specs.Begun.{BeginsAsRead}
 use Rattle.front_core.specs.Ending.{EndsOnlyLast}
 use Rattle.store_law.specs.Appended.{KeepsAppended}
-use Rattle.cluster_core.specs.Flow.{run_steps, unrolled}
+use Rattle.cluster_core.specs.Flow.{run_steps, steps_of_run}
 use Rattle.cluster_core.specs.Heard.{heard}
 use Rattle.imap_talk.specs.Heard.{bytes_heard, frames_heard, has_closed}
 use Rattle.cluster_core.specs.History.{history_of}
@@ -35,7 +36,7 @@ use Rattle.cluster_core.specs.Headline.Points.{AreMadeBy, LosesTheNext}
 use Rattle.imap_talk.specs.Requests.{AreRequests}
 use Rattle.store_law.specs.Serials.{GivesLowSerials}
 use Rattle.cluster_core.specs.Shown.{given_to, held_at_node}
-use Rattle.cluster_core.specs.World.{start}
+use Rattle.cluster_core.specs.World.{start, layout_of}
 
 -- the empty store, and no session begun
 abbrev pub first_course : Course
@@ -51,12 +52,12 @@ box_among world name (node ∷ nodes) =
     or_else (open_content (value_at (slice_cmp nat_cmp) (held_at_node world node) name)) (box_among world name nodes)
 
 -- the mailbox of a name at its home, which is the node that has it open
-unfoldable pub box_of_home : World → List ℕ → Option Content
-box_of_home world name = box_among world name world.backends
+unfoldable pub box_of_home : Layout → World → List ℕ → Option Content
+box_of_home layout world name = box_among world name layout.backends
 
 -- one content: the store has of each name the mailbox that its home has, and none where no home has one
-abbrev pub HasBoxesOf : Store → World → Type 0
-HasBoxesOf store world = (name : List ℕ) → box_at store name ≡ box_of_home world name
+abbrev pub HasBoxesOf : Layout → Store → World → Type 0
+HasBoxesOf layout store world = (name : List ℕ) → box_at store name ≡ box_of_home layout world name
 
 -- no message is on its way
 abbrev pub AreEmpty : World → Type 0
@@ -86,7 +87,7 @@ pub record IsToldSoFar (config : Config) (talk : Talk) (points : List Point) (st
   pub last : Course
   pub legal : IsLegal (law_setting config) first_course so_far (history_of world) last
   pub refusals : HaveCauses so_far (history_of world)
-  pub one_content : HasBoxesOf last.store world
+  pub one_content : HasBoxesOf (layout_of config) last.store world
   pub homes_shown : ShowsBoxesOf config last.store world
   -- each message has a UID of its own, below its mailbox's UIDNEXT (RFC 9051, 2.3.1.1), and no command, whoever sends it, loses one or
   -- its flags, but where it is for that
@@ -113,7 +114,7 @@ pub record IsToldSoFar (config : Config) (talk : Talk) (points : List Point) (st
 pub record IsToldByOneStore (config : Config) (events : List Event) : Type 0 where
   pub begins_as_read : BeginsAsRead (law_setting config)
   pub talk : Talk
-  pub at_each_step : (before later : List Event) → unrolled (start config) events ≡ before ++ later
-      → IsToldSoFar config talk (history_of (run_steps (start config) (unrolled (start config) events))) before (run_steps (start config) before)
+  pub at_each_step : (before later : List Event) → steps_of_run config events ≡ before ++ later
+      → IsToldSoFar config talk (history_of (run_steps (start config) (steps_of_run config events))) before (run_steps (start config) before)
   pub steps_rise : AllPairs (λ (earlier later : Point). earlier.step ≤ later.step)
-      (history_of (run_steps (start config) (unrolled (start config) events)))
+      (history_of (run_steps (start config) (steps_of_run config events)))

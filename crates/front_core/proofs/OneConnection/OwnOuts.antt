@@ -25,7 +25,8 @@ use Rattle.mur_model.specs.declared.setting.Setting.{Setting}
 use Rattle.mur_model.specs.declared.need.Need.{Need}
 use Rattle.mur_model.specs.declared.need.Need.TheVariants as needs
 use Rattle.session_core.specs.Begin.{begin}
-use Rattle.session_core.specs.Finish.{finish}
+use Rattle.session_core.specs.Finish.{finished_by}
+use Rattle.session_core.specs.Results.{turn_behind}
 
 abbrev pub IsFor : List ℕ → ℕ → Out → Type 0
 IsFor home conn (Client other bytes) = other ≡ conn
@@ -100,8 +101,8 @@ answer_by_for : (setting : Setting) (home : List ℕ) (conn : ℕ) (connection :
     → AreFor home conn (answer_by setting home conn connection answer fits stage).outs
 unfolding AreFor answer_by
 answer_by_for setting home conn connection answer true (Asked tag awaited) =
-    behind_for setting home conn (record connection { session = (finish connection.session awaited answer.body).session }) tag
-    (finish connection.session awaited answer.body).need
+    let behind = finished_by connection.session (turn_behind connection.session awaited answer.body) in
+    behind_for setting home conn (record connection { session = behind.session }) tag behind.need
 answer_by_for setting home conn connection answer fits stage = tt
 
 answer_for : (setting : Setting) (home : List ℕ) (conn : ℕ) (connection : Connection) (answer : BackAnswer)

@@ -26,7 +26,7 @@ use Rattle.mur_model.specs.Act.{need_of, session_after}
 use Rattle.mur_model.specs.History.{numbered}
 use Rattle.mur_model.specs.Asking.{asked_for}
 use Rattle.session_core.specs.Begin.{user_of}
-use Rattle.session_core.specs.Finish.{turn_of}
+use Rattle.session_core.specs.Results.{turn_behind}
 use Rattle.front_core.specs.Ending.{EndsOnlyLast}
 use Rattle.front_core.proofs.OneConnection.Places.{Place, nowhere, is_asked, is_answered}
 
@@ -55,7 +55,7 @@ pub data Knows (home : List ℕ) (conn : ℕ) (was : Sess) (tag : Tag) (name : L
   asked_so : said ≡ told → was ≡ session → place ≡ is_asked home (next_ask conn told was name work)
       → Knows home conn was tag name work told said session place
   answered_so : (body : AnswerBody) (turn : Turn) → said ≡ told ++ (record { tag = tag; reply = turn.reply }) ∷ []
-      → turn_of was (asked_for name work).awaited body ≡ Some turn → session ≡ session_after was turn.session → TurnEnds turn
+      → turn_behind was (asked_for name work).awaited body ≡ Some turn → session ≡ session_after was turn.session → TurnEnds turn
       → place ≡ is_answered home (record { id = next_id conn told; body = body })
       → Knows home conn was tag name work told said session place
 

@@ -22,7 +22,7 @@ use Rattle.mur_model.specs.Needed.{Work}
 use Rattle.mur_model.specs.declared.session.Sess.{Sess}
 use Rattle.mur_model.specs.declared.session.Turn.{Turn}
 use Rattle.mur_model.specs.declared.setting.Setting.{Setting}
-use Rattle.session_core.specs.Finish.{turn_of}
+use Rattle.session_core.specs.Results.{turn_behind}
 
 -- of one in an ask
 pub record InAsk (home : List ℕ) (conn : ℕ) (was : Sess) (name : List ℕ) (work : Work) (told said : List Answer) (session : Sess) (to : List ℕ)
@@ -46,7 +46,7 @@ pub record InAnswer (home : List ℕ) (conn : ℕ) (was : Sess) (tag : Tag) (nam
     (from : List ℕ) (answer : BackAnswer) : Type 0 where
   pub turn : Turn
   pub said_is : said ≡ told ++ (record { tag = tag; reply = turn.reply }) ∷ []
-  pub shown : turn_of was (asked_for name work).awaited answer.body ≡ Some turn
+  pub shown : turn_behind was (asked_for name work).awaited answer.body ≡ Some turn
   pub later : session ≡ session_after was turn.session
   pub turned : TurnEnds turn
   pub home_is : home ≡ from
@@ -63,7 +63,7 @@ in_answer home conn was tag name work told said session place from answer (answe
     record {
       turn = turn;
       said_is = said_is;
-      shown = ap (λ (a : BackAnswer). turn_of was (asked_for name work).awaited a.body) (sym its) ∙ shown;
+      shown = ap (λ (a : BackAnswer). turn_behind was (asked_for name work).awaited a.body) (sym its) ∙ shown;
       later = later;
       turned = turned;
       home_is = cc;

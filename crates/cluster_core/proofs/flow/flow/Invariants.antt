@@ -7,6 +7,6 @@ use Rattle.cluster_core.proofs.flow.flow.Given as goal
 
 abbrev pub invariant-loop-round : goal.invariant-loop-round
 invariant-loop-round l = record {
-  flows : (rounds (l.count - l._round) l.fn.world.pairs (begun l.world l.left)).world ≡ (flow l.fn.world l.fn.count).world;
+  flows : (rounds (l.count - l._round) l.layout.pairs (begun l.world l.left)).world ≡ (flow l.layout l.fn.world l.fn.count).world;
   room : HasRoom l.world (Flow l.left);
 }

@@ -1,7 +1,7 @@
 use Rattle.std.proofs.Common.{◌≡◌, ◌++◌, map, drop}
-use Rattle.mail_message.specs.declared.message.Message.{Message}
+use Rattle.mail_message.specs.declared.message.Summary.{Summary}
 use Rattle.mail_search.proofs.marks.uids_of.Given as goal
 
 abbrev pub invariant-loop-message : goal.invariant-loop-message
 invariant-loop-message l =
-    l.uids.items ++ map (λ (message : Message). message.uid) (drop l.message-index l.messages) ≡ map (λ (message : Message). message.uid) l.messages
+    l.uids.items ++ map (λ (message : Summary). message.uid) (drop l.message-index l.messages) ≡ map (λ (message : Summary). message.uid) l.messages

@@ -6,13 +6,13 @@ use Rattle.cluster_core.proofs.Nodes.OwnClientsLaw.{serves_its_own_behind}
 use Rattle.cluster_core.proofs.cluster.Cluster.step.Goals as goal
 
 pub returns-clause-one_node : goal.returns-clause-one_node
-returns-clause-one_node c = one_node_each c.args.self.now (steps_of_event c.args.self.now c.args.event)
+returns-clause-one_node c = one_node_each c.args.self.now.world (steps_of_event c.args.self.now.layout c.args.self.now.world c.args.event)
 
 pub returns-clause-its_steps : goal.returns-clause-its_steps
-returns-clause-its_steps c = are_its_steps c.args.self.now c.args.event
+returns-clause-its_steps c = are_its_steps c.args.self.now.layout c.args.self.now.world c.args.event
 
 pub returns-clause-own_clients : goal.returns-clause-own_clients
-returns-clause-own_clients c = serves_its_own_behind c.args.self.now c.args.event
+returns-clause-own_clients c = serves_its_own_behind c.args.self.now.layout c.args.self.now.world c.args.event
 
 pub returns-clause-at_rest : goal.returns-clause-at_rest
-returns-clause-at_rest c = nothing_waits c.args.self.now c.args.event
+returns-clause-at_rest c = nothing_waits c.args.self.now.layout c.args.self.now.world c.args.event

@@ -8,10 +8,10 @@ returns-clause-fits c = finish_fits c.self.inside.state c.finished_by.new.sess c
 
 pub returns-clause-numbers : goal.returns-clause-numbers
 returns-clause-numbers c = rw (← c.self.view_is)
-    (finish_knows c.self.inside.state c.finished_by.new.sess c.args.awaited.now c.args.body c.in_ok-turn.turn c.finished_by.result c.in_ok-turn.ensures
+    (finish_knows c.self.inside.state c.finished_by.new.sess c.args.awaited.now c.args.op_result c.in_ok-turn.turn c.finished_by.result c.in_ok-turn.ensures
     c.finished_by.ensures)
 
 pub returns-clause-expunges : goal.returns-clause-expunges
 returns-clause-expunges c =
-    finish_tells_none c.self.inside.state c.finished_by.new.sess c.args.awaited.now c.args.body c.in_ok-turn.turn c.finished_by.result
+    finish_tells_none c.self.inside.state c.finished_by.new.sess c.args.awaited.now c.args.op_result c.in_ok-turn.turn c.finished_by.result
     c.in_ok-turn.ensures c.finished_by.ensures

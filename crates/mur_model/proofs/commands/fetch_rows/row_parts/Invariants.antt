@@ -1,0 +1,8 @@
+use Rattle.std.proofs.Common.{◌≡◌, ◌++◌, map, drop}
+use Rattle.mail_message.specs.declared.item.Item.{Item}
+use Rattle.mur_model.specs.FetchRows.{row_part}
+use Rattle.mur_model.proofs.commands.fetch_rows.row_parts.Given as goal
+
+abbrev pub invariant-loop-item : goal.invariant-loop-item
+invariant-loop-item l = l.parts ++ map (λ (asked : Item). row_part asked l.row) (drop l.item-index l.items)
+    ≡ map (λ (asked : Item). row_part asked l.row) l.items

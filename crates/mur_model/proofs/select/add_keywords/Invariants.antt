@@ -1,6 +1,0 @@
-use Rattle.std.proofs.Common.{◌≡◌}
-use Rattle.mail_message.specs.Keywords.{with_keywords}
-use Rattle.mur_model.proofs.select.add_keywords.Given as goal
-
-abbrev pub invariant-loop-keyword : goal.invariant-loop-keyword
-invariant-loop-keyword l = with_keywords l.keywords l.keyword-iterator ≡ with_keywords l.initial.keywords l.more

@@ -1,0 +1,21 @@
+// The commands, a file each (RFC 9051, 6). What a FETCH or a SEARCH tells by rows or summaries alone is in files of its own.
+pub mod append;
+pub mod authenticate;
+pub mod capability;
+pub mod close;
+pub mod create;
+pub mod enable;
+pub mod expunge;
+pub mod fetch;
+pub mod fetch_rows;
+pub mod fetch_summaries;
+pub mod idle;
+pub mod login;
+pub mod logout;
+pub mod noop;
+pub mod search;
+pub mod search_rows;
+pub mod select;
+pub mod status;
+pub mod store;
+pub mod unselect;
