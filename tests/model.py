@@ -6,14 +6,15 @@
 
 Without arguments it compares each stored output of examples/ and tests/replays/ with its own. It is written from these two pages, examples/ and
 RFC 9051 alone, and knows no proof and no code of the program. It keeps every byte of a connection and cuts it anew, so it is slow and plain. What
-a frame spells is in commands.py, the rules of schedules in rules.py. `.ci/large` and `tests/random_schedules` compare the program with it, and the
-outputs of tests/replays were worked out by it and read.
+a frame spells is in commands.py, a talk with the master in mupdate.py, the rules of schedules in rules.py. `.ci/large` and
+`tests/random_schedules` compare the program with it, and the outputs of tests/replays were worked out by it and read.
 """
 import base64, binascii, glob, json, os, re, sys
 from collections import deque, namedtuple
 
 sys.dont_write_bytecode = True
 from commands import LEFT_OUT, MONTHS, SYSTEM, command_of, first_tag, is_utf8, keywords
+from mupdate import Talk
 from rules import Rules, is_event, lines_of
 
 GREETING = b'* OK [CAPABILITY IMAP4rev2 AUTH=PLAIN] murder ready\r\n'
@@ -331,7 +332,7 @@ class Cluster:
         self.date = config['date'].encode()
         self.kinds = {n['name']: n['kind'] for n in self.nodes}
         self.home = next(n['name'] for n in self.nodes if n['kind'] == 'backend')
-        self.links, self.boxes, self.serial, self.conns, self.marks, self.steps = {}, {}, 0, {}, [], 0
+        self.links, self.boxes, self.serial, self.conns, self.talks, self.marks, self.steps = {}, {}, 0, {}, {}, [], 0
         names = [n['name'] for n in self.nodes]
         self.pairs = [(a, b) for a in names for b in names if a != b and self.linked(a, b)]
 
@@ -341,12 +342,17 @@ class Cluster:
 
     def open(self, node, conn):
         self.steps += 1
-        front = self.kinds[node] == 'frontend'
-        self.conns[conn] = dict(node=node, front=front, frames=Frames(), waiting=deque(), user=None, view=None, held=None, asked=None,
-                                answered=0, over=not front, given=[GREETING] if front else [])
+        if self.kinds[node] == 'master':
+            self.talks[conn] = Talk(node.encode())
+            return
+        self.conns[conn] = dict(node=node, frames=Frames(), waiting=deque(), user=None, view=None, held=None, asked=None, answered=0, over=False,
+                                given=[GREETING])
 
     def data(self, conn, text):
         self.steps += 1
+        if conn in self.talks:
+            self.talks[conn].feed(text)
+            return
         c = self.conns[conn]
         if not c['over']:
             c['waiting'].extend(c['frames'].feed(text))
@@ -354,7 +360,10 @@ class Cluster:
 
     def hang(self, conn):
         self.steps += 1
-        self.conns[conn]['over'] = True
+        if conn in self.talks:
+            self.talks[conn].over = True
+        else:
+            self.conns[conn]['over'] = True
 
     def work(self, conn, c):
         """Takes up what came, up to a command that is asked of the home."""
@@ -552,8 +561,9 @@ class Cluster:
 
     def output(self):
         out = []
-        for conn in sorted(self.conns):
-            given = b''.join(self.conns[conn]['given'])
+        given_to = {**{conn: c['given'] for conn, c in self.conns.items()}, **{conn: talk.given for conn, talk in self.talks.items()}}
+        for conn, pieces in sorted(given_to.items()):
+            given = b''.join(pieces)
             out += ['to %d %s\n' % (conn, spelled(line)) for line in re.findall(rb'[^\n]*\n|[^\n]+\Z', given)]
         points = []
         for step, conn, number, done in self.marks:

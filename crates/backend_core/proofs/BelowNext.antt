@@ -8,9 +8,8 @@ use Rattle.mur_base.proofs.MapLaws.{names_apart, same_or_other, value_at-with_en
 use Rattle.mur_base.specs.declared.home.Location.{Location}
 use Rattle.link_msg.specs.declared.ask.FrontAsk.{FrontAsk}
 use Rattle.backend_core.specs.declared.backend.Backend.{Backend}
-use Rattle.backend_core.specs.declared.held.Held.{Held}
+use Rattle.node_record.specs.declared.held.Held.{Held}
 use Rattle.backend_core.specs.declared.input.BackInput.{BackInput}
-use Rattle.backend_core.specs.declared.input.BackInput.TheVariants.{Up, End, FromFront}
 use Rattle.backend_core.specs.HomeStep.{held_at}
 use Rattle.mail_store.specs.Kept.{AreUidsBelowNext}
 use Rattle.backend_core.specs.HomeLaws.{HasUidsBelowNext}
@@ -19,6 +18,8 @@ use Rattle.backend_core.specs.Plan.{booted, plan_of}
 use Rattle.backend_core.specs.Step.{home_step}
 use Rattle.backend_core.proofs.Leaves.{Leaves, stays, makes, turns, leaves}
 use Rattle.backend_core.proofs.Others.{others_stay}
+use Rattle.backend_core.proofs.PlanKeeps.{plan_keeps}
+use Rattle.backend_core.proofs.PlanLeaves.{left_by}
 use Rattle.mail_store.proofs.UidsBelow.{IsBelow}
 
 pub booted_below : (me : Location) → HasUidsBelowNext (booted me)
@@ -47,7 +48,6 @@ step_stays_below home ask below = λ name held there.
     (same_or_other (slice_cmp nat_cmp) names_apart name ask.name)
 
 pub plan_stays_below : (home : Backend) (input : BackInput) → HasUidsBelowNext home → HasUidsBelowNext (plan_of home input).home
-unfolding plan_of
-plan_stays_below home (FromFront from ask) below = step_stays_below home ask below
-plan_stays_below home (Up node) below = below
-plan_stays_below home (End node) below = below
+plan_stays_below home input below =
+    plan_keeps (λ (held : Held). AreUidsBelowNext held.content) home input below
+    (λ name after left held there. mine_by home name after held below there (left_by home name after left))

@@ -6,7 +6,7 @@ use Rattle.mail_message.specs.Boxes.{Content}
 use Rattle.link_msg.specs.declared.ask.FrontAsk.{FrontAsk}
 use Rattle.imap_types.specs.declared.op.Op.{Op}
 use Rattle.backend_core.specs.declared.backend.Backend.{Backend}
-use Rattle.backend_core.specs.declared.held.Held.{Held}
+use Rattle.node_record.specs.declared.held.Held.{Held}
 use Rattle.backend_core.specs.declared.response.Response.{Response}
 use Rattle.backend_core.specs.HomeStep.{HomeStep, BoxStep, held_at, with_content}
 use Rattle.backend_core.specs.HomeLaws.{is_open}

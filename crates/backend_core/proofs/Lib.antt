@@ -9,4 +9,16 @@ pub mod GivenSerials
 pub mod NewUids
 pub mod NotServed
 pub mod Others
-pub mod StoreTold
+pub mod EntryOf
+pub mod AddedLaw
+pub mod FlaggedLaw
+pub mod Entries
+pub mod PlanLeaves
+pub mod StepLaw
+pub mod PlanKeeps
+pub mod OnlyOpen
+pub mod PlanLaw
+pub mod RelabelsBy
+pub mod RisesOn
+pub mod RisingRows
+pub mod RisingHome

@@ -18,7 +18,7 @@ use Rattle.link_msg.specs.declared.ask.FrontAsk.{FrontAsk}
 use Rattle.imap_types.specs.declared.op.Op.TheVariants.{Append}
 use Rattle.link_msg.specs.declared.outcome.Outcome.TheVariants.{Uids}
 use Rattle.backend_core.specs.declared.backend.Backend.{Backend}
-use Rattle.backend_core.specs.declared.held.Held.{Held}
+use Rattle.node_record.specs.declared.held.Held.{Held}
 use Rattle.backend_core.specs.declared.response.Response.{Response}
 use Rattle.backend_core.specs.HomeStep.{HomeStep, held_at, changes}
 use Rattle.backend_core.specs.HomeLaws.{AreNewUids, HasUidsBelowNext, LosesNoMessage}

@@ -13,7 +13,7 @@ use Rattle.backend_core.specs.Create.{new_held}
 use Rattle.backend_core.specs.Step.{home_step}
 use Rattle.backend_core.proofs.Leaves.{Leaves, stays, makes, turns, leaves}
 
-other_by : (home : Backend) (name other : List ℕ) (after : Backend) → other ≢ name → Leaves home name after → held_at after other ≡ held_at home other
+pub other_by : (home : Backend) (name other : List ℕ) (after : Backend) → other ≢ name → Leaves home name after → held_at after other ≡ held_at home other
 other_by home name other after ne (stays is) = ap (λ (h : Backend). held_at h other) is
 other_by home name other after ne (makes none left is) =
     ap (λ (h : Backend). held_at h other) is

@@ -1,5 +1,5 @@
 -- CREATE at a home of mailboxes (RFC 9051, 6.3.4): the new mailbox's UIDVALIDITY is one more than the last.
-use Rattle.std.specs.Prelude.{ℕ, ◌+◌, ◌-◌, ◌^◌, Bool, true, false, ◌==◌, List, Option, None, Some}
+use Rattle.std.specs.Prelude.{ℕ, ◌+◌, ◌-◌, ◌^◌, Bool, true, false, ◌==◌, List, [], ◌∷◌, Option, None, Some}
 use Rattle.std.specs.Ordering.{nat_cmp}
 use Rattle.std.specs.Cmp.Lexicographic.{slice_cmp}
 use Rattle.mur_base.specs.Map.{with_entry}
@@ -8,15 +8,19 @@ use Rattle.mur_base.specs.declared.home.Phase.TheVariants.{Open}
 use Rattle.mail_message.specs.Boxes.{empty_box}
 use Rattle.mail_message.specs.FirstAcl.{first_acl}
 use Rattle.link_msg.specs.declared.outcome.Outcome.TheVariants.{None as nothing, Exists, Limit}
+use Rattle.node_record.specs.declared.backend.BackendRecord.TheVariants.{Make, Opened}
 use Rattle.backend_core.specs.declared.backend.Backend.{Backend}
-use Rattle.backend_core.specs.declared.held.Held.{Held}
+use Rattle.backend_core.specs.declared.op_plan.OpPlan.{OpPlan}
+use Rattle.backend_core.specs.declared.op_plan.Telling.TheVariants.{Now}
+use Rattle.node_record.specs.declared.held.Held.{Held}
 use Rattle.backend_core.specs.declared.response.Response.{Response}
 use Rattle.backend_core.specs.HomeStep.{HomeStep, answers}
+use Rattle.backend_core.specs.OpPlan.{tells_at_once}
 use Rattle.backend_core.specs.Response.{no_snapshot, done, refused_by_home, not_now}
 
 -- a new mailbox, empty and Open
 abbrev pub new_held : ℕ → List ℕ → Held
-new_held serial name = record { phase = Open; content = empty_box serial (first_acl name) }
+new_held serial name = record { phase = Open; giver = None; content = empty_box serial (first_acl name) }
 
 -- the home with a new mailbox, which has the UIDVALIDITY behind the last
 abbrev pub with_new : Backend → List ℕ → Backend
@@ -38,3 +42,13 @@ created_in _ = not_now
 unfoldable pub create_step : Backend → List ℕ → Option Held → HomeStep
 create_step home name None = make_at_home home name (home.last_serial == 2 ^ 32 - 1)
 create_step home name (Some held) = answers home (created_in held.phase)
+
+-- what is written where no mailbox is: it is made, and open at once
+unfoldable pub make_plan : ℕ → List ℕ → Bool → OpPlan
+make_plan last name true = tells_at_once (refused_by_home Limit)
+make_plan last name false = record { entries = Make name (last + 1) (first_acl name) ∷ Opened name ∷ []; telling = Now (done nothing no_snapshot) }
+
+-- by the last UIDVALIDITY, and by what the home has of the name
+unfoldable pub create_plan : ℕ → List ℕ → Option Held → OpPlan
+create_plan last name None = make_plan last name (last == 2 ^ 32 - 1)
+create_plan last name (Some held) = tells_at_once (created_in held.phase)

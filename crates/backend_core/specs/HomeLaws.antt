@@ -6,9 +6,10 @@ use Rattle.std.specs.Cmp.Lexicographic.{slice_cmp}
 use Rattle.mur_base.specs.Map.{IsInOrder}
 use Rattle.mur_base.specs.declared.home.Phase.{Phase}
 use Rattle.mur_base.specs.declared.home.Phase.TheVariants.{Open}
+use Rattle.mail_message.specs.Boxes.{IsRising}
 use Rattle.mail_store.specs.Kept.{IsLaterContent, AreUidsBelowNext, KeepsMessages}
 use Rattle.backend_core.specs.declared.backend.Backend.{Backend}
-use Rattle.backend_core.specs.declared.held.Held.{Held}
+use Rattle.node_record.specs.declared.held.Held.{Held}
 use Rattle.backend_core.specs.HomeStep.{held_at}
 
 unfoldable pub is_open : Phase → Bool
@@ -46,3 +47,15 @@ LosesNoMessage held (Some later) = KeepsMessages held.content later.content
 -- no mailbox here has a UIDVALIDITY that wasn't given yet
 abbrev pub HasGivenSerials : Backend → Type 0
 HasGivenSerials home = (name : List ℕ) (held : Held) → held_at home name ≡ Some held → held.content.serial ≤ home.last_serial
+
+-- the messages of a name stand in strictly rising order of UID
+abbrev pub RisesAt : Backend → List ℕ → Type 0
+RisesAt home name = (held : Held) → held_at home name ≡ Some held → IsRising held.content.messages
+
+-- those of each name
+abbrev pub HasRisingUids : Backend → Type 0
+HasRisingUids home = (name : List ℕ) → RisesAt home name
+
+-- each mailbox here is Open
+abbrev pub HasOnlyOpen : Backend → Type 0
+HasOnlyOpen home = (name : List ℕ) (held : Held) → held_at home name ≡ Some held → held.phase ≡ Open

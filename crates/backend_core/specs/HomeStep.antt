@@ -8,7 +8,7 @@ use Rattle.link_msg.specs.declared.answer.AnswerBody.{AnswerBody}
 use Rattle.link_msg.specs.declared.counts.Counts.{Counts}
 use Rattle.link_msg.specs.declared.counts.Counts.TheVariants.{IfAnswered}
 use Rattle.backend_core.specs.declared.backend.Backend.{Backend}
-use Rattle.backend_core.specs.declared.held.Held.{Held}
+use Rattle.node_record.specs.declared.held.Held.{Held}
 use Rattle.backend_core.specs.declared.response.Response.{Response}
 
 -- the home behind a step, its answer, if there is one, and when the step counts

@@ -1,10 +1,12 @@
 pub mod Append
+pub mod AskPlan
 pub mod Create
 pub mod Expunge
 pub mod Flags
 pub mod HomeLaws
 pub mod HomeStep
 pub mod Look
+pub mod OpPlan
 pub mod Plan
 pub mod Read
 pub mod Refusal

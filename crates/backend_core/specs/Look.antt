@@ -1,11 +1,13 @@
--- What a mailbox looks like, as its home tells it.
-use Rattle.std.specs.Prelude.{ℕ, Option, None, Some}
+-- What a mailbox looks like, as its home tells_at_once it.
+use Rattle.std.specs.Prelude.{ℕ, List, Option, None, Some}
 use Rattle.mail_message.specs.Boxes.{Content, snapshot_of}
 use Rattle.link_msg.specs.declared.outcome.Outcome.TheVariants.{None as nothing}
 use Rattle.backend_core.specs.declared.backend.Backend.{Backend}
-use Rattle.backend_core.specs.declared.held.Held.{Held}
+use Rattle.backend_core.specs.declared.op_plan.OpPlan.{OpPlan}
+use Rattle.node_record.specs.declared.held.Held.{Held}
 use Rattle.backend_core.specs.declared.response.Response.{Response}
 use Rattle.backend_core.specs.HomeStep.{HomeStep, answers}
+use Rattle.backend_core.specs.OpPlan.{looks, plans}
 use Rattle.backend_core.specs.Refusal.{refusal}
 use Rattle.backend_core.specs.Response.{done, not_now}
 
@@ -20,3 +22,6 @@ look_at selected (Some held) = look_unless held.content (refusal selected held)
 
 unfoldable pub look_step : Backend → Option ℕ → Option Held → HomeStep
 look_step home selected found = answers home (look_at selected found)
+
+unfoldable pub look_plan : List ℕ → Option ℕ → Option Held → OpPlan
+look_plan name selected found = plans selected (λ content. looks name nothing) found

@@ -1,6 +1,6 @@
 -- The content of a mailbox that is open here.
 use Rattle.std.specs.Prelude.{Option, None, Some}
-use Rattle.backend_core.specs.declared.held.Held.{Held}
+use Rattle.node_record.specs.declared.held.Held.{Held}
 use Rattle.mail_message.specs.Boxes.{Content}
 use Rattle.mur_base.specs.declared.home.Phase.{Phase}
 use Rattle.mur_base.specs.declared.home.Phase.TheVariants.{Creating, Open as open_here, Closing, Receiving, Ready, Pointer}

@@ -1,4 +1,4 @@
--- A backend's step: what it leaves, and what goes out.
+-- A backend's step: what it writes, what its entries make of it, and what goes out.
 use Rattle.std.specs.Prelude.{List, ℕ, [], ◌∷◌, Option, None, Some}
 use Rattle.mur_base.specs.declared.home.Location.{Location}
 use Rattle.mur_base.specs.declared.point.AskId.{AskId}
@@ -7,13 +7,20 @@ use Rattle.link_msg.specs.declared.counts.Counts.{Counts}
 use Rattle.link_msg.specs.declared.message.LinkMsg.TheVariants.{Answer}
 use Rattle.link_msg.specs.declared.out.Out.{Out}
 use Rattle.link_msg.specs.declared.out.Out.TheVariants.{Link, Mark}
+use Rattle.node_record.specs.declared.backend.BackendRecord.{BackendRecord}
 use Rattle.backend_core.specs.declared.backend.Backend.{Backend}
 use Rattle.backend_core.specs.declared.input.BackInput.{BackInput}
 use Rattle.backend_core.specs.declared.input.BackInput.TheVariants.{FromFront}
-use Rattle.backend_core.specs.HomeStep.{HomeStep}
-use Rattle.backend_core.specs.Step.{home_step}
+use Rattle.backend_core.specs.declared.op_plan.OpPlan.{OpPlan}
+use Rattle.backend_core.specs.declared.plan.BackPlan.{BackPlan}
+use Rattle.backend_core.specs.declared.plan.Owed.{Owed}
+use Rattle.backend_core.specs.declared.response.Response.{Response}
+use Rattle.backend_core.specs.AskPlan.{ask_plan}
+use Rattle.backend_core.specs.OpPlan.{home_after, told_after}
 
+-- the entries of a step, the home after them, and what goes out
 pub record Planned : Type 0 where
+  pub entries : List BackendRecord
   pub home : Backend
   pub outs : List Out
 
@@ -26,10 +33,30 @@ unfoldable pub answer_outs : List ℕ → AskId → Counts → Option AnswerBody
 answer_outs from id counts None = []
 answer_outs from id counts (Some body) = Link from (Answer (record { id = id; body = body })) ∷ Mark id counts ∷ []
 
-abbrev pub sent_answer : List ℕ → AskId → HomeStep → Planned
-sent_answer from id step = record { home = step.home; outs = answer_outs from id step.counts step.body }
+abbrev pub response_outs : List ℕ → AskId → Response → List Out
+response_outs from id response = answer_outs from id response.counts (Some response.body)
+
+-- by the home after the entries
+abbrev pub owed_outs : Backend → Option Owed → List Out
+owed_outs home None = []
+owed_outs home (Some owed) = response_outs owed.to owed.id (told_after home owed.telling)
+
+-- the state after a step is what its entries make
+abbrev pub settles : Backend → BackPlan → Planned
+settles home plan = record {
+  entries = plan.entries;
+  home = home_after home plan.entries;
+  outs = owed_outs (home_after home plan.entries) plan.owed;
+}
+
+abbrev pub owes : List ℕ → AskId → Option OpPlan → BackPlan
+owes from id None = record { entries = []; owed = None }
+owes from id (Some plan) = record { entries = plan.entries; owed = Some (record { to = from; id = id; telling = plan.telling }) }
 
 -- a backend has nothing to do where a link comes up or ends
+abbrev pub back_plan : Backend → BackInput → BackPlan
+back_plan home (FromFront from ask) = owes from ask.id (ask_plan home ask)
+back_plan home _ = record { entries = []; owed = None }
+
 unfoldable pub plan_of : Backend → BackInput → Planned
-plan_of home (FromFront from ask) = sent_answer from ask.id (home_step home ask)
-plan_of home _ = record { home = home; outs = [] }
+plan_of home input = settles home (back_plan home input)

@@ -4,7 +4,7 @@ use Rattle.mur_base.specs.declared.home.Phase.{Phase}
 use Rattle.mur_base.specs.declared.home.Phase.TheVariants.{Open, Pointer}
 use Rattle.mail_message.specs.Boxes.{Content}
 use Rattle.link_msg.specs.declared.outcome.Outcome.TheVariants.{Gone}
-use Rattle.backend_core.specs.declared.held.Held.{Held}
+use Rattle.node_record.specs.declared.held.Held.{Held}
 use Rattle.backend_core.specs.declared.response.Response.{Response}
 use Rattle.backend_core.specs.Response.{no_snapshot, done, not_now, moved_to}
 

@@ -2,7 +2,7 @@
 use Rattle.std.specs.Prelude.{ℕ, List, Option, None, Some}
 use Rattle.mail_message.specs.Boxes.{Content}
 use Rattle.backend_core.specs.declared.backend.Backend.{Backend}
-use Rattle.backend_core.specs.declared.held.Held.{Held}
+use Rattle.node_record.specs.declared.held.Held.{Held}
 use Rattle.backend_core.specs.declared.response.Response.{Response}
 use Rattle.backend_core.specs.HomeStep.{HomeStep, BoxStep, answers, changes}
 use Rattle.backend_core.specs.Refusal.{refusal}

@@ -1,4 +1,4 @@
--- What a home of mailboxes does with an ask. It knows only some of the operations.
+-- What an ask to a home of mailboxes is: what it leaves, and what is answered. AskPlan says what is written of it, and Plan what that makes.
 use Rattle.link_msg.specs.declared.ask.FrontAsk.{FrontAsk}
 use Rattle.imap_types.specs.declared.op.Op.{Op}
 use Rattle.imap_types.specs.declared.op.Op.TheVariants.{Look, Read, Summaries, Flags, Expunge, Append, Create}

@@ -1,18 +1,20 @@
 // A backend: a home of mailboxes.
-ghost use Rattle.std.specs.Prelude.{◌≡◌, IfOk};
+ghost use Rattle.std.specs.Prelude.{◌≡◌, IfOk, OnOk};
 ghost use Rattle.std.specs.Option.{option_copied, option_map};
-ghost use Rattle.backend_core.specs.HomeStep.{held_at, body_of, counts_of};
-ghost use Rattle.backend_core.specs.declared.held.Held.{Held};
-ghost use Rattle.backend_core.specs.Plan.{booted, plan_of, sent_answer, answer_outs};
-ghost use Rattle.backend_core.specs.Step.{home_step};
+ghost use Rattle.node_record.specs.declared.held.Held.{Held};
+ghost use Rattle.backend_core.specs.AskPlan.{ask_plan};
+ghost use Rattle.backend_core.specs.HomeStep.{held_at};
+ghost use Rattle.backend_core.specs.OpPlan.{home_after, given_after};
+ghost use Rattle.backend_core.specs.Plan.{back_plan, booted, owed_outs, owes, settles};
 
-use crate::held::Held;
 use crate::input::BackInput;
-use crate::plan::BackPlan;
+use crate::op_plan::{Entries, OpPlan};
+use crate::plan::{BackPlan, Owed};
 use crate::response::Response;
 use crate::step::serve;
 use link_msg::{BackAnswer, FrontAsk, LinkMsg, Out, Outs};
-use mur_base::{AskId, Location, MailName, Map, Memory, NodeName, Phase};
+use mur_base::{Location, MailName, Map, Memory, NodeName, Phase};
+use node_record::{BackendRecord, Held, apply_backend};
 use std::alloc::Global;
 
 /// A backend.
@@ -38,24 +40,26 @@ impl Backend {
         }
     }
 
-    /// Carries a step out; its outputs are handed out by `settle`. For want of memory the backend is spent.
-    #[tactic(auto, unfolding(crate::specs::Plan::plan_of))]
-    pub fn plan(&mut self, alloc: Global, input: BackInput) -> Result<BackPlan, Memory>
-        ensures { IfOk result (λ plan. record { home = self.new; outs = plan.out } ≡ plan_of self.old input) }
+    /// What a step writes, and the answer that it owes. Nothing is changed, and no body is copied but one that is read.
+    pub fn plan(&self, alloc: Global, input: BackInput) -> Result<BackPlan, Memory>
+        ensures { IfOk result (λ plan. plan ≡ back_plan self.now input) }
     {
-        let out = match input {
-            BackInput::FromFront(from, ask) => answer(alloc, self, from, ask)?,
-            BackInput::Up(_node) | BackInput::End(_node) => Outs::new(alloc),
-        };
-        Ok(BackPlan { out })
+        match input {
+            BackInput::FromFront(from, ask) => owes(alloc, self, from, ask),
+            BackInput::Up(_node) | BackInput::End(_node) => Ok(BackPlan {
+                entries: Entries::new(alloc),
+                owed: None,
+            }),
+        }
     }
 
-    /// Hands out the outputs of a step. It takes no memory.
-    pub fn settle(&mut self, plan: BackPlan) -> Outs
-        ensures outs { result ≡ plan.out }
-        ensures same { self.new ≡ self.old }
+    /// Carries the entries of a step out, and hands its outputs out. For want of memory the backend is spent.
+    pub fn settle(&mut self, alloc: Global, plan: BackPlan) -> Result<Outs, Memory>
+        ensures home { OnOk result (self.new ≡ (settles self.old plan).home) }
+        ensures outs { IfOk result (λ outs. outs ≡ (settles self.old plan).outs) }
     {
-        plan.out
+        carry_out(alloc, self, plan.entries)?;
+        owed_outs(alloc, self, plan.owed)
     }
 
     /// What a name is to this backend, if it knows of it. It takes no memory.
@@ -69,27 +73,54 @@ impl Backend {
     }
 }
 
-/// Carries out what a frontend asks, and answers it.
-fn answer(alloc: Global, home: &mut Backend, from: NodeName, ask: FrontAsk) -> Result<Outs, Memory>
-    ensures { IfOk result (λ outs. record { home = home.new; outs = outs } ≡ sent_answer from ask.id (home_step home.old ask)) }
+fn owes(alloc: Global, home: &Backend, from: NodeName, ask: FrontAsk) -> Result<BackPlan, Memory>
+    ensures { IfOk result (λ plan. plan ≡ owes from ask.id (ask_plan home.now ask)) }
 {
     let id = ask.id;
-    let response = serve(alloc, home, ask)?;
-    answer_outs(alloc, from, id, response)
+    match serve(alloc, home, ask)? {
+        Some(OpPlan { entries, telling }) => Ok(BackPlan {
+            entries,
+            owed: Some(Owed {
+                to: from,
+                id,
+                telling,
+            }),
+        }),
+        None => Ok(BackPlan {
+            entries: Entries::new(alloc),
+            owed: None,
+        }),
+    }
+}
+
+fn carry_out(alloc: Global, home: &mut Backend, entries: Entries) -> Result<(), Memory>
+    ensures { OnOk result (home.new ≡ home_after home.old entries) }
+{
+    for entry in entries.into_vec() {
+        home.last_serial = given_after(home.last_serial, &entry);
+        apply_backend(alloc, &mut home.held, entry)?;
+    }
+    Ok(())
+}
+
+#[tactic(auto, unfolding(crate::specs::OpPlan::given_after))]
+fn given_after(last: u32, entry: &BackendRecord) -> u32
+    ensures { result ≡ given_after last entry.now }
+{
+    match entry {
+        BackendRecord::Make(_, serial, _) => *serial,
+        _ => last,
+    }
 }
 
 #[tactic(auto, unfolding(crate::specs::Plan::answer_outs))]
-fn answer_outs(
-    alloc: Global,
-    from: NodeName,
-    id: AskId,
-    response: Option<Response>,
-) -> Result<Outs, Memory>
-    ensures { IfOk result (λ outs. outs ≡ answer_outs from id (counts_of response) (body_of response)) }
+fn owed_outs(alloc: Global, home: &Backend, owed: Option<Owed>) -> Result<Outs, Memory>
+    ensures { IfOk result (λ outs. outs ≡ owed_outs home.now owed) }
 {
     let mut outs = Outs::new(alloc);
-    if let Some(Response { body, counts }) = response {
-        outs.push(Out::Link(from, LinkMsg::Answer(BackAnswer { id, body })))?;
+    if let Some(Owed { to, id, telling }) = owed {
+        let Response { body, counts } = telling.by(alloc, home)?;
+        outs.push(Out::Link(to, LinkMsg::Answer(BackAnswer { id, body })))?;
         outs.push(Out::Mark(id, counts))?;
     }
     Ok(outs)

@@ -1,25 +1,32 @@
 // CREATE.
-ghost use Rattle.std.specs.Prelude.{◌≡◌, ◌-◌, ◌^◌, ◌==◌, IfOk};
-ghost use Rattle.backend_core.specs.Create.{create_step, created_in, make_at_home};
-ghost use Rattle.backend_core.specs.HomeStep.{answers, held_at};
+ghost use Rattle.std.specs.Prelude.{◌≡◌, ◌-◌, ◌^◌, ◌==◌, ◌∷◌, [], IfOk};
+ghost use Rattle.std.specs.Option.{option_copied};
+ghost use Rattle.mail_message.specs.FirstAcl.{first_acl};
+ghost use Rattle.node_record.specs.declared.backend.BackendRecord.TheVariants.{Make, Opened};
+ghost use Rattle.backend_core.specs.Create.{create_plan, created_in, make_plan};
 
-use crate::backend::Backend;
-use crate::held::Held;
+use crate::op_plan::{Entries, OpPlan, Telling};
 use crate::response::{Response, no_snapshot};
 use link_msg::Outcome;
-use mail_message::{MailBox, first_acl};
-use mur_base::{MailName, Memory, Phase};
+use mail_message::first_acl;
+use mur_base::{Copied, MailName, Memory, Phase};
+use node_record::{BackendRecord, Held};
 use std::alloc::Global;
 
-/// Makes a mailbox, unless something is known of its name. For want of memory the home is spent.
-#[tactic(auto, unfolding(crate::specs::Create::create_step))]
-pub fn create(alloc: Global, home: &mut Backend, name: MailName) -> Result<Response, Memory>
-    ensures { IfOk result (λ response. answers home.new response ≡ create_step home.old name (held_at home.old name)) }
+/// Makes a mailbox and opens it, unless something is known of its name.
+#[tactic(auto, unfolding(crate::specs::Create::create_plan))]
+pub fn create(
+    alloc: Global,
+    last: u32,
+    name: MailName,
+    found: Option<&Held>,
+) -> Result<OpPlan, Memory>
+    ensures { IfOk result (λ plan. plan ≡ create_plan last name (option_copied found.entry)) }
 {
-    if let Some(held) = home.held.get(&name) {
-        return Ok(created_in(alloc, &held.phase));
+    match found {
+        Some(held) => Ok(OpPlan::tells(alloc, created_in(alloc, &held.phase))),
+        None => make(alloc, last, name),
     }
-    make(alloc, home, name)
 }
 
 #[tactic(auto, unfolding(crate::specs::Create::created_in))]
@@ -32,18 +39,26 @@ fn created_in(alloc: Global, phase: &Phase) -> Response
     }
 }
 
-#[tactic(auto, unfolding(crate::specs::Create::make_at_home))]
-fn make(alloc: Global, home: &mut Backend, name: MailName) -> Result<Response, Memory>
-    ensures { IfOk result (λ response. answers home.new response ≡ make_at_home home.old name (home.old.last_serial == 2 ^ 32 - 1)) }
+#[tactic(auto, unfolding(crate::specs::Create::make_plan))]
+fn make(alloc: Global, last: u32, name: MailName) -> Result<OpPlan, Memory>
+    ensures { IfOk result (λ plan. plan ≡ make_plan last name (last == 2 ^ 32 - 1)) }
 {
-    let Some(serial) = home.last_serial.checked_add(1) else {
-        return Ok(Response::refused(alloc, Outcome::Limit));
+    let Some(serial) = last.checked_add(1) else {
+        return Ok(OpPlan::tells(alloc, Response::refused(alloc, Outcome::Limit)));
     };
-    let held = Held {
-        phase: Phase::Open,
-        content: MailBox::make(alloc, serial, first_acl(alloc, &name)?),
-    };
-    home.held.insert(name, held)?;
-    home.last_serial = serial;
-    Ok(Response::done(Outcome::None, no_snapshot(alloc)))
+    Ok(OpPlan {
+        entries: made(alloc, name, serial)?,
+        telling: Telling::Now(Response::done(Outcome::None, no_snapshot(alloc))),
+    })
+}
+
+/// The entries that make a mailbox and open it.
+fn made(alloc: Global, name: MailName, serial: u32) -> Result<Entries, Memory>
+    ensures { IfOk result (λ entries. entries ≡ Make name serial (first_acl name) ∷ Opened name ∷ []) }
+{
+    let acl = first_acl(alloc, &name)?;
+    let mut entries = Entries::new(alloc);
+    entries.push(BackendRecord::Make(name.copy(alloc)?, serial, acl))?;
+    entries.push(BackendRecord::Opened(name))?;
+    Ok(entries)
 }

@@ -1,44 +1,77 @@
 // EXPUNGE.
 ghost use Rattle.std.specs.Prelude.{◌≡◌, IfOk};
-ghost use Rattle.backend_core.specs.Expunge.{expunge_step, expunge_to};
-ghost use Rattle.backend_core.specs.HomeStep.{answers, held_at};
+ghost use Rattle.std.specs.Option.{option_copied};
+ghost use Rattle.mail_store.specs.Expunge.{expunged_uids, deleted_among};
+ghost use Rattle.backend_core.specs.Expunge.{expunge_plan, removes};
 
-use crate::backend::Backend;
+use crate::entry::gone;
+use crate::op_plan::{OpPlan, Telling};
 use crate::refusal::refusal;
 use crate::response::Response;
 use link_msg::Outcome;
 use mail_message::{MailBox, Uids};
-use mur_base::{MailName, Memory};
+use mail_store::set_of;
+use mur_base::{Copied, MailName, Memory};
+use node_record::Held;
 use std::alloc::Global;
+use std::collections::BTreeSet;
 
-/// Takes the messages with `\Deleted` away from a mailbox, of all or of those with some UIDs, where it is Open here. For
-/// want of memory the home is spent. A message takes time logarithmic in the mailbox; then one pass goes over the rows.
-#[tactic(auto, unfolding(crate::specs::Expunge::expunge_step, crate::specs::Served::served, crate::specs::Served::served_unless))]
+/// Takes the messages with `\Deleted` away from a mailbox, of all or of those with some UIDs, where it is Open here. Among some
+/// UIDs each takes time logarithmic in the mailbox; of all the flags of each message are looked at once.
+#[tactic(auto, unfolding(crate::specs::Expunge::expunge_plan, crate::specs::OpPlan::plans, crate::specs::OpPlan::plans_unless))]
 pub fn expunge(
     alloc: Global,
-    home: &mut Backend,
-    name: &MailName,
+    name: MailName,
     selected: Option<u32>,
     only: &Option<Uids>,
-) -> Result<Response, Memory>
-    ensures { IfOk result (λ response.
-        answers home.new response ≡ expunge_step home.old name.now selected only.now (held_at home.old name.now)) }
+    found: Option<&Held>,
+) -> Result<OpPlan, Memory>
+    ensures { IfOk result (λ plan. plan ≡ expunge_plan name selected only.now (option_copied found.entry)) }
 {
-    match home.held.get_mut(name) {
-        None => Ok(Response::not_now()),
-        Some(held) => match refusal(alloc, selected, held)? {
-            Some(response) => Ok(response),
-            None => expunge_to(alloc, &mut held.content, only),
-        },
+    let Some(held) = found else {
+        return Ok(OpPlan::tells(alloc, Response::not_now()));
+    };
+    match refusal(alloc, selected, held)? {
+        Some(response) => Ok(OpPlan::tells(alloc, response)),
+        None => expunge_from(alloc, name, &held.content, only),
     }
 }
 
-fn expunge_to(alloc: Global, content: &mut MailBox, only: &Option<Uids>) -> Result<Response, Memory>
-    ensures { IfOk result (λ response. record { content = content.new; response = response } ≡ expunge_to content.old only.now) }
+fn expunge_from(
+    alloc: Global,
+    name: MailName,
+    content: &MailBox,
+    only: &Option<Uids>,
+) -> Result<OpPlan, Memory>
+    ensures { IfOk result (λ plan. plan ≡ removes name content.now only.now) }
 {
-    let uids = match only {
-        None => mail_store::expunge(alloc, content, None)?,
-        Some(only) => mail_store::expunge(alloc, content, Some(only.as_slice()))?,
-    };
-    Ok(Response::done(Outcome::Uids(uids), content.look(alloc)?))
+    let uids = expunged_uids(alloc, content, only)?;
+    Ok(OpPlan {
+        entries: gone(alloc, &name, uids.copy(alloc)?)?,
+        telling: Telling::Look(name, Outcome::Uids(uids)),
+    })
+}
+
+/// The UIDs of the messages that go, in rising order.
+fn expunged_uids(alloc: Global, content: &MailBox, only: &Option<Uids>) -> Result<Uids, Memory>
+    ensures { IfOk result (λ uids. uids ≡ expunged_uids content.now only.now) }
+{
+    match only {
+        None => content.deleted(alloc),
+        Some(only) => deleted_among(alloc, content, &set_of(alloc, only.as_slice())?),
+    }
+}
+
+fn deleted_among(alloc: Global, content: &MailBox, named: &BTreeSet<u32>) -> Result<Uids, Memory>
+    ensures { IfOk result (λ uids. uids ≡ deleted_among content.now.messages named.now.keys) }
+{
+    let mut uids = Uids::new(alloc);
+    for uid in named.iter() {
+        if let Some(message) = content.find(*uid) {
+            if message.is_deleted() {
+                uids.push(message.uid)?;
+            }
+        }
+    }
+    Ok(uids)
 }

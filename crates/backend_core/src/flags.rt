@@ -1,53 +1,70 @@
 // Other flags for messages.
 ghost use Rattle.std.specs.Prelude.{◌≡◌, IfOk};
-ghost use Rattle.backend_core.specs.Flags.{flags_step, flags_to};
-ghost use Rattle.backend_core.specs.HomeStep.{answers, held_at};
+ghost use Rattle.std.specs.Option.{option_copied};
+ghost use Rattle.backend_core.specs.Flags.{flags_plan, rows_plan, relabels_to};
 
-use crate::backend::Backend;
+use crate::entry::flagged;
+use crate::op_plan::{OpPlan, Telling};
 use crate::refusal::refusal;
 use crate::response::Response;
+use crate::rows::{differing, rows_stored};
 use link_msg::Outcome;
-use mail_message::{FlagSet, MailBox, Mode, Uids};
+use mail_message::{FlagSet, MailBox, Mode, OrderedRows, Uids};
 use mail_store::StoreFault;
 use mur_base::{MailName, Memory};
+use node_record::Held;
 use std::alloc::Global;
 
-/// Gives messages of a mailbox other flags, where it is Open here. For want of memory the home is spent. A message takes
-/// time logarithmic in the mailbox; then one pass goes over the rows.
-#[tactic(auto, unfolding(crate::specs::Flags::flags_step, crate::specs::Served::served, crate::specs::Served::served_unless))]
+/// Gives messages of a mailbox other flags, where it is Open here. Only what differs is written. Each message takes time
+/// logarithmic in the mailbox.
+#[tactic(auto, unfolding(crate::specs::Flags::flags_plan, crate::specs::OpPlan::plans, crate::specs::OpPlan::plans_unless))]
 pub fn set_flags(
     alloc: Global,
-    home: &mut Backend,
-    name: &MailName,
+    name: MailName,
     selected: Option<u32>,
     uids: &Uids,
     mode: Mode,
     flags: &FlagSet,
-) -> Result<Response, Memory>
-    ensures { IfOk result (λ response.
-        answers home.new response ≡ flags_step home.old name.now selected uids.now mode flags.now (held_at home.old name.now)) }
+    found: Option<&Held>,
+) -> Result<OpPlan, Memory>
+    ensures { IfOk result (λ plan. plan ≡ flags_plan name selected uids.now mode flags.now (option_copied found.entry)) }
 {
-    match home.held.get_mut(name) {
-        None => Ok(Response::not_now()),
-        Some(held) => match refusal(alloc, selected, held)? {
-            Some(response) => Ok(response),
-            None => flags_to(alloc, &mut held.content, uids, mode, flags),
-        },
+    let Some(held) = found else {
+        return Ok(OpPlan::tells(alloc, Response::not_now()));
+    };
+    match refusal(alloc, selected, held)? {
+        Some(response) => Ok(OpPlan::tells(alloc, response)),
+        None => relabel(alloc, name, &held.content, uids, mode, flags),
     }
 }
 
-fn flags_to(
+fn relabel(
     alloc: Global,
-    content: &mut MailBox,
+    name: MailName,
+    content: &MailBox,
     uids: &Uids,
     mode: Mode,
     flags: &FlagSet,
-) -> Result<Response, Memory>
-    ensures { IfOk result (λ response. record { content = content.new; response = response } ≡ flags_to content.old uids.now mode flags.now) }
+) -> Result<OpPlan, Memory>
+    ensures { IfOk result (λ plan. plan ≡ relabels_to name content.now uids.now mode flags.now) }
 {
-    match mail_store::set_flags(alloc, content, uids.as_slice(), mode, flags) {
-        Ok(rows) => Ok(Response::done(Outcome::Rows(rows), content.look(alloc)?)),
-        Err(StoreFault::TooManyFlags) => Ok(Response::done(Outcome::Limit, content.look(alloc)?)),
+    match rows_stored(alloc, content, uids.as_slice(), mode, flags) {
+        Ok(rows) => relabel_rows(alloc, name, content, rows),
+        Err(StoreFault::TooManyFlags) => Ok(OpPlan::looks(alloc, name, Outcome::Limit)),
         Err(_) => Err(Memory),
     }
+}
+
+fn relabel_rows(
+    alloc: Global,
+    name: MailName,
+    content: &MailBox,
+    rows: OrderedRows,
+) -> Result<OpPlan, Memory>
+    ensures { IfOk result (λ plan. plan ≡ rows_plan name content.now rows) }
+{
+    Ok(OpPlan {
+        entries: flagged(alloc, &name, differing(alloc, content, rows.as_slice())?)?,
+        telling: Telling::Look(name, Outcome::Rows(rows)),
+    })
 }

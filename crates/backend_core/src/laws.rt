@@ -9,12 +9,13 @@ ghost use Rattle.link_msg.specs.declared.answer.AnswerBody.TheVariants.{Done};
 ghost use Rattle.imap_types.specs.declared.op.Op.TheVariants.{Append, Create};
 ghost use Rattle.link_msg.specs.declared.outcome.Outcome.TheVariants.{Uids};
 ghost use Rattle.backend_core.specs.declared.backend.Backend.{Backend};
-ghost use Rattle.backend_core.specs.declared.held.Held.{Held};
+ghost use Rattle.node_record.specs.declared.held.Held.{Held};
 ghost use Rattle.backend_core.specs.declared.input.BackInput.{BackInput};
+ghost use Rattle.backend_core.specs.declared.input.BackInput.TheVariants.{FromFront};
 ghost use Rattle.backend_core.specs.HomeStep.{held_at};
 ghost use Rattle.backend_core.specs.HomeLaws.{is_open_here, HasNamesInOrder, MailboxStays, AreNewUids, HasGivenSerials};
-ghost use Rattle.backend_core.specs.HomeLaws.{HasUidsBelowNext, LosesNoMessage};
-ghost use Rattle.backend_core.specs.Plan.{booted, plan_of};
+ghost use Rattle.backend_core.specs.HomeLaws.{HasOnlyOpen, HasRisingUids, HasUidsBelowNext, LosesNoMessage, RisesAt};
+ghost use Rattle.backend_core.specs.Plan.{answer_outs, booted, plan_of};
 ghost use Rattle.backend_core.specs.Step.{home_step};
 
 /// An ask but a CREATE changes nothing where its mailbox isn't Open here.
@@ -69,4 +70,25 @@ pub fn other_names_stay()
     ensures others { (home : Backend) (ask : FrontAsk) (other : List ℕ) → other ≢ ask.name
         → held_at (home_step home ask).home other ≡ held_at home other }
     ensures ordered { (home : Backend) (ask : FrontAsk) → HasNamesInOrder home → HasNamesInOrder (home_step home ask).home }
+{}
+
+/// The messages of each mailbox stand in strictly rising order of UID, from the start and whatever comes in (RFC 9051, 2.3.1.1).
+pub fn uids_rise()
+    ensures booted { (me : Location) → HasRisingUids (booted me) }
+    ensures stays { (home : Backend) (input : BackInput) → HasRisingUids home → HasRisingUids (plan_of home input).home }
+{}
+
+/// A step is the operation that was asked for, of which the laws speak: its entries make what that leaves, and what goes out is its
+/// answer. The UIDs of the mailbox rise strictly.
+pub fn a_step_is_its_operation()
+    ensures leaves { (home : Backend) (from : List ℕ) (ask : FrontAsk) → RisesAt home ask.name
+        → (plan_of home (FromFront from ask)).home ≡ (home_step home ask).home }
+    ensures tells { (home : Backend) (from : List ℕ) (ask : FrontAsk) → RisesAt home ask.name
+        → (plan_of home (FromFront from ask)).outs ≡ answer_outs from ask.id (home_step home ask).counts (home_step home ask).body }
+{}
+
+/// Each mailbox is Open, from the start and whatever comes in.
+pub fn every_mailbox_is_open()
+    ensures booted { (me : Location) → HasOnlyOpen (booted me) }
+    ensures stays { (home : Backend) (input : BackInput) → HasOnlyOpen home → HasOnlyOpen (plan_of home input).home }
 {}

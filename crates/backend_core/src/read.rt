@@ -1,69 +1,89 @@
 // A read of messages.
-ghost use Rattle.std.specs.Prelude.{◌≡◌, IfOk, OnOk};
+ghost use Rattle.std.specs.Prelude.{◌≡◌, IfOk};
+ghost use Rattle.std.specs.Option.{option_copied};
 ghost use Rattle.mail_message.specs.declared.mode.Mode.TheVariants.{Add};
-ghost use Rattle.mail_store.specs.Store.{stored};
-ghost use Rattle.backend_core.specs.HomeStep.{answers, held_at};
-ghost use Rattle.backend_core.specs.Read.{read_step, read_to, seen_flag};
+ghost use Rattle.mail_store.specs.Store.{rows_stored};
+ghost use Rattle.backend_core.specs.Read.{read_plan, read_from, seen_entries, seen_flag};
 
-use crate::backend::Backend;
+use crate::entry::flagged;
+use crate::op_plan::{Entries, OpPlan, Telling};
 use crate::refusal::refusal;
 use crate::response::Response;
+use crate::rows::{differing, rows_stored};
 use link_msg::Outcome;
-use mail_message::{FlagName, FlagSet, MailBox, Mode, SystemFlag, Uids};
+use mail_message::{FlagName, FlagSet, MailBox, Mode, OrderedRows, SystemFlag, Uids};
 use mur_base::{MailName, Memory};
+use node_record::Held;
 use std::alloc::Global;
 
-/// Reads messages of a mailbox, and gives them `\Seen` where that is asked, where it is Open here. For want of memory the
-/// home is spent. A message takes time logarithmic in the mailbox and a copy of its body; then one pass goes over the rows.
-#[tactic(auto, unfolding(crate::specs::Read::read_step, crate::specs::Served::served, crate::specs::Served::served_unless))]
+/// Reads messages of a mailbox, and gives them `\Seen` where that is asked, where it is Open here. Each message takes time
+/// logarithmic in the mailbox, and a copy of its body.
+#[tactic(auto, unfolding(crate::specs::Read::read_plan, crate::specs::OpPlan::plans, crate::specs::OpPlan::plans_unless))]
 pub fn read(
     alloc: Global,
-    home: &mut Backend,
-    name: &MailName,
+    name: MailName,
     selected: Option<u32>,
     uids: &Uids,
     sees: bool,
-) -> Result<Response, Memory>
-    ensures { IfOk result (λ response.
-        answers home.new response ≡ read_step home.old name.now selected uids.now sees (held_at home.old name.now)) }
+    found: Option<&Held>,
+) -> Result<OpPlan, Memory>
+    ensures { IfOk result (λ plan. plan ≡ read_plan name selected uids.now sees (option_copied found.entry)) }
 {
-    match home.held.get_mut(name) {
-        None => Ok(Response::not_now()),
-        Some(held) => match refusal(alloc, selected, held)? {
-            Some(response) => Ok(response),
-            None => read_to(alloc, &mut held.content, uids, sees),
-        },
+    let Some(held) = found else {
+        return Ok(OpPlan::tells(alloc, Response::not_now()));
+    };
+    match refusal(alloc, selected, held)? {
+        Some(response) => Ok(OpPlan::tells(alloc, response)),
+        None => read_from(alloc, name, &held.content, uids, sees),
     }
 }
 
-#[tactic(auto, unfolding(crate::specs::Read::read_in))]
-fn read_to(
+fn read_from(
     alloc: Global,
-    content: &mut MailBox,
+    name: MailName,
+    content: &MailBox,
     uids: &Uids,
     sees: bool,
-) -> Result<Response, Memory>
-    ensures { IfOk result (λ response. record { content = content.new; response = response } ≡ read_to content.old uids.now sees) }
+) -> Result<OpPlan, Memory>
+    ensures { IfOk result (λ plan. plan ≡ read_from name content.now uids.now sees) }
 {
     let messages = content.read(alloc, uids.as_slice())?;
-    if sees {
-        see(alloc, content, uids)?;
-    }
-    Ok(Response::done(Outcome::Messages(messages), content.look(alloc)?))
+    Ok(OpPlan {
+        entries: seen_entries(alloc, &name, content, uids, sees)?,
+        telling: Telling::Look(name, Outcome::Messages(messages)),
+    })
 }
 
-/// Gives messages `\Seen`. It is no keyword, so that none gets too many and memory alone can be wanting.
-fn see(alloc: Global, content: &mut MailBox, uids: &Uids) -> Result<(), Memory>
-    ensures { OnOk result (content.new ≡ stored content.old uids.now Add seen_flag) }
+/// What gives messages `\Seen`, where that is asked.
+#[tactic(auto, unfolding(crate::specs::Read::seen_entries))]
+fn seen_entries(
+    alloc: Global,
+    name: &MailName,
+    content: &MailBox,
+    uids: &Uids,
+    sees: bool,
+) -> Result<Entries, Memory>
+    ensures { IfOk result (λ entries. entries ≡ seen_entries name.now content.now uids.now sees) }
 {
-    match mail_store::set_flags(
+    if !sees {
+        return Ok(Entries::new(alloc));
+    }
+    let rows = seen_rows(alloc, content, uids)?;
+    flagged(alloc, name, differing(alloc, content, rows.as_slice())?)
+}
+
+/// The rows of messages with `\Seen`. It is no keyword, so that none gets too many and memory alone can be wanting.
+fn seen_rows(alloc: Global, content: &MailBox, uids: &Uids) -> Result<OrderedRows, Memory>
+    ensures { IfOk result (λ rows. rows ≡ rows_stored content.now uids.now Add seen_flag) }
+{
+    match rows_stored(
         alloc,
         content,
         uids.as_slice(),
         Mode::Add,
         &seen_flag(alloc)?,
     ) {
-        Ok(_) => Ok(()),
+        Ok(rows) => Ok(rows),
         Err(_) => Err(Memory),
     }
 }

@@ -2,11 +2,11 @@
 ghost use Rattle.std.specs.Prelude.{◌≡◌, IfOk};
 ghost use Rattle.backend_core.specs.Refusal.{is_other, refusal};
 
-use crate::held::Held;
 use crate::response::{Response, no_snapshot};
 use link_msg::Outcome;
 use mail_message::MailBox;
 use mur_base::{Copied, Memory, Phase};
+use node_record::Held;
 use std::alloc::Global;
 
 /// What is answered instead, where an operation on messages isn't carried out: the name isn't Open here, or the asking

@@ -1,7 +1,9 @@
 // Reads and prints lines of MUPDATE, and decodes an entry of a disk, each beside plain work: long literals beside a copy of the bytes and a search
-// in them, a FIND beside a SELECT of INBOX, an entry of 1 MiB beside a copy of it. It fails where one takes longer than its bound.
+// in them, a FIND beside a SELECT of INBOX, an entry of 1 MiB beside a copy of it, and folds of entries beside folds of an eighth of them. It fails
+// where one takes longer than its bound.
 mod decoding;
 mod finding;
+mod folding;
 mod literals;
 
 use crate::fault::Fault;
@@ -9,6 +11,7 @@ use crate::task::Task;
 use crate::times::{Cost, Which, Work, print_count, print_times};
 use decoding::Decoding;
 use finding::Finding;
+use folding::{Fold, Folding};
 use literals::{Cutting, Printing, Reading};
 
 /// What is timed, how many times as long as the plain work it may take, and what that is.
@@ -72,10 +75,25 @@ fn run_others(rt: &HostRuntime, task: Task) -> Result<bool, Fault> {
     Ok(found && decoded)
 }
 
+/// Folds the entries of 4,096 names, and those of a mailbox of 20,000 messages.
+fn run_folds(rt: &HostRuntime, task: Task) -> Result<bool, Fault> {
+    let of = |name| Measure {
+        name,
+        most: 2,
+        plain: "as many in eight folds",
+    };
+    let names = Folding::new(rt.alloc(), Fold::Names);
+    let messages = Folding::new(rt.alloc(), Fold::Messages);
+    let named = measured(rt, task, of("4,096 names folded"), names)?;
+    let put = measured(rt, task, of("20,000 messages folded"), messages)?;
+    Ok(named && put)
+}
+
 pub fn run(rt: &HostRuntime, task: Task) -> Result<(), Fault> {
     let literals = run_literals(rt, task)?;
     let others = run_others(rt, task)?;
-    if literals && others {
+    let folds = run_folds(rt, task)?;
+    if literals && others && folds {
         Ok(())
     } else {
         Err(Fault::Slow)

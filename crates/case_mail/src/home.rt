@@ -119,7 +119,7 @@ fn put_asked(
 /// What the home puts out for an input.
 pub fn outs_of(alloc: Global, home: &mut Backend, input: BackInput) -> Result<Outs, Memory> {
     let plan = home.plan(alloc, input)?;
-    Ok(home.settle(plan))
+    home.settle(alloc, plan)
 }
 
 /// An input: a link's, or what a node asks of a mailbox, with the UIDVALIDITY of the one that is selected.

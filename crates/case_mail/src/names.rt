@@ -14,7 +14,7 @@ pub fn put_fault(alloc: Global, kind: &str, text: &str, out: &mut Bytes) -> Resu
         "mailbox" => put_why(alloc, &mail_name(alloc, text), out),
         "node" => put_why(alloc, &node_name(alloc, text), out),
         "user" => put_why(alloc, &user_name(alloc, text), out),
-        "flag" => put_why(alloc, &flag(alloc, text), out),
+        "flag" => put_why(alloc, &flag(text), out),
         _ => Err(Fault::Unreadable("no kind of name")),
     }
 }

@@ -51,7 +51,7 @@ fn uids_of(alloc: Global, field: &str) -> Result<Uids, Fault> {
 
 /// One flag.
 fn flags_of(alloc: Global, name: &str) -> Result<FlagSet, Fault> {
-    let Ok(name) = flag(alloc, name.as_bytes()) else {
+    let Ok(name) = flag(name.as_bytes()) else {
         return Err(Fault::Unreadable("no flag"));
     };
     match FlagSet::new(alloc).with(alloc, &name) {

@@ -3,6 +3,7 @@ pub mod NameLaw
 pub mod ConnectionLaw
 pub mod FrameLaw
 pub mod KeepsLaw
+pub mod GivenAlone
 pub mod Comes
 pub mod KeepsStill
 pub mod KeepsFront
@@ -10,6 +11,7 @@ pub mod KeepsOpen
 pub mod KeepsData
 pub mod KeepsHang
 pub mod FirstTells
+pub mod RisesLaw
 pub mod KeepsAsk
 pub mod KeepsAnswer
 pub mod KeepsReply

@@ -4,4 +4,5 @@ pub mod Names
 pub mod Connections
 pub mod Nodes
 pub mod Flows
+pub mod Guests
 pub mod OneServer

@@ -1,4 +1,5 @@
 -- In each step one node works, for its own clients, and it sends on its own links.
+pub mod NotLost
 pub mod OneNodeLaw
 pub mod OwnClientsLaw
 pub mod LinkedNodes

@@ -2,6 +2,7 @@
 pub mod Unrolled
 pub mod StepsMade
 pub mod CarryOn
+pub mod WholeLaw
 pub mod UpsLaw
 pub mod FrontsOfStart
 pub mod StartLaw

@@ -1,6 +1,6 @@
 -- The cluster before its first step, and what an event that is one step does: something comes to one node, which changes its state and
 -- lets outputs out.
-use Rattle.std.specs.Prelude.{ℕ, ◌+◌, List, [], ◌∷◌, ◌++◌, Option, None, Some}
+use Rattle.std.specs.Prelude.{ℕ, ◌+◌, Bool, false, if◌then◌else◌, List, [], ◌∷◌, ◌++◌, map, Option, None, Some}
 use Rattle.std.specs.Ordering.{nat_cmp}
 use Rattle.std.specs.Cmp.Lexicographic.{slice_cmp}
 use Rattle.backend_core.specs.declared.backend.Backend.{Backend}
@@ -34,6 +34,7 @@ use Rattle.cluster_core.specs.declared.world.MarkKind.{MarkKind}
 use Rattle.cluster_core.specs.declared.world.MarkKind.TheVariants.{Home, Told}
 use Rattle.cluster_core.specs.declared.layout.Layout.{Layout}
 use Rattle.cluster_core.specs.declared.world.World.{World}
+use Rattle.link_queue.specs.Broken.{Broken, is_broken}
 use Rattle.link_queue.specs.Links.{on_link, sent, without_first}
 
 -- the cluster at one moment: how its nodes are linked, and what its steps change
@@ -43,7 +44,7 @@ pub record ClusterState : Type 0 where
 
 -- before any node
 abbrev pub no_world : World
-no_world = record { nodes = []; clients = []; links = []; marks = []; steps = 0 }
+no_world = record { nodes = []; clients = []; broken = []; links = []; marks = []; steps = 0 }
 
 abbrev pub first_name : List (List ℕ) → List ℕ
 first_name [] = []
@@ -120,9 +121,27 @@ carry_all node world (out ∷ outs) = carry_all node (carry node world out) outs
 abbrev pub with_state : World → List ℕ → NodeState → World
 with_state world node it = record world { nodes = with_value (slice_cmp nat_cmp) world.nodes node it }
 
+-- a message that is sent on a broken link is lost
+unfoldable pub is_lost : Broken → List ℕ → Out → Bool
+is_lost broken node (to_node other message) = is_broken broken node other
+is_lost broken node (to_client conn bytes) = false
+is_lost broken node (Close conn) = false
+is_lost broken node (mark ask counts) = false
+is_lost broken node (tell ask how) = false
+
+-- an output is carried out, unless it is lost
+abbrev pub carry_or_lose : List ℕ → World → Out → World
+carry_or_lose node world out = if is_lost world.broken node out then world else carry node world out
+
+-- what a node lets out, but for what is lost
+unfoldable pub not_lost : Broken → List ℕ → List Out → List Out
+not_lost broken node [] = []
+not_lost broken node (out ∷ outs) =
+    if is_lost broken node out then not_lost broken node outs else out ∷ not_lost broken node outs
+
 -- the step of a node
 abbrev pub acts : World → List ℕ → Acted → World
-acts world node acted = carry_all node (with_state world node acted.state) acted.outs
+acts world node acted = carry_all node (with_state world node acted.state) (not_lost world.broken node acted.outs)
 
 -- something comes to a node, if it is there
 unfoldable pub comes_to : World → List ℕ → NodeInput → Option NodeState → World
@@ -140,13 +159,13 @@ unfoldable pub with_ups : World → List Link → World
 with_ups world [] = world
 with_ups world (link ∷ links) = with_ups (told_up world link) links
 
--- every node, each of its links up; no connection, nothing on its way, no step
+-- every node, each of its links whole and up; no connection, nothing on its way, no step
 unfoldable pub start : Config → World
 start config = with_ups (with_nodes (home_of config) (setting_of config) no_world config.nodes) (links_of config.nodes)
 
--- how the nodes are linked, and which are backends: no step changes it
+-- how the nodes are linked, which are backends, and the names of all: no step changes it
 abbrev pub layout_of : Config → Layout
-layout_of config = record { pairs = links_of config.nodes; backends = backends_of config.nodes }
+layout_of config = record { pairs = links_of config.nodes; backends = backends_of config.nodes; names = map (λ node. node.name) config.nodes }
 
 abbrev pub begun : Config → ClusterState
 begun config = record { layout = layout_of config; world = start config }

@@ -1,29 +1,51 @@
 // Carrying out what a node lets out.
 ghost use Rattle.std.specs.Prelude.{◌≡◌, OnOk};
-ghost use Rattle.cluster_core.specs.World.{carry, carry_all, given_more, marked, client_at};
+ghost use Rattle.cluster_core.specs.World.{carry, carry_all, carry_or_lose, given_more, marked, client_at, is_lost, not_lost};
 
 use crate::world::{Mark, MarkKind, World};
 use link_msg::{Out, Outs};
-use link_queue::send;
+use link_queue::{is_broken, send};
 use mur_base::{AskId, Bytes, Memory, NodeName};
 use std::alloc::Global;
 
-/// Carries out what a node lets out in this step, in order. For want of memory the world is spent.
+/// Carries out what a node lets out in this step, in order; a message that is sent on a broken link is lost. For want of memory the world is
+/// spent.
 pub fn carry_out(
     alloc: Global,
     world: &mut World,
     node: &NodeName,
     outs: Outs,
 ) -> Result<(), Memory>
-    ensures { OnOk result (world.new ≡ carry_all node.now world.old outs) }
+    ensures { OnOk result (world.new ≡ carry_all node.now world.old (not_lost world.old.broken node.now outs)) }
 {
     for out in outs.into_vec() {
-        carry(alloc, world, node, out)?;
+        carry_or_lose(alloc, world, node, out)?;
     }
     Ok(())
 }
 
-// A connection that closes needs nothing here: its frontend gives its client nothing more.
+fn carry_or_lose(alloc: Global, world: &mut World, node: &NodeName, out: Out) -> Result<(), Memory>
+    ensures { OnOk result (world.new ≡ carry_or_lose node.now world.old out) }
+{
+    if world.loses(node, &out) {
+        return Ok(());
+    }
+    carry(alloc, world, node, out)
+}
+
+impl World {
+    #[tactic(auto, unfolding(crate::specs::World::is_lost))]
+    fn loses(&self, node: &NodeName, out: &Out) -> bool
+        ensures { result ≡ is_lost self.now.broken node.now out.now }
+    {
+        match out {
+            Out::Link(other, _) => is_broken(&self.broken, node, other),
+            Out::Client(_, _) | Out::Close(_) | Out::Mark(_, _) | Out::Told(_, _) => false,
+        }
+    }
+}
+
+// A connection that closes needs nothing here: its node gives its client nothing more.
 #[tactic(auto, unfolding(crate::specs::World::carry))]
 fn carry(alloc: Global, world: &mut World, node: &NodeName, out: Out) -> Result<(), Memory>
     ensures { OnOk result (world.new ≡ carry node.now world.old out) }

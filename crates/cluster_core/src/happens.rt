@@ -11,7 +11,7 @@ use crate::delivery::deliver;
 use crate::flow::flow;
 use crate::layout::Layout;
 use crate::world::{Client, World};
-use mur_base::{Bytes, Copied, Memory, NodeName};
+use mur_base::{Bytes, Memory, NodeName};
 use node_step::NodeInput;
 use schedule_text::Event;
 use std::alloc::Global;
@@ -29,7 +29,7 @@ pub fn happens(
 {
     match event {
         Event::Flow(count) => flow(alloc, layout, world, count),
-        Event::Open(node, conn) => open(alloc, world, node, conn),
+        Event::Open(node, conn) => open(alloc, layout, world, node, conn),
         Event::Data(conn, bytes) => data(alloc, world, conn, bytes),
         Event::Hang(conn) => hang(alloc, world, conn),
         Event::Deliver(from, to) => deliver(alloc, world, &from, &to),
@@ -42,7 +42,13 @@ pub fn happens(
 
 /// A connection is opened at a node, unless there is one of its number.
 #[tactic(auto, unfolding(crate::specs::World::takes, crate::specs::World::opens))]
-fn open(alloc: Global, world: &mut World, node: NodeName, conn: u64) -> Result<(), Memory>
+fn open(
+    alloc: Global,
+    layout: &Layout,
+    world: &mut World,
+    node: NodeName,
+    conn: u64,
+) -> Result<(), Memory>
     requires { world.old.steps + 1 < 2 ^ 64 }
     ensures { OnOk result (world.new ≡ steps_by world.old (Open node conn)) }
 {
@@ -51,7 +57,7 @@ fn open(alloc: Global, world: &mut World, node: NodeName, conn: u64) -> Result<(
         return Ok(());
     }
     let client = Client {
-        at: node.copy(alloc)?,
+        at: layout.shared_name(alloc, &node)?,
         given: Bytes::new(alloc),
     };
     world.clients.insert(conn, client)?;
@@ -86,8 +92,8 @@ fn client_does(alloc: Global, world: &mut World, conn: u64, input: NodeInput) ->
 {
     match world.clients.get(&conn) {
         Some(client) => {
-            let node = client.at.copy(alloc)?;
-            comes(alloc, world, &node, input)
+            let node = client.at.share()?;
+            comes(alloc, world, node.get(), input)
         }
         None => Ok(()),
     }

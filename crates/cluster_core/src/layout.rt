@@ -1,8 +1,9 @@
 // How the nodes are linked, which no step changes.
-ghost use Rattle.std.specs.Prelude.{◌≡◌, IfOk};
+ghost use Rattle.std.specs.Prelude.{◌≡◌, map, IfOk};
 ghost use Rattle.mur_config.specs.Nodes.{AreNodes};
 ghost use Rattle.cluster_core.specs.World.{backends_of, layout_of};
 
+use crate::shared_name::SharedName;
 use mur_base::{Copied, Items, Memory, NodeName};
 use mur_config::{Config, Kind, Links, Node};
 use std::alloc::Global;
@@ -14,6 +15,8 @@ pub struct Layout {
     pub pairs: Links,
     /// The backends in the configuration's order.
     pub backends: Items<NodeName>,
+    /// The names of all nodes, which their clients share.
+    pub names: Items<SharedName>,
 }
 
 impl Layout {
@@ -26,7 +29,22 @@ impl Layout {
         Ok(Layout {
             pairs: config.nodes.links(alloc)?,
             backends: backends_of(alloc, nodes)?,
+            names: names_of(alloc, nodes)?,
         })
+    }
+
+    /// The name of a node. It takes no memory where the node is one of the configuration.
+    pub fn shared_name(&self, alloc: Global, node: &NodeName) -> Result<SharedName, Memory>
+        ensures { IfOk result (λ name. name ≡ node.now) }
+    {
+        for name in self.names.as_slice() {
+            if *name.get() == *node {
+                let name = name.share()?;
+                return Ok(name);
+            }
+        }
+        let name = SharedName::new(alloc, node.copy(alloc)?)?;
+        Ok(name)
     }
 }
 
@@ -39,6 +57,16 @@ fn backends_of(alloc: Global, nodes: &[Node]) -> Result<Items<NodeName>, Memory>
         if node.kind == Kind::Backend {
             names.push(node.name.copy(alloc)?)?;
         }
+    }
+    Ok(names)
+}
+
+fn names_of(alloc: Global, nodes: &[Node]) -> Result<Items<SharedName>, Memory>
+    ensures { IfOk result (λ names. names ≡ map (λ node. node.name) nodes.now) }
+{
+    let mut names = Items::new(alloc);
+    for node in nodes {
+        names.push(SharedName::new(alloc, node.name.copy(alloc)?)?)?;
     }
     Ok(names)
 }

@@ -11,9 +11,11 @@ mod happens;
 mod history;
 mod homes;
 mod layout;
+mod shared_name;
 mod start;
 mod world;
 
 pub use cluster::{Cluster, HomeRow, HomeRows, Points, headline, run};
 pub use layout::Layout;
+pub use shared_name::SharedName;
 pub use world::{Client, Mark, World};

@@ -24,7 +24,7 @@ pub fn dated(config: &Config)
     let _text = config.date.as_bytes();
 }
 
-/// Every node as it begins, with its links up: no connection, nothing on its way.
+/// Every node as it begins, with its links whole and up: no connection, nothing on its way.
 #[tactic(auto, unfolding(crate::specs::World::start))]
 pub fn start(alloc: Global, config: &Config, layout: &Layout) -> Result<World, Memory>
     requires { layout.now ≡ layout_of config.now }
@@ -34,6 +34,7 @@ pub fn start(alloc: Global, config: &Config, layout: &Layout) -> Result<World, M
     let mut world = World {
         nodes: Map::new(alloc),
         clients: Map::new(alloc),
+        broken: Map::new(alloc),
         links: Map::new(alloc),
         marks: Items::new(alloc),
         steps: 0,

@@ -3,16 +3,17 @@ ghost use Rattle.std.specs.Prelude.{◌≡◌};
 ghost use Rattle.std.specs.Option.{option_copied};
 ghost use Rattle.cluster_core.specs.World.{home_at};
 
+use crate::shared_name::SharedName;
 use backend_core::Backend;
 use link_msg::{Counts, How, LinkMsg};
-use link_queue::Links;
+use link_queue::{Broken, Links};
 use mur_base::{AskId, Bytes, Items, Map, NodeName};
 use node_step::NodeState;
 
 /// A client: the node that it connected to, and all bytes that it was given.
 #[derive(Drop)]
 pub struct Client {
-    pub at: NodeName,
+    pub at: SharedName,
     pub given: Bytes,
 }
 
@@ -41,6 +42,8 @@ pub struct World {
     pub nodes: Map<NodeName, NodeState>,
     /// The clients, by the numbers of their connections.
     pub clients: Map<u64, Client>,
+    /// The links that are broken; none is yet.
+    pub broken: Broken,
     /// The messages on their way.
     pub links: Links<LinkMsg>,
     /// The steps that count as points, in order.

@@ -18,9 +18,10 @@ use Rattle.front_core.specs.declared.connection.Stage.TheVariants.{Reading, Aske
 use Rattle.front_core.specs.declared.front.Front.{Front}
 use Rattle.front_core.specs.Answered.{answer_comes}
 use Rattle.front_core.specs.Ended.{released, released_at}
-use Rattle.front_core.specs.Front.{connection_at, new_connection, connect, connect_at, bytes_in, front_bytes_at, bytes_by, having_read}
+use Rattle.front_core.specs.Front.{connection_at, connect, connect_at, bytes_in, front_bytes_at, bytes_by, having_read}
 use Rattle.front_core.specs.Front.{hang, front_hang_at, hung_up, deliver, answer_at, answer_from}
 use Rattle.front_core.specs.Room.{commands_of, HasCommands, HasRoomAt, HasRoomFor}
+use Rattle.front_core.specs.Slots.{new_connection}
 use Rattle.front_core.specs.Taken.{inputs_come}
 use Rattle.front_core.proofs.ReadingLaws.{inputs_of_more-length}
 use Rattle.front_core.proofs.CommandLaws.{inputs_count, answer_counts}

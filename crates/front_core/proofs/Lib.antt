@@ -4,7 +4,7 @@ pub mod FramesLaws
 pub mod CommandLaws
 pub mod PieceLaws
 pub mod WaitingLaws
-pub mod EndedLaw
+pub mod SlotLaws
 pub mod Counts
 pub mod ReadingLaws
 pub mod OneConnection

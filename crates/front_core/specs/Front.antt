@@ -9,15 +9,15 @@ use Rattle.link_msg.specs.declared.message.LinkMsg.TheVariants.{Answer}
 use Rattle.link_msg.specs.declared.out.Out.{Out}
 use Rattle.link_msg.specs.declared.out.Out.TheVariants.{Client}
 use Rattle.mur_base.specs.Map.{value_at, with_entry, with_value}
-use Rattle.mur_model.specs.declared.session.Sess.TheVariants.{Off}
 use Rattle.mur_model.specs.declared.setting.Setting.{Setting}
 use Rattle.front_core.specs.declared.connection.Connection.{Connection}
 use Rattle.front_core.specs.declared.connection.Stage.{Stage}
 use Rattle.front_core.specs.declared.connection.Stage.TheVariants.{Reading, Asked, Ended}
 use Rattle.front_core.specs.declared.front.Front.{Front}
 use Rattle.front_core.specs.Answered.{answer_comes}
-use Rattle.front_core.specs.Ended.{ended, released}
-use Rattle.front_core.specs.Reading.{first_reading, inputs_of_more, read_more}
+use Rattle.front_core.specs.Ended.{ended, released, with_released}
+use Rattle.front_core.specs.Reading.{inputs_of_more, read_more}
+use Rattle.front_core.specs.Slots.{new_connection}
 use Rattle.front_core.specs.Taken.{Turned, inputs_come}
 
 -- a frontend without a connection
@@ -34,9 +34,6 @@ still front = record { front = front; outs = [] }
 
 abbrev pub connection_at : Front → ℕ → Option Connection
 connection_at front conn = value_at nat_cmp front.connections conn
-
-unfoldable pub new_connection : Connection
-new_connection = record { reader = first_reading; waiting = []; session = Off; stage = Reading; answered = 0 }
 
 -- a client that connects is given the greeting (RFC 9051, 7.1.1)
 unfoldable pub connect_at : Front → ℕ → Option Connection → Stepped
@@ -59,6 +56,16 @@ with_turned front conn turned = record {
 -- the connection with bytes more in its reader
 abbrev pub having_read : Setting → Connection → List ℕ → Connection
 having_read setting connection bytes = record connection { reader = read_more setting connection.reader bytes }
+
+-- what the inputs that end in more bytes make of a connection: where it has ended, what it held is let go
+abbrev pub bytes_taken : Setting → List ℕ → ℕ → Connection → List ℕ → Turned
+bytes_taken setting home conn connection bytes =
+    with_released (inputs_come setting home conn (having_read setting connection bytes) (inputs_of_more setting connection.reader bytes))
+
+-- what bytes make of a connection, by whether it has ended: then they are dropped
+unfoldable pub bytes_at : Setting → List ℕ → ℕ → Connection → List ℕ → Bool → Turned
+bytes_at setting home conn connection bytes true = record { connection = connection; outs = [] }
+bytes_at setting home conn connection bytes false = bytes_taken setting home conn connection bytes
 
 -- bytes of a connection that has ended are dropped, and so are those behind an input that ends it
 unfoldable pub bytes_by : Front → ℕ → List ℕ → Connection → Stage → Stepped

@@ -1,6 +1,6 @@
 // A connection of a mail client at a frontend.
 ghost use Rattle.std.specs.Prelude.{◌≡◌};
-ghost use Rattle.front_core.specs.Ended.{ended, released};
+ghost use Rattle.front_core.specs.Slots.{new_connection};
 ghost use Rattle.front_core.specs.Stages.{is_reading, stage_has_ended};
 
 use crate::reader::Reader;
@@ -34,6 +34,20 @@ pub struct Connection {
 }
 
 impl Connection {
+    /// That of a client that has said nothing. It takes no memory.
+    #[tactic(auto, unfolding(crate::specs::Slots::new_connection))]
+    pub fn new(alloc: Global) -> Connection
+        ensures { result ≡ new_connection }
+    {
+        Connection {
+            reader: Reader::new(alloc),
+            waiting: Queue::new(alloc),
+            session: Session::new(),
+            stage: Stage::Reading,
+            answered: 0,
+        }
+    }
+
     /// Whether the next input is taken as it comes.
     #[tactic(auto, unfolding(crate::specs::Stages::is_reading))]
     pub fn is_reading(&self) -> bool
@@ -48,26 +62,5 @@ impl Connection {
         ensures { result ≡ stage_has_ended self.now.stage }
     {
         matches!(self.stage, Stage::Ended)
-    }
-
-    /// Lets go of what the connection held, where it has ended.
-    #[tactic(auto, unfolding(crate::specs::Ended::released_at))]
-    pub fn release(&mut self, alloc: Global)
-        ensures { self.new ≡ released self.old }
-    {
-        match self.stage {
-            Stage::Reading | Stage::Asked(_, _) => {}
-            Stage::Ended => self.end(alloc),
-        }
-    }
-
-    /// Ends the connection. It takes no memory, and keeps none but that of the connection itself.
-    pub fn end(&mut self, alloc: Global)
-        ensures { self.new ≡ ended self.old.answered }
-    {
-        self.reader = Reader::new(alloc);
-        self.waiting.clear();
-        self.session.end();
-        self.stage = Stage::Ended;
     }
 }

@@ -2,18 +2,16 @@
 ghost use Rattle.std.specs.Prelude.{◌≡◌, ◌≢◌, nat_eq, length, IfOk};
 ghost use Rattle.std.specs.Cmp.Lexicographic.{pointwise};
 ghost use Rattle.imap_reply.specs.Greeting.{greeting};
-ghost use Rattle.front_core.specs.Front.{new_front, new_connection, connect, connection_at, bytes_in, hang, deliver, still, answer_at, answer_from};
+ghost use Rattle.front_core.specs.Front.{new_front, connect, connection_at, bytes_in, hang, deliver, still, answer_at, answer_from};
 ghost use Rattle.front_core.specs.Room.{HasRoomAt, HasRoomFor};
 
 use crate::answered::given;
-use crate::connection::{Connection, Stage};
 use crate::desk::Desk;
-use crate::reader::Reader;
+use crate::slot::Slot;
 use imap_reply::put_greeting;
 use link_msg::{BackAnswer, LinkMsg, Outs};
-use mur_base::{Bytes, Map, Memory, NodeName, Queue};
+use mur_base::{Bytes, Map, Memory, NodeName};
 use mur_model::Setting;
-use session_core::Session;
 use std::alloc::Global;
 
 /// A frontend: its connections by their numbers.
@@ -25,7 +23,7 @@ pub struct Front {
     pub home: NodeName,
     /// The users, and the date of a message that comes without one.
     pub setting: Setting,
-    pub connections: Map<u64, Connection>,
+    pub connections: Map<u64, Slot>,
 }
 
 impl Front {
@@ -50,42 +48,36 @@ impl Front {
         if self.connections.contains_key(&conn) {
             return Ok(Outs::new(alloc));
         }
-        self.connections.insert(conn, new_connection(alloc))?;
+        self.connections.insert(conn, Slot::new())?;
         given(alloc, conn, greeting(alloc)?)
     }
 
     /// Bytes of a client come. For want of memory the frontend is spent.
-    #[tactic(auto, unfolding(crate::specs::Front::bytes_in, crate::specs::Front::front_bytes_at, crate::specs::Front::bytes_by))]
+    #[tactic(auto, unfolding(crate::specs::Front::bytes_in, crate::specs::Front::front_bytes_at))]
     pub fn bytes_in(&mut self, alloc: Global, conn: u64, piece: &[u8]) -> Result<Outs, Memory>
         requires room { HasRoomAt self.old conn (length piece.now) }
         ensures { IfOk result (λ outs. record { front = self.new; outs = outs } ≡ bytes_in self.old conn piece.now) }
     {
-        let Some(connection) = self.connections.get_mut(&conn) else {
+        let Some(slot) = self.connections.get_mut(&conn) else {
             return Ok(Outs::new(alloc));
         };
-        match connection.stage {
-            Stage::Ended => Ok(Outs::new(alloc)),
-            Stage::Reading | Stage::Asked(_, _) => {
-                let mut outs = Outs::new(alloc);
-                let desk = Desk {
-                    alloc,
-                    setting: &self.setting,
-                    home: &self.home,
-                    conn,
-                };
-                connection.piece_comes(desk, piece, &mut outs)?;
-                Ok(outs)
-            }
-        }
+        let desk = Desk {
+            alloc,
+            setting: &self.setting,
+            home: &self.home,
+            conn,
+        };
+        let outs = slot.bytes_in(desk, piece)?;
+        Ok(outs)
     }
 
     /// The client of a connection closes it. It takes no memory, and what the connection held is let go.
     #[tactic(auto, unfolding(crate::specs::Front::hang, crate::specs::Front::front_hang_at))]
-    pub fn hang(&mut self, alloc: Global, conn: u64)
+    pub fn hang(&mut self, conn: u64)
         ensures { self.new ≡ hang self.old conn }
     {
-        if let Some(connection) = self.connections.get_mut(&conn) {
-            connection.end(alloc);
+        if let Some(slot) = self.connections.get_mut(&conn) {
+            slot.end();
         }
     }
 
@@ -134,15 +126,14 @@ impl Front {
     {
         let conn = answer.id.conn;
         match self.connections.get_mut(&conn) {
-            Some(connection) => {
+            Some(slot) => {
                 let desk = Desk {
                     alloc,
                     setting: &self.setting,
                     home: &self.home,
                     conn,
                 };
-                let outs = connection.answer_comes(desk, answer)?;
-                connection.release(alloc);
+                let outs = slot.answer_comes(desk, answer)?;
                 Ok(outs)
             }
             None => Ok(Outs::new(alloc)),
@@ -156,17 +147,4 @@ fn greeting(alloc: Global) -> Result<Bytes, Memory>
     let mut line = Bytes::new(alloc);
     put_greeting(&mut line)?;
     Ok(line)
-}
-
-#[tactic(auto, unfolding(crate::specs::Front::new_connection))]
-fn new_connection(alloc: Global) -> Connection
-    ensures { result ≡ new_connection }
-{
-    Connection {
-        reader: Reader::new(alloc),
-        waiting: Queue::new(alloc),
-        session: Session::new(),
-        stage: Stage::Reading,
-        answered: 0,
-    }
 }

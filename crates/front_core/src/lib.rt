@@ -9,9 +9,11 @@ mod front;
 mod piece;
 mod reader;
 mod result;
+mod slot;
 mod taken;
 mod waiting;
 
 pub use connection::{Connection, Stage};
 pub use front::Front;
 pub use reader::Reader;
+pub use slot::Slot;

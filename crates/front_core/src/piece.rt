@@ -14,25 +14,14 @@ use link_msg::Outs;
 use mur_base::Memory;
 
 impl Connection {
-    /// Takes each input that ends in a piece, up to one that ends the connection. For want of memory the connection is spent.
-    pub(crate) fn piece_comes(
+    /// Takes each input that ends in a piece, one by one: no byte behind one that ends the connection is looked at. For want of
+    /// memory the connection is spent.
+    pub(crate) fn inputs_come(
         &mut self,
         desk: Desk,
         piece: &[u8],
         outs: &mut Outs,
     ) -> Result<(), Memory>
-        requires room { commands_of self.old + length piece.now < 2 ^ 64 }
-        ensures { OnOk result (record { connection = self.new; outs = outs.new } ≡ with_released (behind_outs outs.old
-            (inputs_come desk.entry.setting.now desk.entry.home.now desk.entry.conn (having_read desk.entry.setting.now self.old piece.now)
-            (inputs_of_more desk.entry.setting.now self.old.reader piece.now)))) }
-    {
-        self.inputs_come(desk, piece, outs)?;
-        self.release(desk.alloc);
-        Ok(())
-    }
-
-    /// Takes the inputs one by one: no byte behind one that ends the connection is looked at.
-    fn inputs_come(&mut self, desk: Desk, piece: &[u8], outs: &mut Outs) -> Result<(), Memory>
         requires room { commands_of self.old + length piece.now < 2 ^ 64 }
         ensures { OnOk result (with_released (record { connection = self.new; outs = outs.new }) ≡ with_released (behind_outs outs.old
             (inputs_come desk.entry.setting.now desk.entry.home.now desk.entry.conn (having_read desk.entry.setting.now self.old piece.now)

@@ -1,5 +1,5 @@
 -- What the code of a flag rests on.
-use Rattle.std.proofs.Common.{◌≡◌, ℕ, List, [], ◌∷◌, length, Bool, true, false, nat_le, nat_lt, ◌==◌, cond, None, Ok}
+use Rattle.std.proofs.Common.{◌≡◌, ℕ, ◌<◌, List, [], ◌∷◌, length, Bool, true, false, nat_le, nat_lt, ◌==◌, cond, None, Ok}
 use Rattle.std.proofs.Common.{Err, ⊎_elim, refl, arith}
 use Rattle.std.proofs.lemmas.Bool.Decides.{nat_tests}
 use Rattle.std.specs.List.{list_all}
@@ -8,7 +8,7 @@ use Rattle.mail_message.specs.FlagSets.{Flags, with_flag, has_too_many, IsMade, 
 use Rattle.mail_message.specs.Keywords.{is_atom_byte, has_atom_bytes, keyword_fault}
 use Rattle.mail_message.specs.declared.flag_name.FlagFault.TheVariants.{TooMany}
 use Rattle.mail_message.specs.declared.flag_name.FlagName.{FlagName}
-use Rattle.imap_command.specs.Flags.{any_keyword, put_flag}
+use Rattle.imap_command.specs.Flags.{any_keyword, keywords_beside, put_flag}
 
 -- a keyword breaks no rule of keywords
 pub no_fault : (text : List ℕ) → any_keyword.whole text ≡ true → keyword_fault text ≡ None
@@ -20,6 +20,12 @@ no_fault (c ∷ text) h =
     let atom : list_all is_atom_byte (c ∷ text) ≡ true = and_left _ _ (and_left _ _ h) in
     let there : (length (c ∷ text) == 0) ≡ false = grind (arith, nat_tests) in
     rw (there, long, atom) refl
+
+-- any keyword may stand beside few
+pub beside_few : (known : List (List ℕ)) → length known < 16 → keywords_beside known ≡ any_keyword
+beside_few known few =
+    let short : nat_le 16 (length known) ≡ false = grind (arith, nat_tests, few) in
+    rw short refl
 
 -- what is made of flags and one more, where there is room, and what is left where there is none
 pub made_is : (so_far : Flags) (name : FlagName) (made : Flags) → IsMade (with_flag so_far name) (Ok made) → made ≡ put_flag so_far name

@@ -1,11 +1,12 @@
 // Flags (RFC 9051, 9: flag-list).
-ghost use Rattle.std.specs.Prelude.{◌≡◌, ◌==◌, ◌++◌, true, OnOk, IfOk, map};
+ghost use Rattle.std.specs.Prelude.{◌≡◌, ◌≤◌, ◌==◌, ◌++◌, true, OnOk, IfOk, map};
 ghost use Rattle.std.specs.List.{list_all};
 ghost use Rattle.mur_base.specs.Ascii.{space};
 ghost use Rattle.grammar.specs.Forms.{more_text, list_text};
 ghost use Rattle.grammar.specs.Gives.{Finds, Gives};
 ghost use Rattle.grammar.specs.Words.{word};
 ghost use Rattle.mail_message.specs.Keywords.{is_atom_byte};
+ghost use Rattle.mail_message.specs.declared.flag_name.FlagName.TheVariants.{Keyword as named};
 ghost use Rattle.imap_command.specs.Flags.{system_flag, any_keyword, is_full, keywords_beside, put_flag, flag, some_flags, flag_list_part};
 ghost use Rattle.imap_command.specs.Flags.{store_flags_part, text_if, system_texts, flag_list_text};
 
@@ -16,7 +17,7 @@ use grammar::{
 use imap_text::{are_all, system_name};
 use mail_message::{FlagFault, FlagName, FlagSet, Keyword, Keywords, SystemFlag, SystemFlags};
 use mur_base::limits::{KEYWORD_LIMIT, MESSAGE_KEYWORD_LIMIT};
-use mur_base::{Bytes, Items, Memory, NameFault};
+use mur_base::{Bytes, Items, Memory};
 use std::alloc::Global;
 
 /// A byte of a keyword.
@@ -114,20 +115,16 @@ fn keyword_text<'a>(texts: &[&[u8]], bytes: &'a [u8]) -> Result<(&'a [u8], &'a [
 
 /// The keyword that a text is.
 #[tactic(auto, using(crate::proofs::FlagSteps::no_fault))]
-fn keyword_named(alloc: Global, text: &[u8]) -> Result<Keyword, Memory>
+fn keyword_named(text: &[u8]) -> Keyword
     requires { any_keyword.whole text.now ≡ true }
-    ensures { IfOk result (λ keyword. keyword ≡ text.now) }
+    ensures { result ≡ text.now }
 {
-    match Keyword::read(alloc, text) {
-        Ok(keyword) => Ok(keyword),
-        Err(NameFault::Memory) => Err(Memory),
-        Err(_) => unreachable!(),
-    }
+    Keyword::new(text)
 }
 
 /// Reads a keyword that stands alone.
-pub fn lone_keyword_of(alloc: Global, bytes: &[u8]) -> Result<(Keyword, &[u8]), ReadError>
-    ensures { Gives (λ x. (x.0, x.1.now)) result ((word any_keyword).at bytes.now) }
+pub fn lone_keyword_of(bytes: &[u8]) -> Result<(Keyword, &[u8]), Stop>
+    ensures { Finds (λ x. (x.0, x.1.now)) result ((word any_keyword).at bytes.now) }
 {
     let (text, rest) = word_of(
         &RunUpTo {
@@ -136,10 +133,11 @@ pub fn lone_keyword_of(alloc: Global, bytes: &[u8]) -> Result<(Keyword, &[u8]), 
         },
         bytes,
     )?;
-    Ok((keyword_named(alloc, text)?, rest))
+    Ok((keyword_named(text), rest))
 }
 
-/// Reads a keyword that may stand beside others.
+/// Reads a keyword that may stand beside others. Only where they are many, the keyword has to be one of them.
+#[tactic(auto, using(crate::proofs::FlagSteps::beside_few))]
 fn keyword_of<'a>(
     alloc: Global,
     known: &Keywords,
@@ -147,22 +145,51 @@ fn keyword_of<'a>(
 ) -> Result<(Keyword, &'a [u8]), ReadError>
     ensures { Gives (λ x. (x.0, x.1.now)) result ((word (keywords_beside known.now)).at bytes.now) }
 {
+    if known.len() < MESSAGE_KEYWORD_LIMIT {
+        return Ok(lone_keyword_of(bytes)?);
+    }
     let texts = texts_of(alloc, known)?;
     let (text, rest) = keyword_text(texts.as_slice(), bytes)?;
-    Ok((keyword_named(alloc, text)?, rest))
+    Ok((keyword_named(text), rest))
 }
 
 /// Puts a flag to others, where there is room for it.
 #[tactic(auto, using(crate::proofs::FlagSteps::made_is, crate::proofs::FlagSteps::no_room))]
-fn put_flag(alloc: Global, so_far: FlagSet, name: &FlagName) -> Result<FlagSet, Memory>
-    ensures { IfOk result (λ flags. flags ≡ put_flag so_far name.now) }
+fn put_flag(flags: &mut FlagSet, name: FlagName) -> Result<(), Memory>
+    ensures { OnOk result (flags.new ≡ put_flag flags.old name) }
 {
-    match so_far.with(alloc, name) {
-        Ok(flags) => Ok(flags),
-        Err(FlagFault::TooMany) => Ok(so_far),
+    match flags.insert(name) {
+        Ok(()) => Ok(()),
+        Err(FlagFault::TooMany) => Ok(()),
         Err(FlagFault::Memory) => Err(Memory),
         Err(_) => unreachable!(),
     }
+}
+
+/// How many keywords a list has at most whose further flags are these: one, and one for each space before the list's end.
+fn most_keywords(rest: &[u8]) -> usize
+    ensures { result ≤ MESSAGE_KEYWORD_LIMIT }
+{
+    let mut most = 1;
+    for byte in rest {
+        if *byte == b')' || most >= MESSAGE_KEYWORD_LIMIT {
+            break;
+        }
+        if *byte == b' ' {
+            most += 1;
+        }
+    }
+    most
+}
+
+/// Puts a keyword to flags. The first one takes the room of all that may follow.
+fn put_keyword(flags: &mut FlagSet, keyword: Keyword, rest: &[u8]) -> Result<(), Memory>
+    ensures { OnOk result (flags.new ≡ put_flag flags.old (named keyword)) }
+{
+    if flags.keywords().len() == 0 {
+        flags.reserve(most_keywords(rest))?;
+    }
+    put_flag(flags, FlagName::Keyword(keyword))
 }
 
 /// Reads a flag, and puts it to others.
@@ -170,12 +197,15 @@ fn put_flag(alloc: Global, so_far: FlagSet, name: &FlagName) -> Result<FlagSet, 
 fn flag_of(alloc: Global, so_far: FlagSet, bytes: &[u8]) -> Result<(FlagSet, &[u8]), ReadError>
     ensures { Gives (λ x. (x.0, x.1.now)) result ((flag so_far).at bytes.now) }
 {
+    let mut flags = so_far;
     if begins(&Only(b'\\'), bytes) {
         let (system, rest) = system_flag_of(bytes)?;
-        Ok((put_flag(alloc, so_far, &FlagName::System(system))?, rest))
+        put_flag(&mut flags, FlagName::System(system))?;
+        Ok((flags, rest))
     } else {
-        let (keyword, rest) = keyword_of(alloc, so_far.keywords(), bytes)?;
-        Ok((put_flag(alloc, so_far, &FlagName::Keyword(keyword))?, rest))
+        let (keyword, rest) = keyword_of(alloc, flags.keywords(), bytes)?;
+        put_keyword(&mut flags, keyword, rest)?;
+        Ok((flags, rest))
     }
 }
 

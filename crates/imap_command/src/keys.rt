@@ -98,11 +98,11 @@ const KEY_ROWS: [(&[u8], KeyName); 21] = [
     (b"UID", KeyName::Flat(FlatName::Uid)),
 ];
 
-fn spaced_keyword_of(alloc: Global, bytes: &[u8]) -> Result<(FlagName, &[u8]), ReadError>
-    ensures { Gives (λ x. (x.0, x.1.now)) result ((preceded space keyword).part.at bytes.now) }
+fn spaced_keyword_of(bytes: &[u8]) -> Result<(FlagName, &[u8]), Stop>
+    ensures { Finds (λ x. (x.0, x.1.now)) result ((preceded space keyword).part.at bytes.now) }
 {
     let rest = byte_of(b' ', bytes)?;
-    let (keyword, rest) = lone_keyword_of(alloc, rest)?;
+    let (keyword, rest) = lone_keyword_of(rest)?;
     Ok((FlagName::Keyword(keyword), rest))
 }
 
@@ -145,11 +145,11 @@ fn behind_flat_of(alloc: Global, name: FlatName, bytes: &[u8]) -> Result<(Key, &
         FlatName::Unflagged => Ok((Key::Unflagged, bytes)),
         FlatName::Unseen => Ok((Key::Unseen, bytes)),
         FlatName::Keyword => {
-            let (flag, rest) = spaced_keyword_of(alloc, bytes)?;
+            let (flag, rest) = spaced_keyword_of(bytes)?;
             Ok((Key::Keyword(flag), rest))
         }
         FlatName::Unkeyword => {
-            let (flag, rest) = spaced_keyword_of(alloc, bytes)?;
+            let (flag, rest) = spaced_keyword_of(bytes)?;
             Ok((Key::Unkeyword(flag), rest))
         }
         FlatName::Larger => {

@@ -1,6 +1,8 @@
 mod DayLaws
 mod BoxLaws
 mod KeywordLaws
+mod KeywordTexts
+mod PutFlags
 pub mod FlagLaw
 pub mod PlainTexts
 mod RowLaws

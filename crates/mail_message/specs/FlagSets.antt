@@ -1,5 +1,5 @@
 -- The flags of a message (RFC 9051, 2.3.2), and what STORE makes of them (RFC 9051, 6.4.6).
-use Rattle.std.specs.Prelude.{◌≡◌, ◌⊎◌, ℕ, Bool, true, false, nat_lt, if◌then◌else◌, List, [], length, None, Result, Ok, Err, MatchResult, All}
+use Rattle.std.specs.Prelude.{◌≡◌, ◌⊎◌, ◌<◌, ℕ, Bool, true, false, nat_lt, if◌then◌else◌, List, [], length, None, Result, Ok, Err, MatchResult, All}
 use Rattle.mur_base.specs.declared.limits.TheConstants.{MESSAGE_KEYWORD_LIMIT}
 use Rattle.mail_message.specs.declared.system_flags.SystemFlags.{SystemFlags}
 use Rattle.mail_message.specs.declared.flag_name.FlagName.{FlagName}
@@ -56,3 +56,12 @@ IsMadeBy false flags result = MatchResult result (λ made. made ≡ flags) (λ f
 -- the result is these flags: refused where they are too many, and where memory is wanting
 abbrev pub IsMade : Flags → Result Flags FlagFault → Type 0
 IsMade flags result = IsMadeBy (has_too_many flags) flags result
+
+-- what was done to flags, as a result that holds them as they are now
+abbrev pub now_holding : {A E : Type 0} → Flags → Result A E → Result Flags E
+now_holding flags (Ok done) = Ok flags
+now_holding flags (Err fault) = Err fault
+
+-- why these keywords weren't made: memory is wanting, or they are too many
+abbrev pub IsNoRoom : List (List ℕ) → FlagFault → Type 0
+IsNoRoom keywords fault = (fault ≡ Memory) ⊎ ((fault ≡ TooMany) × (MESSAGE_KEYWORD_LIMIT < length keywords))

@@ -1,5 +1,5 @@
 -- Keywords of messages (RFC 9051, 9: flag-keyword), and sets of them.
-use Rattle.std.specs.Prelude.{ℕ, Bool, ◌&&◌, not, ◌==◌, nat_lt, nat_le, if◌then◌else◌, List, length, Option, None, Some}
+use Rattle.std.specs.Prelude.{ℕ, Bool, ◌&&◌, not, ◌==◌, nat_lt, nat_le, if◌then◌else◌, List, length, Option, None, Some, Result, Ok, Err}
 use Rattle.std.specs.List.{list_all, list_any, fold}
 use Rattle.std.specs.List.Sorted.{IsStrictlySortedBy}
 use Rattle.std.specs.Ordering.{nat_cmp}
@@ -27,6 +27,14 @@ keyword_fault text =
     else if nat_lt KEYWORD_LIMIT (length text) then Some TooLong
     else if not (has_atom_bytes text) then Some BadByte
     else None
+
+abbrev pub keyword_unless : Option NameFault → List ℕ → Result (List ℕ) NameFault
+keyword_unless (Some fault) text = Err fault
+keyword_unless None text = Ok text
+
+-- the keyword that a text is, unless it breaks a rule of keywords
+abbrev pub keyword_of : List ℕ → Result (List ℕ) NameFault
+keyword_of text = keyword_unless (keyword_fault text) text
 
 -- the keyword is among the keywords, byte by byte
 abbrev pub keyword_in : List (List ℕ) → List ℕ → Bool

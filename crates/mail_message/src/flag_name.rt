@@ -52,13 +52,13 @@ impl From<Memory> for FlagFault {
 
 /// The flag that a text is: a system flag in any case of letters, or a keyword byte by byte. Refused by the first rule
 /// of keywords that it breaks.
-pub fn flag(alloc: Global, text: &[u8]) -> Result<FlagName, FlagFault>
+pub fn flag(text: &[u8]) -> Result<FlagName, FlagFault>
     ensures { IsReadAsFlag text.now result }
 {
     if let Some(flag) = system_flag(text) {
         return Ok(FlagName::System(flag));
     }
-    match Keyword::read(alloc, text) {
+    match Keyword::read(text) {
         Ok(keyword) => Ok(FlagName::Keyword(keyword)),
         Err(fault) => Err(flag_fault(fault)),
     }

@@ -1,10 +1,11 @@
 // The flags of a message.
-ghost use Rattle.std.specs.Prelude.{◌≡◌, ◌↔◌, length, IfOk, IsTrue};
-ghost use Rattle.mail_message.specs.FlagSets.{no_flags, has_flag, with_flag, without_flag, flags_after, IsMade, limited};
+ghost use Rattle.std.specs.Prelude.{◌≡◌, ◌≤◌, ◌↔◌, length, IfOk, IfErr, OnOk, OnErr, IsTrue};
+ghost use Rattle.mail_message.specs.FlagSets.{no_flags, has_flag, with_flag, without_flag, flags_after, IsMade, now_holding, IsNoRoom, limited};
+ghost use Rattle.mail_message.specs.Keywords.{with_keyword};
 ghost use Rattle.mail_message.specs.SameFlags.{is_same_flags};
 
 use crate::flag_name::{FlagFault, FlagName};
-use crate::keyword::Keywords;
+use crate::keyword::{Keyword, Keywords};
 use crate::mode::Mode;
 use crate::system_flags::SystemFlags;
 use mur_base::limits::MESSAGE_KEYWORD_LIMIT;
@@ -71,6 +72,27 @@ impl FlagSet {
         are_same(self, others)
     }
 
+    /// Takes room for so many keywords more, so that they are put in without another allocation.
+    pub fn reserve(&mut self, more: usize) -> Result<(), Memory>
+        ensures { self.new ≡ self.old }
+    {
+        self.keywords.reserve(more)
+    }
+
+    /// Puts a flag in. `TooMany` exactly where it would be a 17th keyword; where it is refused, the flags stay as they were.
+    pub fn insert(&mut self, flag: FlagName) -> Result<(), FlagFault>
+        ensures made { IsMade (with_flag self.old flag) (now_holding self.new result) }
+        ensures err { OnErr result (self.new ≡ self.old) }
+    {
+        match flag {
+            FlagName::System(flag) => {
+                self.system = self.system.with(flag, true);
+                Ok(())
+            }
+            FlagName::Keyword(keyword) => put_keyword(&mut self.keywords, keyword),
+        }
+    }
+
     /// The flags and this one. `TooMany` exactly where it would be a 17th keyword.
     pub fn with(&self, alloc: Global, flag: &FlagName) -> Result<FlagSet, FlagFault>
         ensures { IsMade (with_flag self.now flag.now) result }
@@ -122,6 +144,20 @@ impl Copied for FlagSet {
             keywords: self.keywords.copy(alloc)?,
         })
     }
+}
+
+/// Puts a keyword to those of a message, if there is room.
+fn put_keyword(keywords: &mut Keywords, keyword: Keyword) -> Result<(), FlagFault>
+    requires { length keywords.old ≤ MESSAGE_KEYWORD_LIMIT }
+    ensures ok { OnOk result (keywords.new ≡ with_keyword keywords.old keyword) }
+    ensures err { OnErr result (keywords.new ≡ keywords.old) }
+    ensures room { length keywords.new ≤ MESSAGE_KEYWORD_LIMIT }
+    ensures fault { IfErr result (IsNoRoom (with_keyword keywords.old keyword)) }
+{
+    if !keywords.has_room(&keyword, MESSAGE_KEYWORD_LIMIT) {
+        return Err(FlagFault::TooMany);
+    }
+    Ok(keywords.insert(keyword)?)
 }
 
 /// Whether flags are the same; sets of keywords are compared only if there are some.

@@ -27,7 +27,7 @@ pub use flag_name::{FlagFault, FlagName, flag};
 pub use flag_set::FlagSet;
 pub use item::{FetchItems, Item, Partial};
 pub use key::{Key, Keys};
-pub use keyword::{Keyword, KeywordRule, Keywords};
+pub use keyword::{Keyword, Keywords};
 pub use mail_box::MailBox;
 pub use message::{Message, Messages, Row, Rows, Snapshot, Summaries, Summary, Uids};
 pub use mode::Mode;

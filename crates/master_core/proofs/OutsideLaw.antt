@@ -22,7 +22,7 @@ use Rattle.master_core.specs.Step.{Planned, table_with, replied, settled, bad_st
 use Rattle.master_core.specs.Streams.{is_stream, streaming, without, may_follow_update, stream_step}
 
 -- no reply to it changes the table
-no_entry : (table : MailboxTable) (conn : ℕ) (it : MCommand) → (reply_to table (sender.Outside conn) it).entry ≡ None
+pub no_entry : (table : MailboxTable) (conn : ℕ) (it : MCommand) → (reply_to table (sender.Outside conn) it).entry ≡ None
 unfolding reply_to reserve_reply activate_reply deactivate_reply delete_reply find_reply list_reply update_reply noop_reply logout_reply reserve_refusal activate_refusal deactivate_refusal delete_refusal
 no_entry table conn (command.Reserve name place) = refl
 no_entry table conn (command.Activate name place acl) = refl

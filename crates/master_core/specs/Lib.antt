@@ -10,4 +10,5 @@ pub mod Streams
 pub mod Step
 pub mod Servers
 pub mod Outside
+pub mod Dialogs
 pub mod Boot

@@ -1,9 +1,8 @@
 -- A fetch of what rows tell gives of messages what it gives of their rows.
-use Rattle.std.proofs.Common.{◌≡◌, ℕ, Bool, true, false, ◌&&◌, cond, nat_eq, if◌then◌else◌, List, [], ◌∷◌, ◌++◌, map, Option, None, Some}
-use Rattle.std.proofs.Common.{not, ap, refl, subst, sym, ◌∙◌}
+use Rattle.std.proofs.Common.{◌≡◌, ℕ, Bool, true, false, cond, nat_eq, if◌then◌else◌, List, [], ◌∷◌, ◌++◌, map, Option, None, Some}
+use Rattle.std.proofs.Common.{ap, refl, subst, sym, ◌∙◌}
 use Rattle.std.specs.List.{filter, list_all, list_any}
 use Rattle.std.specs.Option.{option_map, option_to_list}
-use Rattle.std.proofs.lemmas.List.Folds.{list_all-append}
 use Rattle.mail_fetch.specs.Parts.{part_text}
 use Rattle.mail_message.specs.Boxes.{Content, message_at, messages_at, row_of}
 use Rattle.mail_message.specs.RowOrder.{row_at}
@@ -17,23 +16,16 @@ use Rattle.imap_types.specs.declared.reply.ReplyLine.{ReplyLine}
 use Rattle.imap_types.specs.declared.reply.ReplyLine.TheVariants.{Fetch}
 use Rattle.imap_types.specs.declared.reply.Verdict.TheVariants.{Ok as ok_reply}
 use Rattle.mur_model.specs.declared.view.View.{View}
-use Rattle.mur_model.specs.Fetch.{fetch_reply_line, fetch_lines, fetch_name, fetch_told, flag_uids, is_body, is_flags, is_uid_item, items_told, number_in, tells_flags}
+use Rattle.mur_model.specs.Fetch.{fetch_reply_line, fetch_lines, fetch_name, fetch_told, flag_uids, is_body, is_flags, items_told, number_in, tells_flags}
 use Rattle.mur_model.specs.FetchRows.{asks_rows, is_in_row, row_line, row_lines, row_part, rows_told}
 use Rattle.mur_model.specs.News.{has_row, news}
 use Rattle.mur_model.specs.Selected.{rows_of, with_news}
 use Rattle.mur_model.specs.StoreFlags.{code_for}
 use Rattle.mail_message.proofs.FlagLaw.{flags_self}
+use Rattle.mur_model.proofs.FetchedAlike.{parts_same, all_told, none_seen}
 use Rattle.mail_message.proofs.FoundUids.{IsOf, found_is}
 
 -- ---- the items
-
-pub and_left : (one other : Bool) → (one && other) ≡ true → one ≡ true
-and_left true other is = refl
-and_left false other is = is
-
-pub and_right : (one other : Bool) → (one && other) ≡ true → other ≡ true
-and_right true other is = is
-and_right false other is = absurd (cc)
 
 part_same : (asked : Item) (message : Message) → is_in_row asked ≡ true → part_text asked message ≡ row_part asked (row_of message)
 part_same item.Flags message is = refl
@@ -42,24 +34,6 @@ part_same item.InternalDate message is = absurd (cc)
 part_same item.Size message is = absurd (cc)
 part_same (item.Body partial) message is = absurd (cc)
 part_same (item.BodyPeek partial) message is = absurd (cc)
-
-parts_same : (items : List Item) (message : Message) → list_all is_in_row items ≡ true
-    → map (λ asked. part_text asked message) items ≡ map (λ asked. row_part asked (row_of message)) items
-parts_same [] message are = refl
-parts_same (asked ∷ items) message are =
-    let one : part_text asked message ≡ row_part asked (row_of message) = part_same asked message (and_left (is_in_row asked) (list_all is_in_row items) are) in
-    let others = parts_same items message (and_right (is_in_row asked) (list_all is_in_row items) are) in
-    rw (one, others) refl
-
-told_in_row : (it : Fetching) → asks_rows it ≡ true → list_all is_in_row (items_told it false) ≡ true
-told_in_row it are = by (it.by_uid && not (list_any is_uid_item it.items))
-  where
-    asked : list_all is_in_row (it.items ++ []) ≡ true
-    asked = rw (list_all-append is_in_row it.items [], are) refl
-
-    by : (test : Bool) → list_all is_in_row ((if test then item.Uid ∷ [] else []) ++ it.items ++ []) ≡ true
-    by true = asked
-    by false = asked
 
 -- ---- a message, and its row
 
@@ -80,7 +54,8 @@ line_same : (it : Fetching) (message : Message) (number : Option ℕ) → asks_r
     → fetch_reply_line it message number (Some (row_of message)) ≡ row_line (items_told it false) number (Some (row_of message))
 line_same it message None are = refl
 line_same it message (Some number) are =
-    rw (flags_self message.flags) (ap (λ parts. Fetch number parts ∷ []) (parts_same (items_told it false) message (told_in_row it are)))
+    rw (flags_self message.flags) (ap (λ parts. Fetch number parts ∷ []) (parts_same row_of is_in_row row_part part_same (items_told it false) message
+    (all_told is_in_row it refl are)))
 
 no_line : (items : List Item) (number : Option ℕ) → row_line items number None ≡ []
 no_line items None = refl
@@ -147,12 +122,7 @@ rows_tell view it box are =
 
 -- no body is asked for, so no message gets \Seen
 pub rows_unseen : (items : List Item) → list_all is_in_row items ≡ true → list_any is_body items ≡ false
-rows_unseen [] are = refl
-rows_unseen (asked ∷ items) are =
-    rw (
-      no_body asked (and_left (is_in_row asked) (list_all is_in_row items) are),
-      rows_unseen items (and_right (is_in_row asked) (list_all is_in_row items) are),
-    ) refl
+rows_unseen items are = none_seen is_in_row no_body items are
   where
     no_body : (it : Item) → is_in_row it ≡ true → is_body it ≡ false
     no_body item.Flags is = refl

@@ -1,9 +1,8 @@
 -- A fetch of what summaries tell gives of messages what it gives of their summaries.
-use Rattle.std.proofs.Common.{◌≡◌, ℕ, Bool, true, false, ◌&&◌, if◌then◌else◌, List, [], ◌∷◌, ◌++◌, map, Option, None, Some}
-use Rattle.std.proofs.Common.{not, ap, refl, subst, sym, ◌∙◌}
+use Rattle.std.proofs.Common.{◌≡◌, ℕ, Bool, true, false, if◌then◌else◌, List, [], ◌∷◌, ◌++◌, map, Option, None, Some}
+use Rattle.std.proofs.Common.{ap, refl, subst, sym, ◌∙◌}
 use Rattle.std.specs.List.{list_all, list_any}
 use Rattle.std.specs.Option.{option_map, option_to_list}
-use Rattle.std.proofs.lemmas.List.Folds.{list_all-append}
 use Rattle.mail_fetch.specs.Parts.{part_text}
 use Rattle.mail_message.specs.Boxes.{Content, message_at, messages_at, row_of, summary_of}
 use Rattle.mail_message.specs.RowOrder.{row_at}
@@ -15,11 +14,12 @@ use Rattle.mail_message.specs.declared.message.Summary.{Summary}
 use Rattle.imap_types.specs.declared.reply.ReplyLine.TheVariants.{Fetch}
 use Rattle.mur_model.specs.declared.commands.fetch.Fetching.{Fetching}
 use Rattle.mur_model.specs.declared.view.View.{View}
-use Rattle.mur_model.specs.Fetch.{fetch_reply_line, fetch_lines, fetch_told, flag_uids, is_body, is_flags, is_uid_item, items_told, number_in}
+use Rattle.mur_model.specs.Fetch.{fetch_reply_line, fetch_lines, fetch_told, flag_uids, is_body, is_flags, items_told, number_in}
 use Rattle.mur_model.specs.FetchSummaries.{asks_summaries, is_in_summary, summaries_told, summary_line, summary_lines, summary_part}
 use Rattle.mur_model.specs.Selected.{rows_of}
 use Rattle.mail_message.proofs.FlagLaw.{flags_self}
-use Rattle.mur_model.proofs.FetchRowsLaw.{and_left, and_right, row_found, told_by, told_same}
+use Rattle.mur_model.proofs.FetchedAlike.{parts_same, all_told, none_seen}
+use Rattle.mur_model.proofs.FetchRowsLaw.{row_found, told_by, told_same}
 use Rattle.mail_message.proofs.FoundUids.{IsOf, found_is}
 
 -- ---- the items
@@ -32,32 +32,14 @@ part_same item.Size message is = refl
 part_same (item.Body partial) message is = absurd (cc)
 part_same (item.BodyPeek partial) message is = absurd (cc)
 
-parts_same : (items : List Item) (message : Message) → list_all is_in_summary items ≡ true
-    → map (λ asked. part_text asked message) items ≡ map (λ asked. summary_part asked (summary_of message)) items
-parts_same [] message are = refl
-parts_same (asked ∷ items) message are =
-    let one : part_text asked message ≡ summary_part asked (summary_of message) =
-    part_same asked message (and_left (is_in_summary asked) (list_all is_in_summary items) are) in
-    let others = parts_same items message (and_right (is_in_summary asked) (list_all is_in_summary items) are) in
-    rw (one, others) refl
-
-told_in_summary : (it : Fetching) → asks_summaries it ≡ true → list_all is_in_summary (items_told it false) ≡ true
-told_in_summary it are = by (it.by_uid && not (list_any is_uid_item it.items))
-  where
-    asked : list_all is_in_summary (it.items ++ []) ≡ true
-    asked = rw (list_all-append is_in_summary it.items [], are) refl
-
-    by : (test : Bool) → list_all is_in_summary ((if test then item.Uid ∷ [] else []) ++ it.items ++ []) ≡ true
-    by true = asked
-    by false = asked
-
 -- ---- lines
 
 line_same : (it : Fetching) (message : Message) (number : Option ℕ) → asks_summaries it ≡ true
     → fetch_reply_line it message number (Some (row_of message)) ≡ summary_line (items_told it false) (summary_of message) number
 line_same it message None are = refl
 line_same it message (Some number) are =
-    rw (flags_self message.flags) (ap (λ parts. Fetch number parts ∷ []) (parts_same (items_told it false) message (told_in_summary it are)))
+    rw (flags_self message.flags) (ap (λ parts. Fetch number parts ∷ []) (parts_same summary_of is_in_summary summary_part part_same (items_told it false) message
+    (all_told is_in_summary it refl are)))
 
 lines_with : (it : Fetching) (rows now : List Row) (message : Message) (before : List Message) → asks_summaries it ≡ true
     → row_at now message.uid ≡ Some (row_of message) → fetch_lines it rows now before ≡ summary_lines (items_told it false) rows (map summary_of before)
@@ -123,12 +105,7 @@ summaries_tell view it box are =
 
 -- no body is asked for, so no message gets \Seen
 pub summaries_unseen : (items : List Item) → list_all is_in_summary items ≡ true → list_any is_body items ≡ false
-summaries_unseen [] are = refl
-summaries_unseen (asked ∷ items) are =
-    rw (
-      no_body asked (and_left (is_in_summary asked) (list_all is_in_summary items) are),
-      summaries_unseen items (and_right (is_in_summary asked) (list_all is_in_summary items) are),
-    ) refl
+summaries_unseen items are = none_seen is_in_summary no_body items are
   where
     no_body : (it : Item) → is_in_summary it ≡ true → is_body it ≡ false
     no_body item.Flags is = refl

@@ -15,6 +15,7 @@ mod BeginsLaw
 pub mod EachNeed
 pub mod OwnView
 mod ActedLaw
+mod FetchedAlike
 pub mod FetchRowsLaw
 pub mod FetchSummariesLaw
 pub mod SearchRowsLaw

@@ -24,7 +24,8 @@ use Rattle.mur_model.specs.Search.{found_uids, number_at, numbers_told, search_n
 use Rattle.mur_model.specs.SearchRows.{are_keys_in_rows, bare_at, bare_summary, in_row_by, is_key_in_row, no_date, rows_searched}
 use Rattle.mur_model.specs.Selected.{rows_of, with_news}
 use Rattle.mur_model.specs.StoreFlags.{code_for}
-use Rattle.mur_model.proofs.FetchRowsLaw.{and_left, and_right, row_found}
+use Rattle.mur_model.proofs.FetchedAlike.{and_left, and_right}
+use Rattle.mur_model.proofs.FetchRowsLaw.{row_found}
 
 -- ---- what the code computes
 

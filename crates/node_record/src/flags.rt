@@ -16,28 +16,22 @@ use crate::number::{put_length, small_of};
 use crate::text::put_text;
 use grammar::{Between, ReadError, byte_in};
 use mail_message::{FlagFault, FlagName, FlagSet, Keyword, Keywords, SystemFlag, SystemFlags};
-use mur_base::{Bytes, Memory, NameFault};
+use mur_base::{Bytes, Memory};
 use std::alloc::Global;
 
-/// The flags with a system flag, where its bit is set in a byte.
+/// Sets a system flag, where its bit is set in a byte.
 #[tactic(auto, using(crate::proofs::FlagSteps::bit_is, crate::proofs::FlagSteps::bit_is_not, crate::proofs::FlagSteps::bit_fault))]
-fn with_bit(
-    alloc: Global,
-    so_far: FlagSet,
-    byte: u8,
-    bit: u8,
-    flag: SystemFlag,
-) -> Result<FlagSet, Memory>
-    requires bare { so_far.keywords ≡ [] }
-    requires clear { system_flag_in so_far.system flag ≡ false }
+fn set_bit(flags: &mut FlagSet, byte: u8, bit: u8, flag: SystemFlag) -> Result<(), Memory>
+    requires bare { flags.old.keywords ≡ [] }
+    requires clear { system_flag_in flags.old.system flag ≡ false }
     requires some { 0 < bit }
-    ensures { IfOk result (λ made. made ≡ record so_far { system = with_system_flag so_far.system flag (is_set bit byte) }) }
+    ensures { OnOk result (flags.new ≡ record flags.old { system = with_system_flag flags.old.system flag (is_set bit byte) }) }
 {
     if byte / bit % 2 != 1 {
-        return Ok(so_far);
+        return Ok(());
     }
-    match so_far.with(alloc, &FlagName::System(flag)) {
-        Ok(made) => Ok(made),
+    match flags.insert(FlagName::System(flag)) {
+        Ok(()) => Ok(()),
         Err(FlagFault::Memory) => Err(Memory),
         Err(_) => unreachable!(),
     }
@@ -48,55 +42,44 @@ fn with_bit(
 fn system_flags(alloc: Global, byte: u8) -> Result<FlagSet, Memory>
     ensures { IfOk result (λ made. made ≡ flags_of byte []) }
 {
-    let made = FlagSet::new(alloc);
-    let made = with_bit(alloc, made, byte, 1, SystemFlag::Answered)?;
-    let made = with_bit(alloc, made, byte, 2, SystemFlag::Flagged)?;
-    let made = with_bit(alloc, made, byte, 4, SystemFlag::Deleted)?;
-    let made = with_bit(alloc, made, byte, 8, SystemFlag::Seen)?;
-    with_bit(alloc, made, byte, 16, SystemFlag::Draft)
+    let mut made = FlagSet::new(alloc);
+    set_bit(&mut made, byte, 1, SystemFlag::Answered)?;
+    set_bit(&mut made, byte, 2, SystemFlag::Flagged)?;
+    set_bit(&mut made, byte, 4, SystemFlag::Deleted)?;
+    set_bit(&mut made, byte, 8, SystemFlag::Seen)?;
+    set_bit(&mut made, byte, 16, SystemFlag::Draft)?;
+    Ok(made)
 }
 
-/// The keyword that a text is.
-fn keyword_named(alloc: Global, text: &[u8]) -> Result<Keyword, Memory>
-    requires { keyword_fault text.now ≡ None }
-    ensures { IfOk result (λ keyword. keyword ≡ text.now) }
-{
-    match Keyword::read(alloc, text) {
-        Ok(keyword) => Ok(keyword),
-        Err(NameFault::Memory) => Err(Memory),
-        Err(_) => unreachable!(),
-    }
-}
-
-/// The flags with one keyword more, which is higher than theirs.
+/// Puts one keyword more to flags, which is higher than theirs.
 #[tactic(auto, using(crate::proofs::FlagSteps::highest_is, crate::proofs::FlagSteps::highest_fault))]
-fn with_highest(alloc: Global, so_far: &FlagSet, text: &[u8]) -> Result<FlagSet, Memory>
+fn put_highest(flags: &mut FlagSet, text: &[u8]) -> Result<(), Memory>
     requires named { keyword_fault text.now ≡ None }
-    requires room { length so_far.now.keywords < 16 }
-    requires above { AllByRecursion (λ keyword. slice_cmp nat_cmp keyword text.now ≡ Less) so_far.now.keywords }
-    ensures { IfOk result (λ made. made ≡ record so_far.now { keywords = so_far.now.keywords ++ text.now ∷ [] }) }
+    requires room { length flags.old.keywords < 16 }
+    requires above { AllByRecursion (λ keyword. slice_cmp nat_cmp keyword text.now ≡ Less) flags.old.keywords }
+    ensures { OnOk result (flags.new ≡ record flags.old { keywords = flags.old.keywords ++ text.now ∷ [] }) }
 {
-    let keyword = keyword_named(alloc, text)?;
-    match so_far.with(alloc, &FlagName::Keyword(keyword)) {
-        Ok(made) => Ok(made),
+    match flags.insert(FlagName::Keyword(Keyword::new(text))) {
+        Ok(()) => Ok(()),
         Err(FlagFault::Memory) => Err(Memory),
         Err(_) => unreachable!(),
     }
 }
 
-/// Reads keywords, and puts them to system flags.
-fn keywords_of(alloc: Global, system: FlagSet, bytes: &[u8]) -> Result<(FlagSet, &[u8]), ReadError>
+/// Reads keywords, and puts them to system flags, in room that is taken once.
+fn keywords_of(system: FlagSet, bytes: &[u8]) -> Result<(FlagSet, &[u8]), ReadError>
     requires { system.keywords ≡ [] }
     ensures { Gives (λ x. (x.0, x.1.now)) result ((map (λ texts. record system { keywords = texts }) keywords).at bytes.now) }
 {
     let (count, after) = small_of(&Between(0, 16), bytes)?;
     let mut made = system;
+    made.reserve(usize::from(count))?;
     let mut before: &[u8] = &[];
     let mut rest = after;
     let mut left = count;
     while left > 0 {
         let (text, behind) = keyword_of(before, left - 1, rest)?;
-        made = with_highest(alloc, &made, text)?;
+        put_highest(&mut made, text)?;
         before = text;
         rest = behind;
         left -= 1;
@@ -110,7 +93,7 @@ pub fn flags_of(alloc: Global, bytes: &[u8]) -> Result<(FlagSet, &[u8]), ReadErr
 {
     let (byte, rest) = byte_in(&Between(0, 31), bytes)?;
     let system = system_flags(alloc, byte)?;
-    keywords_of(alloc, system, rest)
+    keywords_of(system, rest)
 }
 
 /// A bit, where it is set.

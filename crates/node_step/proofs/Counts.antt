@@ -6,11 +6,12 @@ use Rattle.front_core.specs.declared.front.Front.{Front}
 use Rattle.front_core.specs.Front.{connect, bytes_in, hang, deliver}
 use Rattle.front_core.specs.Room.{HasCommands}
 use Rattle.front_core.proofs.Counts.{bytes_in_counts, deliver_counts, hang_counts, connect_counts, has_room_at, has_room_for}
+use Rattle.master_core.specs.declared.master.Master.{Master}
 use Rattle.node_step.specs.declared.input.NodeInput.{NodeInput}
 use Rattle.node_step.specs.declared.input.NodeInput.TheVariants.{Opened, Piece, Hung, From}
 use Rattle.node_step.specs.declared.node.NodeState.{NodeState}
 use Rattle.node_step.specs.declared.node.NodeState.TheVariants as node
-use Rattle.node_step.specs.NodeStep.{as_front, front_takes, back_takes, back_by, back_input, takes}
+use Rattle.node_step.specs.NodeStep.{as_front, front_takes, back_takes, back_by, back_input, master_takes, takes}
 use Rattle.node_step.specs.Room.{FrontHasRoom, HasRoomToTake}
 
 -- no connection of the node, where it is a frontend, has more commands than so many
@@ -52,6 +53,13 @@ back_counts home (Piece conn bytes) most next e = cc
 back_counts home (Hung conn) most next e = cc
 back_counts home (From name message) most next e = back_by_counts home (back_input name message) most next e
 
+master_counts : (master : Master) (input : NodeInput) (most : ℕ) → HasCommandsAt (master_takes master input).state most
+unfolding master_takes as_front
+master_counts master (Opened conn) most next e = cc
+master_counts master (Piece conn bytes) most next e = cc
+master_counts master (Hung conn) most next e = cc
+master_counts master (From name message) most next e = cc
+
 its_own : (front : Front) (most : ℕ) → HasCommandsAt (node.Front front) most → HasCommands front most
 unfolding as_front
 its_own front most has = has front refl
@@ -60,7 +68,7 @@ pub takes_counts : (it : NodeState) (input : NodeInput) (most : ℕ) → HasComm
 unfolding takes as_front
 takes_counts (node.Front front) input most has = front_counts front input most (its_own front most has)
 takes_counts (node.Back home) input most has = back_counts home input (most + bytes_of input)
-takes_counts (node.Master master) input most has = λ next e. (let no : None ≡ Some next = e in cc)
+takes_counts (node.Master master) input most has = master_counts master input (most + bytes_of input)
 
 front_room : (front : Front) (input : NodeInput) (most : ℕ) → HasCommands front most → most + bytes_of input < 2 ^ 64 → FrontHasRoom front input
 unfolding FrontHasRoom

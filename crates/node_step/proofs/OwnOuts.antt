@@ -1,11 +1,14 @@
 -- A node gives bytes to no client but the one that its input is about.
-use Rattle.std.proofs.Common.{◌≡◌, ◌≢◌, ℕ, List, [], ◌∷◌, Option, Some, None, refl, sym, subst}
+use Rattle.std.proofs.Common.{◌≡◌, ◌≢◌, ℕ, List, [], ◌∷◌, Option, Some, None, refl, sym, ◌∙◌, subst}
 use Rattle.std.specs.Prelude.{⊤}
 use Rattle.backend_core.specs.declared.backend.Backend.{Backend}
 use Rattle.backend_core.specs.declared.input.BackInput.{BackInput}
-use Rattle.backend_core.specs.declared.input.BackInput.TheVariants.{Up as up_in, End as end_in, FromFront}
-use Rattle.backend_core.specs.Plan.{plan_of, answer_outs}
-use Rattle.backend_core.specs.Step.{home_step}
+use Rattle.backend_core.specs.declared.input.BackInput.TheVariants.{Up as up_in, End as end_in}
+use Rattle.backend_core.specs.declared.op_plan.OpPlan.{OpPlan}
+use Rattle.backend_core.specs.declared.plan.Owed.{Owed}
+use Rattle.backend_core.specs.AskPlan.{ask_plan}
+use Rattle.backend_core.specs.OpPlan.{home_after, told_after}
+use Rattle.backend_core.specs.Plan.{answer_outs, back_plan, owed_outs, owes, plan_of, settles}
 use Rattle.front_core.specs.declared.front.Front.{Front}
 use Rattle.front_core.specs.Front.{connect, bytes_in, deliver}
 use Rattle.front_core.proofs.OneConnection.OwnOuts.{IsFor, AreFor, answer_for_it, connect_for, bytes_for}
@@ -20,7 +23,10 @@ use Rattle.link_msg.specs.declared.out.Out.TheVariants.{Client, Close, Link, Mar
 use Rattle.mur_base.specs.declared.point.AskId.{AskId}
 use Rattle.node_step.specs.declared.node.NodeState.{NodeState}
 use Rattle.node_step.specs.declared.node.NodeState.TheVariants as node
-use Rattle.node_step.specs.NodeStep.{as_front, front_takes, back_takes, back_by, back_input, takes}
+use Rattle.master_core.specs.declared.master.Master.{Master}
+use Rattle.master_core.specs.Outside.{connect as outside_connects, bytes_in as outside_says}
+use Rattle.master_core.proofs.OutsideAlone.{IsItsOwn, AreItsOwn, connects_alone, bytes_alone}
+use Rattle.node_step.specs.NodeStep.{as_front, front_takes, back_takes, back_by, back_input, master_takes, takes}
 
 -- the connection that an input is about, if it is about one
 abbrev pub conn_of_message : LinkMsg → Option ℕ
@@ -85,29 +91,53 @@ unfolding AreNotFor answer_outs
 answered_own other from id counts None = tt
 answered_own other from id counts (Some body) = (tt, (tt, tt))
 
+owed_own : (other : ℕ) (home : Backend) (owed : Option Owed) → AreNotFor other (owed_outs home owed)
+owed_own other home None = nothing_for other
+owed_own other home (Some owed) =
+    answered_own other owed.to owed.id (told_after home owed.telling).counts (Some (told_after home owed.telling).body)
+
 plan_own : (other : ℕ) (home : Backend) (input : BackInput) → AreNotFor other (plan_of home input).outs
 unfolding plan_of
-plan_own other home (FromFront from ask) = answered_own other from ask.id (home_step home ask).counts (home_step home ask).body
-plan_own other home (up_in name) = nothing_for other
-plan_own other home (end_in name) = nothing_for other
+plan_own other home input = owed_own other (home_after home (back_plan home input).entries) (back_plan home input).owed
 
 back_by_own : (other : ℕ) (home : Backend) (input : Option BackInput) → AreNotFor other (back_by home input).outs
 unfolding back_by
 back_by_own other home None = nothing_for other
 back_by_own other home (Some input) = plan_own other home input
 
-back_own : (other : ℕ) (home : Backend) (input : NodeInput) → AreNotFor other (back_takes home input).outs
+pub back_own : (other : ℕ) (home : Backend) (input : NodeInput) → AreNotFor other (back_takes home input).outs
 unfolding back_takes
 back_own other home (Opened conn) = nothing_for other
 back_own other home (Piece conn bytes) = nothing_for other
 back_own other home (Hung conn) = nothing_for other
 back_own other home (From name message) = back_by_own other home (back_input name message)
 
+-- the master gives bytes to the client that its input is about
+
+not_it_by : (conn other : ℕ) (out : Out) → other ≢ conn → IsItsOwn conn out → IsNotFor other out
+not_it_by conn other (Client own bytes) ne is = λ e. ne (e ∙ is)
+not_it_by conn other (Close own) ne is = tt
+not_it_by conn other (Link name message) ne is = tt
+not_it_by conn other (Mark ask counts) ne is = tt
+not_it_by conn other (Told ask how) ne is = tt
+
+alone_for : (conn other : ℕ) (outs : List Out) → other ≢ conn → AreItsOwn conn outs → AreNotFor other outs
+unfolding AreItsOwn AreNotFor
+alone_for conn other [] ne are = tt
+alone_for conn other (out ∷ outs) ne are = (not_it_by conn other out ne are.0, alone_for conn other outs ne are.1)
+
+master_own : (master : Master) (input : NodeInput) (other : ℕ) → conn_of input ≢ Some other → AreNotFor other (master_takes master input).outs
+unfolding master_takes
+master_own master (Opened conn) other ne = alone_for conn other (outside_connects master conn).outs (not_it conn other ne) (connects_alone master conn).own
+master_own master (Piece conn bytes) other ne = alone_for conn other (outside_says master conn bytes).outs (not_it conn other ne) (bytes_alone master conn bytes).own
+master_own master (Hung conn) other ne = nothing_for other
+master_own master (From name message) other ne = nothing_for other
+
 pub takes_own : (it : NodeState) (input : NodeInput) (other : ℕ) → conn_of input ≢ Some other → AreNotFor other (takes it input).outs
 unfolding takes
 takes_own (node.Front front) input other ne = front_own front input other ne
 takes_own (node.Back home) input other ne = back_own other home input
-takes_own (node.Master master) input other ne = nothing_for other
+takes_own (node.Master master) input other ne = master_own master input other ne
 
 -- where outputs may go
 abbrev pub IsTo : (List ℕ → Type 0) → Out → Type 0
@@ -158,13 +188,20 @@ answered_goes may from id counts (Some body) there = (there, (tt, tt))
 
 -- a backend answers who asked
 
+owes_goes : (may : List ℕ → Type 0) (home : Backend) (from : List ℕ) (id : AskId) (plan : Option OpPlan) → may from
+    → AreTo may (settles home (owes from id plan)).outs
+owes_goes may home from id None there = nowhere may
+owes_goes may home from id (Some plan) there =
+    let after = home_after home plan.entries in
+    answered_goes may from id (told_after after plan.telling).counts (Some (told_after after plan.telling).body) there
+
 back_goes_by : (may : List ℕ → Type 0) (home : Backend) (from : List ℕ) (message : LinkMsg) → may from
     → AreTo may (back_by home (back_input from message)).outs
 unfolding back_by back_input plan_of
 back_goes_by may home from Up there = nowhere may
 back_goes_by may home from End there = nowhere may
 back_goes_by may home from (Ask ask) there =
-    answered_goes may from ask.id (home_step home ask).counts (home_step home ask).body there
+    owes_goes may home from ask.id (ask_plan home ask) there
 back_goes_by may home from (Line line) there = nowhere may
 back_goes_by may home from (Answer answer) there = nowhere may
 
@@ -181,10 +218,31 @@ back_goes may home (Piece conn bytes) there = nowhere may
 back_goes may home (Hung conn) there = nowhere may
 back_goes may home (From name message) there = back_goes_by may home name message (there name refl)
 
+-- the master sends nothing to nodes
+
+nowhere_by : (may : List ℕ → Type 0) (conn : ℕ) (out : Out) → IsItsOwn conn out → IsTo may out
+nowhere_by may conn (Client own bytes) is = tt
+nowhere_by may conn (Close own) is = tt
+nowhere_by may conn (Link name message) is = absurd is
+nowhere_by may conn (Mark ask counts) is = tt
+nowhere_by may conn (Told ask how) is = tt
+
+alone_goes : (may : List ℕ → Type 0) (conn : ℕ) (outs : List Out) → AreItsOwn conn outs → AreTo may outs
+unfolding AreItsOwn AreTo
+alone_goes may conn [] are = tt
+alone_goes may conn (out ∷ outs) are = (nowhere_by may conn out are.0, alone_goes may conn outs are.1)
+
+master_goes : (may : List ℕ → Type 0) (master : Master) (input : NodeInput) → AreTo may (master_takes master input).outs
+unfolding master_takes
+master_goes may master (Opened conn) = alone_goes may conn (outside_connects master conn).outs (connects_alone master conn).own
+master_goes may master (Piece conn bytes) = alone_goes may conn (outside_says master conn bytes).outs (bytes_alone master conn bytes).own
+master_goes may master (Hung conn) = nowhere may
+master_goes may master (From name message) = nowhere may
+
 -- a frontend sends to its home, a backend to who sent to it, and the master to nobody
 pub takes_goes : (may : List ℕ → Type 0) (it : NodeState) (input : NodeInput) → ((front : Front) → as_front (Some it) ≡ Some front → may front.home)
     → ((name : List ℕ) → sender_of input ≡ Some name → may name) → AreTo may (takes it input).outs
 unfolding takes as_front
 takes_goes may (node.Front front) input home sender = front_goes may front input (home front refl)
 takes_goes may (node.Back home_state) input home sender = back_goes may home_state input sender
-takes_goes may (node.Master master) input home sender = nowhere may
+takes_goes may (node.Master master) input home sender = master_goes may master input

@@ -6,6 +6,10 @@ use Rattle.backend_core.specs.declared.input.BackInput.TheVariants.{Up as up_in,
 use Rattle.backend_core.specs.Plan.{Planned, plan_of}
 use Rattle.front_core.specs.declared.front.Front.{Front}
 use Rattle.front_core.specs.Front.{Stepped, connect, bytes_in, hang, deliver}
+use Rattle.master_core.specs.declared.master.Master.{Master}
+use Rattle.master_core.specs.declared.sender.Sender.TheVariants.{Outside}
+use Rattle.master_core.specs.Outside.{Stepped as Served, connect as outside_connects, bytes_in as outside_says}
+use Rattle.master_core.specs.Streams.{without}
 use Rattle.node_step.specs.declared.input.NodeInput.{NodeInput}
 use Rattle.node_step.specs.declared.input.NodeInput.TheVariants.{Opened, Piece, Hung, From}
 use Rattle.link_msg.specs.declared.message.LinkMsg.{LinkMsg}
@@ -55,13 +59,22 @@ back_takes home (Piece conn bytes) = idle (node.Back home)
 back_takes home (Hung conn) = idle (node.Back home)
 back_takes home (From name message) = back_by home (back_input name message)
 
--- the master takes everything, and lets nothing out
+abbrev pub master_acted : Served → Acted
+master_acted served = record { state = node.Master served.master; outs = served.outs }
+
+-- the master serves clients from outside (RFC 3656); what other nodes send changes nothing yet
+unfoldable pub master_takes : Master → NodeInput → Acted
+master_takes master (Opened conn) = master_acted (outside_connects master conn)
+master_takes master (Piece conn bytes) = master_acted (outside_says master conn bytes)
+master_takes master (Hung conn) = idle (node.Master (without master (Outside conn)))
+master_takes master (From name message) = idle (node.Master master)
+
 unfoldable pub takes : NodeState → NodeInput → Acted
 takes (node.Front front) input = front_takes front input
 takes (node.Back home) input = back_takes home input
-takes (node.Master master) input = idle (node.Master master)
+takes (node.Master master) input = master_takes master input
 
--- the frontend, the backend that a node is
+-- the frontend, the backend, the master that a node is
 unfoldable pub as_front : Option NodeState → Option Front
 as_front (Some (node.Front front)) = Some front
 as_front (Some (node.Back home)) = None
@@ -73,3 +86,9 @@ as_back (Some (node.Front front)) = None
 as_back (Some (node.Back home)) = Some home
 as_back (Some (node.Master master)) = None
 as_back None = None
+
+unfoldable pub as_master : Option NodeState → Option Master
+as_master (Some (node.Front front)) = None
+as_master (Some (node.Back home)) = None
+as_master (Some (node.Master master)) = Some master
+as_master None = None

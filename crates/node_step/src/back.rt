@@ -22,14 +22,14 @@ fn back_input(from: NodeName, message: LinkMsg) -> Option<BackInput>
     }
 }
 
-#[tactic(auto, unfolding(crate::specs::NodeStep::back_by))]
+#[tactic(auto, unfolding(crate::specs::NodeStep::back_by, backend_core::specs::Plan::plan_of))]
 fn back_by(alloc: Global, home: &mut Backend, input: Option<BackInput>) -> Result<Outs, Memory>
     ensures { IfOk result (λ outs. record { state = node.Back home.new; outs = outs } ≡ back_by home.old input) }
 {
     match input {
         Some(input) => {
             let plan = home.plan(alloc, input)?;
-            Ok(home.settle(plan))
+            home.settle(alloc, plan)
         }
         None => Ok(Outs::new(alloc)),
     }

@@ -20,7 +20,7 @@ pub fn front_takes(alloc: Global, front: &mut Front, input: NodeInput) -> Result
         NodeInput::Opened(conn) => front.connect(alloc, conn),
         NodeInput::Piece(conn, bytes) => front.bytes_in(alloc, conn, bytes.as_slice()),
         NodeInput::Hung(conn) => {
-            front.hang(alloc, conn);
+            front.hang(conn);
             Ok(Outs::new(alloc))
         }
         NodeInput::From(node, message) => front.deliver(alloc, &node, message),

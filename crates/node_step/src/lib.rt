@@ -5,6 +5,7 @@
 mod back;
 mod front;
 mod input;
+mod master;
 mod node;
 mod takes;
 

@@ -6,6 +6,7 @@ ghost use Rattle.node_step.specs.Room.{HasRoomToTake};
 use crate::back::back_takes;
 use crate::front::front_takes;
 use crate::input::NodeInput;
+use crate::master::master_takes;
 use crate::node::NodeState;
 use link_msg::Outs;
 use mur_base::Memory;
@@ -21,7 +22,7 @@ impl NodeState {
         match self {
             NodeState::Front(front) => front_takes(alloc, front, input),
             NodeState::Back(home) => back_takes(alloc, home, input),
-            NodeState::Master(_) => Ok(Outs::new(alloc)),
+            NodeState::Master(master) => master_takes(alloc, master, input),
         }
     }
 }

@@ -1,7 +1,7 @@
 -- An APPEND at the home is one at the store.
 use Rattle.std.proofs.Common.{ℕ, List, [], ◌∷◌, Option, None, Some, refl, sym, subst}
 use Rattle.backend_core.specs.declared.backend.Backend.{Backend}
-use Rattle.backend_core.specs.declared.held.Held.{Held}
+use Rattle.node_record.specs.declared.held.Held.{Held}
 use Rattle.backend_core.specs.Append.{append_step, append_within_limits}
 use Rattle.backend_core.specs.Served.{served, served_unless}
 use Rattle.backend_core.specs.HomeStep.{with_content}

@@ -1,7 +1,7 @@
 -- An EXPUNGE at the home of its mailbox is one at the store.
 use Rattle.std.proofs.Common.{ℕ, List, Option, Some, refl}
 use Rattle.backend_core.specs.declared.backend.Backend.{Backend}
-use Rattle.backend_core.specs.declared.held.Held.{Held}
+use Rattle.node_record.specs.declared.held.Held.{Held}
 use Rattle.backend_core.specs.Expunge.{expunge_step, expunge_to}
 use Rattle.mail_store.specs.Expunge.{expunged}
 use Rattle.mur_model.specs.declared.work.ViewWork.TheVariants.{Expunge}

@@ -3,7 +3,7 @@
 use Rattle.std.proofs.Common.{◌≡◌, ℕ, Bool, true, false, ◌&&◌, List, map, Some, refl, sym, subst}
 use Rattle.std.specs.List.{list_any}
 use Rattle.backend_core.specs.declared.backend.Backend.{Backend}
-use Rattle.backend_core.specs.declared.held.Held.{Held}
+use Rattle.node_record.specs.declared.held.Held.{Held}
 use Rattle.backend_core.specs.HomeStep.{held_at, with_content}
 use Rattle.backend_core.specs.Look.{look_step}
 use Rattle.backend_core.specs.Read.{read_step, read_to, read_in}

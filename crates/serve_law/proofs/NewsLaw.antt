@@ -1,7 +1,7 @@
 -- What a NOOP, a CHECK or an IDLE looks for at the home of its mailbox is what the store tells it.
 use Rattle.std.proofs.Common.{ℕ, List, Some, refl}
 use Rattle.backend_core.specs.declared.backend.Backend.{Backend}
-use Rattle.backend_core.specs.declared.held.Held.{Held}
+use Rattle.node_record.specs.declared.held.Held.{Held}
 use Rattle.backend_core.specs.Look.{look_step}
 use Rattle.mur_model.specs.declared.work.NewsFor.{NewsFor}
 use Rattle.mur_model.specs.declared.work.ViewWork.TheVariants.{News}

@@ -1,7 +1,7 @@
 -- A SEARCH at the home of its mailbox is one at the store, whether or not the rows of the mailbox tell what is found.
 use Rattle.std.proofs.Common.{◌≡◌, ℕ, Bool, true, false, List, Some, refl, sym, subst}
 use Rattle.backend_core.specs.declared.backend.Backend.{Backend}
-use Rattle.backend_core.specs.declared.held.Held.{Held}
+use Rattle.node_record.specs.declared.held.Held.{Held}
 use Rattle.backend_core.specs.HomeStep.{held_at}
 use Rattle.backend_core.specs.Look.{look_step}
 use Rattle.backend_core.specs.Summaries.{summaries_step}

@@ -1,7 +1,7 @@
 -- A SELECT or an EXAMINE at the home is one at the store.
 use Rattle.std.proofs.Common.{ℕ, List, Option, None, Some, refl, sym, subst}
 use Rattle.backend_core.specs.declared.backend.Backend.{Backend}
-use Rattle.backend_core.specs.declared.held.Held.{Held}
+use Rattle.node_record.specs.declared.held.Held.{Held}
 use Rattle.backend_core.specs.HomeStep.{answers}
 use Rattle.backend_core.specs.Look.{look_step}
 use Rattle.backend_core.specs.Response.{done}

@@ -6,7 +6,7 @@ use Rattle.backend_core.specs.Expunge.{expunge_step}
 use Rattle.backend_core.specs.Flags.{flags_step}
 use Rattle.backend_core.specs.HomeStep.{held_at}
 use Rattle.backend_core.specs.Look.{look_step}
-use Rattle.backend_core.specs.declared.held.Held.{Held}
+use Rattle.node_record.specs.declared.held.Held.{Held}
 use Rattle.backend_core.specs.Step.{home_step, op_step}
 use Rattle.link_msg.specs.declared.ask.FrontAsk.{FrontAsk}
 use Rattle.mur_base.specs.declared.point.AskId.{AskId}

@@ -1,7 +1,7 @@
 -- What a home answers and leaves is what the one store replies and leaves, for work at a mailbox.
 use Rattle.std.proofs.Common.{◌≡◌, ℕ, ◌+◌, List, Some, None, refl, ap}
 use Rattle.backend_core.specs.declared.backend.Backend.{Backend}
-use Rattle.backend_core.specs.declared.held.Held.{Held}
+use Rattle.node_record.specs.declared.held.Held.{Held}
 use Rattle.backend_core.specs.HomeStep.{HomeStep, answers}
 use Rattle.link_msg.specs.declared.answer.AnswerBody.{AnswerBody}
 use Rattle.link_msg.specs.declared.counts.Counts.TheVariants.{Always, IfAnswered}

@@ -1,7 +1,7 @@
 -- A STORE at the home of its mailbox is one at the store.
 use Rattle.std.proofs.Common.{ℕ, Bool, true, false, List, Some, refl}
 use Rattle.backend_core.specs.declared.backend.Backend.{Backend}
-use Rattle.backend_core.specs.declared.held.Held.{Held}
+use Rattle.node_record.specs.declared.held.Held.{Held}
 use Rattle.backend_core.specs.Flags.{flags_step, flags_to, flags_unless}
 use Rattle.backend_core.specs.HomeStep.{with_content}
 use Rattle.mail_store.specs.Store.{rows_stored, stored, has_too_many_flags}

@@ -215,7 +215,7 @@ act_rises store session serial (Turned turn) all = all
 act_rises store session serial (Mailbox name work) all =
     left_rises store name _ (work_rises name work serial (is_spent store.given) (box_at store name) (box_rises store name all)) all
 
-answer_rises : (setting : Setting) (store : Store) (session : Sess) (request : Request) (serial : ℕ) → AllRise store
+pub answer_rises : (setting : Setting) (store : Store) (session : Sess) (request : Request) (serial : ℕ) → AllRise store
     → AllRise (answer_of setting store session request serial).store
 unfolding answer_of act_of
 answer_rises setting store session (a_command tag it) serial all = act_rises store session serial (need_of setting session it) all

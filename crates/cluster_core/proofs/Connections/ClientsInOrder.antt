@@ -21,7 +21,7 @@ use Rattle.cluster_core.specs.declared.world.Client.{Client}
 use Rattle.cluster_core.specs.declared.world.World.{World}
 use Rattle.cluster_core.specs.Flow.{run_steps}
 use Rattle.link_queue.specs.Links.{on_link}
-use Rattle.cluster_core.specs.World.{no_world, start, with_node, with_nodes, home_of, setting_of, client_at, node_at, given_more, carry, carry_all}
+use Rattle.cluster_core.specs.World.{not_lost, no_world, start, with_node, with_nodes, home_of, setting_of, client_at, node_at, given_more, carry, carry_all}
 use Rattle.cluster_core.specs.World.{with_state, comes_to, with_client, opens, client_does, taken_from_link, deliver_first, takes, stepped, steps_by}
 use Rattle.cluster_core.proofs.Runs.UpsLaw.{started}
 
@@ -51,7 +51,7 @@ comes_to-ordered : (world : World) (node : List ℕ) (input : NodeInput) (found 
 unfolding comes_to
 comes_to-ordered world node input None is = is
 comes_to-ordered world node input (Some it) is =
-    carry_all-ordered node (with_state world node (node_takes it input).state) (node_takes it input).outs is
+    carry_all-ordered node (with_state world node (node_takes it input).state) (not_lost world.broken node (node_takes it input).outs) is
 
 opens-ordered : (world : World) (node : List ℕ) (conn : ℕ) (there : Option Client) → IsOrdered world → IsOrdered (opens world node conn there)
 unfolding opens

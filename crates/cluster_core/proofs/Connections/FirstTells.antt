@@ -84,7 +84,7 @@ pub first_tells : (setting : Setting) (home : List ℕ) (conn : ℕ) (world : Wo
     → ConnectionIs setting home conn world story was → TellsPlace setting home conn world story heard from to message
 first_tells setting home conn world story heard was from to message rest e first own (is_nobody none fronts untold) =
     absurd (not_nowhere _ (first_of world.links from to message rest (of_connection conn) None first own untold.nothing).0)
-first_tells setting home conn world story heard was from to message rest e first own (is_elsewhere node at none untold) =
+first_tells setting home conn world story heard was from to message rest e first own (is_elsewhere node given at none untold) =
     absurd (not_nowhere _ (first_of world.links from to message rest (of_connection conn) None first own untold.nothing).0)
 first_tells setting home conn world story heard was from to message rest e first own (is_open bytes node front connection at reader standing) =
     let tells = first_of world.links from to message rest (of_connection conn) (its_message node standing.place) first own standing.placed in

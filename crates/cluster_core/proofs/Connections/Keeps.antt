@@ -14,6 +14,7 @@ use Rattle.cluster_core.proofs.Connections.ConnectionLaw.{told_of}
 use Rattle.cluster_core.proofs.Connections.KeepsData.{data_keeps}
 use Rattle.cluster_core.proofs.Connections.KeepsHang.{hang_keeps}
 use Rattle.cluster_core.proofs.Connections.KeepsLaw.{KeepsLaw, KeepsOn, looks_same}
+use Rattle.cluster_core.proofs.Connections.KeepsLaw.ClientStays.{same_client}
 use Rattle.cluster_core.proofs.Connections.KeepsOpen.{open_keeps}
 use Rattle.cluster_core.proofs.Connections.KeepsDeliver.{deliver_keeps}
 use Rattle.cluster_core.proofs.Connections.KeepsStill.{still_kept}
@@ -57,8 +58,10 @@ unfolding still_kept
 step_keeps config heard world event law =
     let begun = still_kept config heard heard world (stepped world)
     (record {
-      nodes = λ any. refl;
-      clients = λ any. refl;
+      fronts = λ any. refl;
+      homes = λ any. refl;
+      clients = λ any. same_client refl;
+      broken = refl;
       places = λ whom here placed. placed;
       marks =
           refl;

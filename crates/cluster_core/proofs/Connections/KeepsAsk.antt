@@ -6,10 +6,12 @@ use Rattle.std.proofs.Math.Logic.{⊎_elim}
 use Rattle.std.proofs.lemmas.Bool.{cases_eq}
 use Rattle.backend_core.specs.declared.backend.Backend.{Backend}
 use Rattle.backend_core.specs.declared.input.BackInput.TheVariants.{FromFront}
-use Rattle.backend_core.specs.HomeLaws.{HasUidsBelowNext}
+use Rattle.backend_core.specs.HomeLaws.{HasUidsBelowNext, RisesAt}
 use Rattle.backend_core.specs.Plan.{plan_of, answer_outs}
 use Rattle.backend_core.specs.Step.{home_step}
 use Rattle.backend_core.proofs.BelowNext.{step_stays_below}
+use Rattle.backend_core.proofs.PlanLaw.{plan_leaves, plan_tells}
+use Rattle.store_law.proofs.RisingStores.{none_rises}
 use Rattle.session_core.specs.Begin.{user_of}
 use Rattle.imap_talk.specs.SessionEnds.{TurnEnds}
 use Rattle.imap_talk.proofs.AnswersEnd.{worked_ends}
@@ -49,6 +51,8 @@ use Rattle.cluster_core.proofs.Connections.ConnectionLaw.{Story, told_of, sessio
 use Rattle.cluster_core.proofs.Connections.FirstTells.{first_tells, command_waits}
 use Rattle.cluster_core.proofs.Connections.KeepsLaw.{ConnectionIs, KeepsLaw, KeepsOn, connection_stays, same_front}
 use Rattle.cluster_core.proofs.Connections.KeepsStill.{nodes_alike}
+use Rattle.cluster_core.proofs.Connections.RisesLaw.{course_rises, home_rises}
+use Rattle.cluster_core.specs.Headline.OneStore.{first_course}
 use Rattle.cluster_core.proofs.Connections.NameLaw.{NameIs, all_below, has_at, lacks_elsewhere, name_at, name_stays, node_has, store_at}
 use Rattle.imap_talk.proofs.RequestsOf.{requests_of}
 use Rattle.serve_law.proofs.HomeStore.{AreSerialsTo, IsStoreOf, other_boxes}
@@ -75,12 +79,17 @@ answered_world world front home backend ask body counts = record world {
   marks = world.marks ++ (record { step = world.steps; ask = ask.id; kind = Home counts }) ∷ [];
 }
 
-answers_so : (world : World) (front home : List ℕ) (backend : Backend) (ask : FrontAsk) (body : AnswerBody) → (home_step backend ask).body ≡ Some body
+answers_so : (world : World) (front home : List ℕ) (backend : Backend) (ask : FrontAsk) (body : AnswerBody) → RisesAt backend ask.name
+    → (home_step backend ask).body ≡ Some body
     → with_home (taken_from_link world front home) home (plan_of backend (FromFront front ask)) ≡ answered_world world front home (home_step backend ask).home ask body
     (home_step backend ask).counts
-unfolding plan_of answer_outs carry_all carry
-answers_so world front home backend ask body e =
-    ap (λ b. carry_all home (with_state (taken_from_link world front home) home (state.Back (home_step backend ask).home))
+unfolding answer_outs carry_all carry
+answers_so world front home backend ask body rises e =
+    let taken = taken_from_link world front home in
+    let planned = plan_of backend (FromFront front ask) in
+    ap (λ (h : Backend). carry_all home (with_state taken home (state.Back h)) planned.outs) (plan_leaves backend front ask rises)
+    ∙ ap (λ outs. carry_all home (with_state taken home (state.Back (home_step backend ask).home)) outs) (plan_tells backend front ask rises)
+    ∙ ap (λ b. carry_all home (with_state (taken_from_link world front home) home (state.Back (home_step backend ask).home))
     (answer_outs front ask.id (home_step backend ask).counts b)) e
 
 -- a command that asks for work at a mailbox, as the store carries it out
@@ -157,6 +166,10 @@ answers_ask config heard world law conn from to tag it name work ask is said ask
     let serves = subst (λ a. ServesAlike course.store backend name work (worked_at course.store name work serial) (home_step backend a)) is
     (serves_alike course.store backend (next_id conn (law.story.told conn)) user name work
     (store_at world course.store law.home name backend law.home_is (law.names name)) law.serials) in
+    let rises = subst (λ (a : FrontAsk). RisesAt backend a.name) is
+    (home_rises course.store backend name
+    (course_rises (setting_of config) law.story.talk first_course course world.marks law.is_told.carries none_rises)
+    (store_at world course.store law.home name backend law.home_is (law.names name))) in
     let out = carried_as (setting_of config) course conn tag it name work serial need in
     let mark_is : next_id conn (law.story.talk.answers conn) ≡ ask.id = ap (next_id conn) said ∙ ap (λ (a : FrontAsk). a.id) is in
     record {
@@ -174,7 +187,7 @@ answers_ask config heard world law conn from to tag it name work ask is said ask
       serials = subst (λ (s : Store). AreSerialsTo s.given ((home_step backend ask).home).last_serial) (sym (ap (λ (a : Answered). a.store) out))
           (serves.gives law.serials);
       course = next_course (setting_of config) course conn (a_command tag it) serial;
-      world_is = answers_so world from to backend ask serves.body serves.is_body;
+      world_is = answers_so world from to backend ask serves.body rises serves.is_body;
       is_told = subst (λ a. IsTold (setting_of config) world.steps
           (world.marks ++ (record { step = world.steps; ask = a; kind = Home (home_step backend ask).counts }) ∷ [])
           (having_said law.story.talk conn (carried_out (setting_of config) course conn (a_command tag it) serial).answer serial) law.story.told
@@ -243,6 +256,7 @@ ask_kept config heard later world law from to tag name work ask rest answered it
         backend = answered.backend;
         home_is = now;
         nodes = nodes_alike config world next law.home same_fronts law.nodes;
+        whole = law.whole;
         story = story;
         names = λ other. ⊎_elim
             (λ (e : other ≡ name). subst (λ n. NameIs next answered.course.store law.home n) (sym e)
@@ -311,7 +325,7 @@ ask_keeps config heard after world law from to ask rest first same =
     let answer : BackAnswer = record { id = ask.id; body = done.body } in
     let next : World = answered_world world from to done.backend ask done.body done.counts in
     subst (λ w. KeepsOn config (told_of law.story) after w) {x = next}
-    (sym {b = next} (ask_comes (taken_from_link world from to) from to ask law.backend here ∙ done.world_is))
+    (sym {b = next} (ask_comes (taken_from_link world from to) from to ask law.backend law.whole here ∙ done.world_is))
     (ask_kept config heard after world law from to it.tag it.name it.work ask rest done its_home first same
     (waits.moves next (having_said story.talk conn done.reply done.serial) done.course (is_answered to answer) (fronts_beside world to law.backend done.backend here) refl
     (subst (λ n. IsPlaced (of_connection conn) next.links (Some (record { from = to; to = n; message = Answer answer }))) (sym there.0)

@@ -353,6 +353,7 @@ heard_on config heard world law conn bytes more node front connection e at stage
         backend = law.backend;
         home_is = law.home_is;
         nodes = law.nodes;
+        whole = law.whole;
         story = told;
         names = law.names;
         serials = law.serials;
@@ -530,10 +531,10 @@ unfolding hears
 closed_heard config conn b bytes = refl
 
 at_front : (world : World) (conn : ℕ) (bytes node : List ℕ) (front : Front) (given : List ℕ)
-    → client_at world conn ≡ Some (record { at = node; given = given }) → front_at world node ≡ Some front
+    → world.broken ≡ [] → client_at world conn ≡ Some (record { at = node; given = given }) → front_at world node ≡ Some front
     → client_does world (Piece conn bytes) (client_at world conn) ≡ with_front world node (bytes_in front conn bytes)
 unfolding client_does
-at_front world conn bytes node front given at is = ap (client_does world (Piece conn bytes)) at ∙ piece_comes world node conn bytes front is
+at_front world conn bytes node front given whole at is = ap (client_does world (Piece conn bytes)) at ∙ piece_comes world node conn bytes front whole is
 
 data_by : (config : Config) (heard : ℕ → Heard) (world : World) (conn : ℕ) (bytes : List ℕ) (law : KeepsLaw config heard world) (was : Heard) → heard conn ≡ was
     → ConnectionIs (setting_of config) law.home conn world law.story was
@@ -543,17 +544,17 @@ data_by config heard world conn bytes law was e (is_nobody none fronts untold) =
     subst (λ c. KeepsOn config (told_of law.story) (after_data config heard conn bytes) (client_does world (Piece conn bytes) c)) (sym none)
     (quiet_kept config heard world world conn bytes law (looks_same world)
     (ap (λ h. hears config conn h (Data conn bytes)) e ∙ nothing_heard config conn bytes ∙ sym e))
-data_by config heard world conn bytes law was e (is_elsewhere node at none untold) =
+data_by config heard world conn bytes law was e (is_elsewhere node given at none untold) =
     subst (λ c. KeepsOn config (told_of law.story) (after_data config heard conn bytes) (client_does world (Piece conn bytes) c)) (sym at)
     (quiet_kept config heard world (comes world node (Piece conn bytes)) conn bytes law
-    (piece_elsewhere world node conn bytes (node_at world node) refl none)
+    (piece_elsewhere world node conn bytes given (node_at world node) refl at none)
     (ap (λ h. hears config conn h (Data conn bytes)) e ∙ elsewhere_heard config conn bytes ∙ sym e))
 data_by config heard world conn bytes law was e (is_open b node front connection at reader standing) =
-    subst (λ w. KeepsOn config (told_of law.story) (after_data config heard conn bytes) w) (sym (at_front world conn bytes node front _ standing.client at.at))
+    subst (λ w. KeepsOn config (told_of law.story) (after_data config heard conn bytes) w) (sym (at_front world conn bytes node front _ law.whole standing.client at.at))
     (stands_more config heard world law conn b bytes node front connection e at reader standing standing.stands)
 data_by config heard world conn bytes law was e (is_closed b node front connection at gone) =
     subst (λ w. KeepsOn config (told_of law.story) (after_data config heard conn bytes) w)
-    (sym (at_front world conn bytes node front _ gone.client at.at
+    (sym (at_front world conn bytes node front _ law.whole gone.client at.at
     ∙ ap (with_front world node) (at_ended front conn bytes connection at.has gone.stage_is)))
     (quiet_kept config heard world (with_front world node (still front)) conn bytes law (front_put world node front at.at)
     (ap (λ h. hears config conn h (Data conn bytes)) e ∙ closed_heard config conn b bytes ∙ sym e))

@@ -32,6 +32,7 @@ use Rattle.mur_model.specs.Store.{box_at}
 use Rattle.mur_model.specs.declared.store.Store.{Store}
 use Rattle.serve_law.proofs.HomeStore.{AreSerialsTo}
 use Rattle.cluster_core.proofs.Connections.KeepsStill.{fronts_at_other, nodes_with_front, having_nodes, carry_all_nodes}
+use Rattle.cluster_core.proofs.Runs.WholeLaw.{carry_all_broken}
 use Rattle.front_core.proofs.OneConnection.Places.{About, of_connection, of_nobody, nobody_whom, other_whom, PlacesStay}
 use Rattle.imap_talk.proofs.RequestsOf.{requests_of}
 
@@ -71,6 +72,7 @@ front_keeps config heard after origin law links conn node front was connection o
         backend = law.backend;
         home_is = homes_beside origin node front later at law.home ∙ law.home_is;
         nodes = nodes_with_front config origin next law.home node front later at refl refl refl law.nodes;
+        whole = carry_all_broken node world outs ∙ law.whole;
         story = story;
         names = λ name. name_stays origin next law.story.course.store story.course.store law.home name
             (λ any. ap (λ h. value_at (slice_cmp nat_cmp) (held_by h) name) (homes_beside origin node front later at any)) (ap (λ (s : Store). box_at s name) same_store) (law.names name);

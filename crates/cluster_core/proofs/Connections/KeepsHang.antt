@@ -68,11 +68,11 @@ left_by setting home conn all held connection told said session place (finished 
     nothing [] (same ∙ sym (append-nil told)) (omega arith) at
 
 hangs_at : (world : World) (conn : ℕ) (node : List ℕ) (front : Front) (connection : Connection) (given : List ℕ)
-    → client_at world conn ≡ Some (record { at = node; given = given })
+    → world.broken ≡ [] → client_at world conn ≡ Some (record { at = node; given = given })
     → IsAt world conn node front connection
     → client_does world (Hung conn) (client_at world conn) ≡ world_after world node front conn (hung_up connection) []
 unfolding client_does hang front_hang_at carry_all
-hangs_at world conn node front connection given at is = ap (client_does world (Hung conn)) at ∙ hung_comes world node conn front is.at
+hangs_at world conn node front connection given whole at is = ap (client_does world (Hung conn)) at ∙ hung_comes world node conn front whole is.at
     ∙ ap (λ f. with_state world node (state.Front (front_hang_at front conn f))) is.has
 
 -- a connection at its frontend is closed
@@ -133,13 +133,13 @@ unfolding client_does frames_heard
 hang_by config heard world conn law was e (is_nobody none fronts untold) =
     subst (λ c. KeepsOn config (told_of law.story) (after_hang config heard conn) (client_does world (Hung conn) c)) (sym none)
     (still_heard config heard world conn law (ap (λ h. hears config conn h (Hang conn)) e ∙ nothing_heard config conn ∙ sym e))
-hang_by config heard world conn law was e (is_elsewhere node at none untold) =
+hang_by config heard world conn law was e (is_elsewhere node given at none untold) =
     subst (λ c. KeepsOn config (told_of law.story) (after_hang config heard conn) (client_does world (Hung conn) c)) (sym at)
     (alike_heard config heard world (comes world node (Hung conn)) conn law
-    (hung_elsewhere world node conn (node_at world node) refl none)
+    (hung_elsewhere world node conn given (node_at world node) refl at none)
     (ap (λ h. hears config conn h (Hang conn)) e ∙ elsewhere_heard config conn ∙ sym e))
 hang_by config heard world conn law was e (is_open bytes node front connection at reader standing) =
-    subst (λ w. KeepsOn config (told_of law.story) (after_hang config heard conn) w) (sym (hangs_at world conn node front connection _ standing.client at))
+    subst (λ w. KeepsOn config (told_of law.story) (after_hang config heard conn) w) (sym (hangs_at world conn node front connection _ law.whole standing.client at))
     (closes config heard world conn law bytes node front connection at (law.requests conn ∙ ap (λ h. requests_of (setting_of config) (frames_heard h)) e)
     (heard_closed config conn bytes (heard conn) e)
     (record {
@@ -154,7 +154,7 @@ hang_by config heard world conn law was e (is_open bytes node front connection a
           (law.story.told conn) (law.story.talk.answers conn) (law.story.course.sessions conn) standing.place standing.stands;
     }))
 hang_by config heard world conn law was e (is_closed bytes node front connection at gone) =
-    subst (λ w. KeepsOn config (told_of law.story) (after_hang config heard conn) w) (sym (hangs_at world conn node front connection _ gone.client at))
+    subst (λ w. KeepsOn config (told_of law.story) (after_hang config heard conn) w) (sym (hangs_at world conn node front connection _ law.whole gone.client at))
     (closes config heard world conn law bytes node front connection at (law.requests conn ∙ ap (λ h. requests_of (setting_of config) (frames_heard h)) e)
     (ap (λ h. hears config conn h (Hang conn)) e ∙ closed_heard config conn bytes)
     (record {

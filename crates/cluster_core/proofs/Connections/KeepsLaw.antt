@@ -25,7 +25,7 @@ use Rattle.imap_talk.specs.Heard.{Heard, nobody, elsewhere, client, frames_heard
 use Rattle.cluster_core.specs.Heard.{is_frontend}
 use Rattle.link_msg.specs.declared.message.LinkMsg.{LinkMsg}
 use Rattle.link_queue.specs.Links.{Links}
-use Rattle.cluster_core.specs.World.{backends_of, client_at, node_at, front_at, home_at, setting_of}
+use Rattle.cluster_core.specs.World.{backends_of, client_at, front_at, home_at, setting_of}
 use Rattle.cluster_core.proofs.Connections.ConnectionLaw.{Story, told_of, client_with, IsStanding}
 use Rattle.front_core.proofs.OneConnection.Standing.{HasBegunSo, Stands, IsLeft}
 use Rattle.imap_talk.proofs.RequestsOf.{requests_of}
@@ -60,7 +60,7 @@ pub record IsGone (setting : Setting) (node home : List ℕ) (conn : ℕ) (input
 pub data ConnectionIs (setting : Setting) (home : List ℕ) (conn : ℕ) (world : World) (story : Story) : Heard → Type 0 where
   is_nobody : client_at world conn ≡ None → ((node : List ℕ) (front : Front) → front_at world node ≡ Some front → connection_at front conn ≡ None)
       → IsUntold conn world.links story → ConnectionIs setting home conn world story nobody
-  is_elsewhere : (node : List ℕ) → client_at world conn ≡ Some (record { at = node; given = [] }) → front_at world node ≡ None
+  is_elsewhere : (node given : List ℕ) → client_at world conn ≡ Some (record { at = node; given = given }) → front_at world node ≡ None
       → IsUntold conn world.links story → ConnectionIs setting home conn world story elsewhere
   is_open : (bytes node : List ℕ) (front : Front) (connection : Connection) → IsAt world conn node front connection
       → HasBegunSo connection (reading_of setting bytes)
@@ -90,6 +90,8 @@ pub record KeepsLaw (config : Config) (heard : ℕ → Heard) (world : World) : 
   pub backend : Backend
   pub home_is : home_at world home ≡ Some backend
   pub nodes : AreNodesOf config world home
+  -- no link is broken
+  pub whole : world.broken ≡ []
   pub story : Story
   pub names : (name : List ℕ) → NameIs world story.course.store home name
   pub serials : AreSerialsTo story.course.store.given backend.last_serial
@@ -169,8 +171,8 @@ connection_stays setting home conn world next story later heard stays (is_nobody
     (λ node front at. let was = front_was conn (front_at world node) (front_at next node) front (stays.fronts node) at in sym was.same
     ∙ fronts node was.front was.is)
     (untold_stays conn world next story later stays untold)
-connection_stays setting home conn world next story later heard stays (is_elsewhere node at none untold) =
-    is_elsewhere node (stays.client ∙ at) (no_front conn (front_at world node) (front_at next node) (stays.fronts node) none)
+connection_stays setting home conn world next story later heard stays (is_elsewhere node given at none untold) =
+    is_elsewhere node given (stays.client ∙ at) (no_front conn (front_at world node) (front_at next node) (stays.fronts node) none)
     (untold_stays conn world next story later stays untold)
 connection_stays setting home conn world next story later heard stays (is_open bytes node front connection at reader standing) =
     let now = front_now conn (front_at world node) (front_at next node) front (stays.fronts node) at.at in
@@ -209,10 +211,18 @@ pub same_front : (conn : ℕ) (one now : Option Front) → now ≡ one → SameF
 same_front conn None now e = subst (λ f. SameFront conn None f) (sym e) both_none
 same_front conn (Some front) now e = subst (λ f. SameFront conn (Some front) f) (sym e) (both front front refl)
 
--- a world in which every look-up finds what it found
+-- a client is as it was, or it is connected where no frontend is, and was given more
+pub data ClientStays (conn : ℕ) (world next : World) : Type 0 where
+  same_client : client_at next conn ≡ client_at world conn → ClientStays conn world next
+  given_elsewhere : (node was now : List ℕ) → front_at world node ≡ None → client_at world conn ≡ Some (record { at = node; given = was })
+      → client_at next conn ≡ Some (record { at = node; given = now }) → ClientStays conn world next
+
+-- a world in which every look-up of a frontend, a backend or a mail client finds what it found
 pub record LooksAlike (world next : World) : Type 0 where
-  pub nodes : (node : List ℕ) → node_at next node ≡ node_at world node
-  pub clients : (conn : ℕ) → client_at next conn ≡ client_at world conn
+  pub fronts : (node : List ℕ) → front_at next node ≡ front_at world node
+  pub homes : (node : List ℕ) → home_at next node ≡ home_at world node
+  pub clients : (conn : ℕ) → ClientStays conn world next
+  pub broken : next.broken ≡ world.broken
   pub places : (whom : About) → PlacesStay whom world.links next.links
   pub marks : next.marks ≡ world.marks
   pub steps : world.steps ≤ next.steps
@@ -220,8 +230,10 @@ pub record LooksAlike (world next : World) : Type 0 where
 -- every look-up finds what it found in the same world
 pub looks_same : (world : World) → LooksAlike world world
 looks_same world = record {
-  nodes = λ any. refl;
-  clients = λ any. refl;
+  fronts = λ any. refl;
+  homes = λ any. refl;
+  clients = λ any. same_client refl;
+  broken = refl;
   places = λ whom here placed. placed;
   marks = refl;
   steps = omega arith;

@@ -10,7 +10,7 @@ use Rattle.std.proofs.lemmas.Bool.{cases_eq}
 use Rattle.std.proofs.lemmas.Bool.Decides.{nat_tests}
 use Rattle.std.proofs.lemmas.List.{append-nil}
 use Rattle.front_core.specs.declared.front.Front.{Front}
-use Rattle.front_core.specs.Front.{connection_at, new_connection, connect, connect_at}
+use Rattle.front_core.specs.Front.{connection_at, connect, connect_at}
 use Rattle.imap_reply.specs.Greeting.{greeting}
 use Rattle.imap_talk.specs.SessionEnds.{has_ended}
 use Rattle.imap_talk.specs.Transcript.{replies_to, told_till}
@@ -25,6 +25,7 @@ use Rattle.mur_model.specs.declared.setting.Setting.{Setting}
 use Rattle.mur_model.proofs.HistoryGrows.{same_talk, talks_follow}
 use Rattle.schedule_text.specs.declared.event.Event.TheVariants.{Open}
 use Rattle.front_core.specs.Reading.{first_reading}
+use Rattle.front_core.specs.Slots.{new_connection}
 use Rattle.imap_talk.specs.Inputs.{at_first, before_next, inputs_of}
 use Rattle.cluster_core.specs.declared.world.Client.{Client}
 use Rattle.node_step.specs.declared.input.NodeInput.TheVariants.{Opened}
@@ -61,7 +62,7 @@ heard_before config conn (client bytes false) node other ne = refl
 has_client : (setting : Setting) (home : List ℕ) (conn : ℕ) (world : World) (story : Story) (heard : Heard) (there : Client) → client_at world conn ≡ Some there
     → ConnectionIs setting home conn world story heard → heard ≡ nobody → ⊥
 has_client setting home conn world story heard there at (is_nobody none fronts untold) e = cc
-has_client setting home conn world story heard there at (is_elsewhere node is none untold) e = cc
+has_client setting home conn world story heard there at (is_elsewhere node given is none untold) e = cc
 has_client setting home conn world story heard there at (is_open bytes node front connection is reader standing) e = cc
 has_client setting home conn world story heard there at (is_closed bytes node front connection is gone) e = cc
 
@@ -74,7 +75,7 @@ record IsNew (conn : ℕ) (world : World) (story : Story) (heard : Heard) : Type
 is_new : (setting : Setting) (home : List ℕ) (conn : ℕ) (world : World) (story : Story) (heard : Heard) → client_at world conn ≡ None
     → ConnectionIs setting home conn world story heard → IsNew conn world story heard
 is_new setting home conn world story heard at (is_nobody none fronts untold) = record { nobody_is = refl; fronts = fronts; untold = untold }
-is_new setting home conn world story heard at (is_elsewhere node is none untold) = cc
+is_new setting home conn world story heard at (is_elsewhere node given is none untold) = cc
 is_new setting home conn world story heard at (is_open bytes node front connection is reader standing) = (let k = standing.client in cc)
 is_new setting home conn world story heard at (is_closed bytes node front connection is gone) = (let k = gone.client in cc)
 
@@ -112,7 +113,7 @@ requests_first config story heard conn node e all other = ⊎_elim
     (λ (ne : other ≢ conn). all other ∙ ap (λ h. requests_of (setting_of config) (frames_heard h)) (sym (other_after config heard node conn other ne)))
     (cases_eq other conn)
 
--- a connection at a node that is no frontend is given nothing
+-- a connection at a node that is no frontend
 joined_keeps : (config : Config) (heard : ℕ → Heard) (world : World) (node : List ℕ) (conn : ℕ) (law : KeepsLaw config heard world)
     → front_at world node ≡ None
     → IsNew conn world law.story (heard conn) → KeepsOn config (told_of law.story) (after_open config heard node conn) (with_client world node conn)
@@ -125,6 +126,7 @@ joined_keeps config heard world node conn law none new =
         backend = law.backend;
         home_is = law.home_is;
         nodes = nodes_alike config world next law.home (λ any. refl) law.nodes;
+        whole = law.whole;
         story = law.story;
         names = λ name. name_stays world next law.story.course.store law.story.course.store law.home name (λ any. refl) refl (law.names name);
         serials = law.serials;
@@ -136,7 +138,7 @@ joined_keeps config heard world node conn law none new =
             (sym same)
             (subst (λ h. ConnectionIs (setting_of config) law.home conn next law.story h)
             (sym (hears_first config conn (heard conn) node false new.nobody_is off))
-            (is_elsewhere node (value_at-with_entry nat_cmp numbers_apart world.clients conn (record { at = node; given = [] })) none new.untold)))
+            (is_elsewhere node [] (value_at-with_entry nat_cmp numbers_apart world.clients conn (record { at = node; given = [] })) none new.untold)))
             (λ (ne : other ≢ conn). subst (λ h. ConnectionIs (setting_of config) law.home other next law.story h)
             (sym (other_after config heard node conn other ne))
             (connection_stays (setting_of config) law.home other world next law.story law.story (heard other)
@@ -161,7 +163,8 @@ elsewhere_keeps config heard world node conn law none new =
     let joined = joined_keeps config heard world node conn law none new in
     let after = after_open config heard node conn in
     let put = still_kept config after after (with_client world node conn) (comes (with_client world node conn) node (Opened conn))
-    (opened_elsewhere (with_client world node conn) node conn (node_at world node) refl none) (λ other. refl) joined.law in
+    (opened_elsewhere (with_client world node conn) node conn [] (node_at world node) refl
+    (value_at-with_entry nat_cmp numbers_apart world.clients conn (record { at = node; given = [] })) none) (λ other. refl) joined.law in
     record {
       law = put.law;
       more = talks_follow (told_of law.story) (told_of joined.law.story) (told_of put.law.story) joined.more put.more;
@@ -214,6 +217,7 @@ front_keeps_open config heard world node conn front law at new =
         backend = law.backend;
         home_is = homes_beside world node front later at law.home ∙ law.home_is;
         nodes = nodes_with_front config world next law.home node front later at refl refl refl law.nodes;
+        whole = law.whole;
         story = law.story;
         names = λ name. name_stays world next law.story.course.store law.story.course.store law.home name
             (λ any. ap (λ h. value_at (slice_cmp nat_cmp) (held_by h) name) (homes_beside world node front later at any)) refl (law.names name);
@@ -269,7 +273,7 @@ open_by : (config : Config) (heard : ℕ → Heard) (world : World) (node : List
 open_by config heard world node conn None at law new = elsewhere_keeps config heard world node conn law at new
 open_by config heard world node conn (Some front) at law new =
     subst (λ w. KeepsOn config (told_of law.story) (after_open config heard node conn) w)
-    (sym (opened_comes (with_client world node conn) node conn front at))
+    (sym (opened_comes (with_client world node conn) node conn front law.whole at))
     (front_keeps_open config heard world node conn front law at new)
 
 pub open_keeps : (config : Config) (heard : ℕ → Heard) (world : World) (node : List ℕ) (conn : ℕ) (there : Option Client) → client_at world conn ≡ there

@@ -51,14 +51,14 @@ use Rattle.front_core.proofs.OneConnection.Standing.IsLeft.{nothing}
 use Rattle.front_core.proofs.OneConnection.Waits.{in_answer}
 
 -- an answer comes to its frontend
-to_front : (world : World) (from node : List ℕ) (answer : BackAnswer) (front : Front) (connection : Connection) (turned : Turned) → from ≡ front.home
+to_front : (world : World) (from node : List ℕ) (answer : BackAnswer) (front : Front) (connection : Connection) (turned : Turned) → world.broken ≡ [] → from ≡ front.home
     → front_at world node ≡ Some front → connection_at front (answer.id).conn ≡ Some connection
     → answer_comes front.setting front.home (answer.id).conn connection answer ≡ turned
     → comes (taken_from_link world from node) node (From from (Answer answer)) ≡ world_after (taken_from_link world from node) node front
     (answer.id).conn (released turned.connection) turned.outs
 unfolding take_message answer_from answer_at
-to_front world from node answer front connection turned asked at has comes =
-    answer_comes_to (taken_from_link world from node) from node answer front at
+to_front world from node answer front connection turned whole asked at has comes =
+    answer_comes_to (taken_from_link world from node) from node answer front whole at
     ∙ ap (λ s. with_front (taken_from_link world from node) node (answer_from s front answer))
     (ap (λ n. pointwise nat_eq n front.home) asked ∙ nat_list_eq_equiv.refl front.home)
     ∙ ap (λ f. with_front (taken_from_link world from node) node (answer_at front answer f)) has
@@ -106,7 +106,7 @@ replied_kept config heard after world law from answer rest conn bytes node front
     let turned : Turned = replied_turn (setting_of config) law.home conn connection tag turn in
     let kept : Connection = released turned.connection in
     subst (λ w. KeepsOn config (told_of law.story) after w)
-    (sym (to_front world from node answer front connection turned asked at.at (ap (connection_at front) own ∙ at.has) comes
+    (sym (to_front world from node answer front connection turned law.whole asked at.at (ap (connection_at front) own ∙ at.has) comes
     ∙ ap (λ c. world_after (taken_from_link world from node) node front c kept turned.outs) own))
     (front_keeps config heard after world law
     (without_first world.links from node) conn node front connection kept turned.outs law.story stands.story
@@ -138,7 +138,7 @@ unfolding carry_all
 dropped config heard after world law from answer rest conn bytes node front connection more asked first same own e at gone said few without =
     let kept : Connection = released connection in
     subst (λ w. KeepsOn config (told_of law.story) after w)
-    (sym (to_front world from node answer front connection (unchanged connection) asked at.at (ap (connection_at front) own ∙ at.has)
+    (sym (to_front world from node answer front connection (unchanged connection) law.whole asked at.at (ap (connection_at front) own ∙ at.has)
     (ended_drops_answer front.setting front.home (answer.id).conn connection answer gone.stage_is)
     ∙ ap (λ c. world_after (taken_from_link world from node) node front c kept []) own))
     (front_keeps config heard after world law (without_first world.links from node) conn node front connection kept [] law.story law.story

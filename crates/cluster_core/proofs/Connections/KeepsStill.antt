@@ -11,19 +11,23 @@ use Rattle.link_msg.specs.declared.out.Out.TheVariants.{Client as to_client, Clo
 use Rattle.mur_base.specs.Map.{value_at, with_value}
 use Rattle.mur_base.proofs.MapLaws.{names_apart, same_or_other}
 use Rattle.mur_config.specs.declared.config.Config.{Config}
+use Rattle.mur_model.specs.declared.setting.Setting.{Setting}
 use Rattle.mur_model.proofs.HistoryGrows.{same_talk}
 use Rattle.cluster_core.specs.declared.world.Client.{Client}
 use Rattle.node_step.specs.declared.node.NodeState.{NodeState}
 use Rattle.node_step.specs.declared.node.NodeState.TheVariants as state
-use Rattle.node_step.specs.NodeStep.{as_front, as_back}
+use Rattle.node_step.specs.NodeStep.{as_front}
 use Rattle.cluster_core.specs.declared.world.World.{World}
 use Rattle.imap_talk.specs.Heard.{Heard, frames_heard}
 use Rattle.cluster_core.specs.Shown.{held_by}
 use Rattle.cluster_core.specs.World.{client_at, front_at, setting_of, given_more, carry, carry_all, with_state}
-use Rattle.cluster_core.proofs.Connections.ConnectionLaw.{told_of}
+use Rattle.cluster_core.proofs.Connections.ConnectionLaw.{Story, told_of}
 use Rattle.cluster_core.proofs.Connections.Comes.{front_here, front_other}
 use Rattle.cluster_core.proofs.Connections.NameLaw.{name_stays}
 use Rattle.cluster_core.proofs.Connections.KeepsLaw.{ConnectionIs, AreNodesOf, KeepsLaw, KeepsOn, LooksAlike, SameFront, same_front, connection_stays}
+use Rattle.cluster_core.proofs.Connections.KeepsLaw.{ClientStays}
+use Rattle.cluster_core.proofs.Connections.KeepsLaw.ClientStays.{same_client, given_elsewhere}
+use Rattle.cluster_core.proofs.Connections.KeepsLaw.ConnectionIs.{is_nobody, is_elsewhere, is_open, is_closed}
 use Rattle.cluster_core.proofs.Connections.KeepsLaw.SameFront.{both}
 use Rattle.front_core.proofs.OneConnection.Places.{of_connection, of_nobody}
 use Rattle.imap_talk.proofs.RequestsOf.{requests_of}
@@ -38,32 +42,57 @@ nodes_alike config world next home fronts nodes = record {
   home_for = nodes.home_for;
 }
 
+-- a client at a frontend isn't one where no frontend is
+not_at_both : (world : World) (conn : ℕ) (node other : List ℕ) (front : Front) (client known : Client) → front_at world node ≡ Some front
+    → front_at world other ≡ None → client_at world conn ≡ Some client → client_at world conn ≡ Some known → client.at ≡ node → known.at ≡ other → ⊥
+not_at_both world conn node other front client known is none one two at known_at =
+    let same : Some client ≡ Some known = sym one ∙ two in
+    let nodes : node ≡ other = sym at ∙ (let e : client ≡ known = cc in ap (λ (c : Client). c.at) e) ∙ known_at in
+    let no : Some front ≡ None = sym is ∙ ap (front_at world) nodes ∙ none in
+    cc
+
+pub alike_stays : (setting : Setting) (home : List ℕ) (conn : ℕ) (world next : World) (story : Story) (heard : Heard) → LooksAlike world next
+    → ClientStays conn world next → ConnectionIs setting home conn world story heard → ConnectionIs setting home conn next story heard
+alike_stays setting home conn world next story heard alike (same_client same) is =
+    connection_stays setting home conn world next story story heard
+    (record {
+      fronts = λ node. same_front conn (front_at world node) (front_at next node) (alike.fronts node);
+      client = same;
+      places = alike.places (of_connection conn);
+      told = refl;
+      said = refl;
+      session = refl;
+    }) is
+alike_stays setting home conn world next story heard alike (given_elsewhere node was now none before after) (is_nobody nothing fronts untold) =
+    absurd (let no : Some (record { at = node; given = was }) ≡ None = sym before ∙ nothing in cc)
+alike_stays setting home conn world next story heard alike (given_elsewhere node was now none before after) (is_elsewhere there given at no_front untold) =
+    is_elsewhere node now after (alike.fronts node ∙ none)
+    (record { told = untold.told; said = untold.said; session = untold.session; nothing = alike.places (of_connection conn) None untold.nothing })
+alike_stays setting home conn world next story heard alike (given_elsewhere node was now none before after)
+    (is_open bytes there front connection at reader standing) =
+    absurd (not_at_both world conn there node front _ _ at.at none standing.client before refl refl)
+alike_stays setting home conn world next story heard alike (given_elsewhere node was now none before after) (is_closed bytes there front connection at gone) =
+    absurd (not_at_both world conn there node front _ _ at.at none gone.client before refl refl)
+
 unfoldable pub still_kept : (config : Config) (heard after : ℕ → Heard) (world next : World) → LooksAlike world next → ((conn : ℕ) → after conn ≡ heard conn)
     → (law : KeepsLaw config heard world) → KeepsOn config (told_of law.story) after next
 still_kept config heard after world next alike same law = record {
   law = record {
     home = law.home;
     backend = law.backend;
-    home_is = ap as_back (alike.nodes law.home) ∙ law.home_is;
-    nodes = nodes_alike config world next law.home (λ node. ap as_front (alike.nodes node)) law.nodes;
+    home_is = alike.homes law.home ∙ law.home_is;
+    nodes = nodes_alike config world next law.home alike.fronts law.nodes;
+    whole = alike.broken ∙ law.whole;
     story = law.story;
     names = λ name. name_stays world next law.story.course.store law.story.course.store law.home name
-        (λ node. ap (λ n. value_at (slice_cmp nat_cmp) (held_by (as_back n)) name) (alike.nodes node)) refl (law.names name);
+        (λ node. ap (λ h. value_at (slice_cmp nat_cmp) (held_by h) name) (alike.homes node)) refl (law.names name);
     serials = law.serials;
     is_told = subst (λ m. IsTold (setting_of config) next.steps m law.story.talk law.story.told law.story.course) (sym alike.marks)
         (told_later (setting_of config) world.steps next.steps world.marks law.story.talk law.story.told law.story.course alike.steps law.is_told);
     requests = λ conn. law.requests conn ∙ ap (λ h. requests_of (setting_of config) (frames_heard h)) (sym (same conn));
     no_others = alike.places of_nobody None law.no_others;
     connections = λ conn. subst (λ h. ConnectionIs (setting_of config) law.home conn next law.story h) (sym (same conn))
-        (connection_stays (setting_of config) law.home conn world next law.story law.story (heard conn)
-        (record {
-          fronts = λ node. same_front conn (front_at world node) (front_at next node) (ap as_front (alike.nodes node));
-          client = alike.clients conn;
-          places = alike.places (of_connection conn);
-          told = refl;
-          said = refl;
-          session = refl;
-        }) (law.connections conn));
+        (alike_stays (setting_of config) law.home conn world next law.story (heard conn) alike (alike.clients conn) (law.connections conn));
   };
   more = same_talk (told_of law.story);
   closed = λ conn shut. refl;

@@ -19,7 +19,7 @@ use Rattle.cluster_core.specs.Flow.{Flowing, delivered, turn_by, turn_of_link, r
 use Rattle.cluster_core.specs.Headline.FlowLaw.{DeliversFirst, IsFlow, AreStepsOf, AreStepsOfAll, AreItsSteps}
 use Rattle.cluster_core.specs.Headline.FlowLaw.AreStepsOfAll.{no_event, an_event}
 use Rattle.link_queue.specs.Links.{on_link}
-use Rattle.cluster_core.specs.World.{node_at, comes_to, taken_from_link, deliver_first, takes, stepped, steps_by, start, layout_of}
+use Rattle.cluster_core.specs.World.{not_lost, node_at, comes_to, taken_from_link, deliver_first, takes, stepped, steps_by, start, layout_of}
 use Rattle.cluster_core.proofs.Nodes.LinkedNodes.{AreApart, pairs_apart}
 use Rattle.cluster_core.proofs.Nodes.OneNodeLaw.{carry_all_sends}
 use Rattle.cluster_core.proofs.Nodes.OnPairs.{IsIdle, all_empty}
@@ -32,7 +32,7 @@ comes_leaves : (world : World) (node : List ℕ) (input : NodeInput) (found : Op
     → on_link (comes_to world node input found).links from to ≡ on_link world.links from to
 unfolding comes_to
 comes_leaves world node input None from to ne = refl
-comes_leaves world node input (Some it) from to ne = (carry_all_sends node _ (node_takes it input).outs).others from to ne
+comes_leaves world node input (Some it) from to ne = (carry_all_sends node _ (not_lost world.broken node (node_takes it input).outs)).others from to ne
 
 takes_first : (world : World) (from to : List ℕ) (queue : List LinkMsg) → from ≢ to → on_link world.links from to ≡ queue
     → on_link (deliver_first world from to queue).links from to ≡ drop 1 queue

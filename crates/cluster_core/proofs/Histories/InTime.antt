@@ -21,7 +21,7 @@ use Rattle.cluster_core.specs.declared.world.MarkKind.TheVariants.{Home, Told}
 use Rattle.cluster_core.specs.declared.world.World.{World}
 use Rattle.cluster_core.specs.Flow.{run_steps}
 use Rattle.link_queue.specs.Links.{on_link}
-use Rattle.cluster_core.specs.World.{marked, client_at, node_at, given_more, carry, carry_all, acts, comes_to, with_client, opens, client_does}
+use Rattle.cluster_core.specs.World.{not_lost, marked, client_at, node_at, given_more, carry, carry_all, acts, comes_to, with_client, opens, client_does}
 use Rattle.cluster_core.specs.World.{taken_from_link, deliver_first, takes, stepped, steps_by}
 
 -- marks of one step, put behind others; the step stays
@@ -79,7 +79,7 @@ carry_all_adds node world [] = adds_none world world refl refl
 carry_all_adds node world (out ∷ outs) = adds_more world (carry node world out) _ (carry_adds node world out) (carry_all_adds node (carry node world out) outs)
 
 acts_add : (world : World) (node : List ℕ) (acted : Acted) → Adds world (acts world node acted)
-acts_add world node acted = adds_more world _ _ (adds_none world _ refl refl) (carry_all_adds node _ acted.outs)
+acts_add world node acted = adds_more world _ _ (adds_none world _ refl refl) (carry_all_adds node _ (not_lost world.broken node acted.outs))
 
 comes_add : (world : World) (node : List ℕ) (input : NodeInput) (found : Option NodeState) → Adds world (comes_to world node input found)
 unfolding comes_to

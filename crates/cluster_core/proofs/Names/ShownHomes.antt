@@ -10,7 +10,7 @@ use Rattle.std.specs.Str.{bytes_eq}
 use Rattle.std.proofs.lemmas.List.{append-nil}
 use Rattle.std.proofs.lemmas.List.Elements.{All-append, All-cons, All-nil, All-head, All-tail}
 use Rattle.backend_core.specs.declared.backend.Backend.{Backend}
-use Rattle.backend_core.specs.declared.held.Held.{Held}
+use Rattle.node_record.specs.declared.held.Held.{Held}
 use Rattle.backend_core.specs.HomeLaws.{is_open}
 use Rattle.mail_message.specs.Boxes.{Content}
 use Rattle.mur_base.specs.Map.{value_at}
@@ -127,22 +127,22 @@ module _ (config : Config) (world : World) (store : Store) (home : List ℕ) (ba
   unfolding home_rows
   homes_here = homes_by (count_by (is_name name) (names_at world [] (backends_of config.nodes))) refl
 
-numbers_by : (name node : List ℕ) (phase : Phase) (content : Content)
-    → map numbers_shown (filter (is_writable_home name) (row_if name node (Some (record { phase = phase; content = content }))))
+numbers_by : (name node : List ℕ) (phase : Phase) (giver : Option (List ℕ)) (content : Content)
+    → map numbers_shown (filter (is_writable_home name) (row_if name node (Some (record { phase = phase; giver = giver; content = content }))))
     ≡ map numbers_of (option_to_list (open_box phase content))
 unfolding is_open open_box
-numbers_by name node open_here content =
-    ap (λ b. map numbers_shown (cond b (home_row name node (record { phase = open_here; content = content }) ∷ []) [])) (bytes_itself name)
-numbers_by name node Creating content = refl
-numbers_by name node Closing content = refl
-numbers_by name node Receiving content = refl
-numbers_by name node Ready content = refl
-numbers_by name node (Pointer server) content = refl
+numbers_by name node open_here giver content =
+    ap (λ b. map numbers_shown (cond b (home_row name node (record { phase = open_here; giver = giver; content = content }) ∷ []) [])) (bytes_itself name)
+numbers_by name node Creating giver content = refl
+numbers_by name node Closing giver content = refl
+numbers_by name node Receiving giver content = refl
+numbers_by name node Ready giver content = refl
+numbers_by name node (Pointer server) giver content = refl
 
 same_numbers : (name node : List ℕ) (found : Option Held)
     → map numbers_shown (filter (is_writable_home name) (row_if name node found)) ≡ map numbers_of (option_to_list (open_content found))
 same_numbers name node None = refl
-same_numbers name node (Some held) = numbers_by name node held.phase held.content
+same_numbers name node (Some held) = numbers_by name node held.phase held.giver held.content
 
 -- ---- what a row tells, its backend has
 

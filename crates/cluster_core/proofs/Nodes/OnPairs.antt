@@ -26,11 +26,12 @@ use Rattle.imap_talk.specs.Heard.{Heard, nobody}
 use Rattle.link_queue.specs.Links.{Links, same_link, on_link, sent, without_first}
 use Rattle.link_queue.proofs.Wires.{same_names, on_link-sent, on_link-taken}
 use Rattle.cluster_core.specs.Headline.OneStore.{AreEmpty}
-use Rattle.cluster_core.specs.World.{start, client_at, node_at, front_at, given_more, carry, carry_all, with_state, comes_to, with_client, opens}
+use Rattle.cluster_core.specs.World.{start, client_at, node_at, front_at, given_more, carry, carry_all, with_state, not_lost, comes_to, with_client, opens}
 use Rattle.cluster_core.specs.World.{client_does, taken_from_link, deliver_first, takes, stepped, steps_by}
 use Rattle.cluster_core.proofs.Connections.Keeps.{step_keeps}
 use Rattle.cluster_core.proofs.Connections.KeepsLaw.{KeepsLaw}
 use Rattle.cluster_core.proofs.Nodes.LinkedNodes.{start_keeps}
+use Rattle.cluster_core.proofs.Nodes.NotLost.{to_left}
 use Rattle.cluster_core.proofs.Runs.StartLaw.{start_links}
 
 -- two nodes are linked, in both directions
@@ -85,8 +86,9 @@ comes_on : (pairs : List Link) (world : World) (node : List ℕ) (input : NodeIn
 unfolding comes_to
 comes_on pairs world node input None there homes sender on = on
 comes_on pairs world node input (Some it) there homes sender on =
-    carry_all_on pairs node (with_state world node (node_takes it input).state) (node_takes it input).outs
-    (takes_goes (Joined pairs node) it input (λ front is. homes node front (ap as_front there ∙ is)) sender) on
+    carry_all_on pairs node (with_state world node (node_takes it input).state)
+    (not_lost world.broken node (node_takes it input).outs) (to_left (Joined pairs node) world.broken node (node_takes it input).outs
+    (takes_goes (Joined pairs node) it input (λ front is. homes node front (ap as_front there ∙ is)) sender)) on
 
 opens_on : (pairs : List Link) (world : World) (node : List ℕ) (conn : ℕ) (found : Option ClientOf) → HaveHomes pairs world → AreOn pairs world.links
     → AreOn pairs (opens world node conn found).links

@@ -26,7 +26,7 @@ use Rattle.cluster_core.specs.declared.world.World.{World}
 use Rattle.cluster_core.specs.Flow.{run_steps}
 use Rattle.link_queue.specs.Links.{Links, same_link, on_link, without_first}
 use Rattle.cluster_core.specs.Headline.OneNode.{node_of, worker, connected, leaves_on, WasSent, OnlyWorks, WorksBy, OneNodeWorks, OneNodeWorksEach}
-use Rattle.cluster_core.specs.World.{marked, client_at, node_at, given_more, carry, carry_all, with_state, comes_to, with_client, opens, client_does}
+use Rattle.cluster_core.specs.World.{not_lost, marked, client_at, node_at, given_more, carry, carry_all, with_state, comes_to, with_client, opens, client_does}
 use Rattle.cluster_core.specs.World.{taken_from_link, deliver_first, takes, stepped, steps_by}
 use Rattle.cluster_core.proofs.Histories.InTime.{takes_adds}
 use Rattle.link_queue.proofs.Wires.{same_names, on_link-sent, on_link-taken}
@@ -34,7 +34,7 @@ use Rattle.link_queue.proofs.Wires.{same_names, on_link-sent, on_link-taken}
 -- what a node's outputs do: messages stand behind those on its links, clients are given bytes, and nothing else of nodes and links changes
 pub record Sends (node : List ℕ) (before after : World) : Type 0 where
   pub nodes : after.nodes ≡ before.nodes
-  clients : (conn : ℕ) → node_of (client_at after conn) ≡ node_of (client_at before conn)
+  pub clients : (conn : ℕ) → node_of (client_at after conn) ≡ node_of (client_at before conn)
   pub others : (from to : List ℕ) → from ≢ node → on_link after.links from to ≡ on_link before.links from to
   goes : (to : List ℕ) → WasSent (on_link before.links node to) (on_link after.links node to)
 
@@ -185,7 +185,7 @@ unfolding comes_to
 comes_works event node before world input None works = works
 comes_works event node before world input (Some it) works =
     works_and_sends event node before _ _ (state_changes event node before world (node_takes it input).state works)
-    (carry_all_sends node _ (node_takes it input).outs)
+    (carry_all_sends node _ (not_lost world.broken node (node_takes it input).outs))
 
 -- a client that is connected stays where it is
 joined_before : (node : List ℕ) (conn other : ℕ) (at : Option (List ℕ)) → (at ≡ None → other ≢ conn) → at ≡ connected (Open node conn) other at

@@ -22,11 +22,12 @@ use Rattle.imap_talk.specs.Heard.{Heard, nobody}
 use Rattle.cluster_core.specs.Heard.{heard_from}
 use Rattle.link_queue.specs.Links.{on_link}
 use Rattle.cluster_core.specs.Headline.OneNode.{node_of, ServesItsOwn, ServesItsOwnEach, ServesItsOwnBehind}
-use Rattle.cluster_core.specs.World.{start, setting_of, client_at, node_at, given_more, carry, carry_all, with_state, comes_to, with_client, opens}
+use Rattle.cluster_core.specs.World.{start, setting_of, client_at, node_at, given_more, carry, carry_all, with_state, not_lost, comes_to, with_client, opens}
 use Rattle.cluster_core.specs.World.{client_does, taken_from_link, deliver_first, takes, stepped, steps_by}
 use Rattle.cluster_core.proofs.Connections.Keeps.{run_keeps}
 use Rattle.cluster_core.proofs.Connections.FirstTells.{first_tells}
 use Rattle.cluster_core.proofs.Connections.KeepsLaw.{KeepsLaw}
+use Rattle.cluster_core.proofs.Nodes.NotLost.{not_for_left}
 use Rattle.cluster_core.proofs.Nodes.OneNodeLaw.{one_more_step}
 use Rattle.node_step.specs.declared.node.NodeState.{NodeState}
 use Rattle.node_step.specs.NodeStep.{takes as node_takes}
@@ -35,7 +36,7 @@ use Rattle.cluster_core.proofs.Nodes.LinkedNodes.{start_keeps}
 use Rattle.front_core.proofs.OneConnection.Places.{in_an_answer}
 
 -- the client of this connection is as it was
-abbrev IsSame : ℕ → World → World → Type 0
+abbrev pub IsSame : ℕ → World → World → Type 0
 IsSame other before after = client_at after other ≡ client_at before other
 
 given_same : (world : World) (conn : ℕ) (bytes : List ℕ) (other : ℕ) (found : Option Client) → other ≢ conn
@@ -53,25 +54,26 @@ carry_same node world other (mark_out ask counts) not = refl
 carry_same node world other (tell ask how) not = refl
 carry_same node world other (to_node name message) not = refl
 
-carry_all_same : (node : List ℕ) (world : World) (other : ℕ) (outs : List Out) → AreNotFor other outs → IsSame other world (carry_all node world outs)
+pub carry_all_same : (node : List ℕ) (world : World) (other : ℕ) (outs : List Out) → AreNotFor other outs → IsSame other world (carry_all node world outs)
 unfolding carry_all AreNotFor
 carry_all_same node world other [] none = refl
 carry_all_same node world other (out ∷ outs) none =
     carry_all_same node (carry node world out) other outs none.1 ∙ carry_same node world other out none.0
 
 -- what comes to a node changes no client but its own
-comes_same : (world : World) (node : List ℕ) (input : NodeInput) (other : ℕ) (found : Option NodeState) → conn_of input ≢ Some other
+pub comes_same : (world : World) (node : List ℕ) (input : NodeInput) (other : ℕ) (found : Option NodeState) → conn_of input ≢ Some other
     → IsSame other world (comes_to world node input found)
 unfolding comes_to
 comes_same world node input other None ne = refl
 comes_same world node input other (Some it) ne =
-    carry_all_same node (with_state world node (node_takes it input).state) other (node_takes it input).outs (takes_own it input other ne)
+    carry_all_same node (with_state world node (node_takes it input).state) other
+    (not_lost world.broken node (node_takes it input).outs) (not_for_left world.broken node other (node_takes it input).outs (takes_own it input other ne))
 
 just_apart : (conn other : ℕ) → other ≢ conn → Some conn ≢ Some other
 just_apart conn other ne e = ne (cc)
 
 -- a connection is opened
-joins_alone : (world : World) (node : List ℕ) (conn other : ℕ) → other ≢ conn → IsSame other world (with_client world node conn)
+pub joins_alone : (world : World) (node : List ℕ) (conn other : ℕ) → other ≢ conn → IsSame other world (with_client world node conn)
 joins_alone world node conn other ne = value_at-with_entry-other nat_cmp numbers_apart world.clients conn other (record { at = node; given = [] }) ne
 
 opens_own : (world : World) (node : List ℕ) (conn : ℕ) (found : Option Client) → client_at world conn ≡ found → (other : ℕ) (client : Client)
@@ -99,12 +101,12 @@ client_own world conn input (Some one) its is other client at ne =
     (λ e. just_apart conn other (of_another world conn other one client is at ne) (sym its ∙ e)) ∙ at
 
 -- the client of an answer that comes is connected where it comes to
-abbrev ComesToItsOwn : World → List ℕ → List ℕ → Type 0
+abbrev pub ComesToItsOwn : World → List ℕ → List ℕ → Type 0
 ComesToItsOwn world from to = (answer : BackAnswer) (rest : List LinkMsg) (client : Client) → on_link world.links from to ≡ Answer answer ∷ rest
     → client_at world (answer.id).conn ≡ Some client → client.at ≡ to
 
 -- a message for a connection is an answer to it
-message_own : (message : LinkMsg) (other : ℕ) → ((answer : BackAnswer) → message ≡ Answer answer → (answer.id).conn ≢ other)
+pub message_own : (message : LinkMsg) (other : ℕ) → ((answer : BackAnswer) → message ≡ Answer answer → (answer.id).conn ≢ other)
     → conn_of_message message ≢ Some other
 message_own (Answer answer) other ne e = ne answer refl (cc)
 message_own Up other ne e = cc
@@ -138,7 +140,7 @@ is_at None client known a b = cc
 is_at (Some it) client known a b = (let same : Some client ≡ Some known = sym a ∙ b in cc)
 
 -- in a run an answer comes to the frontend of its connection
-own_by_law : (config : Config) (heard : ℕ → Heard) (world : World) → KeepsLaw config heard world → (from to : List ℕ) → ComesToItsOwn world from to
+pub own_by_law : (config : Config) (heard : ℕ → Heard) (world : World) → KeepsLaw config heard world → (from to : List ℕ) → ComesToItsOwn world from to
 own_by_law config heard world law from to = λ answer rest client first at.
     let conn : ℕ = (answer.id).conn in
     let tells = first_tells (setting_of config) law.home conn world law.story (heard conn) (heard conn) from to (Answer answer) rest refl first refl

@@ -25,6 +25,10 @@ closed_hears config conn elsewhere event shut = cc
 closed_hears config conn (client bytes true) event shut = refl
 closed_hears config conn (client bytes false) event shut = cc
 
+not_elsewhere : (heard : Heard) → has_closed heard ≡ true → heard ≡ elsewhere → ⊥
+unfolding has_closed
+not_elsewhere heard shut e = (let no : false ≡ true = sym (ap has_closed e) ∙ shut in cc)
+
 -- what a client was given is the transcript of what was heard of it and of what it was told
 step_gives : (config : Config) (heard : ℕ → Heard) (world : World) (event : Event) (conn : ℕ) (law : KeepsLaw config heard world)
     → KeepsOn config (told_of law.story) (λ other. hears config other (heard other) event) (steps_by world event) → has_closed (heard conn) ≡ true
@@ -34,10 +38,10 @@ step_gives config heard world event conn law next shut =
     let now = says_of (setting_of config) next.law.home conn (steps_by world event) next.law.story (hears config conn (heard conn) event)
     (next.law.connections conn) in
     let same : hears config conn (heard conn) event ≡ heard conn = closed_hears config conn (heard conn) event shut in
-    now.given
+    now.given (λ e. absurd (not_elsewhere (heard conn) shut (sym same ∙ e)))
     ∙ ap (λ h. transcript_of (setting_of config) (bytes_heard h) (next.law.story.told conn)) same
     ∙ ap (transcript_of (setting_of config) (bytes_heard (heard conn))) (next.closed conn (ap has_closed same ∙ shut))
-    ∙ sym was.given
+    ∙ sym (was.given (λ e. absurd (not_elsewhere (heard conn) shut e)))
 
 stays_given : (config : Config) (heard : ℕ → Heard) (world : World) (events : List Event) (conn : ℕ) → KeepsLaw config heard world
     → has_closed (heard conn) ≡ true → given_to (run_steps world events) conn ≡ given_to world conn

@@ -20,6 +20,7 @@ use Rattle.cluster_core.specs.Headline.HomeLaw.{HasRelocationCause, RefusesForCa
 use Rattle.cluster_core.specs.World.{start, layout_of}
 use Rattle.cluster_core.proofs.Flows.FlowRests.{are_steps_of_all}
 use Rattle.cluster_core.proofs.OneServer.ClosedLaw.{gives_no_more}
+use Rattle.cluster_core.proofs.OneServer.GuestsServed.{serves_guests}
 use Rattle.cluster_core.proofs.Nodes.OneNodeLaw.{one_node_each}
 use Rattle.cluster_core.proofs.Names.OneHome.{keeps_one_home_each}
 use Rattle.cluster_core.proofs.Nodes.OwnClientsLaw.{serves_its_own_each}
@@ -54,6 +55,7 @@ one_server config events are date_is = record {
   own_clients = serves_its_own_each config (steps_of_run config events) are;
   one_store = told_by_one_store config events are date_is;
   closed = gives_no_more config events are;
+  guests = serves_guests config events are;
   one_home = keeps_one_home_each config events are;
   refusals = refuses (run_of config events);
 }

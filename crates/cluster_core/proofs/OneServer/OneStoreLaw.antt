@@ -24,12 +24,13 @@ use Rattle.cluster_core.specs.declared.world.Client.{Client}
 use Rattle.cluster_core.specs.declared.world.Mark.{Mark}
 use Rattle.cluster_core.specs.declared.world.World.{World}
 use Rattle.front_core.specs.Ending.{EndsOnlyLast}
-use Rattle.imap_talk.specs.Heard.{Heard, bytes_heard, frames_heard, has_closed}
+use Rattle.imap_talk.specs.Heard.{Heard, bytes_heard, frames_heard, has_closed, elsewhere}
 use Rattle.cluster_core.specs.History.{history_of}
 use Rattle.cluster_core.specs.Headline.OneStore.{AreEmpty, IsAnsweredThrough, first_course}
 use Rattle.cluster_core.specs.Headline.Points.{AreMadeBy, LosesTheNext}
 use Rattle.cluster_core.specs.Shown.{given_by, given_to}
-use Rattle.cluster_core.specs.World.{client_at}
+use Rattle.cluster_core.specs.Headline.OneNode.{node_of}
+use Rattle.cluster_core.specs.World.{client_at, front_at}
 use Rattle.cluster_core.proofs.Connections.ConnectionLaw.{Story, told_of, client_with}
 use Rattle.front_core.proofs.OneConnection.Standing.{Knows, Stands, IsLeft, next_ask, next_id}
 use Rattle.front_core.proofs.OneConnection.Standing.Knows.{asked_so, answered_so}
@@ -73,9 +74,13 @@ told_left setting home conn requests told said session place (nothing rest a b a
 told_left setting home conn requests told said session place (left_waiting waiting) =
     told_knows home conn waiting.was waiting.tag waiting.name waiting.work told said session place waiting.knows
 
+-- a client that is connected where no frontend is was given nothing
+abbrev pub IsSilent : World → ℕ → Type 0
+IsSilent world conn = (node : List ℕ) → node_of (client_at world conn) ≡ Some node → front_at world node ≡ None → given_to world conn ≡ []
+
 -- what can be said of a connection, whatever was heard of it
 pub record SaysOf (setting : Setting) (world : World) (conn : ℕ) (heard : Heard) (told said : List Answer) : Type 0 where
-  pub given : given_to world conn ≡ transcript_of setting (bytes_heard heard) told
+  pub given : (heard ≡ elsewhere → IsSilent world conn) → given_to world conn ≡ transcript_of setting (bytes_heard heard) told
   pub so : IsToldSo told said
   pub lasts : EndsOnlyLast told
   pub waits_not : AreEmpty world → has_closed heard ≡ false → IsAnsweredThrough (requests_of setting (frames_heard heard)) told
@@ -117,19 +122,19 @@ pub says_of : (setting : Setting) (home : List ℕ) (conn : ℕ) (world : World)
     → SaysOf setting world conn heard (story.told conn) (story.talk.answers conn)
 unfolding all_told_till bytes_heard frames_heard has_closed requests_in inputs_of
 says_of setting home conn world story heard (is_nobody none fronts untold) = record {
-  given = given_at world conn None none;
+  given = λ silent. given_at world conn None none;
   so = all_told (story.told conn) (story.talk.answers conn) (untold.said ∙ sym untold.told);
   lasts = none_given (story.told conn) untold.told;
   waits_not = λ empty stays. inl (ap length untold.told);
 }
-says_of setting home conn world story heard (is_elsewhere node at none untold) = record {
-  given = given_at world conn (Some (record { at = node; given = [] })) at;
+says_of setting home conn world story heard (is_elsewhere node given at none untold) = record {
+  given = λ silent. silent refl node (ap node_of at) none;
   so = all_told (story.told conn) (story.talk.answers conn) (untold.said ∙ sym untold.told);
   lasts = none_given (story.told conn) untold.told;
   waits_not = λ empty stays. inl (ap length untold.told);
 }
 says_of setting home conn world story heard (is_open bytes node front connection at reader standing) = record {
-  given = given_at world conn (Some (client_with node (inputs_in setting bytes) (story.told conn))) standing.client;
+  given = λ silent. given_at world conn (Some (client_with node (inputs_in setting bytes) (story.told conn))) standing.client;
   so = told_standing setting home conn (inputs_in setting bytes) (begun bytes) connection (story.told conn) (story.talk.answers conn)
       (story.course.sessions conn) standing.place standing.stands;
   lasts = stands_last setting home conn (inputs_in setting bytes) (begun bytes) connection (story.told conn) (story.talk.answers conn)
@@ -139,7 +144,7 @@ says_of setting home conn world story heard (is_open bytes node front connection
       (nowhere_on_empty world.links (of_connection conn) (its_message node standing.place) empty standing.placed) standing.stands;
 }
 says_of setting home conn world story heard (is_closed bytes node front connection at gone) = record {
-  given = given_at world conn (Some (client_with node (inputs_in setting bytes) (story.told conn))) gone.client;
+  given = λ silent. given_at world conn (Some (client_with node (inputs_in setting bytes) (story.told conn))) gone.client;
   so = told_left setting home conn (requests_in (inputs_in setting bytes)) (story.told conn) (story.talk.answers conn) (story.course.sessions conn)
       gone.place gone.left;
   lasts = gone.lasts;

@@ -45,6 +45,7 @@ use Rattle.cluster_core.proofs.Histories.Tally.{acts, conn_of, command_of}
 use Rattle.cluster_core.proofs.Histories.Marks.{Carries, counts_of, is_mark, all_points}
 use Rattle.cluster_core.proofs.Histories.Marks.Carries.{no_marks, a_mark, a_telling}
 use Rattle.store_law.proofs.NoRelocation.{have_causes}
+use Rattle.cluster_core.proofs.OneServer.GuestsServed.{others_are_silent}
 use Rattle.cluster_core.proofs.OneServer.OneStoreLaw.{SaysOf, says_of, IsLegalTo, legal_history, loses_the_next, made_by_now, steps_rise, IsToldSo}
 use Rattle.imap_talk.proofs.ReadLaw.{heard_sound, read_of_legal}
 use Rattle.imap_talk.proofs.RequestsOf.{asks_all}
@@ -193,11 +194,11 @@ told_so_far config talk before later are date_is now last =
       so_far = told_of law.story;
       goes_on = now.more;
       asked = asked;
-      given = λ conn. (says conn).given;
-      read = λ conn. read_of_legal (setting_of config) first_course (told_of law.story) (history_of world) legal.last legal.legal date_is empty_is
+      given = λ conn mail. (says conn).given (λ _. others_are_silent config before are conn mail);
+      read = λ conn mail. read_of_legal (setting_of config) first_course (told_of law.story) (history_of world) legal.last legal.legal date_is empty_is
           (λ other. heard_sound (setting_of config) (heard other) (law.story.talk.requests other) (asked other)) conn (given_to world conn) (bytes_heard
           (heard conn))
-          (says conn).given;
+          ((says conn).given (λ _. others_are_silent config before are conn mail));
       ends_only_last = λ conn. (says conn).lasts;
       last = legal.last;
       legal = legal.legal;

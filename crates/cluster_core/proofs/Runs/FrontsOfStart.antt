@@ -21,19 +21,19 @@ use Rattle.cluster_core.specs.World.{no_world, backends_of, home_of, setting_of,
 use Rattle.cluster_core.proofs.Runs.UpsLaw.{started}
 
 -- a node of another name
-abbrev IsOther : List ℕ → Node → Type 0
+abbrev pub IsOther : List ℕ → Node → Type 0
 IsOther name node = node.name ≢ name
 
-others_here : (name : List ℕ) (nodes : List Node) → All (λ (other : Node). name ≢ other.name) nodes → All (IsOther name) nodes
+pub others_here : (name : List ℕ) (nodes : List Node) → All (λ (other : Node). name ≢ other.name) nodes → All (IsOther name) nodes
 others_here name nodes all = λ k d h. λ e. all k d h (sym e)
 
-node_stays : (home : List ℕ) (setting : Setting) (world : World) (node : Node) (name : List ℕ) → IsOther name node
+pub node_stays : (home : List ℕ) (setting : Setting) (world : World) (node : Node) (name : List ℕ) → IsOther name node
     → node_at (with_node home setting world node) name ≡ node_at world name
 node_stays home setting world node name other =
     value_at-with_entry-other (slice_cmp nat_cmp) names_apart world.nodes node.name name (first_state home setting node node.kind) (λ e. other (sym e))
 
 -- what there is at a name stays, if no node of this name comes
-nodes_stay : (home : List ℕ) (setting : Setting) (world : World) (nodes : List Node) (name : List ℕ) → All (IsOther name) nodes
+pub nodes_stay : (home : List ℕ) (setting : Setting) (world : World) (nodes : List Node) (name : List ℕ) → All (IsOther name) nodes
     → node_at (with_nodes home setting world nodes) name ≡ node_at world name
 unfolding with_nodes
 nodes_stay home setting world [] name others = refl

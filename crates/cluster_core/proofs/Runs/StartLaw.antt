@@ -58,6 +58,7 @@ IsFirst home setting name (state.Master master) = ⊤
 record IsFresh (home : List ℕ) (setting : Setting) (world : World) : Type 0 where
   nodes : (name : List ℕ) (it : NodeState) → node_at world name ≡ Some it → IsFirst home setting name it
   clients : world.clients ≡ []
+  broken : world.broken ≡ []
   links : world.links ≡ []
   marks : world.marks ≡ []
   steps : world.steps ≡ 0
@@ -84,6 +85,7 @@ fresh_node home setting world node fresh =
           (sym (value_at-with_entry-other (slice_cmp nat_cmp) names_apart world.nodes node.name any new ne) ∙ at))
           (same_or_other (slice_cmp nat_cmp) names_apart any node.name);
       clients = fresh.clients;
+      broken = fresh.broken;
       links = fresh.links;
       marks = fresh.marks;
       steps = fresh.steps;
@@ -216,7 +218,7 @@ first_backend nodes are = has_first (backends_of nodes) (omega (arith, backend_c
 fresh_start : (config : Config) → IsFresh (home_of config) (setting_of config) (start config)
 fresh_start config = subst (IsFresh (home_of config) (setting_of config)) (sym (started config))
     (fresh_nodes (home_of config) (setting_of config) no_world config.nodes
-    (record { nodes = λ name it at. cc; clients = refl; links = refl; marks = refl; steps = refl }))
+    (record { nodes = λ name it at. cc; clients = refl; broken = refl; links = refl; marks = refl; steps = refl }))
 
 fresh_front : (home : List ℕ) (setting : Setting) (world : World) (name : List ℕ) (front : Front) → IsFresh home setting world
     → front_at world name ≡ Some front → front ≡ new_front name home setting
@@ -302,6 +304,7 @@ start_keeps_for config are home_for =
         frontends = frontends_at_start config are;
         home_for = home_for;
       };
+      whole = fresh.broken;
       story = record { talk = record { requests = λ conn. []; answers = λ conn. []; serials = λ conn. [] }; told = λ conn. []; course = first_course };
       names = λ name. absent refl (λ node. nothing_at (home_of config) (setting_of config) (start config) node name (home_at (start config) node) fresh refl);
       serials = none_given has.backend.last_serial free.1;

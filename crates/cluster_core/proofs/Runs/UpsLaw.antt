@@ -15,12 +15,12 @@ use Rattle.node_step.specs.declared.input.NodeInput.TheVariants.{From}
 use Rattle.node_step.specs.declared.node.NodeState.{NodeState}
 use Rattle.node_step.specs.declared.node.NodeState.TheVariants as state
 use Rattle.node_step.specs.Room.{FrontHasRoom, HasRoomToTake}
-use Rattle.node_step.specs.NodeStep.{Acted, idle, takes as node_takes, front_takes, back_takes, back_input, back_by}
+use Rattle.node_step.specs.NodeStep.{Acted, idle, takes as node_takes, front_takes, back_takes, back_input, back_by, master_takes}
 use Rattle.cluster_core.specs.declared.world.World.{World}
-use Rattle.cluster_core.specs.World.{no_world, home_of, setting_of, with_nodes, carry_all, with_state, acts, comes_to, node_at, told_up, with_ups, start}
+use Rattle.cluster_core.specs.World.{no_world, home_of, setting_of, with_nodes, carry_all, with_state, not_lost, acts, comes_to, node_at, told_up, with_ups, start}
 
 up_idle : (it : NodeState) (from : List ℕ) → node_takes it (From from Up) ≡ idle it
-unfolding node_takes front_takes back_takes back_input back_by deliver plan_of
+unfolding node_takes front_takes back_takes back_input back_by master_takes deliver plan_of
 up_idle (state.Front front) from = refl
 up_idle (state.Back home) from = refl
 up_idle (state.Master master) from = refl
@@ -40,7 +40,7 @@ put_again [] key it at = refl
 put_again (e ∷ es) key it at = same_by e es key it (is_eq (slice_cmp nat_cmp key e.0)) refl (put_again es key it) at
 
 up_by : (world : World) (link : Link) (found : Option NodeState) → node_at world link.to ≡ found → comes_to world link.to (From link.from Up) found ≡ world
-unfolding comes_to carry_all
+unfolding comes_to carry_all not_lost
 up_by world link None at = refl
 up_by world link (Some it) at =
     ap (λ (acted : Acted). acts world link.to acted) (up_idle it link.from)

@@ -14,6 +14,7 @@ use Rattle.cluster_core.specs.Heard.{heard}
 use Rattle.imap_talk.specs.Heard.{bytes_heard, frames_heard, has_closed}
 use Rattle.cluster_core.specs.LawSetting.{law_setting}
 use Rattle.cluster_core.specs.Headline.OneStore.{AreEmpty, IsAnsweredThrough}
+use Rattle.cluster_core.specs.Headline.Outside.{guest_of, is_guest}
 use Rattle.imap_talk.specs.Requests.{AreRequests}
 use Rattle.cluster_core.specs.Shown.{given_to}
 use Rattle.cluster_core.specs.World.{start}
@@ -26,9 +27,10 @@ pub record IsAnswered (config : Config) (conn : ℕ) (steps : List Event) (world
   pub given : given_to world conn ≡ transcript_of (law_setting config) (bytes_heard (heard config conn steps)) answers
   pub each : IsAnsweredThrough requests answers
 
--- of each client that hasn't closed its connection
+-- of each client that doesn't talk with the master and hasn't closed its connection
 abbrev pub NothingWaits : Config → List Event → World → Type 0
-NothingWaits config steps world = AreEmpty world → (conn : ℕ) → has_closed (heard config conn steps) ≡ false → IsAnswered config conn steps world
+NothingWaits config steps world = AreEmpty world → (conn : ℕ) → is_guest (guest_of config conn steps) ≡ false
+    → has_closed (heard config conn steps) ≡ false → IsAnswered config conn steps world
 
 -- whatever steps led here, in whatever configuration: nothing waits behind this event
 abbrev pub NothingWaitsBehind : Layout → World → Event → Type 0

@@ -28,6 +28,7 @@ use Rattle.cluster_core.specs.Heard.{heard}
 use Rattle.imap_talk.specs.Heard.{bytes_heard, frames_heard, has_closed}
 use Rattle.cluster_core.specs.History.{history_of}
 use Rattle.cluster_core.specs.Headline.Homes.{ShowsBoxesOf}
+use Rattle.cluster_core.specs.Headline.Outside.{guest_of, is_guest}
 use Rattle.cluster_core.specs.LawSetting.{law_setting}
 use Rattle.link_queue.specs.Links.{on_link}
 use Rattle.store_law.specs.Refusals.{HaveCauses}
@@ -80,9 +81,12 @@ pub record IsToldSoFar (config : Config) (talk : Talk) (points : List Point) (st
   pub so_far : Talk
   pub goes_on : TalkGoesOn so_far talk
   pub asked : (conn : ℕ) → AreRequests (law_setting config) (frames_heard (heard config conn steps)) (so_far.requests conn)
-  pub given : (conn : ℕ) → given_to world conn ≡ transcript_of (law_setting config) (bytes_heard (heard config conn steps)) (so_far.answers conn)
+  -- of each client that doesn't talk with the master
+  pub given : (conn : ℕ) → is_guest (guest_of config conn steps) ≡ false
+      → given_to world conn ≡ transcript_of (law_setting config) (bytes_heard (heard config conn steps)) (so_far.answers conn)
   -- no text of a user forges a reply: each client reads just the greeting, the continuations and the lines of these answers
-  pub read : (conn : ℕ) → IsAllReadAsMeant (law_setting config) (given_to world conn) (bytes_heard (heard config conn steps)) (so_far.answers conn)
+  pub read : (conn : ℕ) → is_guest (guest_of config conn steps) ≡ false
+      → IsAllReadAsMeant (law_setting config) (given_to world conn) (bytes_heard (heard config conn steps)) (so_far.answers conn)
   pub ends_only_last : (conn : ℕ) → EndsOnlyLast (so_far.answers conn)
   pub last : Course
   pub legal : IsLegal (law_setting config) first_course so_far (history_of world) last

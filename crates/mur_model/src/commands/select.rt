@@ -1,6 +1,6 @@
 // SELECT and EXAMINE (RFC 9051, 6.3.2 and 6.3.3).
 ghost use Rattle.std.specs.Prelude.{◌≡◌, ◌++◌, map, IfOk, OnOk};
-ghost use Rattle.mail_message.specs.declared.flag_name.FlagName.TheVariants.{Keyword};
+ghost use Rattle.mail_message.specs.declared.flag_name.FlagName.TheVariants.{Keyword as named};
 ghost use Rattle.mur_model.specs.Needed.{Turned, Mailbox, Select as select_work};
 ghost use Rattle.mail_message.specs.Keywords.{with_keywords};
 ghost use Rattle.mur_model.specs.Rights.{has_rights};
@@ -18,9 +18,10 @@ use crate::setting::Setting;
 use crate::store::Store;
 use crate::view::View;
 use imap_types::{Attribute, Code, FlagNames, NoText, Op, Reply, ReplyLine, ReplyLines, Verdict};
-use mail_message::{FlagName, Keywords, Row, Snapshot, SystemFlag};
+use mail_message::{FlagName, Keyword, Keywords, Row, Snapshot, SystemFlag};
 use mur_base::{Bytes, Copied, MailName, Memory, NameFault, UserName, shown, taken};
 use std::alloc::Global;
+use std::collections::BTreeSet;
 
 /// A mailbox that is to be selected.
 #[derive(Drop)]
@@ -165,9 +166,9 @@ fn select_lines(alloc: Global, it: &Opening, seen: &Snapshot) -> Result<ReplyLin
 fn permanent_line(
     alloc: Global,
     is_writable: bool,
-    keywords: &Keywords,
+    keywords: &BTreeSet<Keyword>,
 ) -> Result<ReplyLine, Memory>
-    ensures { IfOk result (λ line. line ≡ permanent_reply_line is_writable keywords.now) }
+    ensures { IfOk result (λ line. line ≡ permanent_reply_line is_writable keywords.now.keys) }
 {
     if is_writable {
         Ok(ReplyLine::Permanent(flags_of(alloc, keywords)?, true))
@@ -177,8 +178,8 @@ fn permanent_line(
 }
 
 /// The flags of a mailbox whose messages have these keywords: the system flags, and the keywords (RFC 9051, 7.3.5).
-fn flags_of(alloc: Global, keywords: &Keywords) -> Result<FlagNames, Memory>
-    ensures { IfOk result (λ flags. flags ≡ flags_of keywords.now) }
+fn flags_of(alloc: Global, keywords: &BTreeSet<Keyword>) -> Result<FlagNames, Memory>
+    ensures { IfOk result (λ flags. flags ≡ flags_of keywords.now.keys) }
 {
     let mut flags = system_flags(alloc)?;
     put_keywords(alloc, &mut flags, keywords)?;
@@ -197,19 +198,23 @@ fn system_flags(alloc: Global) -> Result<FlagNames, Memory>
     Ok(flags)
 }
 
-/// The keywords of some messages, in byte order.
-fn keywords_in(alloc: Global, rows: &[Row]) -> Result<Keywords, Memory>
-    ensures { IfOk result (λ keywords. keywords ≡ keywords_in rows.now) }
+/// The keywords of some messages, in byte order: a tree, since they may be many more than those of one message.
+fn keywords_in(alloc: Global, rows: &[Row]) -> Result<BTreeSet<Keyword>, Memory>
+    ensures { IfOk result (λ keywords. keywords.keys ≡ keywords_in rows.now) }
 {
-    let mut keywords = Keywords::new(alloc);
+    let mut keywords = BTreeSet::new(alloc);
     for row in rows {
         add_keywords(alloc, &mut keywords, row.flags.keywords())?;
     }
     Ok(keywords)
 }
 
-fn add_keywords(alloc: Global, keywords: &mut Keywords, more: &Keywords) -> Result<(), Memory>
-    ensures { OnOk result (keywords.new ≡ with_keywords keywords.old more.now) }
+fn add_keywords(
+    alloc: Global,
+    keywords: &mut BTreeSet<Keyword>,
+    more: &Keywords,
+) -> Result<(), Memory>
+    ensures { OnOk result (keywords.new.keys ≡ with_keywords keywords.old.keys more.now) }
 {
     for keyword in more.iter() {
         keywords.insert(keyword.copy(alloc)?)?;
@@ -217,8 +222,12 @@ fn add_keywords(alloc: Global, keywords: &mut Keywords, more: &Keywords) -> Resu
     Ok(())
 }
 
-fn put_keywords(alloc: Global, flags: &mut FlagNames, keywords: &Keywords) -> Result<(), Memory>
-    ensures { OnOk result (flags.new ≡ flags.old ++ map Keyword keywords.now) }
+fn put_keywords(
+    alloc: Global,
+    flags: &mut FlagNames,
+    keywords: &BTreeSet<Keyword>,
+) -> Result<(), Memory>
+    ensures { OnOk result (flags.new ≡ flags.old ++ map named keywords.now.keys) }
 {
     for keyword in keywords.iter() {
         flags.push(FlagName::Keyword(keyword.copy(alloc)?))?;

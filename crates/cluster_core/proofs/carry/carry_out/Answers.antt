@@ -7,7 +7,7 @@ loop-out-preserved c = record {
   can_next = tt;
   is_finite = tt;
   count = shorter _ _ _ _ _ c.loop-out.invariant.count c.in-Some.ensures.steps.0 c.in-Some.ensures.steps.1;
-  carried = carried_on _ _ _ _ _ _ c.in-Some.ensures.steps.0 c.in_ok-carry.ensures ∙ c.loop-out.invariant.carried;
+  carried = carried_on _ _ _ _ _ _ c.in-Some.ensures.steps.0 c.in_ok-carry_or_lose.ensures ∙ c.loop-out.invariant.carried;
 }
 
 pub returns : goal.returns

@@ -1,5 +1,6 @@
 use Rattle.std.proofs.Common.{◌≡◌, ◌-◌, ℕ, suc, [], ◌∷◌, refl, sym, ap, ◌∙◌, arith, length-append}
 use Rattle.std.proofs.lemmas.Result.{err_from_is_err_and}
+use Rattle.mail_message.specs.FlagSets.{Flags}
 use Rattle.node_record.specs.Flags.{rising}
 use Rattle.node_record.proofs.FlagSteps.{next_less, below_next, below_more, rising_more, rising_stops, rising_ends, keywords_stop, keywords_end, stopped_as}
 use Rattle.node_record.proofs.flags.keywords_of.Goals as goal
@@ -18,8 +19,8 @@ returns-in_err-text c =
     ∙ sym (ap (λ (n : ℕ). (rising n c.loop-left.before.now c.loop-left.made.keywords).at c.loop-left.rest.now) some)
     ∙ stops)))
 
-pub with_highest-requires-clause-above : goal.with_highest-requires-clause-above
-with_highest-requires-clause-above c =
+pub put_highest-requires-clause-above : goal.put_highest-requires-clause-above
+put_highest-requires-clause-above c =
     below_next c.loop-left.before.now c.in_ok-text.text.now c.loop-left.made.keywords
     (next_less c.loop-left.before.now (c.loop-left.left - 1) c.in_ok-text.text.now c.in_ok-text.ensures.next)
     c.loop-left.invariant.below
@@ -28,7 +29,7 @@ pub loop-left-preserved : goal.loop-left-preserved
 loop-left-preserved c =
     let some : suc (c.loop-left.left - 1) ≡ c.loop-left.left = omega (arith, c.loop-left-test.true) in
     let less = next_less c.loop-left.before.now (c.loop-left.left - 1) c.in_ok-text.text.now c.in_ok-text.ensures.next in
-    rw c.in_ok-made.ensures
+    rw c.in_ok-put_highest.ensures
     (record {
       few = omega (arith, c.loop-left.invariant.few, c.loop-left-test.true, length-append c.loop-left.made.keywords (c.in_ok-text.text.now ∷ []));
       system = c.loop-left.invariant.system;
@@ -48,4 +49,4 @@ returns c =
     (sym c.loop-left.invariant.reads
     ∙ ap (λ (n : ℕ). (rising n c.loop-left.before.now c.loop-left.made.keywords).at c.loop-left.rest.now) none
     ∙ rising_ends c.loop-left.before.now c.loop-left.made.keywords c.loop-left.rest.now)
-    c.loop-left.invariant.system
+    (c.loop-left.invariant.system ∙ ap (λ (flags : Flags). flags.system) c.reserve.ensures)

@@ -6,4 +6,4 @@ use Rattle.mur_model.specs.Select.{keywords_in}
 use Rattle.mur_model.proofs.commands.select.keywords_in.Given as goal
 
 abbrev pub invariant-loop-row : goal.invariant-loop-row
-invariant-loop-row l = fold (λ keywords (row : Row). with_keywords keywords row.flags.keywords) l.keywords (drop l.row-index l.rows) ≡ keywords_in l.rows
+invariant-loop-row l = fold (λ keywords (row : Row). with_keywords keywords row.flags.keywords) l.keywords.keys (drop l.row-index l.rows) ≡ keywords_in l.rows

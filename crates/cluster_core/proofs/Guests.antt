@@ -1,0 +1,6 @@
+-- Clients from outside, which the master serves.
+pub mod MastersStay
+pub mod GuestLaw
+pub mod GuestSteps
+pub mod GuestsAtStart
+pub mod TablesStay
