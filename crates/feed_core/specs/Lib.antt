@@ -2,3 +2,4 @@ pub mod Feed
 pub mod RecLines
 pub mod Listing
 pub mod Above
+pub mod Stream

@@ -2,8 +2,8 @@
 //!
 //! [`Replica::take`] takes one line; `specs/Feed.antt` says what it changes. From an empty replica the lines of all records make these records
 //! ([`lines_make_their_records`], `specs/RecLines.antt`). A name is looked up by [`Replica::find`], the nearest name above one that has a record by
-//! [`Replica::nearest_above`], and mailboxes are listed by [`Replica::names`] and [`Replica::matching`]. Nothing here knows of tags or links: its owner
-//! makes a new replica when its link to the master comes up, and hands on the lines that stand under its UPDATE.
+//! [`Replica::nearest_above`], and mailboxes are listed by [`Replica::names`] and [`Replica::matching`]. Its owner makes a new
+//! replica when its link to the master comes up, sends [`update_line`], and hands each line of the master to [`Replica::hear`].
 #![tactic(auto)]
 
 mod above;
@@ -12,9 +12,11 @@ mod laws;
 mod listing;
 mod rec;
 mod replica;
+mod stream;
 
 pub use fault::FeedFault;
 pub use laws::lines_make_their_records;
 pub use listing::MailNames;
 pub use rec::Rec;
 pub use replica::Replica;
+pub use stream::update_line;

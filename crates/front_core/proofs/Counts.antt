@@ -19,7 +19,7 @@ use Rattle.front_core.specs.declared.front.Front.{Front}
 use Rattle.front_core.specs.Answered.{answer_comes}
 use Rattle.front_core.specs.Ended.{released, released_at}
 use Rattle.front_core.specs.Front.{connection_at, connect, connect_at, bytes_in, front_bytes_at, bytes_by, having_read}
-use Rattle.front_core.specs.Front.{hang, front_hang_at, hung_up, deliver, answer_at, answer_from}
+use Rattle.front_core.specs.Front.{hang, front_hang_at, hung_up, deliver, answer_at, answer_from, line_from, up_from}
 use Rattle.front_core.specs.Room.{commands_of, HasCommands, HasRoomAt, HasRoomFor}
 use Rattle.front_core.specs.Slots.{new_connection}
 use Rattle.front_core.specs.Taken.{inputs_come}
@@ -122,13 +122,24 @@ unfolding answer_from
 answer_from_counts front answer most true has = answer_at_counts front answer most (connection_at front (answer.id).conn) refl has
 answer_from_counts front answer most false has = has
 
+up_counts : (front : Front) (most : ℕ) (is_master : Bool) → HasCommands front most → HasCommands (up_from is_master front).front most
+unfolding up_from
+up_counts front most true has = has
+up_counts front most false has = has
+
+line_counts : (front : Front) (bytes : List ℕ) (most : ℕ) (is_master : Bool) → HasCommands front most
+    → HasCommands (line_from is_master front bytes).front most
+unfolding line_from
+line_counts front bytes most true has = has
+line_counts front bytes most false has = has
+
 pub deliver_counts : (front : Front) (from : List ℕ) (message : LinkMsg) (most : ℕ) → HasCommands front most
     → HasCommands (deliver front from message).front most
 unfolding deliver
 deliver_counts front from (Answer answer) most has = answer_from_counts front answer most (pointwise nat_eq from front.home) has
-deliver_counts front from Up most has = has
+deliver_counts front from Up most has = up_counts front most (pointwise nat_eq from front.master) has
 deliver_counts front from End most has = has
-deliver_counts front from (Line line) most has = has
+deliver_counts front from (Line line) most has = line_counts front line most (pointwise nat_eq from front.master) has
 deliver_counts front from (Ask ask) most has = has
 
 hang_at_counts : (front : Front) (conn most : ℕ) (found : Option Connection) → connection_at front conn ≡ found

@@ -2,7 +2,7 @@
 use Rattle.std.proofs.Common.{◌≡◌, ◌≢◌, Bool, true, false, nat_eq, List, ℕ, refl, sym, ap, ◌∙◌}
 use Rattle.std.specs.Cmp.Lexicographic.{pointwise, same_text}
 use Rattle.front_core.specs.declared.front.Front.{Front}
-use Rattle.front_core.specs.Front.{answer_from, deliver, still}
+use Rattle.front_core.specs.Front.{answer_from, deliver, line_from, still, up_from}
 use Rattle.link_msg.specs.declared.answer.BackAnswer.{BackAnswer}
 use Rattle.link_msg.specs.declared.message.LinkMsg.{LinkMsg}
 use Rattle.link_msg.specs.declared.message.LinkMsg.TheVariants.{Up, End, Line, Ask, Answer}
@@ -20,10 +20,26 @@ pub no_answer : (front : Front) (from : List ℕ) (answer : BackAnswer) → from
 no_answer front from answer ne =
     ap (λ same. answer_from same front answer) (another from front.home (pointwise nat_eq from front.home) refl ne) ∙ not_asked front answer
 
-pub strangers : (front : Front) (from : List ℕ) (message : LinkMsg) → from ≢ front.home → deliver front from message ≡ still front
+no_up : (front : Front) → up_from false front ≡ still front
+unfolding up_from
+no_up front = refl
+
+pub up_stranger : (front : Front) (from : List ℕ) → from ≢ front.master → up_from (pointwise nat_eq from front.master) front ≡ still front
+up_stranger front from ne = ap (λ same. up_from same front) (another from front.master (pointwise nat_eq from front.master) refl ne) ∙ no_up front
+
+no_line : (front : Front) (bytes : List ℕ) → line_from false front bytes ≡ still front
+unfolding line_from
+no_line front bytes = refl
+
+pub line_stranger : (front : Front) (from bytes : List ℕ) → from ≢ front.master
+    → line_from (pointwise nat_eq from front.master) front bytes ≡ still front
+line_stranger front from bytes ne =
+    ap (λ same. line_from same front bytes) (another from front.master (pointwise nat_eq from front.master) refl ne) ∙ no_line front bytes
+
+pub strangers : (front : Front) (from : List ℕ) (message : LinkMsg) → from ≢ front.home → from ≢ front.master → deliver front from message ≡ still front
 unfolding deliver
-strangers front from (Answer answer) ne = no_answer front from answer ne
-strangers front from Up ne = refl
-strangers front from End ne = refl
-strangers front from (Line bytes) ne = refl
-strangers front from (Ask ask) ne = refl
+strangers front from (Answer answer) no_home no_master = no_answer front from answer no_home
+strangers front from Up no_home no_master = up_stranger front from no_master
+strangers front from End no_home no_master = refl
+strangers front from (Line bytes) no_home no_master = line_stranger front from bytes no_master
+strangers front from (Ask ask) no_home no_master = refl

@@ -2,12 +2,14 @@
 use Rattle.std.specs.Prelude.{ℕ, nat_eq, Bool, true, false, List, [], ◌∷◌, Option, None, Some}
 use Rattle.std.specs.Ordering.{nat_cmp}
 use Rattle.std.specs.Cmp.Lexicographic.{pointwise}
+use Rattle.feed_core.specs.Feed.{empty_replica}
+use Rattle.feed_core.specs.Stream.{update_line, heard}
 use Rattle.imap_reply.specs.Greeting.{greeting}
 use Rattle.link_msg.specs.declared.answer.BackAnswer.{BackAnswer}
 use Rattle.link_msg.specs.declared.message.LinkMsg.{LinkMsg}
-use Rattle.link_msg.specs.declared.message.LinkMsg.TheVariants.{Answer}
+use Rattle.link_msg.specs.declared.message.LinkMsg.TheVariants.{Up, Line, Answer}
 use Rattle.link_msg.specs.declared.out.Out.{Out}
-use Rattle.link_msg.specs.declared.out.Out.TheVariants.{Client}
+use Rattle.link_msg.specs.declared.out.Out.TheVariants.{Client, Link}
 use Rattle.mur_base.specs.Map.{value_at, with_entry, with_value}
 use Rattle.mur_model.specs.declared.setting.Setting.{Setting}
 use Rattle.front_core.specs.declared.connection.Connection.{Connection}
@@ -21,8 +23,9 @@ use Rattle.front_core.specs.Slots.{new_connection}
 use Rattle.front_core.specs.Taken.{Turned, inputs_come}
 
 -- a frontend without a connection
-unfoldable pub new_front : List ℕ → List ℕ → Setting → Front
-new_front me home setting = record { me = me; home = home; setting = setting; connections = [] }
+unfoldable pub new_front : List ℕ → List ℕ → List ℕ → Setting → Front
+new_front me home master setting =
+    record { me = me; home = home; master = master; replica = empty_replica; setting = setting; connections = [] }
 
 -- a frontend, and what it let out
 pub record Stepped : Type 0 where
@@ -103,9 +106,30 @@ unfoldable pub answer_from : Bool → Front → BackAnswer → Stepped
 answer_from true front answer = answer_at front answer (connection_at front (answer.id).conn)
 answer_from false front answer = still front
 
--- a message on a link: only answers have a meaning for it
+-- the link to the master comes up: of its table nothing is known yet, and the frontend asks for it (RFC 3656, 4.11)
+abbrev pub asks_for_table : Front → Stepped
+asks_for_table front = record {
+  front = record front { replica = empty_replica };
+  outs = Link front.master (Line update_line) ∷ [];
+}
+
+unfoldable pub up_from : Bool → Front → Stepped
+up_from true front = asks_for_table front
+up_from false front = still front
+
+-- only the master tells of its table
+abbrev pub hearing : Front → List ℕ → Front
+hearing front bytes = record front { replica = heard front.replica bytes }
+
+unfoldable pub line_from : Bool → Front → List ℕ → Stepped
+line_from true front bytes = still (hearing front bytes)
+line_from false front bytes = still front
+
+-- a message on a link
 unfoldable pub deliver : Front → List ℕ → LinkMsg → Stepped
 deliver front from (Answer answer) = answer_from (pointwise nat_eq from front.home) front answer
+deliver front from (Line bytes) = line_from (pointwise nat_eq from front.master) front bytes
+deliver front from Up = up_from (pointwise nat_eq from front.master) front
 deliver front from message = still front
 
 -- how many commands of a connection wait for the answer of a home

@@ -2,25 +2,30 @@
 ghost use Rattle.std.specs.Prelude.{◌≡◌, ◌≢◌, nat_eq, length, IfOk};
 ghost use Rattle.std.specs.Cmp.Lexicographic.{pointwise};
 ghost use Rattle.imap_reply.specs.Greeting.{greeting};
-ghost use Rattle.front_core.specs.Front.{new_front, connect, connection_at, bytes_in, hang, deliver, still, answer_at, answer_from};
+ghost use Rattle.front_core.specs.Front.{new_front, connect, connection_at, bytes_in, hang, deliver, still, answer_at, answer_from, line_from, up_from};
 ghost use Rattle.front_core.specs.Room.{HasRoomAt, HasRoomFor};
 
 use crate::answered::given;
 use crate::desk::Desk;
 use crate::slot::Slot;
+use feed_core::{Replica, update_line};
 use imap_reply::put_greeting;
-use link_msg::{BackAnswer, LinkMsg, Outs};
-use mur_base::{Bytes, Map, Memory, NodeName};
+use link_msg::{BackAnswer, LinkMsg, Out, Outs};
+use mur_base::{Bytes, Copied, Map, Memory, NodeName};
 use mur_model::Setting;
 use std::alloc::Global;
 
-/// A frontend: its connections by their numbers.
+/// A frontend: its connections by their numbers, and its replica of the master's table.
 #[derive(Drop)]
 pub struct Front {
     /// The name of this node.
     pub me: NodeName,
     /// The backend that is asked for every mailbox.
     pub home: NodeName,
+    /// The master.
+    pub master: NodeName,
+    /// What the master told of its table since the link to it came up.
+    pub replica: Replica,
     /// The users, and the date of a message that comes without one.
     pub setting: Setting,
     pub connections: Map<u64, Slot>,
@@ -29,12 +34,20 @@ pub struct Front {
 impl Front {
     /// A frontend without a connection. It takes no memory.
     #[tactic(auto, unfolding(crate::specs::Front::new_front))]
-    pub fn new(me: NodeName, home: NodeName, setting: Setting, alloc: Global) -> Front
-        ensures { result ≡ new_front me home setting }
+    pub fn new(
+        me: NodeName,
+        home: NodeName,
+        master: NodeName,
+        setting: Setting,
+        alloc: Global,
+    ) -> Front
+        ensures { result ≡ new_front me home master setting }
     {
         Front {
             me,
             home,
+            master,
+            replica: Replica::new(alloc),
             setting,
             connections: Map::new(alloc),
         }
@@ -81,8 +94,8 @@ impl Front {
         }
     }
 
-    /// A message of a node comes on a link: only answers of the node that was asked have a meaning here. For want of memory the frontend
-    /// is spent.
+    /// A message of a node comes on a link: an answer counts only from the node that was asked, and a line only from the master, whose table
+    /// the frontend asks for as soon as its link comes up (RFC 3656, 4.11). For want of memory the frontend is spent.
     #[tactic(auto, unfolding(crate::specs::Front::deliver, crate::specs::Room::HasRoomFor), using(crate::proofs::StrangerLaw::strangers))]
     pub fn deliver(
         &mut self,
@@ -92,12 +105,39 @@ impl Front {
     ) -> Result<Outs, Memory>
         requires room { HasRoomFor self.old message }
         ensures step { IfOk result (λ outs. record { front = self.new; outs = outs } ≡ deliver self.old from.now message) }
-        ensures stranger { from.now ≢ self.old.home → IfOk result (λ outs. record { front = self.new; outs = outs } ≡ still self.old) }
+        ensures stranger { from.now ≢ self.old.home → from.now ≢ self.old.master → IfOk result (λ outs. record { front = self.new; outs = outs } ≡ still self.old) }
     {
         match message {
             LinkMsg::Answer(answer) => self.answer_from(alloc, from, answer),
-            _ => Ok(Outs::new(alloc)),
+            LinkMsg::Up => self.up_from(alloc, from),
+            LinkMsg::Line(line) => self.line_from(alloc, from, line),
+            LinkMsg::End | LinkMsg::Ask(_) => Ok(Outs::new(alloc)),
         }
+    }
+
+    // The link to a node comes up: of the master's table nothing is known yet.
+    #[tactic(auto, unfolding(crate::specs::Front::up_from))]
+    fn up_from(&mut self, alloc: Global, from: &NodeName) -> Result<Outs, Memory>
+        ensures { IfOk result (λ outs. record { front = self.new; outs = outs } ≡ up_from (pointwise nat_eq from.now self.old.master) self.old) }
+    {
+        let mut outs = Outs::new(alloc);
+        if *from == self.master {
+            self.replica = Replica::new(alloc);
+            let master = self.master.copy(alloc)?;
+            outs.push(Out::Link(master, LinkMsg::Line(update_line(alloc)?)))?;
+        }
+        Ok(outs)
+    }
+
+    #[tactic(auto, unfolding(crate::specs::Front::line_from))]
+    fn line_from(&mut self, alloc: Global, from: &NodeName, line: Bytes) -> Result<Outs, Memory>
+        ensures { IfOk result (λ outs. record { front = self.new; outs = outs }
+            ≡ line_from (pointwise nat_eq from.now self.old.master) self.old line) }
+    {
+        if *from == self.master {
+            self.replica.hear(alloc, line.as_slice())?;
+        }
+        Ok(Outs::new(alloc))
     }
 
     #[tactic(auto, unfolding(crate::specs::Front::answer_from))]

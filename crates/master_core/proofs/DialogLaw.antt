@@ -22,7 +22,8 @@ use Rattle.master_core.specs.declared.streams.StreamStep.{StreamStep}
 use Rattle.master_core.specs.declared.streams.StreamStep.TheVariants as stream
 use Rattle.master_core.specs.Cutting.{cut_from}
 use Rattle.master_core.specs.Greeting.{greeting}
-use Rattle.master_core.specs.Lines.{command_in, tag_before}
+use Rattle.mupdate_codec.specs.Whole.{command_in}
+use Rattle.master_core.specs.Lines.{tag_before}
 use Rattle.master_core.specs.Outside.{Stepped, still, outside_at, connect, connect_at, is_open_at, line_comes, lines_come, with_begun, bytes_at, bytes_in}
 use Rattle.master_core.specs.Replies.{reply_to, bad_reply}
 use Rattle.master_core.specs.Step.{Planned, answered, replied, settled, bad_step, command_step, line_by, line_step}

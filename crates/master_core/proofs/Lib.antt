@@ -1,4 +1,3 @@
-pub mod LinesLaw
 pub mod CuttingLaw
 pub mod BootLaw
 pub mod OutsideLaw

@@ -21,7 +21,8 @@ use Rattle.master_core.specs.declared.streams.StreamStep.{StreamStep}
 use Rattle.master_core.specs.declared.streams.StreamStep.TheVariants as stream
 use Rattle.master_core.specs.Changes.{change_outs}
 use Rattle.master_core.specs.Cutting.{cut_from}
-use Rattle.master_core.specs.Lines.{command_in, tag_before}
+use Rattle.mupdate_codec.specs.Whole.{command_in}
+use Rattle.master_core.specs.Lines.{tag_before}
 use Rattle.master_core.specs.Outside.{Stepped, still, outside_at, connect, connect_at, is_open, line_comes, lines_come, with_begun, bytes_at, bytes_in}
 use Rattle.master_core.specs.Replies.{reply_to, bad_reply}
 use Rattle.master_core.specs.Step.{Planned, answered, table_with, reply_outs, replied, settled, bad_step, command_step, line_by, line_step}
@@ -46,6 +47,8 @@ both_own conn (out ∷ one) two first second = (first.0, both_own conn one two f
 -- the master but for one connection
 pub record IsBeside (conn : ℕ) (master next : Master) : Type 0 where
   pub me : next.me ≡ master.me
+  pub backends : next.backends ≡ master.backends
+  pub streams : next.streams ≡ master.streams
   pub table : next.table ≡ master.table
   pub outside : (other : ℕ) → other ≢ conn → outside_at next other ≡ outside_at master other
   pub watchers : (other : ℕ) → other ≢ conn → value_at nat_cmp next.watchers other ≡ value_at nat_cmp master.watchers other
@@ -55,11 +58,13 @@ pub record ActsAlone (conn : ℕ) (master next : Master) (outs : List Out) : Typ
   pub own : AreItsOwn conn outs
 
 same_beside : (conn : ℕ) (master : Master) → IsBeside conn master master
-same_beside conn master = record { me = refl; table = refl; outside = λ other ne. refl; watchers = λ other ne. refl }
+same_beside conn master = record { me = refl; backends = refl; streams = refl; table = refl; outside = λ other ne. refl; watchers = λ other ne. refl }
 
 beside_more : (conn : ℕ) (one two three : Master) → IsBeside conn one two → IsBeside conn two three → IsBeside conn one three
 beside_more conn one two three first second = record {
   me = second.me ∙ first.me;
+  backends = second.backends ∙ first.backends;
+  streams = second.streams ∙ first.streams;
   table = second.table ∙ first.table;
   outside = λ other ne. second.outside other ne ∙ first.outside other ne;
   watchers = λ other ne. second.watchers other ne ∙ first.watchers other ne;
@@ -108,7 +113,7 @@ replied_alone : (master : Master) (conn : ℕ) (tag : Tag) (reply : Reply) → r
     → ActsAlone conn master (replied master (sender.Outside conn) tag reply).master (replied master (sender.Outside conn) tag reply).outs
 unfolding replied
 replied_alone master conn tag reply e = record {
-  beside = record { me = refl; table = ap (table_with master.table) e; outside = λ other ne. refl; watchers = λ other ne. refl };
+  beside = record { me = refl; backends = refl; streams = refl; table = ap (table_with master.table) e; outside = λ other ne. refl; watchers = λ other ne. refl };
   own = subst (λ outs. AreItsOwn conn outs) (sym (answers_alone master conn tag reply e)) (answers_own conn tag reply.answers);
 }
 
@@ -121,6 +126,8 @@ without_beside : (master : Master) (conn : ℕ) → IsBeside conn master (withou
 unfolding without
 without_beside master conn = record {
   me = refl;
+  backends = refl;
+  streams = refl;
   table = refl;
   outside = λ other ne. ended_other master.outside conn other (value_at nat_cmp master.outside conn) ne;
   watchers = λ other ne. value_at-without_key-other master.watchers conn other ne;
@@ -137,6 +144,8 @@ settled_alone master conn planned tag stream.Stays alone = alone
 settled_alone master conn planned tag stream.Begins alone = record {
   beside = beside_more conn master planned.master _ alone.beside (record {
     me = refl;
+    backends = refl;
+    streams = refl;
     table = refl;
     outside = λ other ne. refl;
     watchers = λ other ne. value_at-with_entry-other nat_cmp numbers_apart planned.master.watchers conn other tag ne;
@@ -201,6 +210,8 @@ bytes_alone master conn piece = by_outside (outside_at master conn)
     cut_alone : (begun : List ℕ) → ActsAlone conn master (with_begun master conn begun) []
     cut_alone begun = alone_nothing conn master (with_begun master conn begun) (record {
       me = refl;
+      backends = refl;
+      streams = refl;
       table = refl;
       outside = λ other ne. value_at-with_value-other nat_cmp numbers_apart master.outside conn other (outside.Open (Some begun)) ne;
       watchers = λ other ne. refl;
@@ -223,6 +234,8 @@ connects_alone master conn = by_outside (outside_at master conn)
     by_outside None = record {
       beside = record {
         me = refl;
+        backends = refl;
+        streams = refl;
         table = refl;
         outside = λ other ne. value_at-with_entry-other nat_cmp numbers_apart master.outside conn other (outside.Open (Some [])) ne;
         watchers = λ other ne. refl;

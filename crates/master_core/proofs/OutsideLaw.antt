@@ -16,7 +16,8 @@ use Rattle.master_core.specs.declared.streams.StreamStep.TheVariants as stream
 use Rattle.master_core.specs.Refusals.{reserve_refusal, activate_refusal, deactivate_refusal, delete_refusal}
 use Rattle.master_core.specs.Replies.{reply_to, bad_reply, reserve_reply, activate_reply, deactivate_reply, delete_reply, find_reply, list_reply, update_reply, noop_reply, logout_reply}
 use Rattle.master_core.specs.Cutting.{cut_from}
-use Rattle.master_core.specs.Lines.{command_in, tag_before}
+use Rattle.mupdate_codec.specs.Whole.{command_in}
+use Rattle.master_core.specs.Lines.{tag_before}
 use Rattle.master_core.specs.Outside.{Stepped, still, outside_at, is_open, line_comes, lines_come, with_begun, bytes_at, bytes_in}
 use Rattle.master_core.specs.Step.{Planned, table_with, replied, settled, bad_step, command_step, line_by, line_step}
 use Rattle.master_core.specs.Streams.{is_stream, streaming, without, may_follow_update, stream_step}

@@ -16,7 +16,8 @@ use Rattle.master_core.specs.declared.sender.Sender.{Sender}
 use Rattle.master_core.specs.declared.sender.Sender.TheVariants.{Backend, Frontend, Outside}
 use Rattle.master_core.specs.declared.streams.StreamStep.{StreamStep}
 use Rattle.master_core.specs.declared.streams.StreamStep.TheVariants as stream
-use Rattle.master_core.specs.Lines.{command_in, tag_before}
+use Rattle.mupdate_codec.specs.Whole.{command_in}
+use Rattle.master_core.specs.Lines.{tag_before}
 use Rattle.master_core.specs.Refusals.{is_active_state, is_active, is_reserved, is_elsewhere, place_in, reserve_refusal, activate_refusal, deactivate_refusal, delete_refusal}
 use Rattle.master_core.specs.Replies.{reply_to, bad_reply, reserve_by, activate_by, deactivate_by, delete_by, reserve_reply, activate_reply, deactivate_reply, delete_reply, find_reply, list_reply, update_reply, noop_reply, logout_reply}
 use Rattle.master_core.specs.Senders.{is_backend, is_server}

@@ -24,8 +24,8 @@ pub record IsNoEntry (all : List (List ℕ)) (at : ℕ) : Type 0 where
   pub bad : IsFirstBad IsMasterRecord master_entry bytes at
 
 -- no stream and no connection
-unfoldable pub booted : List ℕ → MailboxTable → Master
-booted me table = record { me = me; table = table; streams = []; watchers = []; outside = [] }
+unfoldable pub booted : List ℕ → List (List ℕ) → MailboxTable → Master
+booted me backends table = record { me = me; backends = backends; table = table; streams = []; watchers = []; outside = [] }
 
 -- the table is that of the entries which the byte strings are
 pub record IsRead (all : List (List ℕ)) (table : MailboxTable) : Type 0 where
@@ -34,7 +34,7 @@ pub record IsRead (all : List (List ℕ)) (table : MailboxTable) : Type 0 where
   pub is : table ≡ table_of entries
 
 -- the master has that table
-pub record IsBooted (me : List ℕ) (all : List (List ℕ)) (master : Master) : Type 0 where
+pub record IsBooted (me : List ℕ) (backends : List (List ℕ)) (all : List (List ℕ)) (master : Master) : Type 0 where
   pub table : MailboxTable
   pub read : IsRead all table
-  pub is : master ≡ booted me table
+  pub is : master ≡ booted me backends table

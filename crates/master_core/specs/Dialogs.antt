@@ -12,7 +12,8 @@ use Rattle.master_core.specs.declared.streams.StreamStep.TheVariants as stream
 use Rattle.master_core.specs.Changes.{text_of}
 use Rattle.master_core.specs.Cutting.{Cut, cut_from}
 use Rattle.master_core.specs.Greeting.{greeting}
-use Rattle.master_core.specs.Lines.{command_in, tag_before}
+use Rattle.mupdate_codec.specs.Whole.{command_in}
+use Rattle.master_core.specs.Lines.{tag_before}
 use Rattle.master_core.specs.Replies.{bad_reply, reply_to}
 use Rattle.master_core.specs.Streams.{may_follow_update, stream_step}
 

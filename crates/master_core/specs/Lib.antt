@@ -10,5 +10,6 @@ pub mod Streams
 pub mod Step
 pub mod Servers
 pub mod Outside
+pub mod Linked
 pub mod Dialogs
 pub mod Boot

@@ -1,22 +1,11 @@
--- The command that bytes are, and the tag under which those that are none are answered.
-use Rattle.std.specs.Prelude.{ℕ, Bool, ◌&&◌, nat_le, nat_lt, List, [], length, take, position, Option, None, Some, Result, Ok, ◌==◌, if◌then◌else◌}
+-- The tag under which bytes that are no command are answered.
+use Rattle.std.specs.Prelude.{ℕ, Bool, ◌&&◌, nat_le, nat_lt, List, [], length, take, position, Option, None, Some, ◌==◌, if◌then◌else◌}
 use Rattle.std.specs.List.{list_all}
 use Rattle.mur_base.specs.Ascii.{space}
-use Rattle.mupdate_codec.specs.declared.command.MCommand.{MCommand}
 use Rattle.mupdate_codec.specs.declared.tag.Tag.{Tag}
 use Rattle.mupdate_codec.specs.declared.tag.Tag.TheVariants.{Star, Text}
 use Rattle.mupdate_codec.specs.declared.limits.TheConstants.{TAG_MOST}
-use Rattle.mupdate_codec.specs.Arguments.{exact}
 use Rattle.mupdate_codec.specs.Characters.{is_mupdate_tag_byte}
-use Rattle.mupdate_codec.specs.Commands.{command_line}
-
-abbrev pub whole_by : {A : Type 0} → Result (A × List ℕ) ℕ → Option A
-whole_by (Ok (it, [])) = Some it
-whole_by r = None
-
--- the command whose line the bytes are
-unfoldable pub command_in : List ℕ → Option (Tag × MCommand)
-command_in bytes = whole_by ((command_line exact).part.at bytes)
 
 -- 1 to 41 letters, digits and `-`
 abbrev pub is_tag : List ℕ → Bool

@@ -17,7 +17,8 @@ use Rattle.master_core.specs.declared.sender.Sender.TheVariants as sender
 use Rattle.master_core.specs.declared.streams.StreamStep.{StreamStep}
 use Rattle.master_core.specs.declared.streams.StreamStep.TheVariants as stream
 use Rattle.master_core.specs.Changes.{text_of, change_outs}
-use Rattle.master_core.specs.Lines.{command_in, tag_before}
+use Rattle.mupdate_codec.specs.Whole.{command_in}
+use Rattle.master_core.specs.Lines.{tag_before}
 use Rattle.master_core.specs.Replies.{reply_to, bad_reply}
 use Rattle.master_core.specs.Senders.{sent_to}
 use Rattle.master_core.specs.Streams.{is_stream, streaming, without, close_outs, may_follow_update, stream_step}

@@ -4,7 +4,7 @@ ghost use Rattle.node_record.specs.Table.{empty_table};
 ghost use Rattle.master_core.specs.Boot.{IsNoEntry, IsRead, IsBooted, booted};
 
 use crate::master::Master;
-use mur_base::{Bytes, Map, NodeName};
+use mur_base::{Bytes, Items, Map, NodeName};
 use node_record::{RecordFault, Table, apply_master, decode_master};
 use std::alloc::Global;
 
@@ -26,11 +26,12 @@ fn table_of(alloc: Global, entries: &[Bytes]) -> Result<Table, RecordFault>
 impl Master {
     /// The master whose disk is empty: no record, no stream and no connection. It takes no memory.
     #[tactic(auto, unfolding(crate::specs::Boot::booted))]
-    pub fn new(alloc: Global, me: NodeName) -> Master
-        ensures { result ≡ booted me empty_table }
+    pub fn new(alloc: Global, me: NodeName, backends: Items<NodeName>) -> Master
+        ensures { result ≡ booted me backends empty_table }
     {
         Master {
             me,
+            backends,
             table: Table::new(alloc),
             streams: Map::new(alloc),
             watchers: Map::new(alloc),
@@ -40,13 +41,19 @@ impl Master {
 
     /// The master whose disk has these entries, from the first to the last: their table, no stream and no connection.
     #[tactic(auto, unfolding(crate::specs::Boot::booted))]
-    pub fn boot(alloc: Global, me: NodeName, entries: &[Bytes]) -> Result<Master, RecordFault>
-        ensures ok { IfOk result (λ master. IsBooted me entries.now master) }
+    pub fn boot(
+        alloc: Global,
+        me: NodeName,
+        backends: Items<NodeName>,
+        entries: &[Bytes],
+    ) -> Result<Master, RecordFault>
+        ensures ok { IfOk result (λ master. IsBooted me backends entries.now master) }
         ensures bad { (at : ℕ) → result ≡ Err (RecordFault.Bad at) → IsNoEntry entries.now at }
     {
         let table = table_of(alloc, entries)?;
         Ok(Master {
             me,
+            backends,
             table,
             streams: Map::new(alloc),
             watchers: Map::new(alloc),

@@ -7,7 +7,7 @@ ghost use Rattle.master_core.specs.declared.master.Master.{Master};
 ghost use Rattle.node_record.specs.declared.master.MasterRecord.{MasterRecord};
 ghost use Rattle.master_core.specs.declared.sender.Sender.{Sender};
 ghost use Rattle.master_core.specs.declared.sender.Sender.TheVariants.{Outside};
-ghost use Rattle.master_core.specs.Lines.{command_in};
+ghost use Rattle.mupdate_codec.specs.Whole.{command_in};
 ghost use Rattle.master_core.specs.Outside.{bytes_in};
 ghost use Rattle.master_core.specs.Servers.{name_of, IsByServer};
 ghost use Rattle.master_core.specs.Step.{line_step};

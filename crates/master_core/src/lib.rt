@@ -22,6 +22,7 @@ mod find;
 mod greeting;
 mod laws;
 mod line;
+mod linked;
 mod list;
 mod master;
 mod outside;

@@ -1,34 +1,16 @@
-// The command that bytes are, and the tag under which those that are none are answered.
+// The tag under which bytes that are no command are answered.
 ghost use Rattle.std.specs.Prelude.{◌≡◌, ◌<◌, ◌==◌, length, position, IfOk, IfSome};
 ghost use Rattle.std.specs.List.{list_all};
 ghost use Rattle.mur_base.specs.Ascii.{space};
 ghost use Rattle.mupdate_codec.specs.Characters.{is_mupdate_tag_byte};
-ghost use Rattle.master_core.specs.Lines.{command_in, is_tag, tag_if, tag_before};
+ghost use Rattle.master_core.specs.Lines.{is_tag, tag_if, tag_before};
 
-use mupdate_codec::{LineFault, MCommand, Tag, read_command};
+use mupdate_codec::Tag;
 use mur_base::{Bytes, Memory};
 use std::alloc::Global;
 
 // How many bytes a tag has at most (RFC 3656, 2).
 const TAG_LIMIT: usize = 41;
-
-/// The command whose line the bytes are, with its tag.
-pub fn command_in(alloc: Global, line: &[u8]) -> Result<Option<(Tag, MCommand)>, Memory>
-    ensures { IfOk result (λ it. it ≡ command_in line.now) }
-{
-    match read_command(alloc, line) {
-        Ok((tag, command, used)) => {
-            if used == line.len() {
-                Ok(Some((tag, command)))
-            } else {
-                Ok(None)
-            }
-        }
-        Err(LineFault::More) => Ok(None),
-        Err(LineFault::Bad(_at)) => Ok(None),
-        Err(LineFault::Memory) => Err(Memory),
-    }
-}
 
 #[tactic(auto, unfolding(mupdate_codec::specs::Characters::is_mupdate_tag_byte))]
 fn has_tag_bytes(text: &[u8]) -> bool

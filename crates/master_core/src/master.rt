@@ -7,7 +7,7 @@ use crate::plan::MasterPlan;
 use crate::sender::Sender;
 use link_msg::Outs;
 use mupdate_codec::Tag;
-use mur_base::{Map, Memory, NodeName};
+use mur_base::{Items, Map, Memory, NodeName};
 use node_record::Table;
 use std::alloc::Global;
 
@@ -16,6 +16,8 @@ use std::alloc::Global;
 pub struct Master {
     /// The name of this node.
     pub me: NodeName,
+    /// The names of the nodes that are backends. Every other node is a frontend.
+    pub backends: Items<NodeName>,
     /// The table that the entries of its disk make.
     pub table: Table,
     /// The nodes that have sent UPDATE, with its tag.

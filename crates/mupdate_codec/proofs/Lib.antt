@@ -18,3 +18,4 @@ pub mod InnerLaw
 pub mod BegunLaw
 pub mod CutSteps
 pub mod FaultSteps
+pub mod WholeLaw

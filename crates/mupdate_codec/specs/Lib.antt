@@ -10,3 +10,4 @@ pub mod Answers
 pub mod Cut
 pub mod Waits
 pub mod Asks
+pub mod Whole

@@ -11,6 +11,8 @@
 //! as they come (`specs/Names.antt`, `specs/Strings.antt`): so bytes are refused as soon as no line goes on with them. The place
 //! that is told is then where that argument begins (`specs/Told.antt`).
 //!
+//! [`command_in`] and [`response_in`] give what bytes are the line of, with nothing after it.
+//!
 //! [`Cutter`] cuts the bytes of a connection into lines in whatever pieces they come (`specs/Cut.antt`).
 //!
 //! What stands behind a word is a form of the crate `grammar`. A new command has a variant of [`MCommand`], a row in
@@ -33,6 +35,7 @@ mod printer;
 mod reader;
 mod strings;
 mod tag;
+mod whole;
 mod word;
 
 pub use asks::{
@@ -47,3 +50,4 @@ pub use laws::{
 pub use printer::{print_command, print_response, put_command, put_response};
 pub use reader::{read_command, read_response};
 pub use tag::Tag;
+pub use whole::{command_in, response_in};

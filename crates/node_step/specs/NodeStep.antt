@@ -8,6 +8,7 @@ use Rattle.front_core.specs.declared.front.Front.{Front}
 use Rattle.front_core.specs.Front.{Stepped, connect, bytes_in, hang, deliver}
 use Rattle.master_core.specs.declared.master.Master.{Master}
 use Rattle.master_core.specs.declared.sender.Sender.TheVariants.{Outside}
+use Rattle.master_core.specs.Linked.{node_says}
 use Rattle.master_core.specs.Outside.{Stepped as Served, connect as outside_connects, bytes_in as outside_says}
 use Rattle.master_core.specs.Streams.{without}
 use Rattle.node_step.specs.declared.input.NodeInput.{NodeInput}
@@ -62,12 +63,12 @@ back_takes home (From name message) = back_by home (back_input name message)
 abbrev pub master_acted : Served → Acted
 master_acted served = record { state = node.Master served.master; outs = served.outs }
 
--- the master serves clients from outside (RFC 3656); what other nodes send changes nothing yet
+-- the master serves clients from outside and the other nodes (RFC 3656)
 unfoldable pub master_takes : Master → NodeInput → Acted
 master_takes master (Opened conn) = master_acted (outside_connects master conn)
 master_takes master (Piece conn bytes) = master_acted (outside_says master conn bytes)
 master_takes master (Hung conn) = idle (node.Master (without master (Outside conn)))
-master_takes master (From name message) = idle (node.Master master)
+master_takes master (From name message) = master_acted (node_says master name message)
 
 unfoldable pub takes : NodeState → NodeInput → Acted
 takes (node.Front front) input = front_takes front input

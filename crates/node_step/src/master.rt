@@ -10,7 +10,7 @@ use mur_base::Memory;
 use std::alloc::Global;
 
 /// Gives the master what comes to it. A client from outside is greeted, and each line of its bytes is answered; LOGOUT or a close
-/// ends its connection (RFC 3656). What another node sends is taken, and changes nothing yet. For want of memory the master is spent.
+/// ends its connection (RFC 3656). A line of another node is answered to that node. For want of memory the master is spent.
 #[tactic(auto, unfolding(crate::specs::NodeStep::master_takes))]
 pub fn master_takes(alloc: Global, master: &mut Master, input: NodeInput) -> Result<Outs, Memory>
     ensures { IfOk result (λ outs. record { state = node.Master master.new; outs = outs } ≡ master_takes master.old input) }
@@ -22,6 +22,6 @@ pub fn master_takes(alloc: Global, master: &mut Master, input: NodeInput) -> Res
             master.ended(&Sender::Outside(conn));
             Ok(Outs::new(alloc))
         }
-        NodeInput::From(_, _) => Ok(Outs::new(alloc)),
+        NodeInput::From(name, message) => master.node_says(alloc, name, message),
     }
 }

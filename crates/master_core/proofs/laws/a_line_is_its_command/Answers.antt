@@ -1,4 +1,4 @@
-use Rattle.master_core.proofs.LinesLaw.{line_is, is_line}
+use Rattle.mupdate_codec.proofs.WholeLaw.{line_is, is_line}
 use Rattle.master_core.proofs.laws.a_line_is_its_command.Goals as goal
 
 pub returns-clause-is : goal.returns-clause-is
