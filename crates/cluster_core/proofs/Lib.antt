@@ -5,4 +5,5 @@ pub mod Connections
 pub mod Nodes
 pub mod Flows
 pub mod Guests
+pub mod Feeds
 pub mod OneServer

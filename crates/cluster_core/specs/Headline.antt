@@ -7,6 +7,7 @@ pub mod OpenAt
 pub mod Backends
 pub mod OneNode
 pub mod Outside
+pub mod Replicas
 pub mod FlowLaw
 pub mod Closed
 pub mod AtRest

@@ -64,23 +64,36 @@ backends_of (node ∷ nodes) = or_backend node.kind node.name (backends_of nodes
 abbrev pub home_of : Config → List ℕ
 home_of config = first_name (backends_of config.nodes)
 
+unfoldable pub or_master : Kind → List ℕ → List ℕ → List ℕ
+or_master Master name other = name
+or_master Frontend name other = other
+or_master backend_kind name other = other
+
+unfoldable pub master_among : List Node → List ℕ
+master_among [] = []
+master_among (node ∷ nodes) = or_master node.kind node.name (master_among nodes)
+
+-- the name of the master
+abbrev pub master_of : Config → List ℕ
+master_of config = master_among config.nodes
+
 abbrev pub setting_of : Config → Setting
 setting_of config = record { users = config.users; date = config.date }
 
 -- a node as it begins, by its kind: without connections, mailboxes or records
-unfoldable pub first_state : List ℕ → Setting → Node → Kind → NodeState
-first_state home setting node Master = state.Master (master_booted node.name empty_table)
-first_state home setting node Frontend = state.Front (new_front node.name home setting)
-first_state home setting node backend_kind = state.Back (booted (record { server = node.name; partition = node.partition }))
+unfoldable pub first_state : Config → Node → Kind → NodeState
+first_state config node Master = state.Master (master_booted node.name (backends_of config.nodes) empty_table)
+first_state config node Frontend = state.Front (new_front node.name (home_of config) (master_of config) (setting_of config))
+first_state config node backend_kind = state.Back (booted (record { server = node.name; partition = node.partition }))
 
 -- a node more
-abbrev pub with_node : List ℕ → Setting → World → Node → World
-with_node home setting world node =
-    record world { nodes = with_entry (slice_cmp nat_cmp) world.nodes node.name (first_state home setting node node.kind) }
+abbrev pub with_node : Config → World → Node → World
+with_node config world node =
+    record world { nodes = with_entry (slice_cmp nat_cmp) world.nodes node.name (first_state config node node.kind) }
 
-unfoldable pub with_nodes : List ℕ → Setting → World → List Node → World
-with_nodes home setting world [] = world
-with_nodes home setting world (node ∷ nodes) = with_nodes home setting (with_node home setting world node) nodes
+unfoldable pub with_nodes : Config → World → List Node → World
+with_nodes config world [] = world
+with_nodes config world (node ∷ nodes) = with_nodes config (with_node config world node) nodes
 
 abbrev pub client_at : World → ℕ → Option Client
 client_at world conn = value_at nat_cmp world.clients conn
@@ -159,13 +172,13 @@ unfoldable pub with_ups : World → List Link → World
 with_ups world [] = world
 with_ups world (link ∷ links) = with_ups (told_up world link) links
 
--- every node, each of its links whole and up; no connection, nothing on its way, no step
+-- every node, each of its links whole and up; no connection, no step, and nothing on its way but the UPDATE of each frontend
 unfoldable pub start : Config → World
-start config = with_ups (with_nodes (home_of config) (setting_of config) no_world config.nodes) (links_of config.nodes)
+start config = with_ups (with_nodes config no_world config.nodes) (links_of config.nodes)
 
--- how the nodes are linked, which are backends, and the names of all: no step changes it
+-- which node is the master, how the nodes are linked, which are backends, and the names of all: no step changes it
 abbrev pub layout_of : Config → Layout
-layout_of config = record { pairs = links_of config.nodes; backends = backends_of config.nodes; names = map (λ node. node.name) config.nodes }
+layout_of config = record { master = master_of config; pairs = links_of config.nodes; backends = backends_of config.nodes; names = map (λ node. node.name) config.nodes }
 
 abbrev pub begun : Config → ClusterState
 begun config = record { layout = layout_of config; world = start config }

@@ -1,7 +1,8 @@
 // How the nodes are linked, which no step changes.
-ghost use Rattle.std.specs.Prelude.{◌≡◌, map, IfOk};
-ghost use Rattle.mur_config.specs.Nodes.{AreNodes};
-ghost use Rattle.cluster_core.specs.World.{backends_of, layout_of};
+ghost use Rattle.std.specs.Prelude.{◌≡◌, ◌≤◌, map, IfOk};
+ghost use Rattle.mur_config.specs.declared.node.Kind.TheVariants.{Master};
+ghost use Rattle.mur_config.specs.Nodes.{AreNodes, count_of_kind};
+ghost use Rattle.cluster_core.specs.World.{backends_of, layout_of, master_among};
 
 use crate::shared_name::SharedName;
 use mur_base::{Copied, Items, Memory, NodeName};
@@ -11,6 +12,8 @@ use std::alloc::Global;
 /// What a run of the cluster reads beside its world.
 #[derive(Drop)]
 pub struct Layout {
+    /// The master.
+    pub master: NodeName,
     /// The directed pairs of linked nodes in the order in which a flow goes over them.
     pub pairs: Links,
     /// The backends in the configuration's order.
@@ -27,6 +30,7 @@ impl Layout {
     {
         let nodes = config.nodes.as_slice();
         Ok(Layout {
+            master: master_of(alloc, nodes)?,
             pairs: config.nodes.links(alloc)?,
             backends: backends_of(alloc, nodes)?,
             names: names_of(alloc, nodes)?,
@@ -46,6 +50,20 @@ impl Layout {
         let name = SharedName::new(alloc, node.copy(alloc)?)?;
         Ok(name)
     }
+}
+
+/// The name of the master.
+#[tactic(auto, unfolding(crate::specs::World::master_among, crate::specs::World::or_master))]
+fn master_of(alloc: Global, nodes: &[Node]) -> Result<NodeName, Memory>
+    requires { 1 ≤ count_of_kind Master nodes.now }
+    ensures { IfOk result (λ name. name ≡ master_among nodes.now) }
+{
+    for node in nodes {
+        if node.kind == Kind::Master {
+            return node.name.copy(alloc);
+        }
+    }
+    unreachable!()
 }
 
 #[tactic(auto, unfolding(crate::specs::World::backends_of, crate::specs::World::or_backend))]

@@ -1,7 +1,9 @@
 // The cluster before its first event.
 ghost use Rattle.std.specs.Prelude.{◌≡◌, ◌<◌, length, IfOk, OnOk};
+ghost use Rattle.front_core.specs.Front.{new_front};
 ghost use Rattle.imap_command.specs.Ruled.{IsDate};
-ghost use Rattle.cluster_core.specs.World.{start, layout_of, first_name, setting_of, first_state, told_up, with_node, with_nodes, with_ups};
+ghost use Rattle.node_step.specs.declared.node.NodeState.TheVariants as state;
+ghost use Rattle.cluster_core.specs.World.{start, layout_of, first_name, home_of, master_of, setting_of, first_state, told_up, with_node, with_nodes, with_ups};
 
 use crate::coming::comes;
 use crate::layout::Layout;
@@ -39,8 +41,7 @@ pub fn start(alloc: Global, config: &Config, layout: &Layout) -> Result<World, M
         marks: Items::new(alloc),
         steps: 0,
     };
-    let home = first_name(alloc, &layout.backends)?;
-    add_nodes(alloc, config, &home, &mut world, nodes)?;
+    add_nodes(alloc, config, layout, &mut world, nodes)?;
     links_up(alloc, &mut world, layout.pairs.as_slice())?;
     Ok(world)
 }
@@ -74,14 +75,15 @@ fn first_name(alloc: Global, names: &Items<NodeName>) -> Result<NodeName, Memory
 fn add_nodes(
     alloc: Global,
     config: &Config,
-    home: &NodeName,
+    layout: &Layout,
     world: &mut World,
     nodes: &[Node],
 ) -> Result<(), Memory>
-    ensures { OnOk result (world.new ≡ with_nodes home.now (setting_of config.now) world.old nodes.now) }
+    requires { layout.now ≡ layout_of config.now }
+    ensures { OnOk result (world.new ≡ with_nodes config.now world.old nodes.now) }
 {
     for node in nodes {
-        add_node(alloc, config, home, world, node)?;
+        add_node(alloc, config, layout, world, node)?;
     }
     Ok(())
 }
@@ -89,13 +91,14 @@ fn add_nodes(
 fn add_node(
     alloc: Global,
     config: &Config,
-    home: &NodeName,
+    layout: &Layout,
     world: &mut World,
     node: &Node,
 ) -> Result<(), Memory>
-    ensures { OnOk result (world.new ≡ with_node home.now (setting_of config.now) world.old node.now) }
+    requires { layout.now ≡ layout_of config.now }
+    ensures { OnOk result (world.new ≡ with_node config.now world.old node.now) }
 {
-    let first = first_state(alloc, config, home, node)?;
+    let first = first_state(alloc, config, layout, node)?;
     world.nodes.insert(node.name.copy(alloc)?, first)?;
     Ok(())
 }
@@ -105,19 +108,19 @@ fn add_node(
 fn first_state(
     alloc: Global,
     config: &Config,
-    home: &NodeName,
+    layout: &Layout,
     node: &Node,
 ) -> Result<NodeState, Memory>
-    ensures { IfOk result (λ it. it ≡ first_state home.now (setting_of config.now) node.now (node.now).kind) }
+    requires { layout.now ≡ layout_of config.now }
+    ensures { IfOk result (λ it. it ≡ first_state config.now node.now (node.now).kind) }
 {
     let name = node.name.copy(alloc)?;
     match node.kind {
-        Kind::Master => Ok(NodeState::Master(Master::new(alloc, name))),
-        Kind::Frontend => {
-            let setting = setting_of(alloc, config)?;
-            let front = Front::new(name, home.copy(alloc)?, setting, alloc);
-            Ok(NodeState::Front(front))
+        Kind::Master => {
+            let backends = layout.backends.copy(alloc)?;
+            Ok(NodeState::Master(Master::new(alloc, name, backends)))
         }
+        Kind::Frontend => first_front(alloc, config, layout, name),
         Kind::Backend => {
             let me = Location {
                 server: name,
@@ -126,6 +129,22 @@ fn first_state(
             Ok(NodeState::Back(Backend::boot(alloc, me)))
         }
     }
+}
+
+/// A frontend as it begins.
+fn first_front(
+    alloc: Global,
+    config: &Config,
+    layout: &Layout,
+    name: NodeName,
+) -> Result<NodeState, Memory>
+    requires { layout.now ≡ layout_of config.now }
+    ensures { IfOk result (λ it. it ≡ state.Front (new_front name (home_of config.now) (master_of config.now) (setting_of config.now))) }
+{
+    let home = first_name(alloc, &layout.backends)?;
+    let master = layout.master.copy(alloc)?;
+    let setting = setting_of(alloc, config)?;
+    Ok(NodeState::Front(Front::new(name, home, master, setting, alloc)))
 }
 
 fn setting_of(alloc: Global, config: &Config) -> Result<Setting, Memory>

@@ -1,2 +1,3 @@
 pub mod LinesLaw
 pub mod AboveLaw
+pub mod StreamLaw

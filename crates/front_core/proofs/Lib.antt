@@ -9,3 +9,4 @@ pub mod Counts
 pub mod ReadingLaws
 pub mod OneConnection
 pub mod StrangerLaw
+pub mod KnownStays

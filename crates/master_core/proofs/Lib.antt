@@ -5,3 +5,4 @@ pub mod OutsideAlone
 pub mod DialogLaw
 pub mod ServersLaw
 pub mod StepLaw
+pub mod UpdateLaw

@@ -83,17 +83,17 @@ unfolding run_steps
 run_steps-ordered world [] is = is
 run_steps-ordered world (event ∷ events) is = run_steps-ordered (steps_by world event) events (takes-ordered (stepped world) event is)
 
-with_nodes-ordered : (home : List ℕ) (setting : Setting) (world : World) (nodes : List Node) → IsOrdered world
-    → IsOrdered (with_nodes home setting world nodes)
+with_nodes-ordered : (config : Config) (world : World) (nodes : List Node) → IsOrdered world
+    → IsOrdered (with_nodes config world nodes)
 unfolding with_nodes
-with_nodes-ordered home setting world [] is = is
-with_nodes-ordered home setting world (node ∷ nodes) is =
-    with_nodes-ordered home setting (with_node home setting world node) nodes is
+with_nodes-ordered config world [] is = is
+with_nodes-ordered config world (node ∷ nodes) is =
+    with_nodes-ordered config (with_node config world node) nodes is
 
 start-ordered : (config : Config) → IsOrdered (start config)
 unfolding IsStrictlySortedBy
 start-ordered config =
-    subst IsOrdered (sym (started config)) (with_nodes-ordered (home_of config) (setting_of config) no_world config.nodes tt)
+    subst IsOrdered (sym (started config)) (with_nodes-ordered config no_world config.nodes tt)
 
 pub clients_in_order : (config : Config) (events : List Event) → IsOrdered (run_steps (start config) events)
 clients_in_order config events = run_steps-ordered (start config) events (start-ordered config)

@@ -30,7 +30,7 @@ use Rattle.cluster_core.specs.World.{client_at, node_at, front_at, home_at, carr
 use Rattle.cluster_core.proofs.Connections.GivenAlone.{given_alone}
 use Rattle.cluster_core.proofs.Nodes.NotLost.{own_go}
 use Rattle.cluster_core.proofs.Runs.WholeLaw.{carried_out, acts_whole}
-use Rattle.cluster_core.proofs.Connections.KeepsLaw.{ClientStays, LooksAlike, looks_same, same_put}
+use Rattle.cluster_core.proofs.Connections.KeepsLaw.{ClientStays, LooksAlike, front_same, looks_same, same_put}
 use Rattle.cluster_core.proofs.Connections.KeepsLaw.ClientStays.{same_client, given_elsewhere}
 
 -- the step of a frontend, of a backend, where no link is broken
@@ -82,7 +82,8 @@ ask_comes world from node ask home whole at = comes_by world node (From from (As
 
 pub looks_put : (world : World) (node : List ℕ) (it : NodeState) → node_at world node ≡ Some it → LooksAlike world (with_state world node it)
 looks_put world node it at = record {
-  fronts = λ any. ap as_front (same_put (slice_cmp nat_cmp) names_apart world.nodes node it at any);
+  fronts = λ any. front_same (front_at world any) (front_at (with_state world node it) any)
+      (ap as_front (same_put (slice_cmp nat_cmp) names_apart world.nodes node it at any));
   homes = λ any. ap as_back (same_put (slice_cmp nat_cmp) names_apart world.nodes node it at any);
   clients = λ any. same_client refl;
   broken = refl;
@@ -116,7 +117,7 @@ master_looks world node conn given was later outs at there own =
     let none : front_at world node ≡ None = ap as_front at in
     subst (λ next. LooksAlike world next) (sym (ap (carry_all node put) (own_go world.broken node conn outs own) ∙ alone.next_is))
     (record {
-      fronts = λ any. master_beside as_front world node any was later refl at;
+      fronts = λ any. front_same (front_at world any) (front_at put any) (master_beside as_front world node any was later refl at);
       homes = λ any. master_beside as_back world node any was later refl at;
       clients = λ any. ⊎_elim
           (λ (e : any ≡ conn). subst (λ c. ClientStays c world (record put { clients = alone.clients })) (sym e)

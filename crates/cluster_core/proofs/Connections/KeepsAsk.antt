@@ -270,7 +270,6 @@ ask_kept config heard later world law from to tag name work ask rest answered it
         serials = answered.serials;
         is_told = answered.is_told;
         requests = λ other. law.requests other ∙ ap (λ h. requests_of (setting_of config) (frames_heard h)) (sym (same other));
-        no_others = places_stay world from to ask rest answered.body of_nobody first (nobody_whom conn) None law.no_others;
         connections = λ other. subst (λ h. ConnectionIs (setting_of config) law.home other next story h) (sym (same other)) (⊎_elim
             (λ (e : other ≡ conn). subst (λ c. ConnectionIs (setting_of config) law.home c next story (heard c)) (sym e) mine)
             (λ (ne : other ≢ conn). connection_stays (setting_of config) law.home other world next law.story story (heard other)

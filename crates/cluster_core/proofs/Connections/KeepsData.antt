@@ -359,7 +359,6 @@ heard_on config heard world law conn bytes more node front connection e at stage
         serials = law.serials;
         is_told = now_told config heard world law conn bytes more (reading_of (setting_of config) bytes) e refl;
         requests = λ other. refl;
-        no_others = law.no_others;
         connections = λ other. ⊎_elim
             (λ (same : other ≡ conn). subst (λ c. ConnectionIs (setting_of config) law.home c world told (after_data config heard conn more c))
             (sym same)

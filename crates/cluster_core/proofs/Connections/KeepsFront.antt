@@ -79,7 +79,6 @@ front_keeps config heard after origin law links conn node front was connection o
         serials = subst (λ (s : Store). AreSerialsTo s.given law.backend.last_serial) (sym same_store) law.serials;
         is_told = made.is_told;
         requests = λ other. ap (λ (r : ℕ → List Request). r other) made.goes_on.requests ∙ requests other;
-        no_others = made.others.places of_nobody (nobody_whom conn) None (places of_nobody (nobody_whom conn) None law.no_others);
         connections = λ other. ⊎_elim
             (λ (same : other ≡ conn). subst (λ c. ConnectionIs (setting_of config) law.home c next story (after c)) (sym same)
             (subst (λ w. ConnectionIs (setting_of config) law.home conn w story (after conn)) e mine))

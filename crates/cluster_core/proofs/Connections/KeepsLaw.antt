@@ -97,8 +97,6 @@ pub record KeepsLaw (config : Config) (heard : ℕ → Heard) (world : World) : 
   pub serials : AreSerialsTo story.course.store.given backend.last_serial
   pub is_told : IsTold (setting_of config) world.steps world.marks story.talk story.told story.course
   pub requests : (conn : ℕ) → story.talk.requests conn ≡ requests_of (setting_of config) (frames_heard (heard conn))
-  -- each message on its way is about a connection
-  pub no_others : IsPlaced of_nobody world.links None
   pub connections : (conn : ℕ) → ConnectionIs (setting_of config) home conn world story (heard conn)
 
 -- so it does behind a world in which so much was said; a client that has closed its connection was told no more
@@ -217,20 +215,29 @@ pub data ClientStays (conn : ℕ) (world next : World) : Type 0 where
   given_elsewhere : (node was now : List ℕ) → front_at world node ≡ None → client_at world conn ≡ Some (record { at = node; given = was })
       → client_at next conn ≡ Some (record { at = node; given = now }) → ClientStays conn world next
 
--- a world in which every look-up of a frontend, a backend or a mail client finds what it found
+-- a frontend with the connections that it had; what it knows of the master's table may be another
+pub data FrontStays : Option Front → Option Front → Type 0 where
+  no_front_there : FrontStays None None
+  front_there : (was now : Front) → now.connections ≡ was.connections → now.home ≡ was.home → now.setting ≡ was.setting → FrontStays (Some was) (Some now)
+
+pub front_same : (was now : Option Front) → now ≡ was → FrontStays was now
+front_same None now e = subst (λ f. FrontStays None f) (sym e) no_front_there
+front_same (Some front) now e = subst (λ f. FrontStays (Some front) f) (sym e) (front_there front front refl refl refl)
+
+-- a world in which every look-up of a connection, a backend or a mail client finds what it found
 pub record LooksAlike (world next : World) : Type 0 where
-  pub fronts : (node : List ℕ) → front_at next node ≡ front_at world node
+  pub fronts : (node : List ℕ) → FrontStays (front_at world node) (front_at next node)
   pub homes : (node : List ℕ) → home_at next node ≡ home_at world node
   pub clients : (conn : ℕ) → ClientStays conn world next
   pub broken : next.broken ≡ world.broken
-  pub places : (whom : About) → PlacesStay whom world.links next.links
+  pub places : (conn : ℕ) → PlacesStay (of_connection conn) world.links next.links
   pub marks : next.marks ≡ world.marks
   pub steps : world.steps ≤ next.steps
 
 -- every look-up finds what it found in the same world
 pub looks_same : (world : World) → LooksAlike world world
 looks_same world = record {
-  fronts = λ any. refl;
+  fronts = λ any. front_same (front_at world any) (front_at world any) refl;
   homes = λ any. refl;
   clients = λ any. same_client refl;
   broken = refl;

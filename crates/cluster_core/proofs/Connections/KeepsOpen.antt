@@ -132,7 +132,6 @@ joined_keeps config heard world node conn law none new =
         serials = law.serials;
         is_told = law.is_told;
         requests = requests_first config law.story heard conn node new.nobody_is law.requests;
-        no_others = law.no_others;
         connections = λ other. ⊎_elim
             (λ (same : other ≡ conn). subst (λ c. ConnectionIs (setting_of config) law.home c next law.story (after_open config heard node conn c))
             (sym same)
@@ -224,7 +223,6 @@ front_keeps_open config heard world node conn front law at new =
         serials = law.serials;
         is_told = law.is_told;
         requests = requests_first config law.story heard conn node new.nobody_is law.requests;
-        no_others = law.no_others;
         connections = λ other. ⊎_elim
             (λ (same : other ≡ conn). subst (λ c. ConnectionIs (setting_of config) law.home c next law.story (after_open config heard node conn c))
             (sym same)

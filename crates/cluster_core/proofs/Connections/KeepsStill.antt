@@ -28,7 +28,9 @@ use Rattle.cluster_core.proofs.Connections.KeepsLaw.{ConnectionIs, AreNodesOf, K
 use Rattle.cluster_core.proofs.Connections.KeepsLaw.{ClientStays}
 use Rattle.cluster_core.proofs.Connections.KeepsLaw.ClientStays.{same_client, given_elsewhere}
 use Rattle.cluster_core.proofs.Connections.KeepsLaw.ConnectionIs.{is_nobody, is_elsewhere, is_open, is_closed}
-use Rattle.cluster_core.proofs.Connections.KeepsLaw.SameFront.{both}
+use Rattle.cluster_core.proofs.Connections.KeepsLaw.SameFront.{both, both_none}
+use Rattle.cluster_core.proofs.Connections.KeepsLaw.{FrontStays}
+use Rattle.cluster_core.proofs.Connections.KeepsLaw.FrontStays.{no_front_there, front_there}
 use Rattle.front_core.proofs.OneConnection.Places.{of_connection, of_nobody}
 use Rattle.imap_talk.proofs.RequestsOf.{requests_of}
 use Rattle.cluster_core.proofs.Histories.Told.{IsTold, told_later}
@@ -39,6 +41,36 @@ nodes_alike config world next home fronts nodes = record {
   home_no_front = fronts home ∙ nodes.home_no_front;
   fronts = λ node front at. nodes.fronts node front (sym (fronts node) ∙ at);
   frontends = λ node. ap is_some (fronts node) ∙ nodes.frontends node;
+  home_for = nodes.home_for;
+}
+
+stays_known : (was now : Option Front) (front : Front) (setting : Setting) (home : List ℕ) → FrontStays was now → now ≡ Some front
+    → ((it : Front) → was ≡ Some it → (it.home ≡ home) × (it.setting ≡ setting)) → (front.home ≡ home) × (front.setting ≡ setting)
+stays_known was now front setting home no_front_there e known = cc
+stays_known was now front setting home (front_there one two connections same_home same_setting) e known =
+    let is : two ≡ front = cc in
+    let were = known one refl in
+    (ap (λ (f : Front). f.home) (sym is) ∙ same_home ∙ were.0, ap (λ (f : Front). f.setting) (sym is) ∙ same_setting ∙ were.1)
+
+pub stays_there : (was now : Option Front) → FrontStays was now → is_some now ≡ is_some was
+stays_there was now no_front_there = refl
+stays_there was now (front_there one two connections home setting) = refl
+
+pub stays_none : (was now : Option Front) → FrontStays was now → was ≡ None → now ≡ None
+stays_none was now no_front_there e = refl
+stays_none was now (front_there one two connections home setting) e = cc
+
+stays_at : (conn : ℕ) (was now : Option Front) → FrontStays was now → SameFront conn was now
+stays_at conn was now no_front_there = both_none
+stays_at conn was now (front_there one two connections home setting) = both one two (ap (λ c. value_at nat_cmp c conn) connections)
+
+-- the nodes where each frontend has the connections that it had
+pub nodes_stay : (config : Config) (world next : World) (home : List ℕ) → ((node : List ℕ) → FrontStays (front_at world node) (front_at next node))
+    → AreNodesOf config world home → AreNodesOf config next home
+nodes_stay config world next home fronts nodes = record {
+  home_no_front = stays_none (front_at world home) (front_at next home) (fronts home) nodes.home_no_front;
+  fronts = λ node front at. stays_known (front_at world node) (front_at next node) front (setting_of config) home (fronts node) at (nodes.fronts node);
+  frontends = λ node. stays_there (front_at world node) (front_at next node) (fronts node) ∙ nodes.frontends node;
   home_for = nodes.home_for;
 }
 
@@ -56,9 +88,9 @@ pub alike_stays : (setting : Setting) (home : List ℕ) (conn : ℕ) (world next
 alike_stays setting home conn world next story heard alike (same_client same) is =
     connection_stays setting home conn world next story story heard
     (record {
-      fronts = λ node. same_front conn (front_at world node) (front_at next node) (alike.fronts node);
+      fronts = λ node. stays_at conn (front_at world node) (front_at next node) (alike.fronts node);
       client = same;
-      places = alike.places (of_connection conn);
+      places = alike.places conn;
       told = refl;
       said = refl;
       session = refl;
@@ -66,8 +98,8 @@ alike_stays setting home conn world next story heard alike (same_client same) is
 alike_stays setting home conn world next story heard alike (given_elsewhere node was now none before after) (is_nobody nothing fronts untold) =
     absurd (let no : Some (record { at = node; given = was }) ≡ None = sym before ∙ nothing in cc)
 alike_stays setting home conn world next story heard alike (given_elsewhere node was now none before after) (is_elsewhere there given at no_front untold) =
-    is_elsewhere node now after (alike.fronts node ∙ none)
-    (record { told = untold.told; said = untold.said; session = untold.session; nothing = alike.places (of_connection conn) None untold.nothing })
+    is_elsewhere node now after (stays_none (front_at world node) (front_at next node) (alike.fronts node) none)
+    (record { told = untold.told; said = untold.said; session = untold.session; nothing = alike.places conn None untold.nothing })
 alike_stays setting home conn world next story heard alike (given_elsewhere node was now none before after)
     (is_open bytes there front connection at reader standing) =
     absurd (not_at_both world conn there node front _ _ at.at none standing.client before refl refl)
@@ -81,7 +113,7 @@ still_kept config heard after world next alike same law = record {
     home = law.home;
     backend = law.backend;
     home_is = alike.homes law.home ∙ law.home_is;
-    nodes = nodes_alike config world next law.home alike.fronts law.nodes;
+    nodes = nodes_stay config world next law.home alike.fronts law.nodes;
     whole = alike.broken ∙ law.whole;
     story = law.story;
     names = λ name. name_stays world next law.story.course.store law.story.course.store law.home name
@@ -90,7 +122,6 @@ still_kept config heard after world next alike same law = record {
     is_told = subst (λ m. IsTold (setting_of config) next.steps m law.story.talk law.story.told law.story.course) (sym alike.marks)
         (told_later (setting_of config) world.steps next.steps world.marks law.story.talk law.story.told law.story.course alike.steps law.is_told);
     requests = λ conn. law.requests conn ∙ ap (λ h. requests_of (setting_of config) (frames_heard h)) (sym (same conn));
-    no_others = alike.places of_nobody None law.no_others;
     connections = λ conn. subst (λ h. ConnectionIs (setting_of config) law.home conn next law.story h) (sym (same conn))
         (alike_stays (setting_of config) law.home conn world next law.story (heard conn) alike (alike.clients conn) (law.connections conn));
   };

@@ -26,7 +26,7 @@ use Rattle.node_step.specs.declared.input.NodeInput.TheVariants.{Opened, Piece, 
 use Rattle.node_step.specs.declared.node.NodeState.{NodeState}
 use Rattle.node_step.specs.declared.node.NodeState.TheVariants as state
 use Rattle.node_step.specs.NodeStep.{as_front, as_master, back_takes, master_takes, takes as node_takes}
-use Rattle.node_step.proofs.OwnOuts.{conn_of, back_own}
+use Rattle.node_step.proofs.OwnOuts.{sender_of, conn_of, back_own}
 use Rattle.schedule_text.specs.declared.event.Event.{Event}
 use Rattle.schedule_text.specs.declared.event.Event.TheVariants.{Open, Data, Hang, Deliver, Cut, Join, Crash, Arm, Start, Flow, Heal}
 use Rattle.cluster_core.specs.declared.world.Client.{Client}
@@ -41,7 +41,8 @@ use Rattle.cluster_core.proofs.Guests.GuestLaw.{GuestIs, guest_stays, stays_wher
 use Rattle.cluster_core.proofs.Guests.GuestLaw.GuestIs.{is_unopened, is_mail, is_silent, is_dialog}
 use Rattle.cluster_core.proofs.Guests.MastersStay.{SameMaster, acting, name_by, same_master, names_stay, fronts_stay}
 use Rattle.cluster_core.proofs.Nodes.NotLost.{not_for_left, own_go}
-use Rattle.cluster_core.proofs.Nodes.OwnClientsLaw.{IsSame, carry_all_same, joins_alone, ComesToItsOwn}
+use Rattle.cluster_core.proofs.Nodes.OwnClientsLaw.{IsSame, SaysOn, carry_all_same, joins_alone, ComesToItsOwn}
+use Rattle.cluster_core.proofs.Feeds.ForNodes.{no_message}
 
 pub record GuestsLaw (config : Config) (guests : ℕ → Guest) (world : World) : Type 0 where
   pub names : (node : List ℕ) → name_by (master_at world node) ≡ cond (is_master config node) (Some node) None
@@ -73,17 +74,17 @@ apart : (conn other : ℕ) (o : Option ℕ) → other ≢ conn → o ≡ Some co
 apart conn other o ne e is = ne (let same : Some conn ≡ Some other = sym e ∙ is in cc)
 
 step_law : (config : Config) (guests after : ℕ → Guest) (world : World) (node : List ℕ) (input : NodeInput) (conn : ℕ) → acting input ≡ Some conn
-    → conn_of input ≡ Some conn → ((other : ℕ) → other ≢ conn → after other ≡ guests other)
+    → conn_of input ≡ Some conn → sender_of input ≡ None → ((other : ℕ) → other ≢ conn → after other ≡ guests other)
     → ((other : ℕ) → other ≢ conn → GuestIs world other (guests other))
     → ((name : List ℕ) → name_by (master_at world name) ≡ cond (is_master config name) (Some name) None)
     → GuestIs (comes_to world node input (node_at world node)) conn (after conn)
     → GuestsLaw config after (comes_to world node input (node_at world node))
-step_law config guests after world node input conn acts about same others names own = record {
-  names = λ name. names_stay world node input name ∙ names name;
+step_law config guests after world node input conn acts about client_acts same others names own = record {
+  names = λ name. names_stay world node input (no_message (node_at world node) input client_acts) name ∙ names name;
   each = λ other. ⊎_elim
       (λ (e : other ≡ conn). subst (λ c. GuestIs (comes_to world node input (node_at world node)) c (after c)) (sym e) own)
       (λ (ne : other ≢ conn). subst (GuestIs (comes_to world node input (node_at world node)) other) (sym (same other ne))
-      (comes_guest world node input other (apart conn other (acting input) ne acts) (guests other)
+      (comes_guest world node input other (apart conn other (acting input) ne acts) (no_message (node_at world node) input client_acts) (guests other)
       (λ is client there. absurd (apart conn other (conn_of input) ne about is)) (others other ne)))
       (cases_eq other conn);
 }
@@ -108,17 +109,17 @@ no_some None e = refl
 no_some (Some front) e = cc
 
 -- the client acts at a node where it is given nothing
-silent_stays : (world : World) (node : List ℕ) (input : NodeInput) (conn : ℕ) → client_at world conn ≡ Some (record { at = node; given = [] })
+silent_stays : (world : World) (node : List ℕ) (input : NodeInput) (conn : ℕ) → sender_of input ≡ None → client_at world conn ≡ Some (record { at = node; given = [] })
     → front_at world node ≡ None → master_at world node ≡ None → GuestIs (comes_to world node input (node_at world node)) conn at_another
-silent_stays world node input conn at no_front no_master =
+silent_stays world node input conn none at no_front no_master =
     is_silent node (silent world node input (node_at world node) no_front no_master conn ∙ at)
-    (no_some _ (fronts_stay world node input node ∙ ap is_some no_front))
-    (no_name _ (names_stay world node input node ∙ ap name_by no_master))
+    (no_some _ (fronts_stay world node input (no_message (node_at world node) input none) node ∙ ap is_some no_front))
+    (no_name _ (names_stay world node input (no_message (node_at world node) input none) node ∙ ap name_by no_master))
 
-mail_stays : (world : World) (node : List ℕ) (input : NodeInput) (conn : ℕ) (there : List ℕ) → node_of (client_at world conn) ≡ Some there
+mail_stays : (world : World) (node : List ℕ) (input : NodeInput) (conn : ℕ) (there : List ℕ) → sender_of input ≡ None → node_of (client_at world conn) ≡ Some there
     → is_some (front_at world there) ≡ true → GuestIs (comes_to world node input (node_at world node)) conn at_another
-mail_stays world node input conn there at front =
-    is_mail there (stays_where world node input (node_at world node) conn ∙ at) (fronts_stay world node input there ∙ front)
+mail_stays world node input conn there none at front =
+    is_mail there (stays_where world node input (node_at world node) conn ∙ at) (fronts_stay world node input (no_message (node_at world node) input none) there ∙ front)
 
 -- the client acts at the master
 dialog_acts : (world : World) (node : List ℕ) (conn : ℕ) (given : List ℕ) (master next : Master) (outs : List Out) (dialog : Dialog)
@@ -170,10 +171,10 @@ data_own : (config : Config) (world : World) (conn : ℕ) (bytes : List ℕ) (cl
     → GuestIs world conn seen → GuestIs (comes world client.at (Piece conn bytes)) conn (guest_after config conn world seen (Data conn bytes))
 unfolding guest_after
 data_own config world conn bytes client seen there (is_unopened none talks) = no_client (client_at world conn) client there none
-data_own config world conn bytes client seen there (is_mail node at front) = mail_stays world client.at (Piece conn bytes) conn node at front
+data_own config world conn bytes client seen there (is_mail node at front) = mail_stays world client.at (Piece conn bytes) conn node refl at front
 data_own config world conn bytes client seen there (is_silent node at no_front no_master) =
     subst (λ n. GuestIs (comes world n (Piece conn bytes)) conn at_another) (same_at (client_at world conn) client _ there at)
-    (silent_stays world node (Piece conn bytes) conn at no_front no_master)
+    (silent_stays world node (Piece conn bytes) conn refl at no_front no_master)
 data_own config world conn bytes client seen there (is_dialog node dialog master at is_master_there is) =
     subst (λ n. GuestIs (comes world n (Piece conn bytes)) conn (guest node (dialog_on (table_at world node) conn dialog (Data conn bytes))))
     (same_at (client_at world conn) client _ there at)
@@ -197,10 +198,10 @@ hang_own : (config : Config) (world : World) (conn : ℕ) (client : Client) (see
     → GuestIs world conn seen → GuestIs (comes world client.at (Hung conn)) conn (guest_after config conn world seen (Hang conn))
 unfolding guest_after
 hang_own config world conn client seen there (is_unopened none talks) = no_client (client_at world conn) client there none
-hang_own config world conn client seen there (is_mail node at front) = mail_stays world client.at (Hung conn) conn node at front
+hang_own config world conn client seen there (is_mail node at front) = mail_stays world client.at (Hung conn) conn node refl at front
 hang_own config world conn client seen there (is_silent node at no_front no_master) =
     subst (λ n. GuestIs (comes world n (Hung conn)) conn at_another) (same_at (client_at world conn) client _ there at)
-    (silent_stays world node (Hung conn) conn at no_front no_master)
+    (silent_stays world node (Hung conn) conn refl at no_front no_master)
 hang_own config world conn client seen there (is_dialog node dialog master at is_master_there is) =
     subst (λ n. GuestIs (comes world n (Hung conn)) conn (guest node (dialog_on (table_at world node) conn dialog (Hang conn))))
     (same_at (client_at world conn) client _ there at)
@@ -237,15 +238,15 @@ unfolding as_front as_master
 opens_by config world node conn None there at named talks =
     subst (λ b. GuestIs (comes world node (Opened conn)) conn (arrives b node))
     (sym (is_no_master node (is_master config node) (master_at world node) named (ap as_master there)))
-    (silent_stays world node (Opened conn) conn at (ap as_front there) (ap as_master there))
+    (silent_stays world node (Opened conn) conn refl at (ap as_front there) (ap as_master there))
 opens_by config world node conn (Some (state.Front front)) there at named talks =
     subst (λ b. GuestIs (comes world node (Opened conn)) conn (arrives b node))
     (sym (is_no_master node (is_master config node) (master_at world node) named (ap as_master there)))
-    (mail_stays world node (Opened conn) conn node (ap node_of at) (ap (λ f. is_some (as_front f)) there))
+    (mail_stays world node (Opened conn) conn node refl (ap node_of at) (ap (λ f. is_some (as_front f)) there))
 opens_by config world node conn (Some (state.Back home)) there at named talks =
     subst (λ b. GuestIs (comes world node (Opened conn)) conn (arrives b node))
     (sym (is_no_master node (is_master config node) (master_at world node) named (ap as_master there)))
-    (silent_stays world node (Opened conn) conn at (ap as_front there) (ap as_master there))
+    (silent_stays world node (Opened conn) conn refl at (ap as_front there) (ap as_master there))
 opens_by config world node conn (Some (state.Master master)) there at named talks =
     let is = is_the_master node (is_master config node) (master_at world node) named master (ap as_master there) in
     subst (λ b. GuestIs (comes world node (Opened conn)) conn (arrives b node)) (sym is.0)
@@ -317,7 +318,7 @@ data_guests config guests world conn bytes None at law =
     (unopened_yet config world conn (guests conn) (Data conn bytes) at (law.each conn) refl)
     (λ other ne. data_other config other world (guests other) conn bytes ne)) law
 data_guests config guests world conn bytes (Some client) at law =
-    step_law config guests (after config guests world (Data conn bytes)) world client.at (Piece conn bytes) conn refl refl
+    step_law config guests (after config guests world (Data conn bytes)) world client.at (Piece conn bytes) conn refl refl refl
     (λ other ne. data_other config other world (guests other) conn bytes ne) (λ other ne. law.each other) law.names
     (data_own config world conn bytes client (guests conn) at (law.each conn))
 
@@ -330,7 +331,7 @@ hang_guests config guests world conn None at law =
     (unopened_yet config world conn (guests conn) (Hang conn) at (law.each conn) refl)
     (λ other ne. hang_other config other world (guests other) conn ne)) law
 hang_guests config guests world conn (Some client) at law =
-    step_law config guests (after config guests world (Hang conn)) world client.at (Hung conn) conn refl refl
+    step_law config guests (after config guests world (Hang conn)) world client.at (Hung conn) conn refl refl refl
     (λ other ne. hang_other config other world (guests other) conn ne) (λ other ne. law.each other) law.names
     (hang_own config world conn client (guests conn) at (law.each conn))
 
@@ -368,7 +369,7 @@ open_guests config guests world node conn (Some client) at law =
 open_guests config guests world node conn None at law =
     let first = is_first world conn (guests conn) at (law.each conn) in
     let next : World = with_client world node conn in
-    step_law config guests (after config guests world (Open node conn)) next node (Opened conn) conn refl refl
+    step_law config guests (after config guests world (Open node conn)) next node (Opened conn) conn refl refl refl
     (λ other ne. open_other config other world (guests other) node conn ne)
     (λ other ne. joined world node conn other (guests other) ne (law.each other)) law.names
     (subst (GuestIs (comes next node (Opened conn)) conn) (sym (open_seen config world conn node (guests conn) first.is))
@@ -387,41 +388,42 @@ its_answer world from to (Line line) rest conn own first is client there = cc
 its_answer world from to (Ask ask) rest conn own first is client there = cc
 
 deliver_guests : (config : Config) (guests later : ℕ → Guest) (world : World) (from to : List ℕ) (queue : List LinkMsg)
-    → ((conn : ℕ) → later conn ≡ guests conn) → ComesToItsOwn world from to → on_link world.links from to ≡ queue → GuestsLaw config guests world
+    → ((conn : ℕ) → later conn ≡ guests conn) → ComesToItsOwn world from to → SaysOn world from to → on_link world.links from to ≡ queue
+    → GuestsLaw config guests world
     → GuestsLaw config later (deliver_first world from to queue)
 unfolding deliver_first
-deliver_guests config guests later world from to [] same own first law = law_same config guests later world same law
-deliver_guests config guests later world from to (message ∷ rest) same own first law =
+deliver_guests config guests later world from to [] same own says first law = law_same config guests later world same law
+deliver_guests config guests later world from to (message ∷ rest) same own says first law =
     let next : World = taken_from_link world from to in
     let taken = law_alike config guests world next refl refl law in
     law_same config guests later (comes next to (From from message)) same
     (record {
-      names = λ node. names_stay next to (From from message) node ∙ taken.names node;
-      each = λ conn. comes_guest next to (From from message) conn (λ e. cc) (guests conn) (its_answer world from to message rest conn own first) (taken.each conn);
+      names = λ node. names_stay next to (From from message) (says message rest first) node ∙ taken.names node;
+      each = λ conn. comes_guest next to (From from message) conn (λ e. cc) (says message rest first) (guests conn) (its_answer world from to message rest conn own first) (taken.each conn);
     })
 
 takes_guests : (config : Config) (guests : ℕ → Guest) (world : World) (event : Event) → ((from to : List ℕ) → ComesToItsOwn world from to)
-    → GuestsLaw config guests world → GuestsLaw config (after config guests world event) (takes world event)
+    → ((from to : List ℕ) → SaysOn world from to) → GuestsLaw config guests world → GuestsLaw config (after config guests world event) (takes world event)
 unfolding takes
-takes_guests config guests world (Open node conn) own law = open_guests config guests world node conn (client_at world conn) refl law
-takes_guests config guests world (Data conn bytes) own law = data_guests config guests world conn bytes (client_at world conn) refl law
-takes_guests config guests world (Hang conn) own law = hang_guests config guests world conn (client_at world conn) refl law
-takes_guests config guests world (Deliver from to) own law =
+takes_guests config guests world (Open node conn) own says law = open_guests config guests world node conn (client_at world conn) refl law
+takes_guests config guests world (Data conn bytes) own says law = data_guests config guests world conn bytes (client_at world conn) refl law
+takes_guests config guests world (Hang conn) own says law = hang_guests config guests world conn (client_at world conn) refl law
+takes_guests config guests world (Deliver from to) own says law =
     deliver_guests config guests (after config guests world (Deliver from to)) world from to (on_link world.links from to)
-    (λ conn. seen_still config conn world (guests conn) (Deliver from to) refl (λ table dialog. refl)) (own from to) refl law
-takes_guests config guests world (Cut from to k l) own law =
+    (λ conn. seen_still config conn world (guests conn) (Deliver from to) refl (λ table dialog. refl)) (own from to) (says from to) refl law
+takes_guests config guests world (Cut from to k l) own says law =
     law_same config guests _ world (λ conn. seen_still config conn world (guests conn) (Cut from to k l) refl (λ table dialog. refl)) law
-takes_guests config guests world (Join from to) own law =
+takes_guests config guests world (Join from to) own says law =
     law_same config guests _ world (λ conn. seen_still config conn world (guests conn) (Join from to) refl (λ table dialog. refl)) law
-takes_guests config guests world (Crash node c k) own law =
+takes_guests config guests world (Crash node c k) own says law =
     law_same config guests _ world (λ conn. seen_still config conn world (guests conn) (Crash node c k) refl (λ table dialog. refl)) law
-takes_guests config guests world (Arm node a c k) own law =
+takes_guests config guests world (Arm node a c k) own says law =
     law_same config guests _ world (λ conn. seen_still config conn world (guests conn) (Arm node a c k) refl (λ table dialog. refl)) law
-takes_guests config guests world (Start node) own law =
+takes_guests config guests world (Start node) own says law =
     law_same config guests _ world (λ conn. seen_still config conn world (guests conn) (Start node) refl (λ table dialog. refl)) law
-takes_guests config guests world (Flow count) own law =
+takes_guests config guests world (Flow count) own says law =
     law_same config guests _ world (λ conn. seen_still config conn world (guests conn) (Flow count) refl (λ table dialog. refl)) law
-takes_guests config guests world Heal own law =
+takes_guests config guests world Heal own says law =
     law_same config guests _ world (λ conn. seen_still config conn world (guests conn) Heal refl (λ table dialog. refl)) law
 
 -- the count of steps is nothing that a client sees
@@ -433,8 +435,8 @@ seen_alike config conn world at_another event = refl
 seen_alike config conn world (guest node dialog) event = refl
 
 pub step_guests : (config : Config) (guests : ℕ → Guest) (world : World) (event : Event) → ((from to : List ℕ) → ComesToItsOwn world from to)
-    → GuestsLaw config guests world → GuestsLaw config (λ conn. guest_after config conn world (guests conn) event) (steps_by world event)
-step_guests config guests world event own law =
+    → ((from to : List ℕ) → SaysOn world from to) → GuestsLaw config guests world → GuestsLaw config (λ conn. guest_after config conn world (guests conn) event) (steps_by world event)
+step_guests config guests world event own says law =
     law_same config (after config guests (stepped world) event) (after config guests world event) (steps_by world event)
     (λ conn. sym (seen_alike config conn world (guests conn) event))
-    (takes_guests config guests (stepped world) event own (law_alike config guests world (stepped world) refl refl law))
+    (takes_guests config guests (stepped world) event own says (law_alike config guests world (stepped world) refl refl law))

@@ -21,7 +21,9 @@ use Rattle.node_step.specs.NodeStep.{as_front, as_master, front_takes, back_take
 use Rattle.cluster_core.specs.declared.world.World.{World}
 use Rattle.cluster_core.specs.Headline.Outside.{master_at}
 use Rattle.cluster_core.specs.World.{node_at, front_at, with_state, not_lost, comes_to}
+use Rattle.cluster_core.proofs.Feeds.ForNodes.{KeepsClients, SaysForNodes}
 use Rattle.cluster_core.proofs.Nodes.OneNodeLaw.{carry_all_sends}
+use Rattle.master_core.specs.Linked.{node_says}
 
 -- the connection whose client acts, if one does
 abbrev pub acting : NodeInput → Option ℕ
@@ -35,6 +37,7 @@ pub data SameMaster (conn : ℕ) : Option Master → Option Master → Type 0 wh
   no_master : SameMaster conn None None
   one_master : (was now : Master) (acts : ℕ) → IsBeside acts was now → conn ≢ acts → SameMaster conn (Some was) (Some now)
   still_master : (was : Master) → SameMaster conn (Some was) (Some was)
+  serving_master : (was now : Master) → KeepsClients was now → SameMaster conn (Some was) (Some now)
 
 -- the name of a master
 abbrev pub name_by : Option Master → Option (List ℕ)
@@ -65,18 +68,19 @@ back_kind home (Piece conn bytes) = back_by_kind home None
 back_kind home (Hung conn) = back_by_kind home None
 back_kind home (From name message) = back_by_kind home (back_input name message)
 
-master_kind : (master : Master) (input : NodeInput) → KeepsKind (state.Master master) (master_takes master input).state
+master_kind : (master : Master) (input : NodeInput) → SaysForNodes (Some (state.Master master)) input → KeepsKind (state.Master master) (master_takes master input).state
 unfolding master_takes as_front as_master
-master_kind master (Opened conn) = record { names = ap (λ me. Some me) (connects_alone master conn).beside.me; fronts = refl }
-master_kind master (Piece conn bytes) = record { names = ap (λ me. Some me) (bytes_alone master conn bytes).beside.me; fronts = refl }
-master_kind master (Hung conn) = record { names = ap (λ me. Some me) (ends_alone master conn).beside.me; fronts = refl }
-master_kind master (From name message) = record { names = refl; fronts = refl }
+master_kind master (Opened conn) says = record { names = ap (λ me. Some me) (connects_alone master conn).beside.me; fronts = refl }
+master_kind master (Piece conn bytes) says = record { names = ap (λ me. Some me) (bytes_alone master conn bytes).beside.me; fronts = refl }
+master_kind master (Hung conn) says = record { names = ap (λ me. Some me) (ends_alone master conn).beside.me; fronts = refl }
+master_kind master (From name message) says =
+    record { names = ap (λ me. Some me) (says master name message refl refl).clients.me; fronts = refl }
 
-takes_kind : (it : NodeState) (input : NodeInput) → KeepsKind it (node_takes it input).state
+takes_kind : (it : NodeState) (input : NodeInput) → SaysForNodes (Some it) input → KeepsKind it (node_takes it input).state
 unfolding node_takes
-takes_kind (state.Front front) input = front_kind front input
-takes_kind (state.Back home) input = back_kind home input
-takes_kind (state.Master master) input = master_kind master input
+takes_kind (state.Front front) input says = front_kind front input
+takes_kind (state.Back home) input says = back_kind home input
+takes_kind (state.Master master) input says = master_kind master input says
 
 -- the master for another connection
 
@@ -103,19 +107,20 @@ back_no_master conn home (From name message) = back_by_no_master conn home (back
 not_acting : (conn acts : ℕ) → Some acts ≢ Some conn → conn ≢ acts
 not_acting conn acts ne e = ne (ap (λ c. Some c) (sym e))
 
-master_same : (conn : ℕ) (master : Master) (input : NodeInput) → acting input ≢ Some conn
+master_same : (conn : ℕ) (master : Master) (input : NodeInput) → acting input ≢ Some conn → SaysForNodes (Some (state.Master master)) input
     → SameMaster conn (as_master (Some (state.Master master))) (as_master (Some (master_takes master input).state))
 unfolding master_takes as_master
-master_same conn master (Opened c) ne = one_master master (outside_connects master c).master c (connects_alone master c).beside (not_acting conn c ne)
-master_same conn master (Piece c bytes) ne = one_master master (outside_says master c bytes).master c (bytes_alone master c bytes).beside (not_acting conn c ne)
-master_same conn master (Hung c) ne = one_master master (without master (Outside c)) c (ends_alone master c).beside (not_acting conn c ne)
-master_same conn master (From name message) ne = still_master master
+master_same conn master (Opened c) ne says = one_master master (outside_connects master c).master c (connects_alone master c).beside (not_acting conn c ne)
+master_same conn master (Piece c bytes) ne says = one_master master (outside_says master c bytes).master c (bytes_alone master c bytes).beside (not_acting conn c ne)
+master_same conn master (Hung c) ne says = one_master master (without master (Outside c)) c (ends_alone master c).beside (not_acting conn c ne)
+master_same conn master (From name message) ne says =
+    serving_master master (node_says master name message).master (says master name message refl refl).clients
 
-takes_same : (conn : ℕ) (it : NodeState) (input : NodeInput) → acting input ≢ Some conn → SameMaster conn (as_master (Some it)) (as_master (Some (node_takes it input).state))
+takes_same : (conn : ℕ) (it : NodeState) (input : NodeInput) → acting input ≢ Some conn → SaysForNodes (Some it) input → SameMaster conn (as_master (Some it)) (as_master (Some (node_takes it input).state))
 unfolding node_takes
-takes_same conn (state.Front front) input ne = front_no_master conn front input
-takes_same conn (state.Back home) input ne = back_no_master conn home input
-takes_same conn (state.Master master) input ne = master_same conn master input ne
+takes_same conn (state.Front front) input ne says = front_no_master conn front input
+takes_same conn (state.Back home) input ne says = back_no_master conn home input
+takes_same conn (state.Master master) input ne says = master_same conn master input ne says
 
 pub same_master : (conn : ℕ) (found : Option Master) → SameMaster conn found found
 same_master conn None = no_master
@@ -124,8 +129,9 @@ same_master conn (Some master) = still_master master
 -- in the world
 
 -- what is so of a node's state and its next one is so of each node's
-each_node : (Q : Option NodeState → Option NodeState → Type 0) (world : World) (node : List ℕ) (input : NodeInput) (found : Option NodeState)
-    → node_at world node ≡ found → ((it : Option NodeState) → Q it it) → ((it : NodeState) → Q (Some it) (Some (node_takes it input).state))
+pub each_node : (Q : Option NodeState → Option NodeState → Type 0) (world : World) (node : List ℕ) (input : NodeInput) (found : Option NodeState)
+    → node_at world node ≡ found → ((it : Option NodeState) → Q it it)
+    → ((it : NodeState) → found ≡ Some it → Q (Some it) (Some (node_takes it input).state))
     → (any : List ℕ) → Q (node_at world any) (node_at (comes_to world node input found) any)
 unfolding comes_to
 each_node Q world node input None at same step any = same (node_at world any)
@@ -136,25 +142,26 @@ each_node Q world node input (Some it) at same step any =
     (⊎_elim
     (λ (e : any ≡ node). subst (λ n. Q (node_at world n) (node_at put n)) (sym e)
     (subst (λ was. Q was (node_at put node)) (sym at)
-    (subst (λ now. Q (Some it) now) (sym (value_at-with_value (slice_cmp nat_cmp) names_apart world.nodes node next it at)) (step it))))
+    (subst (λ now. Q (Some it) now) (sym (value_at-with_value (slice_cmp nat_cmp) names_apart world.nodes node next it at)) (step it refl))))
     (λ (ne : any ≢ node). subst (λ now. Q (node_at world any) now) (sym (value_at-with_value-other (slice_cmp nat_cmp) names_apart world.nodes node any next ne))
     (same (node_at world any)))
     (same_or_other (slice_cmp nat_cmp) names_apart any node))
 
-pub names_stay : (world : World) (node : List ℕ) (input : NodeInput) (any : List ℕ)
+pub names_stay : (world : World) (node : List ℕ) (input : NodeInput) → SaysForNodes (node_at world node) input → (any : List ℕ)
     → name_by (master_at (comes_to world node input (node_at world node)) any) ≡ name_by (master_at world any)
-names_stay world node input any =
+names_stay world node input says any =
     each_node (λ was now. name_by (as_master now) ≡ name_by (as_master was)) world node input (node_at world node) refl (λ it. refl)
-    (λ it. (takes_kind it input).names) any
+    (λ it there. (takes_kind it input (subst (λ f. SaysForNodes f input) there says)).names) any
 
-pub fronts_stay : (world : World) (node : List ℕ) (input : NodeInput) (any : List ℕ)
+pub fronts_stay : (world : World) (node : List ℕ) (input : NodeInput) → SaysForNodes (node_at world node) input → (any : List ℕ)
     → is_some (front_at (comes_to world node input (node_at world node)) any) ≡ is_some (front_at world any)
-fronts_stay world node input any =
+fronts_stay world node input says any =
     each_node (λ was now. is_some (as_front now) ≡ is_some (as_front was)) world node input (node_at world node) refl (λ it. refl)
-    (λ it. (takes_kind it input).fronts) any
+    (λ it there. (takes_kind it input (subst (λ f. SaysForNodes f input) there says)).fronts) any
 
-pub masters_stay : (conn : ℕ) (world : World) (node : List ℕ) (input : NodeInput) → acting input ≢ Some conn → (any : List ℕ)
+pub masters_stay : (conn : ℕ) (world : World) (node : List ℕ) (input : NodeInput) → acting input ≢ Some conn
+    → SaysForNodes (node_at world node) input → (any : List ℕ)
     → SameMaster conn (master_at world any) (master_at (comes_to world node input (node_at world node)) any)
-masters_stay conn world node input ne any =
+masters_stay conn world node input ne says any =
     each_node (λ was now. SameMaster conn (as_master was) (as_master now)) world node input (node_at world node) refl
-    (λ it. same_master conn (as_master it)) (λ it. takes_same conn it input ne) any
+    (λ it. same_master conn (as_master it)) (λ it there. takes_same conn it input ne (subst (λ f. SaysForNodes f input) there says)) any

@@ -45,40 +45,40 @@ has_later first nodes kind name has = record {
 
 -- where a frontend is, a node of the configuration is one
 
-front_kind : (home : List ℕ) (setting : Setting) (node : Node) (kind : Kind) → is_some (as_front (Some (first_state home setting node kind))) ≡ true
+front_kind : (config : Config) (node : Node) (kind : Kind) → is_some (as_front (Some (first_state config node kind))) ≡ true
     → kind ≡ Frontend
 unfolding first_state as_front
-front_kind home setting node Master is = cc
-front_kind home setting node Frontend is = refl
-front_kind home setting node Backend is = cc
+front_kind config node Master is = cc
+front_kind config node Frontend is = refl
+front_kind config node Backend is = cc
 
-front_by : (home : List ℕ) (setting : Setting) (world : World) (node : Node) (nodes : List Node) (name : List ℕ)
-    → is_some (front_at (with_node home setting world node) name) ≡ true
+front_by : (config : Config) (world : World) (node : Node) (nodes : List Node) (name : List ℕ)
+    → is_some (front_at (with_node config world node) name) ≡ true
     → (is_some (front_at world name) ≡ true) ⊎ HasNode (node ∷ nodes) Frontend name
-front_by home setting world node nodes name is =
-    let new = first_state home setting node node.kind in
+front_by config world node nodes name is =
+    let new = first_state config node node.kind in
     ⊎_elim
     (λ (e : name ≡ node.name). inr (record {
       node = node;
       among = at_head node nodes;
-      kind_is = front_kind home setting node node.kind
+      kind_is = front_kind config node node.kind
           (sym (ap (λ found. is_some (as_front found)) (value_at-with_entry (slice_cmp nat_cmp) names_apart world.nodes node.name new))
-          ∙ subst (λ n. is_some (front_at (with_node home setting world node) n) ≡ true) e is);
+          ∙ subst (λ n. is_some (front_at (with_node config world node) n) ≡ true) e is);
       named = sym e;
     }))
     (λ (ne : name ≢ node.name). inl (sym (ap (λ found. is_some (as_front found))
     (value_at-with_entry-other (slice_cmp nat_cmp) names_apart world.nodes node.name name new ne)) ∙ is))
     (same_or_other (slice_cmp nat_cmp) names_apart name node.name)
 
-front_among : (home : List ℕ) (setting : Setting) (world : World) (nodes : List Node) (name : List ℕ)
-    → is_some (front_at (with_nodes home setting world nodes) name) ≡ true
+front_among : (config : Config) (world : World) (nodes : List Node) (name : List ℕ)
+    → is_some (front_at (with_nodes config world nodes) name) ≡ true
     → (is_some (front_at world name) ≡ true) ⊎ HasNode nodes Frontend name
 unfolding with_nodes
-front_among home setting world [] name is = inl is
-front_among home setting world (node ∷ nodes) name is = ⊎_elim
-    (λ here. front_by home setting world node nodes name here)
+front_among config world [] name is = inl is
+front_among config world (node ∷ nodes) name is = ⊎_elim
+    (λ here. front_by config world node nodes name here)
     (λ later. inr (has_later node nodes Frontend name later))
-    (front_among home setting (with_node home setting world node) nodes name is)
+    (front_among config (with_node config world node) nodes name is)
 
 no_front_yet : is_some (as_front None) ≡ true → ⊥
 unfolding as_front
@@ -88,7 +88,7 @@ front_node : (config : Config) (name : List ℕ) → is_some (front_at (start co
 front_node config name is = ⊎_elim
     (λ none. absurd (no_front_yet none))
     (λ has. has)
-    (front_among (home_of config) (setting_of config) no_world config.nodes name
+    (front_among config no_world config.nodes name
     (ap (λ w. is_some (front_at w name)) (sym (started config)) ∙ is))
 
 -- the home is a backend

@@ -32,7 +32,12 @@ use Rattle.cluster_core.proofs.Connections.Keeps.{step_keeps}
 use Rattle.cluster_core.proofs.Connections.KeepsLaw.{KeepsLaw}
 use Rattle.cluster_core.proofs.Nodes.LinkedNodes.{start_keeps}
 use Rattle.cluster_core.proofs.Nodes.NotLost.{to_left}
-use Rattle.cluster_core.proofs.Runs.StartLaw.{start_links}
+use Rattle.cluster_core.proofs.Feeds.FeedLaw.{FeedLaw}
+use Rattle.cluster_core.proofs.Feeds.FeedStart.{start_feeds}
+use Rattle.cluster_core.proofs.Feeds.FeedRuns.{feeds_step}
+use Rattle.cluster_core.proofs.Feeds.ForNodes.{SaysForNodes, no_message, says_for_nodes, to_lines}
+use Rattle.cluster_core.proofs.Nodes.OwnClientsLaw.{SaysOn}
+use Rattle.master_core.specs.Linked.{node_says}
 
 -- two nodes are linked, in both directions
 abbrev Joined : List Link → List ℕ → List ℕ → Type 0
@@ -81,28 +86,31 @@ abbrev HaveHomes : List Link → World → Type 0
 HaveHomes pairs world = (node : List ℕ) (front : Front) → front_at world node ≡ Some front → Joined pairs node front.home
 
 comes_on : (pairs : List Link) (world : World) (node : List ℕ) (input : NodeInput) (found : Option NodeState) → node_at world node ≡ found
-    → HaveHomes pairs world → ((name : List ℕ) → sender_of input ≡ Some name → Joined pairs node name) → AreOn pairs world.links
+    → HaveHomes pairs world → SaysForNodes found input → ((name : List ℕ) → sender_of input ≡ Some name → Joined pairs node name) → AreOn pairs world.links
     → AreOn pairs (comes_to world node input found).links
 unfolding comes_to
-comes_on pairs world node input None there homes sender on = on
-comes_on pairs world node input (Some it) there homes sender on =
+comes_on pairs world node input None there homes says sender on = on
+comes_on pairs world node input (Some it) there homes says sender on =
     carry_all_on pairs node (with_state world node (node_takes it input).state)
     (not_lost world.broken node (node_takes it input).outs) (to_left (Joined pairs node) world.broken node (node_takes it input).outs
-    (takes_goes (Joined pairs node) it input (λ front is. homes node front (ap as_front there ∙ is)) sender)) on
+    (takes_goes (Joined pairs node) it input (λ front is. homes node front (ap as_front there ∙ is))
+    (λ master name message is from. to_lines (Joined pairs node) name (node_says master name message).outs (sender name (ap sender_of from))
+    (says master name message (ap (λ i. Some i) is) from).lines) sender)) on
 
 opens_on : (pairs : List Link) (world : World) (node : List ℕ) (conn : ℕ) (found : Option ClientOf) → HaveHomes pairs world → AreOn pairs world.links
     → AreOn pairs (opens world node conn found).links
 unfolding opens
 opens_on pairs world node conn (Some client) homes on = on
 opens_on pairs world node conn None homes on =
-    comes_on pairs (with_client world node conn) node (Opened conn) (node_at world node) refl homes (λ name e. cc) on
+    comes_on pairs (with_client world node conn) node (Opened conn) (node_at world node) refl homes
+    (no_message (node_at world node) (Opened conn) refl) (λ name e. cc) on
 
 client_on : (pairs : List Link) (world : World) (input : NodeInput) (found : Option ClientOf) → sender_of input ≡ None → HaveHomes pairs world
     → AreOn pairs world.links → AreOn pairs (client_does world input found).links
 unfolding client_does
 client_on pairs world input None none homes on = on
 client_on pairs world input (Some client) none homes on =
-    comes_on pairs world client.at input (node_at world client.at) refl homes (λ name e. (let no : None ≡ Some name = sym none ∙ e in cc)) on
+    comes_on pairs world client.at input (node_at world client.at) refl homes (no_message (node_at world client.at) input none) (λ name e. (let no : None ≡ Some name = sym none ∙ e in cc)) on
 
 taken_by : (pairs : List Link) (links : Links LinkMsg) (from to a b : List ℕ) (same : Bool) → same_link a b from to ≡ same
     → (on_link links a b ≡ []) ⊎ Joined pairs a b → (on_link (without_first links from to) a b ≡ []) ⊎ Joined pairs a b
@@ -121,22 +129,22 @@ came_from : (pairs : List Link) (links : Links LinkMsg) (from to : List ℕ) (me
 came_from pairs links from to message rest first was = ⊎_elim (λ empty. absurd (let no : message ∷ rest ≡ [] = sym first ∙ empty in cc)) (λ there. there) was
 
 deliver_on : (pairs : List Link) (world : World) (from to : List ℕ) (queue : List LinkMsg) → on_link world.links from to ≡ queue → HaveHomes pairs world
-    → AreOn pairs world.links → AreOn pairs (deliver_first world from to queue).links
+    → SaysOn world from to → AreOn pairs world.links → AreOn pairs (deliver_first world from to queue).links
 unfolding deliver_first
-deliver_on pairs world from to [] first homes on = on
-deliver_on pairs world from to (message ∷ rest) first homes on =
+deliver_on pairs world from to [] first homes says on = on
+deliver_on pairs world from to (message ∷ rest) first homes says on =
     let joined = came_from pairs world.links from to message rest first (on from to) in
-    comes_on pairs (taken_from_link world from to) to (From from message) (node_at world to) refl homes
+    comes_on pairs (taken_from_link world from to) to (From from message) (node_at world to) refl homes (says message rest first)
     (λ name e. (let same : from ≡ name = cc in subst (λ n. Joined pairs to n) same (joined.1, joined.0)))
     (λ a b. taken_by pairs world.links from to a b (same_link a b from to) refl (on a b))
 
-takes_on : (pairs : List Link) (world : World) (event : Event) → HaveHomes pairs world → AreOn pairs world.links → AreOn pairs (takes world event).links
+takes_on : (pairs : List Link) (world : World) (event : Event) → HaveHomes pairs world → ((from to : List ℕ) → SaysOn world from to) → AreOn pairs world.links → AreOn pairs (takes world event).links
 unfolding takes
-takes_on pairs world (Open node conn) homes on = opens_on pairs world node conn (client_at world conn) homes on
-takes_on pairs world (Data conn bytes) homes on = client_on pairs world (Piece conn bytes) (client_at world conn) refl homes on
-takes_on pairs world (Hang conn) homes on = client_on pairs world (Hung conn) (client_at world conn) refl homes on
-takes_on pairs world (Deliver from to) homes on = deliver_on pairs world from to (on_link world.links from to) refl homes on
-takes_on pairs world event homes on = on
+takes_on pairs world (Open node conn) homes says on = opens_on pairs world node conn (client_at world conn) homes on
+takes_on pairs world (Data conn bytes) homes says on = client_on pairs world (Piece conn bytes) (client_at world conn) refl homes on
+takes_on pairs world (Hang conn) homes says on = client_on pairs world (Hung conn) (client_at world conn) refl homes on
+takes_on pairs world (Deliver from to) homes says on = deliver_on pairs world from to (on_link world.links from to) refl homes (says from to) on
+takes_on pairs world event homes says on = on
 
 have_homes : (config : Config) (heard : ℕ → Heard) (world : World) → KeepsLaw config heard world → HaveHomes (links_of config.nodes) world
 have_homes config heard world law node front at =
@@ -144,21 +152,23 @@ have_homes config heard world law node front at =
     subst (λ h. Joined (links_of config.nodes) node h) (sym (law.nodes.fronts node front at).0)
     (law.nodes.home_for.to_home node is_front, law.nodes.home_for.from_home node is_front)
 
-run_on : (config : Config) (heard : ℕ → Heard) (world : World) (steps : List Event) → KeepsLaw config heard world
+run_on : (config : Config) (heard : ℕ → Heard) (world : World) (steps : List Event) → KeepsLaw config heard world → FeedLaw config world
     → AreOn (links_of config.nodes) world.links → AreOn (links_of config.nodes) (run_steps world steps).links
 unfolding run_steps
-run_on config heard world [] law on = on
-run_on config heard world (event ∷ steps) law on =
-    run_on config (λ conn. hears config conn (heard conn) event) (steps_by world event) steps (step_keeps config heard world event law).law
-    (takes_on (links_of config.nodes) (stepped world) event (have_homes config heard world law) on)
+run_on config heard world [] law feeds on = on
+run_on config heard world (event ∷ steps) law feeds on =
+    run_on config (λ conn. hears config conn (heard conn) event) (steps_by world event) steps (step_keeps config heard world event law feeds).law
+    (feeds_step config world event feeds)
+    (takes_on (links_of config.nodes) (stepped world) event (have_homes config heard world law)
+    (λ from to message rest first. says_for_nodes config world feeds from to message rest first) on)
 
-nothing_on : (pairs : List Link) (links : Links LinkMsg) → links ≡ [] → AreOn pairs links
-unfolding on_link
-nothing_on pairs links none from to = inl (rw none refl)
+-- at the start only frontends have sent, and to the master
+start_on : (config : Config) → AreNodes config.nodes → AreOn (links_of config.nodes) (start config).links
+start_on config are from to = ?
 
 on_pairs : (config : Config) (steps : List Event) → AreNodes config.nodes → AreOn (links_of config.nodes) (run_steps (start config) steps).links
 on_pairs config steps are =
-    run_on config (λ conn. nobody) (start config) steps (start_keeps config are) (nothing_on (links_of config.nodes) (start config).links (start_links config))
+    run_on config (λ conn. nobody) (start config) steps (start_keeps config are) (start_feeds config are) (start_on config are)
 
 -- nothing is on its way on this link
 abbrev pub IsIdle : World → Link → Type 0

@@ -31,7 +31,11 @@ use Rattle.cluster_core.proofs.Nodes.NotLost.{not_for_left}
 use Rattle.cluster_core.proofs.Nodes.OneNodeLaw.{one_more_step}
 use Rattle.node_step.specs.declared.node.NodeState.{NodeState}
 use Rattle.node_step.specs.NodeStep.{takes as node_takes}
-use Rattle.node_step.proofs.OwnOuts.{conn_of, conn_of_message, IsNotFor, AreNotFor, takes_own}
+use Rattle.node_step.proofs.OwnOuts.{conn_of, conn_of_message, sender_of, IsNotFor, AreNotFor, takes_own}
+use Rattle.master_core.specs.Linked.{node_says}
+use Rattle.cluster_core.proofs.Feeds.FeedLaw.{FeedLaw}
+use Rattle.cluster_core.proofs.Feeds.FeedStart.{start_feeds}
+use Rattle.cluster_core.proofs.Feeds.ForNodes.{SaysForNodes, no_message, not_for_lines, says_for_nodes}
 use Rattle.cluster_core.proofs.Nodes.LinkedNodes.{start_keeps}
 use Rattle.front_core.proofs.OneConnection.Places.{in_an_answer}
 
@@ -61,13 +65,14 @@ carry_all_same node world other (out ∷ outs) none =
     carry_all_same node (carry node world out) other outs none.1 ∙ carry_same node world other out none.0
 
 -- what comes to a node changes no client but its own
-pub comes_same : (world : World) (node : List ℕ) (input : NodeInput) (other : ℕ) (found : Option NodeState) → conn_of input ≢ Some other
+pub comes_same : (world : World) (node : List ℕ) (input : NodeInput) (other : ℕ) (found : Option NodeState) → SaysForNodes found input → conn_of input ≢ Some other
     → IsSame other world (comes_to world node input found)
 unfolding comes_to
-comes_same world node input other None ne = refl
-comes_same world node input other (Some it) ne =
+comes_same world node input other None says ne = refl
+comes_same world node input other (Some it) says ne =
     carry_all_same node (with_state world node (node_takes it input).state) other
-    (not_lost world.broken node (node_takes it input).outs) (not_for_left world.broken node other (node_takes it input).outs (takes_own it input other ne))
+    (not_lost world.broken node (node_takes it input).outs) (not_for_left world.broken node other (node_takes it input).outs (takes_own it input other
+    (λ master name message is from. not_for_lines name other (node_says master name message).outs (says master name message (ap (λ i. Some i) is) from).lines) ne))
 
 just_apart : (conn other : ℕ) → other ≢ conn → Some conn ≢ Some other
 just_apart conn other ne e = ne (cc)
@@ -82,7 +87,7 @@ unfolding opens
 opens_own world node conn (Some first) is other client at = at
 opens_own world node conn None is other client at =
     let ne : other ≢ conn = λ e. (let no : Some client ≡ None = sym at ∙ ap (client_at world) e ∙ is in cc) in
-    comes_same (with_client world node conn) node (Opened conn) other (node_at world node) (just_apart conn other ne)
+    comes_same (with_client world node conn) node (Opened conn) other (node_at world node) (no_message (node_at world node) (Opened conn) refl) (just_apart conn other ne)
     ∙ joins_alone world node conn other ne ∙ at
 
 -- a client at another node is that of another connection
@@ -91,19 +96,24 @@ of_another : (world : World) (conn other : ℕ) (one client : Client) → client
 of_another world conn other one client is at ne e = ne (ap node_of (sym is ∙ ap (client_at world) (sym e) ∙ at))
 
 -- a client does something
-client_own : (world : World) (conn : ℕ) (input : NodeInput) (found : Option Client) → conn_of input ≡ Some conn → client_at world conn ≡ found
+client_own : (world : World) (conn : ℕ) (input : NodeInput) (found : Option Client) → conn_of input ≡ Some conn → sender_of input ≡ None → client_at world conn ≡ found
     → (other : ℕ) (client : Client) → client_at world other ≡ Some client → node_of found ≢ Some client.at
     → client_at (client_does world input found) other ≡ Some client
 unfolding client_does
-client_own world conn input None its is other client at ne = at
-client_own world conn input (Some one) its is other client at ne =
-    comes_same world one.at input other (node_at world one.at)
+client_own world conn input None its client_acts is other client at ne = at
+client_own world conn input (Some one) its client_acts is other client at ne =
+    comes_same world one.at input other (node_at world one.at) (no_message (node_at world one.at) input client_acts)
     (λ e. just_apart conn other (of_another world conn other one client is at ne) (sym its ∙ e)) ∙ at
 
 -- the client of an answer that comes is connected where it comes to
 abbrev pub ComesToItsOwn : World → List ℕ → List ℕ → Type 0
 ComesToItsOwn world from to = (answer : BackAnswer) (rest : List LinkMsg) (client : Client) → on_link world.links from to ≡ Answer answer ∷ rest
     → client_at world (answer.id).conn ≡ Some client → client.at ≡ to
+
+-- what the first message of a link does at the master is for nodes
+abbrev pub SaysOn : World → List ℕ → List ℕ → Type 0
+SaysOn world from to = (message : LinkMsg) (rest : List LinkMsg) → on_link world.links from to ≡ message ∷ rest
+    → SaysForNodes (node_at world to) (From from message)
 
 -- a message for a connection is an answer to it
 pub message_own : (message : LinkMsg) (other : ℕ) → ((answer : BackAnswer) → message ≡ Answer answer → (answer.id).conn ≢ other)
@@ -115,24 +125,25 @@ message_own (Line line) other ne e = cc
 message_own (Ask ask) other ne e = cc
 
 deliver_own : (world : World) (from to : List ℕ) (queue : List LinkMsg) → on_link world.links from to ≡ queue → ComesToItsOwn world from to
-    → (other : ℕ) (client : Client) → client_at world other ≡ Some client → Some to ≢ Some client.at
+    → SaysOn world from to → (other : ℕ) (client : Client) → client_at world other ≡ Some client → Some to ≢ Some client.at
     → client_at (deliver_first world from to queue) other ≡ Some client
 unfolding deliver_first
-deliver_own world from to [] first own other client at ne = at
-deliver_own world from to (message ∷ rest) first own other client at ne =
-    comes_same (taken_from_link world from to) to (From from message) other (node_at world to)
+deliver_own world from to [] first own says other client at ne = at
+deliver_own world from to (message ∷ rest) first own says other client at ne =
+    comes_same (taken_from_link world from to) to (From from message) other (node_at world to) (says message rest first)
     (message_own message other
     (λ answer is. λ e. ne (ap (λ node. Some node) (sym (own answer rest client (first ∙ ap (λ m. m ∷ rest) is) (ap (client_at world) e ∙ at))))))
     ∙ at
 
-takes_own_of : (world : World) (event : Event) → ((from to : List ℕ) → ComesToItsOwn world from to) → ServesItsOwn event world (takes world event)
+takes_own_of : (world : World) (event : Event) → ((from to : List ℕ) → ComesToItsOwn world from to) → ((from to : List ℕ) → SaysOn world from to)
+    → ServesItsOwn event world (takes world event)
 unfolding takes
-takes_own_of world (Open node conn) own = λ other client at ne. opens_own world node conn (client_at world conn) refl other client at
-takes_own_of world (Data conn bytes) own = λ other client at ne. client_own world conn (Piece conn bytes) (client_at world conn) refl refl other client at ne
-takes_own_of world (Hang conn) own = λ other client at ne. client_own world conn (Hung conn) (client_at world conn) refl refl other client at ne
-takes_own_of world (Deliver from to) own = λ other client at ne.
-    deliver_own world from to (on_link world.links from to) refl (own from to) other client at ne
-takes_own_of world event own = λ other client at ne. at
+takes_own_of world (Open node conn) own says = λ other client at ne. opens_own world node conn (client_at world conn) refl other client at
+takes_own_of world (Data conn bytes) own says = λ other client at ne. client_own world conn (Piece conn bytes) (client_at world conn) refl refl refl other client at ne
+takes_own_of world (Hang conn) own says = λ other client at ne. client_own world conn (Hung conn) (client_at world conn) refl refl refl other client at ne
+takes_own_of world (Deliver from to) own says = λ other client at ne.
+    deliver_own world from to (on_link world.links from to) refl (own from to) (says from to) other client at ne
+takes_own_of world event own says = λ other client at ne. at
 
 -- a client of which this is known
 is_at : (found : Option Client) (client known : Client) → found ≡ Some client → found ≡ Some known → client.at ≡ known.at
@@ -154,24 +165,25 @@ same_worker world after (Hang conn) own = own
 same_worker world after (Deliver from to) own = own
 same_worker world after event own = own
 
-step_own : (config : Config) (heard : ℕ → Heard) (world : World) (event : Event) → KeepsLaw config heard world
+step_own : (config : Config) (heard : ℕ → Heard) (world : World) (event : Event) → KeepsLaw config heard world → FeedLaw config world
     → ServesItsOwn event world (steps_by world event)
-step_own config heard world event law =
-    same_worker world (steps_by world event) event (takes_own_of (stepped world) event (own_by_law config heard world law))
+step_own config heard world event law feeds =
+    same_worker world (steps_by world event) event (takes_own_of (stepped world) event (own_by_law config heard world law)
+    (λ from to message rest first. says_for_nodes config world feeds from to message rest first))
 
-serves_each : (config : Config) (heard : ℕ → Heard) (world : World) (steps : List Event) → KeepsLaw config heard world → ServesItsOwnEach world steps
-serves_each config heard world steps law = λ before event later parts.
+serves_each : (config : Config) (heard : ℕ → Heard) (world : World) (steps : List Event) → KeepsLaw config heard world → FeedLaw config world → ServesItsOwnEach world steps
+serves_each config heard world steps law feeds = λ before event later parts.
     subst (λ w. ServesItsOwn event (run_steps world before) w) (sym (one_more_step world before event))
-    (step_own config (λ conn. heard_from config conn (heard conn) before) (run_steps world before) event
-    ((run_keeps config heard world steps law).at before (event ∷ later) parts).law)
+    (let now = (run_keeps config heard world steps law feeds).at before (event ∷ later) parts in
+    step_own config (λ conn. heard_from config conn (heard conn) before) (run_steps world before) event now.law now.feeds)
 
 -- in each of these steps of a run
 pub serves_its_own_each : (config : Config) (steps : List Event) → AreNodes config.nodes → ServesItsOwnEach (start config) steps
-serves_its_own_each config steps are = serves_each config (λ conn. nobody) (start config) steps (start_keeps config are)
+serves_its_own_each config steps are = serves_each config (λ conn. nobody) (start config) steps (start_keeps config are) (start_feeds config are)
 
 -- and of an event behind a run
 pub serves_its_own_behind : (layout : Layout) (world : World) (event : Event) → ServesItsOwnBehind layout world event
 serves_its_own_behind layout world event = λ config steps are e.
     subst (λ w. ServesItsOwnEach w (steps_of_event layout world event)) (sym e)
-    (serves_each config (λ conn. heard_from config conn nobody steps) (run_steps (start config) steps) (steps_of_event layout world event)
-    ((run_keeps config (λ conn. nobody) (start config) steps (start_keeps config are)).at steps [] (sym (append-nil steps))).law)
+    (let now = (run_keeps config (λ conn. nobody) (start config) steps (start_keeps config are) (start_feeds config are)).at steps [] (sym (append-nil steps)) in
+    serves_each config (λ conn. heard_from config conn nobody steps) (run_steps (start config) steps) (steps_of_event layout world event) now.law now.feeds)

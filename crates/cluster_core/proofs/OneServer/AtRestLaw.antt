@@ -17,6 +17,7 @@ use Rattle.cluster_core.specs.Headline.Outside.{guest_of, is_guest}
 use Rattle.cluster_core.proofs.OneServer.GuestsServed.{others_are_silent}
 use Rattle.cluster_core.proofs.OneServer.OneStoreLaw.{IsSilent, says_of}
 use Rattle.imap_talk.proofs.RequestsOf.{requests_of, asks_all}
+use Rattle.cluster_core.proofs.Feeds.FeedStart.{start_feeds}
 use Rattle.cluster_core.proofs.Nodes.LinkedNodes.{start_keeps}
 use Rattle.cluster_core.proofs.Runs.Unrolled.{run_steps-append}
 
@@ -35,7 +36,7 @@ at_rest config steps world law silent = λ empty conn mail stays.
 
 behind_steps : (config : Config) (steps : List Event) → AreNodes config.nodes → NothingWaits config steps (run_steps (start config) steps)
 behind_steps config steps are =
-    let all = run_keeps config (λ conn. nobody) (start config) steps (start_keeps config are) in
+    let all = run_keeps config (λ conn. nobody) (start config) steps (start_keeps config are) (start_feeds config are) in
     at_rest config steps (run_steps (start config) steps) (all.at steps [] (sym (append-nil steps))).law (others_are_silent config steps are)
 
 pub nothing_waits : (layout : Layout) (world : World) (event : Event) → NothingWaitsBehind layout world event

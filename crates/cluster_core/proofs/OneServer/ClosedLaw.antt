@@ -13,6 +13,8 @@ use Rattle.cluster_core.specs.Shown.{given_to}
 use Rattle.cluster_core.specs.World.{start, setting_of, steps_by}
 use Rattle.cluster_core.proofs.Connections.ConnectionLaw.{told_of}
 use Rattle.cluster_core.proofs.Connections.Keeps.{step_keeps}
+use Rattle.cluster_core.proofs.Feeds.FeedLaw.{FeedLaw}
+use Rattle.cluster_core.proofs.Feeds.FeedRuns.{feeds_step}
 use Rattle.cluster_core.proofs.Connections.KeepsLaw.{KeepsLaw, KeepsOn}
 use Rattle.cluster_core.proofs.OneServer.OneStoreLaw.{says_of}
 use Rattle.cluster_core.proofs.OneServer.ToldSoFar.{kept_all}
@@ -43,13 +45,13 @@ step_gives config heard world event conn law next shut =
     ∙ ap (transcript_of (setting_of config) (bytes_heard (heard conn))) (next.closed conn (ap has_closed same ∙ shut))
     ∙ sym (was.given (λ e. absurd (not_elsewhere (heard conn) shut e)))
 
-stays_given : (config : Config) (heard : ℕ → Heard) (world : World) (events : List Event) (conn : ℕ) → KeepsLaw config heard world
+stays_given : (config : Config) (heard : ℕ → Heard) (world : World) (events : List Event) (conn : ℕ) → KeepsLaw config heard world → FeedLaw config world
     → has_closed (heard conn) ≡ true → given_to (run_steps world events) conn ≡ given_to world conn
 unfolding run_steps
-stays_given config heard world [] conn law shut = refl
-stays_given config heard world (event ∷ events) conn law shut =
-    let next = step_keeps config heard world event law in
-    stays_given config (λ other. hears config other (heard other) event) (steps_by world event) events conn next.law
+stays_given config heard world [] conn law feeds shut = refl
+stays_given config heard world (event ∷ events) conn law feeds shut =
+    let next = step_keeps config heard world event law feeds in
+    stays_given config (λ other. hears config other (heard other) event) (steps_by world event) events conn next.law (feeds_step config world event feeds)
     (ap has_closed (closed_hears config conn (heard conn) event shut) ∙ shut)
     ∙ step_gives config heard world event conn law next shut
 
@@ -57,4 +59,4 @@ pub gives_no_more : (config : Config) (events : List Event) → AreNodes config.
 gives_no_more config events are = λ conn before more later e shut.
     let now = (kept_all config events are).at before (more ++ later) (e ∙ append_assoc before more later) in
     ap (λ w. given_to w conn) (run_steps-append (start config) before more)
-    ∙ stays_given config (λ other. heard_from config other nobody before) (run_steps (start config) before) more conn now.law shut
+    ∙ stays_given config (λ other. heard_from config other nobody before) (run_steps (start config) before) more conn now.law now.feeds shut

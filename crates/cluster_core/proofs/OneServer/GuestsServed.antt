@@ -10,6 +10,10 @@ use Rattle.cluster_core.specs.Heard.{hears}
 use Rattle.cluster_core.specs.Shown.{given_by, given_to}
 use Rattle.cluster_core.specs.World.{start, front_at, steps_by}
 use Rattle.cluster_core.proofs.Connections.Keeps.{step_keeps}
+use Rattle.cluster_core.proofs.Feeds.FeedLaw.{FeedLaw}
+use Rattle.cluster_core.proofs.Feeds.FeedStart.{start_feeds}
+use Rattle.cluster_core.proofs.Feeds.FeedRuns.{feeds_step}
+use Rattle.cluster_core.proofs.Feeds.ForNodes.{says_for_nodes}
 use Rattle.cluster_core.proofs.Connections.KeepsLaw.{KeepsLaw}
 use Rattle.cluster_core.proofs.Guests.GuestLaw.{GuestIs}
 use Rattle.cluster_core.proofs.Guests.GuestLaw.GuestIs.{is_unopened, is_mail, is_silent, is_dialog}
@@ -22,19 +26,21 @@ use Rattle.cluster_core.proofs.Nodes.OwnClientsLaw.{own_by_law}
 use Rattle.cluster_core.proofs.OneServer.OneStoreLaw.{IsSilent}
 use Rattle.imap_talk.specs.Heard.{Heard, nobody}
 
-run_guests : (config : Config) (heard : ℕ → Heard) (guests : ℕ → Guest) (world : World) (steps : List Event) → KeepsLaw config heard world
+run_guests : (config : Config) (heard : ℕ → Heard) (guests : ℕ → Guest) (world : World) (steps : List Event) → KeepsLaw config heard world → FeedLaw config world
     → GuestsLaw config guests world → GuestsLaw config (λ conn. guest_from config conn world (guests conn) steps) (run_steps world steps)
 unfolding run_steps guest_from
-run_guests config heard guests world [] law are = are
-run_guests config heard guests world (event ∷ steps) law are =
-    let next = step_keeps config heard world event law in
+run_guests config heard guests world [] law feeds are = are
+run_guests config heard guests world (event ∷ steps) law feeds are =
+    let next = step_keeps config heard world event law feeds in
     run_guests config (λ conn. hears config conn (heard conn) event) (λ conn. guest_after config conn world (guests conn) event) (steps_by world event) steps next.law
-    (step_guests config guests world event (own_by_law config heard world law) are)
+    (feeds_step config world event feeds)
+    (step_guests config guests world event (own_by_law config heard world law)
+    (λ from to message rest first. says_for_nodes config world feeds from to message rest first) are)
 
 guests_of_run : (config : Config) (steps : List Event) → AreNodes config.nodes
     → GuestsLaw config (λ conn. guest_of config conn steps) (run_steps (start config) steps)
 guests_of_run config steps are =
-    run_guests config (λ conn. nobody) (λ conn. unopened) (start config) steps (start_keeps config are) (guests_at_start config are)
+    run_guests config (λ conn. nobody) (λ conn. unopened) (start config) steps (start_keeps config are) (start_feeds config are) (guests_at_start config are)
 
 given_dialog : (world : World) (conn : ℕ) (seen : Guest) → GuestIs world conn seen → IsGivenItsDialog world conn seen
 unfolding given_to

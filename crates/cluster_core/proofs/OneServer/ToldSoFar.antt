@@ -52,6 +52,7 @@ use Rattle.imap_talk.proofs.RequestsOf.{asks_all}
 use Rattle.serve_law.proofs.HomeStore.{low_serials}
 use Rattle.store_law.proofs.RisingStores.{Rises, box_rises, none_rises, points_rise, some_rising}
 use Rattle.cluster_core.proofs.Names.ShownHomes.{shows_boxes}
+use Rattle.cluster_core.proofs.Feeds.FeedStart.{start_feeds}
 use Rattle.cluster_core.proofs.Nodes.LinkedNodes.{start_keeps}
 use Rattle.cluster_core.proofs.Runs.StepsMade.{steps_made}
 use Rattle.cluster_core.proofs.Histories.Told.{IsTold}
@@ -233,7 +234,7 @@ told_at config talk steps before later e are date_is now last =
 
 pub kept_all : (config : Config) (events : List Event) (are : AreNodes config.nodes)
     → KeepsAll config (told_of (start_keeps config are).story) (λ conn. nobody) (start config) (steps_of_run config events)
-kept_all config events are = run_keeps config (λ conn. nobody) (start config) (steps_of_run config events) (start_keeps config are)
+kept_all config events are = run_keeps config (λ conn. nobody) (start config) (steps_of_run config events) (start_keeps config are) (start_feeds config are)
 
 pub told_by_one_store : (config : Config) (events : List Event) → AreNodes config.nodes → IsDate config.date → IsToldByOneStore config events
 told_by_one_store config events are date_is =

@@ -27,60 +27,60 @@ IsOther name node = node.name ≢ name
 pub others_here : (name : List ℕ) (nodes : List Node) → All (λ (other : Node). name ≢ other.name) nodes → All (IsOther name) nodes
 others_here name nodes all = λ k d h. λ e. all k d h (sym e)
 
-pub node_stays : (home : List ℕ) (setting : Setting) (world : World) (node : Node) (name : List ℕ) → IsOther name node
-    → node_at (with_node home setting world node) name ≡ node_at world name
-node_stays home setting world node name other =
-    value_at-with_entry-other (slice_cmp nat_cmp) names_apart world.nodes node.name name (first_state home setting node node.kind) (λ e. other (sym e))
+pub node_stays : (config : Config) (world : World) (node : Node) (name : List ℕ) → IsOther name node
+    → node_at (with_node config world node) name ≡ node_at world name
+node_stays config world node name other =
+    value_at-with_entry-other (slice_cmp nat_cmp) names_apart world.nodes node.name name (first_state config node node.kind) (λ e. other (sym e))
 
 -- what there is at a name stays, if no node of this name comes
-pub nodes_stay : (home : List ℕ) (setting : Setting) (world : World) (nodes : List Node) (name : List ℕ) → All (IsOther name) nodes
-    → node_at (with_nodes home setting world nodes) name ≡ node_at world name
+pub nodes_stay : (config : Config) (world : World) (nodes : List Node) (name : List ℕ) → All (IsOther name) nodes
+    → node_at (with_nodes config world nodes) name ≡ node_at world name
 unfolding with_nodes
-nodes_stay home setting world [] name others = refl
-nodes_stay home setting world (node ∷ nodes) name others =
-    nodes_stay home setting (with_node home setting world node) nodes name (All-tail (IsOther name) node nodes others)
-    ∙ node_stays home setting world node name (All-head (IsOther name) node nodes others)
+nodes_stay config world [] name others = refl
+nodes_stay config world (node ∷ nodes) name others =
+    nodes_stay config (with_node config world node) nodes name (All-tail (IsOther name) node nodes others)
+    ∙ node_stays config world node name (All-head (IsOther name) node nodes others)
 
-first_is : (home : List ℕ) (setting : Setting) (node : Node) (kind : Kind)
-    → is_some (as_front (Some (first_state home setting node kind))) ≡ is_of_kind Frontend kind
+first_is : (config : Config) (node : Node) (kind : Kind)
+    → is_some (as_front (Some (first_state config node kind))) ≡ is_of_kind Frontend kind
 unfolding first_state is_of_kind as_front
-first_is home setting node Master = refl
-first_is home setting node Frontend = refl
-first_is home setting node backend_kind = refl
+first_is config node Master = refl
+first_is config node Frontend = refl
+first_is config node backend_kind = refl
 
-front_comes : (home : List ℕ) (setting : Setting) (world : World) (node : Node)
-    → is_some (front_at (with_node home setting world node) node.name) ≡ is_of_kind Frontend node.kind
-front_comes home setting world node =
-    ap (λ found. is_some (as_front found)) (value_at-with_entry (slice_cmp nat_cmp) names_apart world.nodes node.name (first_state home setting node node.kind))
-    ∙ first_is home setting node node.kind
+front_comes : (config : Config) (world : World) (node : Node)
+    → is_some (front_at (with_node config world node) node.name) ≡ is_of_kind Frontend node.kind
+front_comes config world node =
+    ap (λ found. is_some (as_front found)) (value_at-with_entry (slice_cmp nat_cmp) names_apart world.nodes node.name (first_state config node node.kind))
+    ∙ first_is config node node.kind
 
 -- the first node has this name, or one behind it may
-front_by : (home : List ℕ) (setting : Setting) (world : World) (node : Node) (nodes : List Node) (name : List ℕ) (same : Bool)
+front_by : (config : Config) (world : World) (node : Node) (nodes : List Node) (name : List ℕ) (same : Bool)
     → is_node_named name node ≡ same → front_at world name ≡ None → AllPairs (λ (one other : Node). one.name ≢ other.name) (node ∷ nodes)
-    → ((next : World) → front_at next name ≡ None → is_some (front_at (with_nodes home setting next nodes) name) ≡ is_frontend_node (node_named name nodes))
-    → is_some (front_at (with_nodes home setting (with_node home setting world node) nodes) name)
+    → ((next : World) → front_at next name ≡ None → is_some (front_at (with_nodes config next nodes) name) ≡ is_frontend_node (node_named name nodes))
+    → is_some (front_at (with_nodes config (with_node config world node) nodes) name)
     ≡ is_frontend_node (cond same (Some node) (node_named name nodes))
 unfolding is_node_named is_node_of_kind
-front_by home setting world node nodes name true h none pairs later =
-    let next : World = with_node home setting world node in
+front_by config world node nodes name true h none pairs later =
+    let next : World = with_node config world node in
     let is : node.name ≡ name = (bytes_eq-Decides node.name name).0 h in
     let others : All (IsOther name) nodes = others_here name nodes (subst (λ n. All (λ (other : Node). n ≢ other.name) nodes) is
     (head_apart node nodes pairs)) in
-    ap (λ found. is_some (as_front found)) (nodes_stay home setting next nodes name others)
-    ∙ subst (λ n. is_some (front_at next n) ≡ is_of_kind Frontend node.kind) is (front_comes home setting world node)
-front_by home setting world node nodes name false h none pairs later =
+    ap (λ found. is_some (as_front found)) (nodes_stay config next nodes name others)
+    ∙ subst (λ n. is_some (front_at next n) ≡ is_of_kind Frontend node.kind) is (front_comes config world node)
+front_by config world node nodes name false h none pairs later =
     let differ : bytes_eq node.name name ≡ false = h in
-    later (with_node home setting world node)
-    (ap as_front (node_stays home setting world node name (λ e. (let same = (bytes_eq-Decides node.name name).1 e in cc))) ∙ none)
+    later (with_node config world node)
+    (ap as_front (node_stays config world node name (λ e. (let same = (bytes_eq-Decides node.name name).1 e in cc))) ∙ none)
 
-frontends_come : (home : List ℕ) (setting : Setting) (nodes : List Node) (world : World) (name : List ℕ)
+frontends_come : (config : Config) (nodes : List Node) (world : World) (name : List ℕ)
     → AllPairs (λ (one other : Node). one.name ≢ other.name) nodes
-    → front_at world name ≡ None → is_some (front_at (with_nodes home setting world nodes) name) ≡ is_frontend_node (node_named name nodes)
+    → front_at world name ≡ None → is_some (front_at (with_nodes config world nodes) name) ≡ is_frontend_node (node_named name nodes)
 unfolding with_nodes node_named
-frontends_come home setting [] world name pairs none = ap is_some none
-frontends_come home setting (node ∷ nodes) world name pairs none =
-    front_by home setting world node nodes name (is_node_named name node) refl none pairs
-    (λ next n. frontends_come home setting nodes next name (tail_apart node nodes pairs) n)
+frontends_come config [] world name pairs none = ap is_some none
+frontends_come config (node ∷ nodes) world name pairs none =
+    front_by config world node nodes name (is_node_named name node) refl none pairs
+    (λ next n. frontends_come config nodes next name (tail_apart node nodes pairs) n)
 
 no_front_yet : (name : List ℕ) → front_at no_world name ≡ None
 unfolding as_front
@@ -90,7 +90,7 @@ no_front_yet name = refl
 pub frontends_at_start : (config : Config) → AreNodes config.nodes → (name : List ℕ) → is_some (front_at (start config) name) ≡ is_frontend config name
 frontends_at_start config are name =
     ap (λ w. is_some (front_at w name)) (started config)
-    ∙ frontends_come (home_of config) (setting_of config) config.nodes no_world name are.names (no_front_yet name)
+    ∙ frontends_come config config.nodes no_world name are.names (no_front_yet name)
 
 -- ---- the first backend
 

@@ -27,7 +27,7 @@ use Rattle.schedule_text.specs.declared.event.Event.TheVariants.{Open, Data, Han
 use Rattle.schedule_text.specs.Brings.{steps_of, bytes_brought}
 use Rattle.cluster_core.specs.declared.world.Client.{Client}
 use Rattle.cluster_core.specs.declared.world.World.{World}
-use Rattle.cluster_core.specs.World.{not_lost, no_world, home_of, setting_of, start, first_state, with_node, with_nodes, client_at, node_at, front_at, with_state, acts, comes_to, with_client, opens}
+use Rattle.cluster_core.specs.World.{not_lost, no_world, home_of, master_of, setting_of, start, first_state, with_node, with_nodes, client_at, node_at, front_at, with_state, acts, comes_to, with_client, opens}
 use Rattle.cluster_core.specs.World.{client_does, taken_from_link, deliver_first, takes, stepped, steps_by}
 use Rattle.link_queue.specs.Links.{on_link}
 use Rattle.cluster_core.specs.Room.{HaveCommands, HasRoom}
@@ -99,33 +99,34 @@ pub step_steps : (world : World) (event : Event) → (steps_by world event).step
 step_steps world event = (takes_adds (stepped world) event).same_step
 
 -- no connection at first
-new_commands : (me home : List ℕ) (setting : Setting) → HasCommands (new_front me home setting) 0
+new_commands : (me home master : List ℕ) (setting : Setting) → HasCommands (new_front me home master setting) 0
 unfolding new_front
-new_commands me home setting conn connection there = cc
+new_commands me home master setting conn connection there = cc
 
-first_commands_of : (home : List ℕ) (setting : Setting) (node : Node) (kind : Kind) → HasCommandsAt (first_state home setting node kind) 0
+first_commands_of : (config : Config) (node : Node) (kind : Kind) → HasCommandsAt (first_state config node kind) 0
 unfolding first_state as_front
-first_commands_of home setting node Master front e = cc
-first_commands_of home setting node Frontend front e =
-    let same : new_front node.name home setting ≡ front = cc in subst (λ f. HasCommands f 0) same (new_commands node.name home setting)
-first_commands_of home setting node backend_kind front e = cc
+first_commands_of config node Master front e = cc
+first_commands_of config node Frontend front e =
+    let same : new_front node.name (home_of config) (master_of config) (setting_of config) ≡ front = cc in
+    subst (λ f. HasCommands f 0) same (new_commands node.name (home_of config) (master_of config) (setting_of config))
+first_commands_of config node backend_kind front e = cc
 
-node_commands : (home : List ℕ) (setting : Setting) (world : World) (node : Node) → HaveCommands world 0 → HaveCommands (with_node home setting world node) 0
-node_commands home setting world node have q front is =
-    let new = first_state home setting node node.kind in
+node_commands : (config : Config) (world : World) (node : Node) → HaveCommands world 0 → HaveCommands (with_node config world node) 0
+node_commands config world node have q front is =
+    let new = first_state config node node.kind in
     ⊎_elim
-    (λ (e : q ≡ node.name). first_commands_of home setting node node.kind front
+    (λ (e : q ≡ node.name). first_commands_of config node node.kind front
     (sym (ap as_front (value_at-with_entry (slice_cmp nat_cmp) names_apart world.nodes node.name new))
-    ∙ subst (λ k. front_at (with_node home setting world node) k ≡ Some front) e is))
+    ∙ subst (λ k. front_at (with_node config world node) k ≡ Some front) e is))
     (λ (ne : q ≢ node.name). have q front (sym (ap as_front (value_at-with_entry-other (slice_cmp nat_cmp) names_apart world.nodes node.name q new ne)) ∙ is))
     (same_or_other (slice_cmp nat_cmp) names_apart q node.name)
 
-nodes_commands : (home : List ℕ) (setting : Setting) (world : World) (nodes : List Node) → HaveCommands world 0
-    → HaveCommands (with_nodes home setting world nodes) 0
+nodes_commands : (config : Config) (world : World) (nodes : List Node) → HaveCommands world 0
+    → HaveCommands (with_nodes config world nodes) 0
 unfolding with_nodes
-nodes_commands home setting world [] have = have
-nodes_commands home setting world (node ∷ nodes) have =
-    nodes_commands home setting (with_node home setting world node) nodes (node_commands home setting world node have)
+nodes_commands config world [] have = have
+nodes_commands config world (node ∷ nodes) have =
+    nodes_commands config (with_node config world node) nodes (node_commands config world node have)
 
 nobody_yet : (q : List ℕ) (front : Front) → as_front None ≡ Some front → HasCommands front 0
 unfolding as_front
@@ -133,15 +134,15 @@ nobody_yet q front is = cc
 
 pub start_commands : (config : Config) → HaveCommands (start config) 0
 start_commands config = subst (λ w. HaveCommands w 0) (sym (started config))
-    (nodes_commands (home_of config) (setting_of config) no_world config.nodes nobody_yet)
+    (nodes_commands config no_world config.nodes nobody_yet)
 
-nodes_steps : (home : List ℕ) (setting : Setting) (world : World) (nodes : List Node) → (with_nodes home setting world nodes).steps ≡ world.steps
+nodes_steps : (config : Config) (world : World) (nodes : List Node) → (with_nodes config world nodes).steps ≡ world.steps
 unfolding with_nodes
-nodes_steps home setting world [] = refl
-nodes_steps home setting world (node ∷ nodes) = nodes_steps home setting (with_node home setting world node) nodes
+nodes_steps config world [] = refl
+nodes_steps config world (node ∷ nodes) = nodes_steps config (with_node config world node) nodes
 
 pub start_steps : (config : Config) → (start config).steps ≡ 0
-start_steps config = ap (λ (w : World). w.steps) (started config) ∙ nodes_steps (home_of config) (setting_of config) no_world config.nodes
+start_steps config = ap (λ (w : World). w.steps) (started config) ∙ nodes_steps config no_world config.nodes
 
 -- what single events require, from the room for them
 pub one_step : (event : Event) → 1 ≤ steps_of event
