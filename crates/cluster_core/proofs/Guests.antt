@@ -1,5 +1,6 @@
 -- Clients from outside, which the master serves.
 pub mod MastersStay
+pub mod MastersAtStart
 pub mod GuestLaw
 pub mod GuestSteps
 pub mod GuestsAtStart

@@ -3,4 +3,5 @@ pub mod NotLost
 pub mod OneNodeLaw
 pub mod OwnClientsLaw
 pub mod LinkedNodes
+pub mod KindsOfNodes
 pub mod OnPairs

@@ -1,6 +1,7 @@
 mod NodesLaw
 pub mod LinksLaw
 pub mod NodesApart
+pub mod OncePairs
 mod Texts
 mod NamesLaw
 mod ValuesLaw

@@ -153,9 +153,12 @@ master_there (Some (state.Front front)) master e = cc
 master_there (Some (state.Back home)) master e = cc
 master_there (Some (state.Master it)) master e = cc
 
-master_is_none : (found : Option NodeState) (master : Master) → found ≡ Some (state.Master master) → as_front found ≡ None
-unfolding as_front
-master_is_none found master e = ap as_front e
+pub master_is_none : (found : Option NodeState) (master : Master) → as_master found ≡ Some master → as_front found ≡ None
+unfolding as_front as_master
+master_is_none None master e = cc
+master_is_none (Some (state.Front front)) master e = cc
+master_is_none (Some (state.Back home)) master e = cc
+master_is_none (Some (state.Master it)) master e = refl
 
 just_master : (master : Master) → as_master (Some (state.Master master)) ≡ Some master
 unfolding as_master
@@ -236,7 +239,7 @@ told_law config world law from asker asks message rest first =
     let name : List ℕ = master_of config in
     let next : NodeState = state.Master (streaming_master law.master from) in
     let there = master_there (node_at world name) law.master law.is in
-    let apart : from ≢ name = λ e. not_both world from asker asks (ap (front_at world) e ∙ master_is_none (node_at world name) law.master there) in
+    let apart : from ≢ name = λ e. not_both world from asker asks (ap (front_at world) e ∙ master_is_none (node_at world name) law.master law.is) in
     let tells = tells_on world.links name from (table_lines law.master.table) apart in
     let other : (node : List ℕ) → front_at world node ≡ None → node ≢ from = λ node none e. not_both world from asker asks (ap (front_at world) (sym e) ∙ none) in
     let quiet : (node : List ℕ) → front_at world node ≡ None → IsQuiet (told_links world.links name from law.master.table) name node = λ node none.
@@ -257,7 +260,7 @@ told_law config world law from asker asks message rest first =
           (λ is. updated_front config world law from message rest first apart node front (law.fronts node front (sym (ap as_front is.1) ∙ at)))
           (at_or_not world name next (state.Master law.master) node there);
       others = λ node none. ⊎_elim
-          (λ is. quiet node (ap (front_at world) is.0 ∙ master_is_none (node_at world name) law.master there))
+          (λ is. quiet node (ap (front_at world) is.0 ∙ master_is_none (node_at world name) law.master law.is))
           (λ is. quiet node (sym (ap as_front is.1) ∙ none))
           (at_or_not world name next (state.Master law.master) node there);
     }
@@ -374,7 +377,7 @@ heard_law config world law to front at message rest first next =
     let there = front_is (node_at world to) front at in
     let now : NodeState = state.Front (heard_front front next.line) in
     let apart : to ≢ name = λ e. not_both world to front at (ap (front_at world) e
-    ∙ master_is_none (node_at world name) law.master (master_there (node_at world name) law.master law.is)) in
+    ∙ master_is_none (node_at world name) law.master law.is) in
     let up : (node : List ℕ) → on_link (without_first world.links name to) node name ≡ on_link world.links node name = λ node.
     taken_elsewhere world.links name to node name (λ a b. apart (sym b)) in
     let down : (node : List ℕ) → node ≢ to → on_link (without_first world.links name to) name node ≡ on_link world.links name node = λ node ne.

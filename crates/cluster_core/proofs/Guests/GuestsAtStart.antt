@@ -25,53 +25,10 @@ use Rattle.cluster_core.specs.Headline.Outside.{unopened, is_master_node, master
 use Rattle.cluster_core.specs.World.{no_world, backends_of, first_state, with_node, with_nodes, start}
 use Rattle.cluster_core.proofs.Guests.GuestLaw.GuestIs.{is_unopened}
 use Rattle.cluster_core.proofs.Guests.GuestSteps.{GuestsLaw}
+use Rattle.cluster_core.proofs.Guests.MastersAtStart.{masters_come, no_master_yet}
 use Rattle.cluster_core.proofs.Guests.MastersStay.{name_by}
 use Rattle.cluster_core.proofs.Runs.FrontsOfStart.{others_here, node_stays, nodes_stay}
 use Rattle.cluster_core.proofs.Runs.UpsLaw.{started}
-
--- a node is the master of this name, or none
-abbrev named_if : Bool → List ℕ → Option (List ℕ)
-named_if b name = cond b (Some name) None
-
-first_named : (config : Config) (node : Node) (kind : Kind)
-    → name_by (as_master (Some (first_state config node kind))) ≡ named_if (is_of_kind master_kind kind) node.name
-unfolding first_state is_of_kind as_master booted
-first_named config node master_kind = refl
-first_named config node Frontend = refl
-first_named config node backend_kind = refl
-
-master_comes : (config : Config) (world : World) (node : Node)
-    → name_by (master_at (with_node config world node) node.name) ≡ named_if (is_of_kind master_kind node.kind) node.name
-master_comes config world node =
-    ap (λ found. name_by (as_master found)) (value_at-with_entry (slice_cmp nat_cmp) names_apart world.nodes node.name (first_state config node node.kind))
-    ∙ first_named config node node.kind
-
-master_by : (config : Config) (world : World) (node : Node) (nodes : List Node) (name : List ℕ) (same : Bool)
-    → is_node_named name node ≡ same → master_at world name ≡ None → AllPairs (λ (one other : Node). one.name ≢ other.name) (node ∷ nodes)
-    → ((next : World) → master_at next name ≡ None
-    → name_by (master_at (with_nodes config next nodes) name) ≡ named_if (is_master_node (node_named name nodes)) name)
-    → name_by (master_at (with_nodes config (with_node config world node) nodes) name)
-    ≡ named_if (is_master_node (cond same (Some node) (node_named name nodes))) name
-unfolding is_node_named is_node_of_kind
-master_by config world node nodes name true h none pairs later =
-    let next : World = with_node config world node in
-    let is : node.name ≡ name = (bytes_eq-Decides node.name name).0 h in
-    let others = others_here name nodes (subst (λ n. All (λ (other : Node). n ≢ other.name) nodes) is (head_apart node nodes pairs)) in
-    ap (λ found. name_by (as_master found)) (nodes_stay config next nodes name others)
-    ∙ subst (λ n. name_by (master_at next n) ≡ named_if (is_of_kind master_kind node.kind) n) is (master_comes config world node)
-master_by config world node nodes name false h none pairs later =
-    let differ : bytes_eq node.name name ≡ false = h in
-    later (with_node config world node)
-    (ap as_master (node_stays config world node name (λ e. (let same = (bytes_eq-Decides node.name name).1 e in cc))) ∙ none)
-
-masters_come : (config : Config) (nodes : List Node) (world : World) (name : List ℕ)
-    → AllPairs (λ (one other : Node). one.name ≢ other.name) nodes → master_at world name ≡ None
-    → name_by (master_at (with_nodes config world nodes) name) ≡ named_if (is_master_node (node_named name nodes)) name
-unfolding with_nodes node_named
-masters_come config [] world name pairs none = ap name_by none
-masters_come config (node ∷ nodes) world name pairs none =
-    master_by config world node nodes name (is_node_named name node) refl none pairs
-    (λ next n. masters_come config nodes next name (tail_apart node nodes pairs) n)
 
 -- no master has a connection yet
 
@@ -99,10 +56,6 @@ all_nodes : (config : Config) (world : World) (nodes : List Node) → HaveNoDial
 unfolding with_nodes
 all_nodes config world [] none = none
 all_nodes config world (node ∷ nodes) none = all_nodes config (with_node config world node) nodes (one_more config world node none)
-
-no_master_yet : (name : List ℕ) → master_at no_world name ≡ None
-unfolding as_master
-no_master_yet name = refl
 
 none_at_first : HaveNoDialog no_world
 none_at_first name master at conn = absurd (let no : None ≡ Some master = sym (no_master_yet name) ∙ at in cc)

@@ -26,16 +26,16 @@ use Rattle.cluster_core.specs.Heard.{is_frontend}
 use Rattle.imap_talk.specs.Heard.{nobody}
 
 -- a node of this kind and name
-record HasNode (nodes : List Node) (kind : Kind) (name : List ℕ) : Type 0 where
-  node : Node
-  among : Contains nodes node
-  kind_is : node.kind ≡ kind
-  named : node.name ≡ name
+pub record HasNode (nodes : List Node) (kind : Kind) (name : List ℕ) : Type 0 where
+  pub node : Node
+  pub among : Contains nodes node
+  pub kind_is : node.kind ≡ kind
+  pub named : node.name ≡ name
 
-at_head : {X : Type 0} (x : X) (xs : List X) → Contains (x ∷ xs) x
+pub at_head : {X : Type 0} (x : X) (xs : List X) → Contains (x ∷ xs) x
 at_head x xs = (0, omega arith, refl)
 
-has_later : (first : Node) (nodes : List Node) (kind : Kind) (name : List ℕ) → HasNode nodes kind name → HasNode (first ∷ nodes) kind name
+pub has_later : (first : Node) (nodes : List Node) (kind : Kind) (name : List ℕ) → HasNode nodes kind name → HasNode (first ∷ nodes) kind name
 has_later first nodes kind name has = record {
   node = has.node;
   among = Contains-append_right (first ∷ []) nodes has.node has.among;
@@ -84,7 +84,7 @@ no_front_yet : is_some (as_front None) ≡ true → ⊥
 unfolding as_front
 no_front_yet is = cc
 
-front_node : (config : Config) (name : List ℕ) → is_some (front_at (start config) name) ≡ true → HasNode config.nodes Frontend name
+pub front_node : (config : Config) (name : List ℕ) → is_some (front_at (start config) name) ≡ true → HasNode config.nodes Frontend name
 front_node config name is = ⊎_elim
     (λ none. absurd (no_front_yet none))
     (λ has. has)
@@ -152,7 +152,7 @@ unfolding are_linked is_node_named
 are_joined one other kinds ne =
     let names : bytes_eq one.name other.name ≡ false = not_equal one.name other.name (bytes_eq one.name other.name) refl ne in rw (kinds, names) refl
 
-pair_of : (nodes : List Node) (kind another : Kind) (from to : List ℕ) → are_kinds_linked kind another ≡ true → HasNode nodes kind from
+pub pair_of : (nodes : List Node) (kind another : Kind) (from to : List ℕ) → are_kinds_linked kind another ≡ true → HasNode nodes kind from
     → HasNode nodes another to → from ≢ to → Contains (links_of nodes) (record { from = from; to = to })
 unfolding links_of
 pair_of nodes kind another from to kinds one other ne =

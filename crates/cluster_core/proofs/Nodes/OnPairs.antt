@@ -26,14 +26,14 @@ use Rattle.imap_talk.specs.Heard.{Heard, nobody}
 use Rattle.link_queue.specs.Links.{Links, same_link, on_link, sent, without_first}
 use Rattle.link_queue.proofs.Wires.{same_names, on_link-sent, on_link-taken}
 use Rattle.cluster_core.specs.Headline.OneStore.{AreEmpty}
-use Rattle.cluster_core.specs.World.{start, client_at, node_at, front_at, given_more, carry, carry_all, with_state, not_lost, comes_to, with_client, opens}
+use Rattle.cluster_core.specs.World.{start, master_of, client_at, node_at, front_at, given_more, carry, carry_all, with_state, not_lost, comes_to, with_client, opens}
 use Rattle.cluster_core.specs.World.{client_does, taken_from_link, deliver_first, takes, stepped, steps_by}
 use Rattle.cluster_core.proofs.Connections.Keeps.{step_keeps}
 use Rattle.cluster_core.proofs.Connections.KeepsLaw.{KeepsLaw}
 use Rattle.cluster_core.proofs.Nodes.LinkedNodes.{start_keeps}
 use Rattle.cluster_core.proofs.Nodes.NotLost.{to_left}
 use Rattle.cluster_core.proofs.Feeds.FeedLaw.{FeedLaw}
-use Rattle.cluster_core.proofs.Feeds.FeedStart.{start_feeds}
+use Rattle.cluster_core.proofs.Feeds.FeedStart.{apart_first, linked_to_master, linked_with_master, sent_to_master, start_feeds}
 use Rattle.cluster_core.proofs.Feeds.FeedRuns.{feeds_step}
 use Rattle.cluster_core.proofs.Feeds.ForNodes.{SaysForNodes, no_message, says_for_nodes, to_lines}
 use Rattle.cluster_core.proofs.Nodes.OwnClientsLaw.{SaysOn}
@@ -162,9 +162,19 @@ run_on config heard world (event ∷ steps) law feeds on =
     (takes_on (links_of config.nodes) (stepped world) event (have_homes config heard world law)
     (λ from to message rest first. says_for_nodes config world feeds from to message rest first) on)
 
+joined_first : (config : Config) → AreNodes config.nodes → (node : List ℕ) (found : Option Front) → front_at (start config) node ≡ found
+    → is_some (front_at (start config) node) ≡ true → Joined (links_of config.nodes) node (master_of config)
+joined_first config are node None none is = absurd (let no : false ≡ true = sym (ap is_some none) ∙ is in cc)
+joined_first config are node (Some front) at is =
+    let apart = apart_first config are node front at in
+    (linked_to_master config are node front at apart, linked_with_master config are node front at apart)
+
 -- at the start only frontends have sent, and to the master
 start_on : (config : Config) → AreNodes config.nodes → AreOn (links_of config.nodes) (start config).links
-start_on config are from to = ?
+start_on config are from to = ⊎_elim
+    (λ none. inl none)
+    (λ is. inr (subst (λ t. Joined (links_of config.nodes) from t) (sym is.1) (joined_first config are from (front_at (start config) from) refl is.0)))
+    (sent_to_master config are from to (front_at (start config) from) refl)
 
 on_pairs : (config : Config) (steps : List Event) → AreNodes config.nodes → AreOn (links_of config.nodes) (run_steps (start config) steps).links
 on_pairs config steps are =

@@ -13,7 +13,7 @@ use Rattle.cluster_core.specs.declared.world.Mark.{Mark}
 use Rattle.cluster_core.specs.declared.world.MarkKind.{MarkKind}
 use Rattle.cluster_core.specs.declared.world.MarkKind.TheVariants.{Home, Told}
 use Rattle.cluster_core.specs.declared.world.World.{World}
-use Rattle.cluster_core.specs.Flow.{run_of, steps_of_run}
+use Rattle.cluster_core.specs.Flow.{run_steps, run_of, steps_of_run}
 use Rattle.cluster_core.specs.Headline.{IsOneServer}
 use Rattle.cluster_core.specs.History.{next_of, counts_as, untold_as, points_by, points_of, history_of}
 use Rattle.cluster_core.specs.Headline.HomeLaw.{HasRelocationCause, RefusesForCause}
@@ -21,6 +21,8 @@ use Rattle.cluster_core.specs.World.{start, layout_of}
 use Rattle.cluster_core.proofs.Flows.FlowRests.{are_steps_of_all}
 use Rattle.cluster_core.proofs.OneServer.ClosedLaw.{gives_no_more}
 use Rattle.cluster_core.proofs.OneServer.GuestsServed.{serves_guests}
+use Rattle.cluster_core.proofs.Feeds.FeedLaw.{replicas_follow}
+use Rattle.cluster_core.proofs.Feeds.FeedStart.{feeds_of_run}
 use Rattle.cluster_core.proofs.Nodes.OneNodeLaw.{one_node_each}
 use Rattle.cluster_core.proofs.Names.OneHome.{keeps_one_home_each}
 use Rattle.cluster_core.proofs.Nodes.OwnClientsLaw.{serves_its_own_each}
@@ -56,6 +58,7 @@ one_server config events are date_is = record {
   one_store = told_by_one_store config events are date_is;
   closed = gives_no_more config events are;
   guests = serves_guests config events are;
+  replicas = λ before later parts. replicas_follow config (run_steps (start config) before) (feeds_of_run config before are);
   one_home = keeps_one_home_each config events are;
   refusals = refuses (run_of config events);
 }

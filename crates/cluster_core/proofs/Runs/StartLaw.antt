@@ -9,6 +9,8 @@ use Rattle.std.proofs.lemmas.Bool.Decides.{nat_tests}
 use Rattle.std.proofs.lemmas.List.Elements.{All-head, All-tail, All-cons, All-nil}
 use Rattle.backend_core.specs.declared.backend.Backend.{Backend}
 use Rattle.backend_core.specs.Plan.{booted}
+use Rattle.master_core.specs.Boot.{booted as master_booted}
+use Rattle.node_record.specs.Table.{empty_table}
 use Rattle.front_core.specs.declared.front.Front.{Front}
 use Rattle.front_core.specs.Front.{connection_at, new_front}
 use Rattle.feed_core.specs.Stream.{update_line}
@@ -56,25 +58,25 @@ abbrev pub first_front : Config → List ℕ → Front
 first_front config name = new_front name (home_of config) (master_of config) (setting_of config)
 
 -- a node that has done nothing
-abbrev IsFirst : Config → List ℕ → NodeState → Type 0
+abbrev pub IsFirst : Config → List ℕ → NodeState → Type 0
 IsFirst config name (state.Front front) = front ≡ first_front config name
 IsFirst config name (state.Back backend) = (backend.held ≡ []) × (backend.last_serial ≡ 0)
-IsFirst config name (state.Master master) = ⊤
+IsFirst config name (state.Master master) = master ≡ master_booted name (backends_of config.nodes) empty_table
 
 -- nodes that have done nothing
-record IsFresh (config : Config) (world : World) : Type 0 where
-  nodes : (name : List ℕ) (it : NodeState) → node_at world name ≡ Some it → IsFirst config name it
-  clients : world.clients ≡ []
-  broken : world.broken ≡ []
-  marks : world.marks ≡ []
-  steps : world.steps ≡ 0
+pub record IsFresh (config : Config) (world : World) : Type 0 where
+  pub nodes : (name : List ℕ) (it : NodeState) → node_at world name ≡ Some it → IsFirst config name it
+  pub clients : world.clients ≡ []
+  pub broken : world.broken ≡ []
+  pub marks : world.marks ≡ []
+  pub steps : world.steps ≡ 0
 
 just : {T : Type 0} {one other : T} → Some one ≡ Some other → one ≡ other
 just h = cc
 
 first_of : (config : Config) (node : Node) (kind : Kind) → IsFirst config node.name (first_state config node kind)
 unfolding first_state
-first_of config node Master = tt
+first_of config node Master = refl
 first_of config node Frontend = refl
 first_of config node backend_kind = (refl, refl)
 
@@ -108,9 +110,9 @@ record HasBack (found : Option NodeState) : Type 0 where
   backend : Backend
   is : as_back found ≡ Some backend
 
-record HasHome (world : World) (name : List ℕ) : Type 0 where
-  backend : Backend
-  at : home_at world name ≡ Some backend
+pub record HasHome (world : World) (name : List ℕ) : Type 0 where
+  pub backend : Backend
+  pub at : home_at world name ≡ Some backend
 
 home_by : (config : Config) (world : World) (node : Node) (name : List ℕ) → node.name ≢ name → HasHome world name
     → HasHome (with_node config world node) name
@@ -230,11 +232,11 @@ fresh_links config world links fresh = record {
   steps = fresh.steps;
 }
 
-fresh_start : (config : Config) → IsFresh config (start config)
+pub fresh_start : (config : Config) → IsFresh config (start config)
 fresh_start config = subst (IsFresh config) (sym (started config)) (fresh_links config (fresh_nodes config) (first_links config)
     (fresh_made config no_world config.nodes (record { nodes = λ name it at. cc; clients = refl; broken = refl; marks = refl; steps = refl })))
 
-fresh_front : (config : Config) (world : World) (name : List ℕ) (front : Front) → IsFresh config world
+pub fresh_front : (config : Config) (world : World) (name : List ℕ) (front : Front) → IsFresh config world
     → front_at world name ≡ Some front → front ≡ first_front config name
 fresh_front config world name front fresh at = fresh.nodes name (state.Front front) (front_is (node_at world name) front at)
 
@@ -312,7 +314,7 @@ unfolding Fit
 fits_none = tt
 
 -- the first backend is there
-home_at_start : (config : Config) → AreNodes config.nodes → HasHome (start config) (home_of config)
+pub home_at_start : (config : Config) → AreNodes config.nodes → HasHome (start config) (home_of config)
 home_at_start config are =
     let first = first_backend config.nodes are in
     let has = home_comes config config.nodes no_world first.rest (home_of config) are.names first.is in

@@ -1,5 +1,5 @@
 -- Each frontend's replica follows the master's table (RFC 3656, 4.11).
-use Rattle.std.specs.Prelude.{◌≡◌, ℕ, true, List, [], ◌∷◌, map, None, Some}
+use Rattle.std.specs.Prelude.{◌≡◌, ℕ, true, List, [], ◌∷◌, ◌++◌, map, None, Some}
 use Rattle.std.specs.List.{fold}
 use Rattle.feed_core.specs.declared.rec.Rec.{Rec}
 use Rattle.feed_core.specs.declared.rec.Rec.TheVariants as feed
@@ -21,7 +21,8 @@ use Rattle.node_record.specs.Table.{MailboxTable}
 use Rattle.schedule_text.specs.declared.event.Event.{Event}
 use Rattle.cluster_core.specs.declared.world.World.{World}
 use Rattle.cluster_core.specs.Headline.Outside.{table_at}
-use Rattle.cluster_core.specs.World.{front_at, master_of}
+use Rattle.cluster_core.specs.Flow.{run_steps, steps_of_run}
+use Rattle.cluster_core.specs.World.{front_at, master_of, start}
 
 -- what a frontend has of a record: its place, and its access list if it has one
 abbrev pub rec_by : Location → State → Rec
@@ -55,3 +56,8 @@ pub data Follows (links : Links LinkMsg) (table : MailboxTable) (master node : L
 abbrev pub ReplicasFollow : Config → World → Type 0
 ReplicasFollow config world = (node : List ℕ) (front : Front) → front_at world node ≡ Some front
     → Follows world.links (table_at world (master_of config)) (master_of config) node front.replica
+
+-- and after each single step of a run
+abbrev pub FollowTheTable : Config → List Event → Type 0
+FollowTheTable config events = (before later : List Event) → steps_of_run config events ≡ before ++ later
+    → ReplicasFollow config (run_steps (start config) before)
