@@ -351,7 +351,7 @@ class Cluster:
         for frontend in self.dialogs:
             self.send(frontend, master, ('line', b'u UPDATE\r\n'))
 
-    def told(self, a, b, line):
+    def line_taken(self, a, b, line):
         """A line of MUPDATE between a frontend and the master. Only the master answers: no table has a record yet, so a frontend learns nothing."""
         if self.kinds[b] == 'master':
             self.send(b, a, ('line', self.dialogs[a].answer(line)))
@@ -509,7 +509,7 @@ class Cluster:
             return
         kind, *message = queue.popleft()
         if kind == 'line':
-            return self.told(a, b, *message)
+            return self.line_taken(a, b, *message)
         conn, number, *rest = message
         if kind == 'ask':
             done, outcome = self.at_home(*rest)
