@@ -6,7 +6,7 @@
 
 Without arguments it compares each stored output of examples/ and tests/replays/ with its own. It is written from these two pages, examples/ and
 RFC 9051 alone, and knows no proof and no code of the program. It keeps every byte of a connection and cuts it anew, so it is slow and plain. What
-a frame spells is in commands.py, a talk with the master in mupdate.py, the rules of schedules in rules.py. `.ci/large` and
+a frame spells is in commands.py, what the master answers in mupdate.py, the rules of schedules in rules.py. `.ci/large` and
 `tests/random_schedules` compare the program with it, and the outputs of tests/replays were worked out by it and read.
 """
 import base64, binascii, glob, json, os, re, sys
@@ -331,14 +331,30 @@ class Cluster:
         self.users = {u['name'].encode(): (u['password'].encode(), u.get('admin', False)) for u in config['users']}
         self.date = config['date'].encode()
         self.kinds = {n['name']: n['kind'] for n in self.nodes}
-        self.home = next(n['name'] for n in self.nodes if n['kind'] == 'backend')
+        self.home = self.first('backend')
         self.links, self.boxes, self.serial, self.conns, self.talks, self.marks, self.steps = {}, {}, 0, {}, {}, [], 0
         names = [n['name'] for n in self.nodes]
         self.pairs = [(a, b) for a in names for b in names if a != b and self.linked(a, b)]
+        self.ask_for_tables()
+
+    def first(self, kind):
+        return next(n['name'] for n in self.nodes if n['kind'] == kind)
 
     def linked(self, a, b):
         kinds = {self.kinds[a], self.kinds[b]}
         return kinds != {'frontend'} and kinds != {'master'}
+
+    def ask_for_tables(self):
+        """Before the first step each frontend asks the master for its table (RFC 3656, 4.11)."""
+        master = self.first('master')
+        self.dialogs = {name: Talk(master.encode()) for name, kind in self.kinds.items() if kind == 'frontend'}
+        for frontend in self.dialogs:
+            self.send(frontend, master, ('line', b'u UPDATE\r\n'))
+
+    def line_taken(self, a, b, line):
+        """A line of MUPDATE between a frontend and the master. Only the master answers: no table has a record yet, so a frontend learns nothing."""
+        if self.kinds[b] == 'master':
+            self.send(b, a, ('line', self.dialogs[a].answer(line)))
 
     def open(self, node, conn):
         self.steps += 1
@@ -491,7 +507,10 @@ class Cluster:
         queue = self.links.get((a, b))
         if not queue:
             return
-        kind, conn, number, *rest = queue.popleft()
+        kind, *message = queue.popleft()
+        if kind == 'line':
+            return self.line_taken(a, b, *message)
+        conn, number, *rest = message
         if kind == 'ask':
             done, outcome = self.at_home(*rest)
             self.marks.append((self.steps, conn, number, done))

@@ -1,5 +1,6 @@
 """What the master gives to a client that connects to it from outside (RFC 3656, in the profile of docs/formats.md): Talk(name) is greeted in `given`,
-and feed(bytes) answers each line that ends in them. The table is empty, since no backend sends its commands yet. Nothing here knows the program.
+and feed(bytes) answers each line that ends in them. To a frontend it answers each line by `answer` alone. The table is empty, since no backend sends
+its commands yet. Nothing here knows the program.
 """
 import re
 

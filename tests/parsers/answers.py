@@ -120,9 +120,11 @@ def texts_in(path):
 
 
 def replays():
-    """The cases of the stored replays: a name, the tag, the bytes, what is meant."""
+    """The cases of the stored replays: a name, the tag, the bytes, what is meant. Clients at the master speak MUPDATE, which is left out."""
     for path in sorted(path for form in STORED for path in glob.glob(os.path.join(TOP, form))):
         for connection, text in texts_in(path).items():
+            if text.startswith(b"* AUTH\r\n"):
+                continue
             name = f"{os.path.relpath(path, TOP)}: connection {connection}"
             try:
                 for number, (answer, meant) in enumerate(answers_in(text)):
