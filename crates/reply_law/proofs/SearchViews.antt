@@ -1,0 +1,29 @@
+-- The views in which the talks search, and the mailboxes that they are of.
+use Rattle.std.proofs.Common.{true, false, List, [], ◌∷◌, map, refl}
+use Rattle.std.specs.Prelude.{codes}
+use Rattle.mail_message.specs.Boxes.{Content, row_of}
+use Rattle.mur_model.specs.declared.view.View.{View}
+use Rattle.reply_law.specs.Scenes.{examined, four, selected, selected_empty, empty}
+use Rattle.reply_law.proofs.Computes.{computes}
+use Rattle.reply_law.proofs.Searches.{Has, Views}
+
+abbrev pub four_view : View
+four_view = record { user = codes "bob"; name = codes "user.bob"; serial = 7; is_writable = true; rows = map row_of four.messages }
+
+pub four_selected : Has selected four_view four
+unfolding computes
+four_selected = record { views = record { hears = refl; session = refl }; there = refl; same = refl }
+
+abbrev pub read_view : View
+read_view = record four_view { is_writable = false }
+
+pub four_examined : Has examined read_view four
+unfolding computes
+four_examined = record { views = record { hears = refl; session = refl }; there = refl; same = refl }
+
+abbrev pub empty_view : View
+empty_view = record { user = codes "bob"; name = codes "user.bob.To do"; serial = 4; is_writable = true; rows = [] }
+
+pub empty_selected : Has selected_empty empty_view (empty 4)
+unfolding computes
+empty_selected = record { views = record { hears = refl; session = refl }; there = refl; same = refl }
