@@ -2,6 +2,7 @@
 use Rattle.std.proofs.Common.{◌≡◌, ◌∙◌, ℕ, Bool, true, false, List, [], ◌∷◌, ◌++◌, length, map, Option, Some, refl, ap}
 use Rattle.std.specs.Prelude.{◌==◌, if◌then◌else◌, codes}
 use Prim.Native.String.{String}
+use Rattle.std.specs.List.{fold}
 use Rattle.mur_base.specs.Ascii.{crlf}
 use Rattle.mail_message.specs.Boxes.{Content, messages_at, summary_of}
 use Rattle.mail_message.specs.declared.message.Summary.{Summary}
@@ -36,7 +37,7 @@ use Rattle.imap_talk.specs.Inputs.{input_at, request_at}
 use Rattle.imap_talk.specs.declared.inputs.Before.{Before}
 use Rattle.imap_talk.specs.declared.inputs.Before.TheVariants.{Hears}
 use Rattle.imap_wire.specs.declared.frame.Frame.TheVariants.{Whole}
-use Rattle.reply_law.specs.Talk.{Scene, Told, one, told, told_answer, told_given}
+use Rattle.reply_law.specs.Talk.{Line, Scene, Told, one, says, talk, talked_on, told, told_answer, told_given}
 use Rattle.reply_law.proofs.Computes.{computes}
 use Rattle.reply_law.proofs.Sought.{Sought, all_fit, found_by, is_found, keys_fit, keys_of}
 
@@ -140,12 +141,27 @@ is_told scene view box has frame tag by_uid sought read fit =
 -- ---- the lines that a client reads
 
 -- what the keys find is told so
+pub finds_in : {scene : Scene} {view : View} {box : Content} {read : List ℕ} → Has scene view box → (text tag : List ℕ) (by_uid : Bool) (sought : List Sought)
+    → request_of (text ++ crlf) ≡ asks tag by_uid sought → all_fit (length view.rows) sought ≡ true
+    → (told_acted scene tag (found_acted scene view box by_uid (uids_found view box sought))).bytes ≡ read
+    → (told scene one (text ++ crlf)).bytes ≡ read
+finds_in {scene = scene} {view = view} {box = box} has text tag by_uid sought asked fit same =
+    ap (λ (it : Told). it.bytes) (is_told scene view box has (text ++ crlf) tag by_uid sought asked fit) ∙ same
+
 pub finds : {scene : Scene} {view : View} {box : Content} {read : List ℕ} → Has scene view box → (text tag : String) (by_uid : Bool) (sought : List Sought)
     → request_of (codes text ++ crlf) ≡ asks (codes tag) by_uid sought → all_fit (length view.rows) sought ≡ true
     → (told_acted scene (codes tag) (found_acted scene view box by_uid (uids_found view box sought))).bytes ≡ read
     → (told scene one (codes text ++ crlf)).bytes ≡ read
-finds {scene = scene} {view = view} {box = box} has text tag by_uid sought asked fit same =
-    ap (λ (it : Told). it.bytes) (is_told scene view box has (codes text ++ crlf) (codes tag) by_uid sought asked fit) ∙ same
+finds has text tag by_uid sought asked fit same = finds_in has (codes text) (codes tag) by_uid sought asked fit same
+
+-- the same where lines follow
+pub finds_first : {scene : Scene} {view : View} {box : Content} {read : List (List ℕ)} → Has scene view box → (text tag : String) (by_uid : Bool)
+    (sought : List Sought) (behind : List Line)
+    → request_of (codes text ++ crlf) ≡ asks (codes tag) by_uid sought → all_fit (length view.rows) sought ≡ true
+    → (fold says (talked_on [] (told_acted scene (codes tag) (found_acted scene view box by_uid (uids_found view box sought)))) behind).bytes ≡ read
+    → (talk scene ((one, text) ∷ behind)).bytes ≡ read
+finds_first {scene = scene} {view = view} {box = box} has text tag by_uid sought behind asked fit same =
+    ap (λ (it : Told). (fold says (talked_on [] it) behind).bytes) (is_told scene view box has (codes text ++ crlf) (codes tag) by_uid sought asked fit) ∙ same
 
 -- a number that no message has is refused so
 pub lacks : {scene : Scene} {view : View} {read : List ℕ} → Views scene view → (text tag : String) (by_uid : Bool) (sought : List Sought)
@@ -154,3 +170,21 @@ pub lacks : {scene : Scene} {view : View} {read : List ℕ} → Views scene view
     → (told scene one (codes text ++ crlf)).bytes ≡ read
 lacks {scene = scene} {view = view} views text tag by_uid sought asked fit same =
     ap (λ (it : Told). it.bytes) (is_refused scene view views (codes text ++ crlf) (codes tag) by_uid sought asked fit) ∙ same
+
+-- the same where lines follow
+pub lacks_first : {scene : Scene} {view : View} {read : List (List ℕ)} → Views scene view → (text tag : String) (by_uid : Bool) (sought : List Sought)
+    (behind : List Line)
+    → request_of (codes text ++ crlf) ≡ asks (codes tag) by_uid sought → all_fit (length view.rows) sought ≡ false
+    → (fold says (talked_on [] (told_acted scene (codes tag) (act_by scene.store (Selected view) scene.serial no_such_number))) behind).bytes ≡ read
+    → (talk scene ((one, text) ∷ behind)).bytes ≡ read
+lacks_first {scene = scene} {view = view} views text tag by_uid sought behind asked fit same =
+    ap (λ (it : Told). (fold says (talked_on [] it) behind).bytes) (is_refused scene view views (codes text ++ crlf) (codes tag) by_uid sought asked fit) ∙ same
+
+-- what becomes of it where the mailbox of the view may be gone
+pub works : {scene : Scene} {view : View} {read : List ℕ} → Views scene view → (text tag : String) (by_uid : Bool) (sought : List Sought)
+    → request_of (codes text ++ crlf) ≡ asks (codes tag) by_uid sought → all_fit (length view.rows) sought ≡ true
+    → (told_acted scene (codes tag)
+      (worked_acted scene.store view (viewed_on view (work_of view by_uid sought) (box_at scene.store view.name)))).bytes ≡ read
+    → (told scene one (codes text ++ crlf)).bytes ≡ read
+works {scene = scene} {view = view} views text tag by_uid sought asked fit same =
+    ap (λ (it : Told). it.bytes) (is_worked scene view views (codes text ++ crlf) (codes tag) by_uid sought asked fit) ∙ same
