@@ -1,5 +1,5 @@
 -- The views in which the talks search, and the mailboxes that they are of.
-use Rattle.std.proofs.Common.{true, false, List, [], ◌∷◌, map, refl}
+use Rattle.std.proofs.Common.{true, false, [], ◌∷◌, map, refl}
 use Rattle.std.specs.Prelude.{codes}
 use Rattle.mail_message.specs.Boxes.{Content, row_of}
 use Rattle.mur_model.specs.declared.view.View.{View}

@@ -1,5 +1,5 @@
 -- What a SEARCH in a selected mailbox is answered, by what its keys match: a line of what was found, news, and OK (RFC 9051, 6.4.4 and 7.3.4).
-use Rattle.std.proofs.Common.{◌≡◌, ◌∙◌, ℕ, Bool, true, false, List, [], ◌∷◌, ◌++◌, length, map, Option, Some, refl, ap}
+use Rattle.std.proofs.Common.{◌≡◌, ◌∙◌, ℕ, Bool, true, false, List, [], ◌∷◌, ◌++◌, length, map, Option, Some, ap}
 use Rattle.std.specs.Prelude.{◌==◌, if◌then◌else◌, codes}
 use Prim.Native.String.{String}
 use Rattle.std.specs.List.{fold}
@@ -14,7 +14,7 @@ use Rattle.imap_types.specs.declared.request.Request.{Request}
 use Rattle.imap_types.specs.declared.request.Request.TheVariants.{Command as a_command}
 use Rattle.mur_model.specs.Act.{Acted, act_by, session_after}
 use Rattle.mur_model.specs.ClientView.{uids}
-use Rattle.mur_model.specs.Keys.{have_all_numbers, keys_at}
+use Rattle.mur_model.specs.Keys.{keys_at}
 use Rattle.mur_model.specs.Left.{Worked, kept, store_after}
 use Rattle.mur_model.specs.NamedRows.{last_uid}
 use Rattle.mur_model.specs.Needed.{Needed, at_mailbox, no_such_number}
@@ -24,7 +24,6 @@ use Rattle.mur_model.specs.Selected.{rows_of, with_news}
 use Rattle.mur_model.specs.Store.{box_at}
 use Rattle.mur_model.specs.StoreFlags.{code_for}
 use Rattle.mur_model.specs.Viewing.{found_gone, viewed_on, work_there}
-use Rattle.mur_model.specs.declared.commands.search.Searching.{Searching}
 use Rattle.mur_model.specs.declared.session.Sess.{Sess}
 use Rattle.mur_model.specs.declared.session.Sess.TheVariants.{Selected}
 use Rattle.mur_model.specs.declared.session.Turn.{Turn}
@@ -136,7 +135,7 @@ is_told scene view box has frame tag by_uid sought read fit =
     ∙ ap (λ (there : Option Content). told_acted scene tag (worked_acted scene.store view (viewed_on view it there))) has.there
     ∙ ap (λ (same : Bool). told_acted scene tag (worked_acted scene.store view (if same then work_there view it box else found_gone))) has.same
     ∙ ap (λ (found : List ℕ). told_acted scene tag (found_acted scene view box by_uid found))
-      (is_found (length view.rows) (last_uid view.rows) sought (messages_of view box) (numbers_of view box))
+    (is_found (length view.rows) (last_uid view.rows) sought (messages_of view box) (numbers_of view box))
 
 -- ---- the lines that a client reads
 
@@ -184,7 +183,7 @@ lacks_first {scene = scene} {view = view} views text tag by_uid sought behind as
 pub works : {scene : Scene} {view : View} {read : List ℕ} → Views scene view → (text tag : String) (by_uid : Bool) (sought : List Sought)
     → request_of (codes text ++ crlf) ≡ asks (codes tag) by_uid sought → all_fit (length view.rows) sought ≡ true
     → (told_acted scene (codes tag)
-      (worked_acted scene.store view (viewed_on view (work_of view by_uid sought) (box_at scene.store view.name)))).bytes ≡ read
+    (worked_acted scene.store view (viewed_on view (work_of view by_uid sought) (box_at scene.store view.name)))).bytes ≡ read
     → (told scene one (codes text ++ crlf)).bytes ≡ read
 works {scene = scene} {view = view} views text tag by_uid sought asked fit same =
     ap (λ (it : Told). it.bytes) (is_worked scene view views (codes text ++ crlf) (codes tag) by_uid sought asked fit) ∙ same

@@ -1,6 +1,6 @@
 -- Search keys of which it computes whether their numbers are those of messages, and what they match: keys beside their layers, put together as
 -- keys are. What a fold makes of a key is stuck elsewhere; here each constructor has its one step (RFC 9051, 6.4.4).
-use Rattle.std.proofs.Common.{◌≡◌, ◌∙◌, ℕ, Bool, true, false, cond, not, ◌&&◌, ◌||◌, List, [], ◌∷◌, length, map, refl, sym, ap}
+use Rattle.std.proofs.Common.{◌≡◌, ◌∙◌, ℕ, Bool, true, cond, not, ◌&&◌, ◌||◌, List, [], ◌∷◌, map, refl, sym, ap}
 use Rattle.std.specs.List.{filter, list_all, zip}
 use Rattle.mail_message.specs.Sets.{set_at, set_holds}
 use Rattle.mail_message.specs.declared.day.Day.{Day}
@@ -131,8 +131,8 @@ is_not it = record {
   test = λ count last message number. not (it.test count last message number);
   has_fits = λ count. numbers_step (key_is.Not it.key) (Key-F.Not it.key) (key_is.rolls-Not it.key) count ∙ it.has_fits count;
   has_test = λ count last message number.
-    match_step (key_is.Not it.key) (Key-F.Not it.key) (Key-F.Not (key_at count last it.key)) (key_is.rolls-Not it.key) count last refl message number
-    ∙ ap not (it.has_test count last message number);
+      match_step (key_is.Not it.key) (Key-F.Not it.key) (Key-F.Not (key_at count last it.key)) (key_is.rolls-Not it.key) count last refl message number
+      ∙ ap not (it.has_test count last message number);
 }
 
 pub either_step : (one other two more : Bool) → one ≡ two → other ≡ more → (one || other) ≡ (two || more)
@@ -147,12 +147,12 @@ either one other = record {
   fits = λ count. one.fits count && other.fits count;
   test = λ count last message number. one.test count last message number || other.test count last message number;
   has_fits = λ count.
-    numbers_step (key_is.Or one.key other.key) (Key-F.Or one.key other.key) (key_is.rolls-Or one.key other.key) count
-    ∙ both_step _ _ _ _ (one.has_fits count) (other.has_fits count);
+      numbers_step (key_is.Or one.key other.key) (Key-F.Or one.key other.key) (key_is.rolls-Or one.key other.key) count
+      ∙ both_step _ _ _ _ (one.has_fits count) (other.has_fits count);
   has_test = λ count last message number.
-    match_step (key_is.Or one.key other.key) (Key-F.Or one.key other.key) (Key-F.Or (key_at count last one.key) (key_at count last other.key))
-        (key_is.rolls-Or one.key other.key) count last refl message number
-    ∙ either_step _ _ _ _ (one.has_test count last message number) (other.has_test count last message number);
+      match_step (key_is.Or one.key other.key) (Key-F.Or one.key other.key) (Key-F.Or (key_at count last one.key) (key_at count last other.key))
+      (key_is.rolls-Or one.key other.key) count last refl message number
+      ∙ either_step _ _ _ _ (one.has_test count last message number) (other.has_test count last message number);
 }
 
 -- ---- several keys, of which all are meant
@@ -191,11 +191,11 @@ group sought = record {
   fits = λ count. all_fit count sought;
   test = λ count last. all_test count last sought;
   has_fits = λ count.
-    numbers_step (key_is.Group (keys_of sought)) (Key-F.Group (keys_of sought)) (key_is.rolls-Group (keys_of sought)) count ∙ group_fits count sought;
+      numbers_step (key_is.Group (keys_of sought)) (Key-F.Group (keys_of sought)) (key_is.rolls-Group (keys_of sought)) count ∙ group_fits count sought;
   has_test = λ count last message number.
-    match_step (key_is.Group (keys_of sought)) (Key-F.Group (keys_of sought)) (Key-F.Group (map (key_at count last) (keys_of sought)))
-        (key_is.rolls-Group (keys_of sought)) count last refl message number
-    ∙ group_test count last sought message number;
+      match_step (key_is.Group (keys_of sought)) (Key-F.Group (keys_of sought)) (Key-F.Group (map (key_at count last) (keys_of sought)))
+      (key_is.rolls-Group (keys_of sought)) count last refl message number
+      ∙ group_test count last sought message number;
 }
 
 -- ---- what is found
@@ -220,4 +220,3 @@ pub is_found : (count last : ℕ) (sought : List Sought) (messages : List Summar
 is_found count last sought messages numbers =
     ap (λ rows. map (λ row. row.0.uid) rows)
     (same_rows (all_match (keys_at count last (keys_of sought))) (all_test count last sought) (keys_test count last sought) (zip messages numbers))
-

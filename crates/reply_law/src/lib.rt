@@ -36,7 +36,9 @@ pub use news::{
     another_mailbox_is_not_taken_for_it, changes_are_told_in_order, changes_are_told_once,
 };
 pub use search::{
-    a_search_by_uid_tells_uids, keys_are_put_together, messages_are_searched_by_day, messages_are_searched_by_flags, messages_are_searched_by_numbers, messages_are_searched_by_size, messages_are_searched_by_uids, other_keys_are_no_keys,
+    a_search_by_uid_tells_uids, keys_are_put_together, messages_are_searched_by_day,
+    messages_are_searched_by_flags, messages_are_searched_by_numbers,
+    messages_are_searched_by_size, messages_are_searched_by_uids, other_keys_are_no_keys,
 };
 pub use select::{a_mailbox_is_not_selected, a_mailbox_is_selected};
 pub use states::{
