@@ -1,8 +1,8 @@
 -- Search keys of which it computes whether their numbers are those of messages, and what they match: keys beside their layers, put together as
 -- keys are. What a fold makes of a key is stuck elsewhere; here each constructor has its one step (RFC 9051, 6.4.4).
-use Rattle.std.proofs.Common.{◌≡◌, ◌∙◌, ℕ, Bool, true, cond, not, ◌&&◌, ◌||◌, List, [], ◌∷◌, map, refl, sym, ap}
+use Rattle.std.proofs.Common.{◌≡◌, ◌∙◌, ℕ, Bool, cond, ◌&&◌, List, [], ◌∷◌, map, refl, sym, ap, ap₂}
 use Rattle.std.specs.List.{filter, list_all, zip}
-use Rattle.mail_message.specs.Sets.{set_at, set_holds}
+use Rattle.mail_message.specs.Sets.{set_at}
 use Rattle.mail_message.specs.declared.day.Day.{Day}
 use Rattle.mail_message.specs.declared.flag_name.FlagName.{FlagName}
 use Rattle.mail_message.specs.declared.key.Key.{Key, roll-Key}
@@ -14,7 +14,6 @@ use Rattle.mail_message.specs.declared.set.SetPart.{SetPart}
 use Rattle.mail_search.specs.Matching.{Test, all_match, key_matches, matches_by}
 use Rattle.mail_search.specs.Search.{Numbered, found}
 use Rattle.mur_model.specs.Keys.{has_key_numbers, have_all_numbers, key_at, key_by, keys_at, numbers_by}
-use Rattle.mur_model.specs.NamedRows.{has_all_numbers}
 
 -- ---- one step of each fold
 
@@ -24,11 +23,10 @@ numbers_step key layer rolled count = ap (has_key_numbers count) (sym rolled) �
 
 -- a layer whose numbers are put in the place of `*`, and then what it matches
 pub match_step : (key : Key) (layer at : Key-F Key) → roll-Key layer ≡ key → (count last : ℕ)
-    → key_by count last (map-Key Key Key (key_at count last) layer) ≡ roll-Key at → (message : Summary) (number : ℕ)
-    → key_matches (key_at count last key) message number ≡ matches_by (map-Key Key Test key_matches at) message number
-match_step key layer at rolled count last made message number =
-    ap (λ it. key_matches it message number) (ap (key_at count last) (sym rolled) ∙ fold-roll-Key Key (key_by count last) layer ∙ made)
-    ∙ ap (λ (test : Test). test message number) (fold-roll-Key Test matches_by at)
+    → key_by count last (map-Key Key Key (key_at count last) layer) ≡ roll-Key at
+    → key_matches (key_at count last key) ≡ matches_by (map-Key Key Test key_matches at)
+match_step key layer at rolled count last made =
+    ap key_matches (ap (key_at count last) (sym rolled) ∙ fold-roll-Key Key (key_by count last) layer ∙ made) ∙ fold-roll-Key Test matches_by at
 
 -- ---- keys
 
@@ -39,7 +37,7 @@ pub record Sought : Type 0 where
   pub fits : ℕ → Bool
   pub test : ℕ → ℕ → Test
   pub has_fits : (count : ℕ) → has_key_numbers count key ≡ fits count
-  pub has_test : (count last : ℕ) (message : Summary) (number : ℕ) → key_matches (key_at count last key) message number ≡ test count last message number
+  pub has_test : (count last : ℕ) → key_matches (key_at count last key) ≡ test count last
 
 -- a key that holds neither a key nor a set
 abbrev pub flat : (key : Key) (layer : Key-F Key) → roll-Key layer ≡ key
@@ -109,8 +107,8 @@ since day = flat (key_is.Since day) (Key-F.Since day) (key_is.rolls-Since day) (
 abbrev pub uid : List SetPart → Sought
 uid set = record {
   key = key_is.Uid set;
-  fits = λ count. true;
-  test = λ count last message number. set_holds (set_at last set) message.uid;
+  fits = λ count. numbers_by count (Key-F.Uid set);
+  test = λ count last. matches_by (Key-F.Uid (set_at last set));
   has_fits = numbers_step (key_is.Uid set) (Key-F.Uid set) (key_is.rolls-Uid set);
   has_test = λ count last. match_step (key_is.Uid set) (Key-F.Uid set) (Key-F.Uid (set_at last set)) (key_is.rolls-Uid set) count last refl;
 }
@@ -118,8 +116,8 @@ uid set = record {
 abbrev pub numbers : List SetPart → Sought
 numbers set = record {
   key = key_is.Numbers set;
-  fits = λ count. has_all_numbers count set;
-  test = λ count last message number. set_holds (set_at count set) number;
+  fits = λ count. numbers_by count (Key-F.Numbers set);
+  test = λ count last. matches_by (Key-F.Numbers (set_at count set));
   has_fits = numbers_step (key_is.Numbers set) (Key-F.Numbers set) (key_is.rolls-Numbers set);
   has_test = λ count last. match_step (key_is.Numbers set) (Key-F.Numbers set) (Key-F.Numbers (set_at count set)) (key_is.rolls-Numbers set) count last refl;
 }
@@ -127,32 +125,28 @@ numbers set = record {
 abbrev pub is_not : Sought → Sought
 is_not it = record {
   key = key_is.Not it.key;
-  fits = it.fits;
-  test = λ count last message number. not (it.test count last message number);
-  has_fits = λ count. numbers_step (key_is.Not it.key) (Key-F.Not it.key) (key_is.rolls-Not it.key) count ∙ it.has_fits count;
-  has_test = λ count last message number.
-      match_step (key_is.Not it.key) (Key-F.Not it.key) (Key-F.Not (key_at count last it.key)) (key_is.rolls-Not it.key) count last refl message number
-      ∙ ap not (it.has_test count last message number);
+  fits = λ count. numbers_by count (Key-F.Not (it.fits count));
+  test = λ count last. matches_by (Key-F.Not (it.test count last));
+  has_fits = λ count.
+      numbers_step (key_is.Not it.key) (Key-F.Not it.key) (key_is.rolls-Not it.key) count
+      ∙ ap (λ (fits : Bool). numbers_by count (Key-F.Not fits)) (it.has_fits count);
+  has_test = λ count last.
+      match_step (key_is.Not it.key) (Key-F.Not it.key) (Key-F.Not (key_at count last it.key)) (key_is.rolls-Not it.key) count last refl
+      ∙ ap (λ (test : Test). matches_by (Key-F.Not test)) (it.has_test count last);
 }
-
-pub either_step : (one other two more : Bool) → one ≡ two → other ≡ more → (one || other) ≡ (two || more)
-either_step one other two more same alike = rw (same, alike) refl
-
-pub both_step : (one other two more : Bool) → one ≡ two → other ≡ more → (one && other) ≡ (two && more)
-both_step one other two more same alike = rw (same, alike) refl
 
 abbrev pub either : Sought → Sought → Sought
 either one other = record {
   key = key_is.Or one.key other.key;
-  fits = λ count. one.fits count && other.fits count;
-  test = λ count last message number. one.test count last message number || other.test count last message number;
+  fits = λ count. numbers_by count (Key-F.Or (one.fits count) (other.fits count));
+  test = λ count last. matches_by (Key-F.Or (one.test count last) (other.test count last));
   has_fits = λ count.
       numbers_step (key_is.Or one.key other.key) (Key-F.Or one.key other.key) (key_is.rolls-Or one.key other.key) count
-      ∙ both_step _ _ _ _ (one.has_fits count) (other.has_fits count);
-  has_test = λ count last message number.
+      ∙ ap₂ (λ (first second : Bool). numbers_by count (Key-F.Or first second)) (one.has_fits count) (other.has_fits count);
+  has_test = λ count last.
       match_step (key_is.Or one.key other.key) (Key-F.Or one.key other.key) (Key-F.Or (key_at count last one.key) (key_at count last other.key))
-      (key_is.rolls-Or one.key other.key) count last refl message number
-      ∙ either_step _ _ _ _ (one.has_test count last message number) (other.has_test count last message number);
+      (key_is.rolls-Or one.key other.key) count last refl
+      ∙ ap₂ (λ (first second : Test). matches_by (Key-F.Or first second)) (one.has_test count last) (other.has_test count last);
 }
 
 -- ---- several keys, of which all are meant
@@ -160,54 +154,64 @@ either one other = record {
 abbrev pub keys_of : List Sought → List Key
 keys_of sought = map (λ (it : Sought). it.key) sought
 
+abbrev pub fits_of : ℕ → List Sought → List Bool
+fits_of count sought = map (λ (it : Sought). it.fits count) sought
+
+abbrev pub tests_of : ℕ → ℕ → List Sought → List Test
+tests_of count last sought = map (λ (it : Sought). it.test count last) sought
+
+pub have_fits : (count : ℕ) (sought : List Sought) → map (has_key_numbers count) (keys_of sought) ≡ fits_of count sought
+have_fits count [] = refl
+have_fits count (it ∷ sought) = ap₂ (λ (fits : Bool) (more : List Bool). fits ∷ more) (it.has_fits count) (have_fits count sought)
+
+pub have_tests : (count last : ℕ) (sought : List Sought)
+    → map key_matches (map (key_at count last) (keys_of sought)) ≡ tests_of count last sought
+have_tests count last [] = refl
+have_tests count last (it ∷ sought) = ap₂ (λ (test : Test) (more : List Test). test ∷ more) (it.has_test count last) (have_tests count last sought)
+
+abbrev pub group : List Sought → Sought
+group sought = record {
+  key = key_is.Group (keys_of sought);
+  fits = λ count. numbers_by count (Key-F.Group (fits_of count sought));
+  test = λ count last. matches_by (Key-F.Group (tests_of count last sought));
+  has_fits = λ count.
+      numbers_step (key_is.Group (keys_of sought)) (Key-F.Group (keys_of sought)) (key_is.rolls-Group (keys_of sought)) count
+      ∙ ap (λ (fits : List Bool). numbers_by count (Key-F.Group fits)) (have_fits count sought);
+  has_test = λ count last.
+      match_step (key_is.Group (keys_of sought)) (Key-F.Group (keys_of sought)) (Key-F.Group (map (key_at count last) (keys_of sought)))
+      (key_is.rolls-Group (keys_of sought)) count last refl
+      ∙ ap (λ (tests : List Test). matches_by (Key-F.Group tests)) (have_tests count last sought);
+}
+
 abbrev pub all_fit : ℕ → List Sought → Bool
 all_fit count sought = list_all (λ (it : Sought). it.fits count) sought
 
 abbrev pub all_test : ℕ → ℕ → List Sought → Test
 all_test count last sought message number = list_all (λ (it : Sought). it.test count last message number) sought
 
+both_step : (one other two more : Bool) → one ≡ two → other ≡ more → (one && other) ≡ (two && more)
+both_step one other two more same alike = rw (same, alike) refl
+
 pub keys_fit : (count : ℕ) (sought : List Sought) → have_all_numbers count (keys_of sought) ≡ all_fit count sought
 keys_fit count [] = refl
 keys_fit count (it ∷ sought) = both_step _ _ _ _ (it.has_fits count) (keys_fit count sought)
 
-pub group_fits : (count : ℕ) (sought : List Sought)
-    → list_all (λ (fits : Bool). fits) (map (has_key_numbers count) (keys_of sought)) ≡ all_fit count sought
-group_fits count [] = refl
-group_fits count (it ∷ sought) = both_step _ _ _ _ (it.has_fits count) (group_fits count sought)
-
-pub group_test : (count last : ℕ) (sought : List Sought) (message : Summary) (number : ℕ)
-    → list_all (λ (test : Test). test message number) (map key_matches (map (key_at count last) (keys_of sought))) ≡ all_test count last sought message number
-group_test count last [] message number = refl
-group_test count last (it ∷ sought) message number = both_step _ _ _ _ (it.has_test count last message number) (group_test count last sought message number)
-
-pub keys_test : (count last : ℕ) (sought : List Sought) (message : Summary) (number : ℕ)
+keys_test : (count last : ℕ) (sought : List Sought) (message : Summary) (number : ℕ)
     → all_match (keys_at count last (keys_of sought)) message number ≡ all_test count last sought message number
 keys_test count last [] message number = refl
-keys_test count last (it ∷ sought) message number = both_step _ _ _ _ (it.has_test count last message number) (keys_test count last sought message number)
-
-abbrev pub group : List Sought → Sought
-group sought = record {
-  key = key_is.Group (keys_of sought);
-  fits = λ count. all_fit count sought;
-  test = λ count last. all_test count last sought;
-  has_fits = λ count.
-      numbers_step (key_is.Group (keys_of sought)) (Key-F.Group (keys_of sought)) (key_is.rolls-Group (keys_of sought)) count ∙ group_fits count sought;
-  has_test = λ count last message number.
-      match_step (key_is.Group (keys_of sought)) (Key-F.Group (keys_of sought)) (Key-F.Group (map (key_at count last) (keys_of sought)))
-      (key_is.rolls-Group (keys_of sought)) count last refl message number
-      ∙ group_test count last sought message number;
-}
+keys_test count last (it ∷ sought) message number =
+    both_step _ _ _ _ (ap (λ (test : Test). test message number) (it.has_test count last)) (keys_test count last sought message number)
 
 -- ---- what is found
 
 abbrev pub uids_where : Test → Numbered → List ℕ
 uids_where test rows = map (λ row. row.0.uid) (filter (λ row. test row.0 row.1) rows)
 
-pub kept_step : (one other : Bool) (row : Summary × ℕ) (rows more : Numbered) → one ≡ other → rows ≡ more
+kept_step : (one other : Bool) (row : Summary × ℕ) (rows more : Numbered) → one ≡ other → rows ≡ more
     → cond one (row ∷ rows) rows ≡ cond other (row ∷ more) more
 kept_step one other row rows more same alike = rw (same, alike) refl
 
-pub same_rows : (one other : Test) → ((message : Summary) (number : ℕ) → one message number ≡ other message number)
+same_rows : (one other : Test) → ((message : Summary) (number : ℕ) → one message number ≡ other message number)
     → (rows : Numbered) → filter (λ row. one row.0 row.1) rows ≡ filter (λ row. other row.0 row.1) rows
 same_rows one other same [] = refl
 same_rows one other same (row ∷ rows) = kept_step _ _ row _ _ (same row.0 row.1) (same_rows one other same rows)
