@@ -43,8 +43,8 @@ pub fn messages_are_searched_by_size()
     ensures larger_number { IsAnswered selected "a SEARCH SMALLER 9223372036854775808" ("a BAD syntax error" ∷ []) }
 {}
 
-/// The day before, the day itself and the day after; time and zone count for nothing. The messages are of 17 and 18 July and 1 August 1996, the third of
-/// 23:30 in a zone 7 hours behind UTC, and of 17 July 1997, 00:00 in a zone 2 hours before it.
+/// The day before, the day itself and the day after; time and zone count for nothing. The messages are of 17 July 1996; of 18 July 1996; of 1 August
+/// 1996, 23:30 in a zone 7 hours behind UTC; and of 17 July 1997, 00:00 in a zone 2 hours ahead of it.
 pub fn messages_are_searched_by_day()
     ensures before { IsAnswered selected "a SEARCH BEFORE 17-Jul-1996" ("* ESEARCH (TAG \"a\")" ∷ "a OK SEARCH completed" ∷ []) }
     ensures before_next { IsAnswered selected "a SEARCH BEFORE 18-Jul-1996" ("* ESEARCH (TAG \"a\") ALL 1" ∷ "a OK SEARCH completed" ∷ []) }
@@ -61,7 +61,7 @@ pub fn messages_are_searched_by_day()
     ensures on_other_year { IsAnswered selected "a SEARCH ON 17-Jul-1997" ("* ESEARCH (TAG \"a\") ALL 4" ∷ "a OK SEARCH completed" ∷ []) }
     ensures zone_behind { IsAnswered selected "a SEARCH ON 1-Aug-1996" ("* ESEARCH (TAG \"a\") ALL 3" ∷ "a OK SEARCH completed" ∷ []) }
     ensures zone_behind_in_utc { IsAnswered selected "a SEARCH ON 2-Aug-1996" ("* ESEARCH (TAG \"a\")" ∷ "a OK SEARCH completed" ∷ []) }
-    ensures zone_before_in_utc { IsAnswered selected "a SEARCH ON 16-Jul-1997" ("* ESEARCH (TAG \"a\")" ∷ "a OK SEARCH completed" ∷ []) }
+    ensures zone_ahead_in_utc { IsAnswered selected "a SEARCH ON 16-Jul-1997" ("* ESEARCH (TAG \"a\")" ∷ "a OK SEARCH completed" ∷ []) }
     ensures since_earlier { IsAnswered selected "a SEARCH SINCE 16-Jul-1996" ("* ESEARCH (TAG \"a\") ALL 1:4" ∷ "a OK SEARCH completed" ∷ []) }
     ensures since { IsAnswered selected "a SEARCH SINCE 17-Jul-1996" ("* ESEARCH (TAG \"a\") ALL 1:4" ∷ "a OK SEARCH completed" ∷ []) }
     ensures since_later { IsAnswered selected "a SEARCH SINCE 18-Jul-1996" ("* ESEARCH (TAG \"a\") ALL 2:4" ∷ "a OK SEARCH completed" ∷ []) }
@@ -121,8 +121,8 @@ pub fn messages_are_searched_by_uids()
     ensures no_set { IsAnswered selected "a SEARCH UID" ("a BAD syntax error" ∷ []) }
 {}
 
-/// NOT, OR, several keys, keys in parentheses; a number that no message has is refused wherever it stands; `RETURN ()` and `RETURN (ALL)` ask for what is
-/// returned without them (RFC 9051, 6.4.4).
+/// NOT, OR, several keys, keys in parentheses. A number that no message has is refused wherever it stands. `RETURN ()` and `RETURN (ALL)` ask for what
+/// is returned without them (RFC 9051, 6.4.4).
 pub fn keys_are_put_together()
     ensures negated { IsAnswered selected "a SEARCH NOT SEEN" ("* ESEARCH (TAG \"a\") ALL 2:4" ∷ "a OK SEARCH completed" ∷ []) }
     ensures negated_twice { IsAnswered selected "a SEARCH NOT NOT SEEN" ("* ESEARCH (TAG \"a\") ALL 1" ∷ "a OK SEARCH completed" ∷ []) }
@@ -172,7 +172,7 @@ pub fn a_search_by_uid_tells_uids()
     ensures last_of_none { IsAnswered selected_empty "a UID SEARCH *" ("a BAD no such message" ∷ []) }
 {}
 
-/// Keys that IMAP4rev2 has no more, those in headers and texts, which nothing carries out, and what is no key at all.
+/// Keys that IMAP4rev2 has no more (RFC 9051, E), keys of headers and texts, which the server doesn't take, and what is no key at all.
 pub fn other_keys_are_no_keys()
     ensures new { IsAnswered selected "a SEARCH NEW" ("a BAD syntax error" ∷ []) }
     ensures old { IsAnswered selected "a SEARCH OLD" ("a BAD syntax error" ∷ []) }

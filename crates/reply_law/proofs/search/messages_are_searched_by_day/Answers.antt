@@ -65,9 +65,9 @@ pub returns-clause-zone_behind_in_utc : goal.returns-clause-zone_behind_in_utc
 unfolding computes
 returns-clause-zone_behind_in_utc c = finds four_selected "a SEARCH ON 2-Aug-1996" "a" false (on (record { day = 2; month = 8; year = 1996 }) ∷ []) refl refl refl
 
-pub returns-clause-zone_before_in_utc : goal.returns-clause-zone_before_in_utc
+pub returns-clause-zone_ahead_in_utc : goal.returns-clause-zone_ahead_in_utc
 unfolding computes
-returns-clause-zone_before_in_utc c = finds four_selected "a SEARCH ON 16-Jul-1997" "a" false (on (record { day = 16; month = 7; year = 1997 }) ∷ []) refl refl refl
+returns-clause-zone_ahead_in_utc c = finds four_selected "a SEARCH ON 16-Jul-1997" "a" false (on (record { day = 16; month = 7; year = 1997 }) ∷ []) refl refl refl
 
 pub returns-clause-since_earlier : goal.returns-clause-since_earlier
 unfolding computes
