@@ -1,1 +1,4 @@
 pub mod Computes
+pub mod Searches
+pub mod SearchViews
+pub mod Sought

@@ -3,7 +3,6 @@ use Rattle.std.specs.Prelude.{ℕ, true, false, [], ◌∷◌, ◌^◌, ◌-◌,
 use Rattle.mail_message.specs.Boxes.{Content}
 use Rattle.mail_message.specs.declared.message.Message.{Message}
 use Rattle.mail_message.specs.declared.system_flags.SystemFlags.{SystemFlags}
-use Rattle.mur_base.specs.declared.user.User.{User}
 use Rattle.mur_model.specs.declared.setting.Setting.{Setting}
 use Rattle.mur_model.specs.declared.store.Store.{Store}
 use Rattle.reply_law.specs.Talk.{Scene, newcomer, one, other, after}

@@ -13,6 +13,7 @@ mod limits;
 mod login;
 mod names;
 mod news;
+mod search;
 mod select;
 mod states;
 mod status;
@@ -33,6 +34,11 @@ pub use login::{a_session_begins_once, a_user_logs_in, others_do_not_log_in};
 pub use names::{inbox_is_the_own_mailbox, others_are_refused};
 pub use news::{
     another_mailbox_is_not_taken_for_it, changes_are_told_in_order, changes_are_told_once,
+};
+pub use search::{
+    a_search_by_uid_tells_uids, keys_are_put_together, messages_are_searched_by_day,
+    messages_are_searched_by_flags, messages_are_searched_by_numbers,
+    messages_are_searched_by_size, messages_are_searched_by_uids, other_keys_are_no_keys,
 };
 pub use select::{a_mailbox_is_not_selected, a_mailbox_is_selected};
 pub use states::{

@@ -31,6 +31,16 @@ pub fn changes_are_told_in_order()
     ensures store_silent { IsAnswered changed_behind "a STORE 1 +FLAGS.SILENT (\\Draft)" ("* 5 EXISTS" ∷ "a OK STORE completed" ∷ []) }
     ensures uid_store { IsAnswered changed_behind "a UID STORE 8:9 +FLAGS (\\Seen)"
         ("* 4 FETCH (UID 9 FLAGS (\\Flagged \\Seen \\Draft))" ∷ "* 3 EXPUNGE" ∷ "* 4 EXISTS" ∷ "* 1 FETCH (UID 3 FLAGS ())" ∷ "a OK UID STORE completed" ∷ []) }
+    ensures search { IsTalk changed_behind (first "a SEARCH UNSEEN"
+        ("* ESEARCH (TAG \"a\") ALL 1:2,4" ∷ "* 5 EXISTS" ∷ "* 1 FETCH (UID 3 FLAGS ())" ∷ "a OK [EXPUNGEISSUED] SEARCH completed" ∷ [])
+        ∷ first "b NOOP" ("* 3 EXPUNGE" ∷ "b OK NOOP completed" ∷ []) ∷ []) }
+    ensures search_new { IsAnswered changed_behind "a SEARCH UID 12"
+        ("* ESEARCH (TAG \"a\")" ∷ "* 5 EXISTS" ∷ "* 1 FETCH (UID 3 FLAGS ())" ∷ "a OK [EXPUNGEISSUED] SEARCH completed" ∷ []) }
+    ensures search_above { IsTalk changed_behind (first "a SEARCH 5" ("a BAD no such message" ∷ [])
+        ∷ first "b NOOP" ("* 3 EXPUNGE" ∷ "* 4 EXISTS" ∷ "* 1 FETCH (UID 3 FLAGS ())" ∷ "b OK NOOP completed" ∷ []) ∷ []) }
+    ensures uid_search { IsTalk changed_behind (first "a UID SEARCH LARGER 0"
+        ("* ESEARCH (TAG \"a\") UID ALL 3,5" ∷ "* 3 EXPUNGE" ∷ "* 4 EXISTS" ∷ "* 1 FETCH (UID 3 FLAGS ())" ∷ "a OK UID SEARCH completed" ∷ [])
+        ∷ first "b NOOP" ("b OK NOOP completed" ∷ []) ∷ []) }
     ensures expunge { IsAnswered changed_behind "a EXPUNGE" ("* 3 EXPUNGE" ∷ "* 4 EXISTS" ∷ "* 1 FETCH (UID 3 FLAGS ())" ∷ "a OK EXPUNGE completed" ∷ []) }
     ensures status { IsAnswered changed_behind "a STATUS INBOX (MESSAGES)" ("* STATUS INBOX (MESSAGES 4)" ∷ "a OK STATUS completed" ∷ []) }
     ensures unselect { IsAnswered changed_behind "a UNSELECT" ("a OK UNSELECT completed" ∷ []) }
@@ -41,6 +51,7 @@ pub fn another_mailbox_is_not_taken_for_it()
     ensures noop { IsAnswered replaced "a NOOP" ("* BYE mailbox is gone" ∷ []) }
     ensures fetch { IsAnswered replaced "a FETCH 1 UID" ("* BYE mailbox is gone" ∷ []) }
     ensures store { IsAnswered replaced "a UID STORE 1 FLAGS ()" ("* BYE mailbox is gone" ∷ []) }
+    ensures search { IsAnswered replaced "a SEARCH ALL" ("* BYE mailbox is gone" ∷ []) }
     ensures expunge { IsAnswered replaced "a EXPUNGE" ("* BYE mailbox is gone" ∷ []) }
     ensures close { IsAnswered replaced "a CLOSE" ("* BYE mailbox is gone" ∷ []) }
     ensures unselect { IsAnswered replaced "a UNSELECT" ("a OK UNSELECT completed" ∷ []) }

@@ -28,6 +28,8 @@ pub fn a_session_has_to_begin_first()
     ensures delete { IsAnswered connected "a DELETE x" ("a BAD not in this state" ∷ []) }
     ensures rename { IsAnswered connected "a RENAME x y" ("a BAD not in this state" ∷ []) }
     ensures fetch { IsAnswered connected "a FETCH 1 FLAGS" ("a BAD not in this state" ∷ []) }
+    ensures search { IsAnswered connected "a SEARCH ALL" ("a BAD not in this state" ∷ []) }
+    ensures uid_search { IsAnswered connected "a UID SEARCH 5" ("a BAD not in this state" ∷ []) }
 {}
 
 /// Without a selected mailbox no message can be asked for (RFC 9051, 3.2 and 3.3).
@@ -37,6 +39,8 @@ pub fn a_mailbox_has_to_be_selected_first()
     ensures expunge { IsAnswered as_bob "a EXPUNGE" ("a BAD not in this state" ∷ []) }
     ensures uid_expunge { IsAnswered as_bob "a UID EXPUNGE 1" ("a BAD not in this state" ∷ []) }
     ensures search { IsAnswered as_bob "a SEARCH ALL" ("a BAD not in this state" ∷ []) }
+    ensures search_above { IsAnswered as_bob "a SEARCH 5" ("a BAD not in this state" ∷ []) }
+    ensures uid_search { IsAnswered as_bob "a UID SEARCH ALL" ("a BAD not in this state" ∷ []) }
     ensures fetch { IsAnswered as_bob "a FETCH 1 FLAGS" ("a BAD not in this state" ∷ []) }
     ensures uid_fetch { IsAnswered as_bob "a UID FETCH 3 FLAGS" ("a BAD not in this state" ∷ []) }
     ensures store { IsAnswered as_bob "a STORE 1 FLAGS ()" ("a BAD not in this state" ∷ []) }

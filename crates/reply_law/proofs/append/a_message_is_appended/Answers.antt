@@ -25,3 +25,7 @@ returns-clause-two c = refl
 pub returns-clause-elsewhere : goal.returns-clause-elsewhere
 unfolding computes
 returns-clause-elsewhere c = refl
+
+pub returns-clause-dated : goal.returns-clause-dated
+unfolding computes
+returns-clause-dated c = refl

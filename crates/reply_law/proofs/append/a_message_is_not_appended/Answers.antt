@@ -21,3 +21,7 @@ returns-clause-admin_missing c = refl
 pub returns-clause-bad_flag : goal.returns-clause-bad_flag
 unfolding computes
 returns-clause-bad_flag c = refl
+
+pub returns-clause-bad_date : goal.returns-clause-bad_date
+unfolding computes
+returns-clause-bad_date c = refl

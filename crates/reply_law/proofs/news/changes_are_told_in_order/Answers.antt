@@ -1,5 +1,11 @@
-use Rattle.std.proofs.Common.{refl}
+use Rattle.std.proofs.Common.{true, false, [], ◌∷◌, refl}
+use Rattle.mail_message.specs.declared.set.SetEnd.TheVariants.{Number}
+use Rattle.mail_message.specs.declared.set.SetPart.TheVariants.{One}
+use Rattle.reply_law.specs.Talk.{one}
 use Rattle.reply_law.proofs.Computes.{computes}
+use Rattle.reply_law.proofs.Searches.{finds, finds_first, lacks_first}
+use Rattle.reply_law.proofs.SearchViews.{changed_selected}
+use Rattle.reply_law.proofs.Sought.{larger, numbers, uid, unseen}
 use Rattle.reply_law.proofs.news.changes_are_told_in_order.Goals as goal
 
 pub returns-clause-noop : goal.returns-clause-noop
@@ -45,3 +51,20 @@ returns-clause-status c = refl
 pub returns-clause-unselect : goal.returns-clause-unselect
 unfolding computes
 returns-clause-unselect c = refl
+
+pub returns-clause-search : goal.returns-clause-search
+unfolding computes
+returns-clause-search c = finds_first changed_selected "a SEARCH UNSEEN" "a" false (unseen ∷ []) ((one, "b NOOP") ∷ []) refl refl refl
+
+pub returns-clause-search_new : goal.returns-clause-search_new
+unfolding computes
+returns-clause-search_new c = finds changed_selected "a SEARCH UID 12" "a" false (uid (One (Number 12) ∷ []) ∷ []) refl refl refl
+
+pub returns-clause-search_above : goal.returns-clause-search_above
+unfolding computes
+returns-clause-search_above c =
+    lacks_first changed_selected.views "a SEARCH 5" "a" false (numbers (One (Number 5) ∷ []) ∷ []) ((one, "b NOOP") ∷ []) refl refl refl
+
+pub returns-clause-uid_search : goal.returns-clause-uid_search
+unfolding computes
+returns-clause-uid_search c = finds_first changed_selected "a UID SEARCH LARGER 0" "a" true (larger 0 ∷ []) ((one, "b NOOP") ∷ []) refl refl refl

@@ -33,3 +33,11 @@ returns-clause-uid_fetch c = refl
 pub returns-clause-store : goal.returns-clause-store
 unfolding computes
 returns-clause-store c = refl
+
+pub returns-clause-search_above : goal.returns-clause-search_above
+unfolding computes
+returns-clause-search_above c = refl
+
+pub returns-clause-uid_search : goal.returns-clause-uid_search
+unfolding computes
+returns-clause-uid_search c = refl

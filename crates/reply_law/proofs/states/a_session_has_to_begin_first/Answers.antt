@@ -41,3 +41,11 @@ returns-clause-rename c = refl
 pub returns-clause-fetch : goal.returns-clause-fetch
 unfolding computes
 returns-clause-fetch c = refl
+
+pub returns-clause-search : goal.returns-clause-search
+unfolding computes
+returns-clause-search c = refl
+
+pub returns-clause-uid_search : goal.returns-clause-uid_search
+unfolding computes
+returns-clause-uid_search c = refl
