@@ -1,55 +1,34 @@
 -- A session sees and changes nothing but what its user has rights on.
-use Rattle.std.proofs.Common.{◌≡◌, ◌≢◌, ◌↔◌, ℕ, ◌==◌, ◌-◌, ◌^◌, Bool, true, false, cond, if◌then◌else◌, List, [], ◌∷◌, Option, None, Some}
+use Rattle.std.proofs.Common.{◌≡◌, ◌≢◌, ◌↔◌, ℕ, ◌==◌, ◌-◌, ◌^◌, Bool, true, false, List, [], ◌∷◌, Option}
 use Rattle.std.proofs.Common.{refl, sym, ◌∙◌, ap, subst, arith}
 use Rattle.std.proofs.Math.Logic.{⊎_elim}
 use Rattle.std.proofs.lemmas.Bool.Decides.{nat_tests}
 use Rattle.std.proofs.lemmas.List.Folds.{Any-from_list_any, list_any-from_Any}
 use Rattle.std.specs.Cmp.Lexicographic.{slice_cmp}
-use Rattle.std.specs.List.{Any}
 use Rattle.std.specs.Option.{option_map}
 use Rattle.std.specs.Ordering.{is_eq, nat_cmp}
 use Rattle.mail_message.specs.Boxes.{Content}
-use Rattle.mail_message.specs.declared.message.Message.{Message}
-use Rattle.mail_store.specs.Append.{append_fault}
-use Rattle.mail_store.specs.Store.{has_too_many_flags, rows_stored}
-use Rattle.mail_store.specs.declared.fault.StoreFault.{StoreFault}
 use Rattle.mur_base.specs.Map.{value_at, with_value}
 use Rattle.mur_base.proofs.MapLaws.{names_apart, same_or_other, value_at-with_entry, value_at-with_entry-other, value_at-with_value-other}
 use Rattle.mur_base.specs.declared.user.User.{User}
 use Rattle.imap_types.specs.declared.command.Command.{Command}
-use Rattle.imap_types.specs.declared.command.StatusItem.{StatusItem}
 use Rattle.imap_types.specs.declared.reply.Reply.{Reply}
 use Rattle.imap_types.specs.declared.request.Answer.{Answer}
 use Rattle.imap_types.specs.declared.request.Request.{Request}
 use Rattle.imap_types.specs.declared.request.Request.TheVariants.{Command as a_command, Unknown as unknown, TooBig as too_big}
-use Rattle.mur_model.specs.declared.commands.fetch.Fetching.{Fetching}
-use Rattle.mur_model.specs.declared.commands.select.Opening.{Opening}
-use Rattle.mur_model.specs.declared.commands.store.FlagStore.{FlagStore}
 use Rattle.mur_model.specs.declared.session.Sess.{Sess}
-use Rattle.mur_model.specs.declared.session.Sess.TheVariants.{Off, In, Selected as selected, Ended}
 use Rattle.mur_model.specs.declared.setting.Setting.{Setting}
 use Rattle.mur_model.specs.declared.store.Pair.{Pair}
 use Rattle.mur_model.specs.declared.store.Store.{Store}
-use Rattle.mur_model.specs.declared.view.View.{View}
-use Rattle.mur_model.specs.declared.work.ViewWork.{ViewWork}
-use Rattle.mur_model.specs.declared.work.ViewWork.TheVariants as view_work
 use Rattle.mur_model.specs.Act.{Acted, act_by, act_of, need_of, session_after, work_on, worked_at}
 use Rattle.mur_model.specs.Answer.{answer_of}
-use Rattle.mur_model.specs.Append.{append_on, append_to}
-use Rattle.mur_model.specs.Create.{create_on, make}
-use Rattle.mur_model.specs.Fetch.{fetch_at, sees}
-use Rattle.mur_model.specs.History.{Course, Talk, Follows, with_session}
-use Rattle.mur_model.specs.History.Follows.{no_points, a_reply, a_loss}
+use Rattle.mur_model.specs.Create.{create_on}
 use Rattle.mur_model.specs.Left.{Left, Worked, kept, made, changed, store_after}
 use Rattle.mur_model.specs.Needed.{Needed, Refusal, Turned, Mailbox, Work, Make, Append as append_work, Status as status_work, Select as select_work, Viewed as viewed_work}
-use Rattle.mur_model.specs.Select.{select_on}
-use Rattle.mur_model.specs.Status.{status_on}
-use Rattle.mur_model.specs.Store.{box_at, is_spent, with_box, with_new_box}
-use Rattle.mur_model.specs.StoreFlags.{stored_at}
-use Rattle.mur_model.specs.Viewing.{found_gone, viewed_on, work_there}
-use Rattle.store_law.specs.OthersUnseen.{Creates, HasOwnSelected, HasRightsOn, IsAlike, IsAnsweredAlike, IsCreate, IsFull, KeepsToItsOwn, MayUse}
+use Rattle.mur_model.specs.Store.{box_at, is_spent}
+use Rattle.store_law.specs.OthersUnseen.{Creates, HasOwnSelected, IsAlike, IsAnsweredAlike, IsCreate, IsFull, KeepsToItsOwn, MayUse}
 use Rattle.store_law.proofs.NoneLost.{others_stay}
-use Rattle.store_law.proofs.OwnNeeds.{IsOwnWork, LeavesOwn, NeedsOwn, needs_own}
+use Rattle.store_law.proofs.OwnNeeds.{IsOwnWork, NeedsOwn, needs_own}
 
 -- ---- full
 

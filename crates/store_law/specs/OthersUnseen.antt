@@ -1,5 +1,5 @@
--- Whom the store refuses: a user learns nothing of a mailbox on which they have no rights, not even that it is there, and changes nothing in it. Who has
--- rights on which names is said here by the bytes of names and by the list of users, and not by the tests that commands make.
+-- Whom the store refuses: a user learns nothing of a mailbox on which they have no rights, not even whether it is there, and changes nothing in it.
+-- Rights are said here by the bytes of names and by the list of users, and not by the commands' own tests.
 use Rattle.std.specs.Prelude.{◌≡◌, ◌↔◌, ◌⊎◌, ℕ, ◌-◌, ◌^◌, ⊤, true, List, ◌++◌, codes}
 use Rattle.std.specs.List.{Any}
 use Rattle.mur_base.specs.declared.user.User.{User}
@@ -15,7 +15,7 @@ use Rattle.mur_model.specs.declared.store.Store.{Store}
 use Rattle.mur_model.specs.Answer.{Answered, answer_of}
 use Rattle.mur_model.specs.Store.{box_at}
 
--- `user.NAME` is the own mailbox of the user NAME, and each name that goes on from there with a `.` is below it
+-- `user.NAME` is the own mailbox of the user NAME, and each name that goes on from there with a `.` is one below it
 abbrev pub IsOwnName : List ℕ → List ℕ → Type 0
 IsOwnName user name = (name ≡ codes "user." ++ user) ⊎ ((below : List ℕ) × (name ≡ codes "user." ++ user ++ codes "." ++ below))
 
@@ -26,14 +26,14 @@ IsAdministrator users name = Any (λ (user : User). (user.name ≡ name) × (use
 abbrev pub HasRightsOn : List User → List ℕ → List ℕ → Type 0
 HasRightsOn users user name = IsAdministrator users user ⊎ IsOwnName user name
 
--- the names on which the user of a session has rights; there are none before a login, nor behind the end
+-- the names on which the user of a session has rights: none before a login, nor behind the session's end
 unfoldable pub MayUse : List User → Sess → List ℕ → Type 0
 MayUse users Off name = ⊥
 MayUse users (In user) name = HasRightsOn users user name
 MayUse users (selected view) name = HasRightsOn users view.user name
 MayUse users Ended name = ⊥
 
--- the mailbox that a session has selected, if it has one, is its user's to use
+-- the user of a session has rights on the mailbox that it has selected, if it has one
 unfoldable pub HasOwnSelected : List User → Sess → Type 0
 HasOwnSelected users Off = ⊤
 HasOwnSelected users (In user) = ⊤
@@ -52,24 +52,24 @@ IsCreate request = ⊥
 abbrev pub IsFull : Store → Type 0
 IsFull store = Any (λ (pair : Pair). pair.serial ≡ 2 ^ 32 - 1) store.given
 
--- another store, in which there may be anything else, has what the session may use: at each such name the same mailbox, or none in both. For a CREATE
--- both are full, or neither is.
+-- Another store, in which others' mailboxes may be any: at each name that the session may use it has the same mailbox, or none as well. For a CREATE both
+-- are full, or neither is.
 pub record IsAlike (users : List User) (session : Sess) (request : Request) (store other : Store) : Type 0 where
   pub boxes : (name : List ℕ) → MayUse users session name → box_at store name ≡ box_at other name
   pub full : IsCreate request → (IsFull store ↔ IsFull other)
 
--- a request was answered alike in two stores, and left the session alike, and what that may use
+-- two stores gave a request the same answer, and it left the same session, and the same mailboxes of those that the session may use
 pub record IsAnsweredAlike (users : List User) (before : Sess) (here there : Answered) : Type 0 where
   pub answer : here.answer ≡ there.answer
   pub session : here.session ≡ there.session
   pub boxes : (name : List ℕ) → MayUse users before name → box_at here.store name ≡ box_at there.store name
 
--- whatever a session asks, of a store
+-- of a store and a session, whatever that asks
 pub record KeepsToItsOwn (setting : Setting) (store : Store) (session : Sess) : Type 0 where
   pub own_selected : HasOwnSelected setting.users session
-  -- it changes nothing in others' mailboxes, makes none and removes none
+  -- it changes nothing in a mailbox on whose name its user has no rights, makes none there and removes none
   pub others_stay : (request : Request) (serial : ℕ) (name : List ℕ) → ¬ MayUse setting.users session name
       → box_at (answer_of setting store session request serial).store name ≡ box_at store name
-  -- and it would be answered the same whatever they are
+  -- and whatever mailboxes have such names, it is answered the same
   pub others_unseen : (other : Store) (request : Request) (serial : ℕ) → IsAlike setting.users session request store other
       → IsAnsweredAlike setting.users session (answer_of setting store session request serial) (answer_of setting other session request serial)
