@@ -1,5 +1,5 @@
 -- A session sees and changes nothing but what its user has rights on.
-use Rattle.std.proofs.Common.{◌≡◌, ◌≢◌, ◌↔◌, ℕ, ◌==◌, ◌-◌, ◌^◌, Bool, true, false, List, [], ◌∷◌, Option}
+use Rattle.std.proofs.Common.{◌≡◌, ◌≢◌, ◌↔◌, ℕ, ◌==◌, ◌-◌, ◌^◌, Bool, true, false, List, [], ◌∷◌, Option, None}
 use Rattle.std.proofs.Common.{refl, sym, ◌∙◌, ap, subst, arith}
 use Rattle.std.proofs.Math.Logic.{⊎_elim}
 use Rattle.std.proofs.lemmas.Bool.Decides.{nat_tests}
@@ -22,11 +22,15 @@ use Rattle.mur_model.specs.declared.store.Pair.{Pair}
 use Rattle.mur_model.specs.declared.store.Store.{Store}
 use Rattle.mur_model.specs.Act.{Acted, act_by, act_of, need_of, session_after, work_on, worked_at}
 use Rattle.mur_model.specs.Answer.{answer_of}
+use Rattle.mur_model.specs.Append.{append_on}
 use Rattle.mur_model.specs.Create.{create_on}
+use Rattle.mur_model.specs.Select.{select_on}
+use Rattle.mur_model.specs.Status.{status_on}
+use Rattle.mur_model.specs.Viewing.{viewed_on}
 use Rattle.mur_model.specs.Left.{Left, Worked, kept, made, changed, store_after}
 use Rattle.mur_model.specs.Needed.{Needed, Refusal, Turned, Mailbox, Work, Make, Append as append_work, Status as status_work, Select as select_work, Viewed as viewed_work}
 use Rattle.mur_model.specs.Store.{box_at, is_spent}
-use Rattle.store_law.specs.OthersUnseen.{Creates, HasOwnSelected, IsAlike, IsAnsweredAlike, IsCreate, IsFull, KeepsToItsOwn, MayUse}
+use Rattle.store_law.specs.OthersUnseen.{Creates, HasOwnSelected, IsAlike, IsAnsweredAlike, IsCreate, IsFull, KeepsToItsOwn, MayMake, MayUse}
 use Rattle.store_law.proofs.NoneLost.{others_stay}
 use Rattle.store_law.proofs.OwnNeeds.{IsOwnWork, NeedsOwn, needs_own}
 
@@ -56,14 +60,14 @@ same_spent store other same =
 
 -- ---- the same work, at mailboxes that are the same
 
-same_work : (users : List User) (it : Command) (name : List ℕ) (work : Work) → IsOwnWork users it name work → (serial : ℕ) (spent other : Bool)
+same_work : (users : List User) (session : Sess) (it : Command) (name : List ℕ) (work : Work) → IsOwnWork users session it name work → (serial : ℕ) (spent other : Bool)
     → (Creates it → spent ≡ other) → (box : Option Content) → work_on name work serial spent box ≡ work_on name work serial other box
 unfolding work_on
-same_work users it name Make own serial spent other full box = ap (λ s. create_on name serial s box) (full own)
-same_work users it name (append_work message) own serial spent other full box = refl
-same_work users it name (status_work shown items) own serial spent other full box = refl
-same_work users it name (select_work opened) own serial spent other full box = refl
-same_work users it name (viewed_work view work) own serial spent other full box = refl
+same_work users session it name Make own serial spent other full box = ap (λ s. create_on name serial s box) (full own.0)
+same_work users session it name (append_work message) own serial spent other full box = refl
+same_work users session it name (status_work shown items) own serial spent other full box = refl
+same_work users session it name (select_work opened) own serial spent other full box = refl
+same_work users session it name (viewed_work view work) own serial spent other full box = refl
 
 found_by : (e : List ℕ × Content) (boxes : List (List ℕ × Content)) (name : List ℕ) (box : Content) (same : Bool) → is_eq (slice_cmp nat_cmp name e.0) ≡ same
     → value_at (slice_cmp nat_cmp) (with_value (slice_cmp nat_cmp) boxes name box) name ≡ option_map (λ _. box) (value_at (slice_cmp nat_cmp) boxes name)
@@ -111,7 +115,7 @@ act_alike users session it store other serial (Turned turn) own boxes full = rec
 act_alike users session it store other serial (Mailbox name work) own boxes full =
     let here : box_at store name ≡ box_at other name = boxes name own.0 in
     let same : worked_at store name work serial ≡ worked_at other name work serial =
-    same_work users it name work own.1 serial (is_spent store.given) (is_spent other.given) full (box_at store name)
+    same_work users session it name work own.1 serial (is_spent store.given) (is_spent other.given) full (box_at store name)
     ∙ ap (work_on name work serial (is_spent other.given)) here in
     record {
       reply = ap (λ (w : Worked). w.turn.reply) same;
@@ -127,6 +131,33 @@ act_leaves users session it store serial (Refusal verdict) own name barred = ref
 act_leaves users session it store serial (Turned turn) own name barred = refl
 act_leaves users session it store serial (Mailbox at work) own name barred =
     others_stay store at (worked_at store at work serial).left name (λ (same : name ≡ at). barred (subst (MayUse users session) (sym same) own.0))
+
+-- ---- no mailbox is made but where the user may
+
+-- where there is no mailbox, only work that makes one leaves one
+none_left : (users : List User) (session : Sess) (it : Command) (name : List ℕ) (work : Work) (serial : ℕ) (spent : Bool)
+    → IsOwnWork users session it name work → ¬ MayMake users session name → (work_on name work serial spent None).left ≡ kept
+unfolding work_on append_on status_on select_on viewed_on
+none_left users session it name Make serial spent own barred = absurd (barred own.1)
+none_left users session it name (append_work message) serial spent own barred = refl
+none_left users session it name (status_work shown items) serial spent own barred = refl
+none_left users session it name (select_work opened) serial spent own barred = refl
+none_left users session it name (viewed_work view work) serial spent own barred = refl
+
+act_makes : (users : List User) (session : Sess) (it : Command) (store : Store) (serial : ℕ) (need : Needed) → NeedsOwn users session it need
+    → (name : List ℕ) → ¬ MayMake users session name → box_at store name ≡ None → box_at (act_by store session serial need).store name ≡ None
+unfolding act_by store_after
+act_makes users session it store serial (Refusal verdict) own name barred none = none
+act_makes users session it store serial (Turned turn) own name barred none = none
+act_makes users session it store serial (Mailbox at work) own name barred none =
+    ⊎_elim (λ (same : name ≡ at).
+    let empty : box_at store at ≡ None = ap (box_at store) (sym same) ∙ none in
+    let left : (worked_at store at work serial).left ≡ kept =
+    ap (λ (box : Option Content). (work_on at work serial (is_spent store.given) box).left) empty
+    ∙ none_left users session it at work serial (is_spent store.given) own.1 (subst (λ n. ¬ MayMake users session n) same barred) in
+    ap (λ (l : Left). box_at (store_after store at l) name) left ∙ none)
+    (λ (ne : name ≢ at). others_stay store at (worked_at store at work serial).left name ne ∙ none)
+    (same_or_other (slice_cmp nat_cmp) names_apart name at)
 
 -- ---- a request
 
@@ -149,9 +180,19 @@ answer_leaves setting session store own (a_command tag it) serial name barred =
 answer_leaves setting session store own (unknown tag) serial name barred = refl
 answer_leaves setting session store own (too_big tag) serial name barred = refl
 
+answer_makes : (setting : Setting) (session : Sess) (store : Store) → HasOwnSelected setting.users session → (request : Request) (serial : ℕ)
+    → (name : List ℕ) → ¬ MayMake setting.users session name → box_at store name ≡ None
+    → box_at (answer_of setting store session request serial).store name ≡ None
+unfolding answer_of act_of
+answer_makes setting session store own (a_command tag it) serial name barred none =
+    act_makes setting.users session it store serial (need_of setting session it) (needs_own setting session it own) name barred none
+answer_makes setting session store own (unknown tag) serial name barred none = none
+answer_makes setting session store own (too_big tag) serial name barred none = none
+
 pub keeps_to_its_own : (setting : Setting) (store : Store) (session : Sess) → HasOwnSelected setting.users session → KeepsToItsOwn setting store session
 keeps_to_its_own setting store session own = record {
   own_selected = own;
   others_stay = answer_leaves setting session store own;
+  none_made = answer_makes setting session store own;
   others_unseen = λ other request serial alike. answered_alike setting session store other request serial own alike;
 }

@@ -38,26 +38,26 @@ use Rattle.mur_model.specs.StoreFlags.{store, store_named}
 use Rattle.mur_model.specs.Traits.{is_in, traits_of}
 use Rattle.mur_model.proofs.EachNeed.{OfAnswers, each_off, of_refusals}
 use Rattle.imap_types.specs.Reply.{completed}
-use Rattle.store_law.specs.OthersUnseen.{Creates, HasOwnSelected, HasRightsOn, MayUse}
-use Rattle.store_law.proofs.OwnRights.{has_right, may_make}
+use Rattle.store_law.specs.OthersUnseen.{Creates, HasOwnSelected, HasRightsOn, MayMake, MayMakeAt, MayUse}
+use Rattle.store_law.proofs.OwnRights.{has_right, makes_own, may_make}
 
 -- the session goes on as it was, or with its user's own selected
 abbrev pub LeavesOwn : List User → Option Sess → Type 0
 LeavesOwn users None = ⊤
 LeavesOwn users (Some later) = HasOwnSelected users later
 
--- where the work makes a mailbox, and of whom it is where it selects one or is of one that is selected
-abbrev pub IsOwnWork : List User → Command → List ℕ → Work → Type 0
-IsOwnWork users it name Make = Creates it
-IsOwnWork users it name (append_work message) = ⊤
-IsOwnWork users it name (status_work shown items) = ⊤
-IsOwnWork users it name (select_work opened) = HasRightsOn users opened.user name
-IsOwnWork users it name (viewed_work view work) = HasRightsOn users view.user view.name
+-- where the work makes a mailbox, its user may and asks for that; and who has rights on the one that it selects, or is of
+abbrev pub IsOwnWork : List User → Sess → Command → List ℕ → Work → Type 0
+IsOwnWork users session it name Make = Creates it × MayMake users session name
+IsOwnWork users session it name (append_work message) = ⊤
+IsOwnWork users session it name (status_work shown items) = ⊤
+IsOwnWork users session it name (select_work opened) = HasRightsOn users opened.user name
+IsOwnWork users session it name (viewed_work view work) = HasRightsOn users view.user view.name
 
 abbrev pub NeedsOwn : List User → Sess → Command → Needed → Type 0
 NeedsOwn users session it (Refusal verdict) = ⊤
 NeedsOwn users session it (Turned turn) = LeavesOwn users turn.session
-NeedsOwn users session it (Mailbox name work) = MayUse users session name × IsOwnWork users it name work
+NeedsOwn users session it (Mailbox name work) = MayUse users session name × IsOwnWork users session it name work
 
 -- ---- commands that are answered at once
 
@@ -77,11 +77,13 @@ idled_own users session it line done is = either users session it (is_done line)
 -- ---- commands of a session of this user
 
 module _ (setting : Setting) (session : Sess) (user : List ℕ)
-    (may : (name : List ℕ) → HasRightsOn setting.users user name → MayUse setting.users session name) where
+    (may : (name : List ℕ) → HasRightsOn setting.users user name → MayUse setting.users session name)
+    (makes : (name : List ℕ) → MayMakeAt setting.users user name → MayMake setting.users session name) where
   create_by_own : (text name : List ℕ) (right : Bool) → may_create setting.users user name ≡ right
       → NeedsOwn setting.users session (command.Create text) (create_by name right)
   unfolding create_by Creates
-  create_by_own text name true is = (may name (may_make setting.users user name is), tt)
+  create_by_own text name true is =
+      let here = may_make setting.users user name is in (may name (makes_own setting.users user name here), (tt, makes name here))
   create_by_own text name false is = tt
 
   create_own : (text name : List ℕ) (inbox : Bool) (fault : Option NameFault)
@@ -143,12 +145,12 @@ module _ (setting : Setting) (session : Sess) (user : List ℕ)
   begun_own is_selected it = tt
 
 in_own : (setting : Setting) (user : List ℕ) (it : Command) → NeedsOwn setting.users (In user) it (need_in setting user it)
-unfolding need_in MayUse
+unfolding need_in MayUse MayMake
 in_own setting user command.Noop = tt
 in_own setting user (command.Idle (Some line)) =
     idled_own setting.users (In user) (command.Idle (Some line)) line (Turned (replied (completed (codes "IDLE")))) tt
-in_own setting user (command.Idle None) = begun_own setting (In user) user (λ name has. has) false (command.Idle None)
-in_own setting user it = begun_own setting (In user) user (λ name has. has) false it
+in_own setting user (command.Idle None) = begun_own setting (In user) user (λ name has. has) (λ name may. may) false (command.Idle None)
+in_own setting user it = begun_own setting (In user) user (λ name has. has) (λ name may. may) false it
 
 -- ---- commands of a session that has this view, of a mailbox on which its user has rights
 
@@ -174,11 +176,11 @@ module _ (setting : Setting) (view : View) (own : HasRightsOn setting.users view
       (either_viewed it view.is_writable named read_only (own, own) tt) tt
 
   selected_own : (it : Command) → NeedsOwn setting.users (selected view) it (need_selected setting view it)
-  unfolding need_selected MayUse HasOwnSelected
+  unfolding need_selected MayUse MayMake HasOwnSelected
   selected_own command.Noop = (own, own)
   selected_own (command.Idle (Some line)) =
       idled_own setting.users (selected view) (command.Idle (Some line)) line (at_mailbox view (view_work.News news_for.Idle)) (own, own)
-  selected_own (command.Idle None) = begun_own setting (selected view) view.user (λ name has. has) true (command.Idle None)
+  selected_own (command.Idle None) = begun_own setting (selected view) view.user (λ name has. has) (λ name may. may) true (command.Idle None)
   selected_own command.Close =
       either_viewed command.Close view.is_writable (at_mailbox view view_work.Close) (Turned (left_by view (codes "CLOSE"))) (own, own) tt
   selected_own command.Unselect = tt
@@ -191,7 +193,7 @@ module _ (setting : Setting) (view : View) (own : HasRightsOn setting.users view
       let placed = keys_at (length view.rows) (last_uid view.rows) keys in
       either_viewed (command.Search by_uid keys) (have_all_numbers (length view.rows) keys)
       (at_mailbox view (view_work.Search (record { by_uid = by_uid; keys = placed }))) no_such_number (own, own) tt
-  selected_own it = begun_own setting (selected view) view.user (λ name has. has) true it
+  selected_own it = begun_own setting (selected view) view.user (λ name has. has) (λ name may. may) true it
 
 -- ---- of any session
 

@@ -16,7 +16,7 @@ use Rattle.mur_base.specs.Inbox.{behind, is_level_end, is_own, own_name, owns}
 use Rattle.mur_base.specs.Users.{is_user_named}
 use Rattle.mur_base.specs.declared.user.User.{User}
 use Rattle.mur_model.specs.Rights.{has_rights, is_admin, is_admin_user, may_create, user_named}
-use Rattle.store_law.specs.OthersUnseen.{HasRightsOn, IsAdministrator, IsOwnName}
+use Rattle.store_law.specs.OthersUnseen.{HasRightsOn, IsAdministrator, IsBelowOwn, IsOwnName, MayMakeAt}
 
 or_either : (one other : Bool) → (one || other) ≡ true → (one ≡ true) ⊎ (other ≡ true)
 or_either true other is = inl refl
@@ -79,10 +79,25 @@ has_right users user name is =
     ⊎_elim (λ (admin : is_admin users user ≡ true). inl (administrator users user admin))
     (λ (owned : owns user name ≡ true). inr (own user name owned)) (or_either (is_admin users user) (owns user name) is)
 
--- who may make a mailbox has rights on its name
-pub may_make : (users : List User) (user name : List ℕ) → may_create users user name ≡ true → HasRightsOn users user name
+-- who may make a mailbox there
+not_its_own : (user name : List ℕ) → not (is_own user name) ≡ true → IsOwnName user name → IsBelowOwn user name
+unfolding is_own own_name
+not_its_own user name other (inl same) = let is = (bytes_eq-Decides (codes "user." ++ user) name).1 (sym same) in absurd (differs (bytes_eq (codes "user." ++ user) name) is other)
+  where
+    differs : (test : Bool) → test ≡ true → not test ≡ true → ⊥
+    differs true is isnt = cc
+    differs false is isnt = cc
+not_its_own user name other (inr below) = below
+
+pub may_make : (users : List User) (user name : List ℕ) → may_create users user name ≡ true → MayMakeAt users user name
 unfolding may_create
 may_make users user name is =
     ⊎_elim (λ (admin : is_admin users user ≡ true). inl (administrator users user admin))
-    (λ (owned : (owns user name && not (is_own user name)) ≡ true). inr (own user name (and_parts (owns user name) (not (is_own user name)) owned).0))
+    (λ (owned : (owns user name && not (is_own user name)) ≡ true). let parts = and_parts (owns user name) (not (is_own user name)) owned in
+    inr (not_its_own user name parts.1 (own user name parts.0)))
     (or_either (is_admin users user) (owns user name && not (is_own user name)) is)
+
+-- who has rights on its name
+pub makes_own : (users : List User) (user name : List ℕ) → MayMakeAt users user name → HasRightsOn users user name
+makes_own users user name (inl admin) = inl admin
+makes_own users user name (inr below) = inr (inr below)

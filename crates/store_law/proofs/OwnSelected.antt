@@ -103,14 +103,15 @@ module _ (users : List User) where
   viewed_own view work None has = tt
   viewed_own view work (Some box) has = either (box.serial == view.serial) (work_there view work box) found_gone (there_own view work box has) tt
 
-  work_own : (it : Command) (name : List ℕ) (work : Work) (serial : ℕ) (spent : Bool) (box : Option Content) → IsOwnWork users it name work
+  work_own : (session : Sess) (it : Command) (name : List ℕ) (work : Work) (serial : ℕ) (spent : Bool) (box : Option Content)
+      → IsOwnWork users session it name work
       → LeavesOwn users (work_on name work serial spent box).turn.session
   unfolding work_on
-  work_own it name Make serial spent box own = created_own name serial spent box
-  work_own it name (append_work message) serial spent box own = append_own message box
-  work_own it name (status_work shown items) serial spent box own = status_own shown items box
-  work_own it name (select_work opened) serial spent box own = select_own opened name box own
-  work_own it name (viewed_work view work) serial spent box own = viewed_own view work box own
+  work_own session it name Make serial spent box own = created_own name serial spent box
+  work_own session it name (append_work message) serial spent box own = append_own message box
+  work_own session it name (status_work shown items) serial spent box own = status_own shown items box
+  work_own session it name (select_work opened) serial spent box own = select_own opened name box own
+  work_own session it name (viewed_work view work) serial spent box own = viewed_own view work box own
 
   -- ---- behind a command
 
@@ -126,7 +127,7 @@ module _ (users : List User) where
   act_own store session serial it (Turned turn) own needs = after_own session turn.session own needs
   act_own store session serial it (Mailbox name work) own needs =
       after_own session (worked_at store name work serial).turn.session own
-      (work_own it name work serial (is_spent store.given) (box_at store name) needs.1)
+      (work_own session it name work serial (is_spent store.given) (box_at store name) needs.1)
 
 answer_own : (setting : Setting) (store : Store) (session : Sess) (request : Request) (serial : ℕ) → HasOwnSelected setting.users session
     → HasOwnSelected setting.users (answer_of setting store session request serial).session

@@ -1,6 +1,6 @@
 -- Whom the store refuses: a user learns nothing of a mailbox on which they have no rights, not even whether it is there, and changes nothing in it.
 -- Rights are said here by the bytes of names and by the list of users, and not by the commands' own tests.
-use Rattle.std.specs.Prelude.{◌≡◌, ◌↔◌, ◌⊎◌, ℕ, ◌-◌, ◌^◌, ⊤, true, List, ◌++◌, codes}
+use Rattle.std.specs.Prelude.{◌≡◌, ◌↔◌, ◌⊎◌, ℕ, ◌-◌, ◌^◌, ⊤, true, List, ◌++◌, None, codes}
 use Rattle.std.specs.List.{Any}
 use Rattle.mur_base.specs.declared.user.User.{User}
 use Rattle.imap_types.specs.declared.command.Command.{Command}
@@ -16,8 +16,11 @@ use Rattle.mur_model.specs.Answer.{Answered, answer_of}
 use Rattle.mur_model.specs.Store.{box_at}
 
 -- `user.NAME` is the own mailbox of the user NAME, and each name that goes on from there with a `.` is one below it
+abbrev pub IsBelowOwn : List ℕ → List ℕ → Type 0
+IsBelowOwn user name = (below : List ℕ) × (name ≡ codes "user." ++ user ++ codes "." ++ below)
+
 abbrev pub IsOwnName : List ℕ → List ℕ → Type 0
-IsOwnName user name = (name ≡ codes "user." ++ user) ⊎ ((below : List ℕ) × (name ≡ codes "user." ++ user ++ codes "." ++ below))
+IsOwnName user name = (name ≡ codes "user." ++ user) ⊎ IsBelowOwn user name
 
 -- an administrator of the list has this name
 abbrev pub IsAdministrator : List User → List ℕ → Type 0
@@ -26,12 +29,23 @@ IsAdministrator users name = Any (λ (user : User). (user.name ≡ name) × (use
 abbrev pub HasRightsOn : List User → List ℕ → List ℕ → Type 0
 HasRightsOn users user name = IsAdministrator users user ⊎ IsOwnName user name
 
+-- the names at which a user may make a mailbox: none makes their own
+abbrev pub MayMakeAt : List User → List ℕ → List ℕ → Type 0
+MayMakeAt users user name = IsAdministrator users user ⊎ IsBelowOwn user name
+
 -- the names on which the user of a session has rights: none before a login, nor behind the session's end
 unfoldable pub MayUse : List User → Sess → List ℕ → Type 0
 MayUse users Off name = ⊥
 MayUse users (In user) name = HasRightsOn users user name
 MayUse users (selected view) name = HasRightsOn users view.user name
 MayUse users Ended name = ⊥
+
+-- the names at which the user of a session may make a mailbox
+unfoldable pub MayMake : List User → Sess → List ℕ → Type 0
+MayMake users Off name = ⊥
+MayMake users (In user) name = MayMakeAt users user name
+MayMake users (selected view) name = MayMakeAt users view.user name
+MayMake users Ended name = ⊥
 
 -- the user of a session has rights on the mailbox that it has selected, if it has one
 unfoldable pub HasOwnSelected : List User → Sess → Type 0
@@ -70,6 +84,9 @@ pub record KeepsToItsOwn (setting : Setting) (store : Store) (session : Sess) : 
   -- it changes nothing in a mailbox on whose name its user has no rights, makes none there and removes none
   pub others_stay : (request : Request) (serial : ℕ) (name : List ℕ) → ¬ MayUse setting.users session name
       → box_at (answer_of setting store session request serial).store name ≡ box_at store name
-  -- and whatever mailboxes have such names, it is answered the same
+  -- none is made but where its user may
+  pub none_made : (request : Request) (serial : ℕ) (name : List ℕ) → ¬ MayMake setting.users session name → box_at store name ≡ None
+      → box_at (answer_of setting store session request serial).store name ≡ None
+  -- and whatever mailboxes have names on which its user has no rights, it is answered the same
   pub others_unseen : (other : Store) (request : Request) (serial : ℕ) → IsAlike setting.users session request store other
       → IsAnsweredAlike setting.users session (answer_of setting store session request serial) (answer_of setting other session request serial)
