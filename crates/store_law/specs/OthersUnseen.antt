@@ -26,10 +26,11 @@ IsOwnName user name = (name ≡ codes "user." ++ user) ⊎ IsBelowOwn user name
 abbrev pub IsAdministrator : List User → List ℕ → Type 0
 IsAdministrator users name = Any (λ (user : User). (user.name ≡ name) × (user.admin ≡ true)) users
 
+-- an administrator has rights on every name, another user on their own mailbox and on those below it
 abbrev pub HasRightsOn : List User → List ℕ → List ℕ → Type 0
 HasRightsOn users user name = IsAdministrator users user ⊎ IsOwnName user name
 
--- the names at which a user may make a mailbox: none makes their own
+-- an administrator may make a mailbox of any name, another user those below their own but not that one (RFC 9051, 6.3.4 leaves it to the server)
 abbrev pub MayMakeAt : List User → List ℕ → List ℕ → Type 0
 MayMakeAt users user name = IsAdministrator users user ⊎ IsBelowOwn user name
 
@@ -72,7 +73,7 @@ pub record IsAlike (users : List User) (session : Sess) (request : Request) (sto
   pub boxes : (name : List ℕ) → MayUse users session name → box_at store name ≡ box_at other name
   pub full : IsCreate request → (IsFull store ↔ IsFull other)
 
--- two stores gave a request the same answer, and it left the same session, and the same mailboxes of those that the session may use
+-- two stores gave a request the same answer; behind it the session is the same, and so are the mailboxes that it might use before
 pub record IsAnsweredAlike (users : List User) (before : Sess) (here there : Answered) : Type 0 where
   pub answer : here.answer ≡ there.answer
   pub session : here.session ≡ there.session
@@ -84,7 +85,7 @@ pub record KeepsToItsOwn (setting : Setting) (store : Store) (session : Sess) : 
   -- it changes nothing in a mailbox on whose name its user has no rights, makes none there and removes none
   pub others_stay : (request : Request) (serial : ℕ) (name : List ℕ) → ¬ MayUse setting.users session name
       → box_at (answer_of setting store session request serial).store name ≡ box_at store name
-  -- none is made but where its user may
+  -- it makes a mailbox only where its user may
   pub none_made : (request : Request) (serial : ℕ) (name : List ℕ) → ¬ MayMake setting.users session name → box_at store name ≡ None
       → box_at (answer_of setting store session request serial).store name ≡ None
   -- and whatever mailboxes have names on which its user has no rights, it is answered the same
