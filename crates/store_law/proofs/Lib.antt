@@ -7,3 +7,7 @@ pub mod NeedsNoCause
 pub mod NoRelocation
 pub mod StaysBegun
 pub mod BegunLaw
+pub mod OwnRights
+pub mod OwnNeeds
+pub mod OwnSelected
+pub mod OthersUnseen

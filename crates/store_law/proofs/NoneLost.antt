@@ -281,7 +281,7 @@ module _ (session : Sess) (it : Command) where
 
 -- ---- one mailbox at most changes
 
-others_stay : (store : Store) (name : List ℕ) (left : Left) (other : List ℕ) → other ≢ name
+pub others_stay : (store : Store) (name : List ℕ) (left : Left) (other : List ℕ) → other ≢ name
     → box_at (store_after store name left) other ≡ box_at store other
 unfolding store_after
 others_stay store name kept other ne = refl

@@ -41,6 +41,8 @@ use Rattle.cluster_core.proofs.Histories.InTime.{StandsBehind, run_behind}
 use Rattle.cluster_core.proofs.Connections.Keeps.{IsKeptAt, KeepsAll, run_keeps}
 use Rattle.cluster_core.proofs.Connections.KeepsLaw.{KeepsLaw}
 use Rattle.store_law.proofs.NoneLost.{both_hold, loses_none}
+use Rattle.store_law.proofs.OthersUnseen.{keeps_to_its_own}
+use Rattle.store_law.proofs.OwnSelected.{none_own, points_own}
 use Rattle.cluster_core.proofs.Histories.Tally.{acts, conn_of, command_of}
 use Rattle.cluster_core.proofs.Histories.Marks.{Carries, counts_of, is_mark, all_points}
 use Rattle.cluster_core.proofs.Histories.Marks.Carries.{no_marks, a_mark, a_telling}
@@ -214,6 +216,9 @@ told_so_far config talk before later are date_is now last =
           (λ name. both_hold (box_at legal.last.store name) (below_next name) (rises name));
       appended_there = keeps_appended (setting_of config) legal.last.store rises;
       low_serials = subst GivesLowSerials (sym legal.same_store) (low_serials law.story.course.store law.backend.last_serial law.serials);
+      others_unseen = λ conn. keeps_to_its_own (setting_of config) legal.last.store (legal.last.sessions conn)
+          (points_own (setting_of config) (told_of law.story) first_course legal.last (history_of world) legal.legal.follows
+          (none_own (setting_of config)) conn);
       lost_next = loses_the_next (setting_of config) world law.story law.is_told (λ conn. (says conn).so);
       made_by_now = made_by_now (setting_of config) world law.story law.is_told;
       in_time = stands_in_time (setting_of config) world

@@ -33,6 +33,7 @@ use Rattle.cluster_core.specs.LawSetting.{law_setting}
 use Rattle.link_queue.specs.Links.{on_link}
 use Rattle.store_law.specs.Refusals.{HaveCauses}
 use Rattle.store_law.specs.NoneLost.{LosesNone}
+use Rattle.store_law.specs.OthersUnseen.{KeepsToItsOwn}
 use Rattle.cluster_core.specs.Headline.Points.{AreMadeBy, LosesTheNext}
 use Rattle.imap_talk.specs.Requests.{AreRequests}
 use Rattle.store_law.specs.Serials.{GivesLowSerials}
@@ -101,6 +102,8 @@ pub record IsToldSoFar (config : Config) (talk : Talk) (points : List Point) (st
   -- and what an APPEND was answered OK for is there
   pub appended_there : KeepsAppended (law_setting config) last.store
   pub low_serials : GivesLowSerials last.store
+  -- whatever a client asks, its user learns nothing of a mailbox on which they have no rights, and changes nothing in it
+  pub others_unseen : (conn : ℕ) → KeepsToItsOwn (law_setting config) last.store (last.sessions conn)
   -- which points there may be
   pub lost_next : LosesTheNext so_far (history_of world)
   pub made_by_now : AreMadeBy world.steps (history_of world)
