@@ -7,3 +7,14 @@ pub mod NeedsNoCause
 pub mod NoRelocation
 pub mod StaysBegun
 pub mod BegunLaw
+mod ContainsLaws
+mod SetNames
+mod FlagByFlag
+mod MessagesDone
+mod BodiesAsked
+mod DoneAtBox
+mod DoneCreate
+mod DoneExpunge
+mod DoneFetch
+mod DoneStore
+pub mod DoneIsDone
