@@ -11,3 +11,14 @@ pub mod OwnRights
 pub mod OwnNeeds
 pub mod OwnSelected
 pub mod OthersUnseen
+mod ContainsLaws
+mod SetNames
+mod FlagByFlag
+mod MessagesDone
+mod BodiesAsked
+mod DoneAtBox
+mod DoneCreate
+mod DoneExpunge
+mod DoneFetch
+mod DoneStore
+pub mod DoneIsDone

@@ -24,7 +24,7 @@ use Rattle.store_law.proofs.RisingStores.{Rises, RisesTo}
 -- ---- a UID is one message's, where UIDs rise
 
 -- a message with this UID has \Deleted
-abbrev HasDeleted : List Message → ℕ → Type 0
+abbrev pub HasDeleted : List Message → ℕ → Type 0
 HasDeleted messages uid = list_any (λ message. is_deleted message && has_uid uid message) messages ≡ true
 
 and_false : (b : Bool) → (b && false) ≡ false
@@ -60,7 +60,7 @@ one_by other found messages next q true h rises rest at any =
 one_by other found messages next q false h rises rest at any =
     rest at (only_rest (is_deleted other) (list_any (λ message. is_deleted message && has_uid q message) messages) any)
 
-deleted_itself : (low : ℕ) (messages : List Message) (next q : ℕ) (found : Message) → RisesTo low messages next → message_at messages q ≡ Some found
+pub deleted_itself : (low : ℕ) (messages : List Message) (next q : ℕ) (found : Message) → RisesTo low messages next → message_at messages q ≡ Some found
     → HasDeleted messages q → is_deleted found ≡ true
 deleted_itself low [] next q found rises at any = cc
 deleted_itself low (other ∷ messages) next q found rises at any =
@@ -111,7 +111,7 @@ gone_by messages k q more true is = either_none more (message_at (without_uid me
 gone_by messages k q more false is = ap (λ (found : Option Message). cond more None found) (other-after messages (Gone k) q is)
 
 -- what is gone is found no more, and all else is as it was
-gone_at : (box : Content) (uids : List ℕ) (q : ℕ)
+pub gone_at : (box : Content) (uids : List ℕ) (q : ℕ)
     → message_at (content_after_all box (map (λ uid. Gone uid) uids)).messages q
     ≡ cond (list_any (λ gone. gone == q) uids) None (message_at box.messages q)
 gone_at box [] q = refl
@@ -125,7 +125,7 @@ deleted_by : (other : Message) (messages : List Message) (q : ℕ) (is : Bool)
 deleted_by other messages q true same = ap (λ rest. (other.uid == q) || rest) same
 deleted_by other messages q false same = same
 
-all_deleted : (messages : List Message) (q : ℕ)
+pub all_deleted : (messages : List Message) (q : ℕ)
     → list_any (λ gone. gone == q) (uids_of (filter is_deleted messages)) ≡ list_any (λ message. is_deleted message && has_uid q message) messages
 all_deleted [] q = refl
 all_deleted (other ∷ messages) q = deleted_by other messages q (is_deleted other) (all_deleted messages q)
@@ -141,7 +141,7 @@ found_by : (other found : Message) (messages : List Message) (u q : ℕ) → is_
 found_by other found messages u q gone is true at rest = let same : other ≡ found = cc in rw (same, gone, is) refl
 found_by other found messages u q gone is false at rest = rw (rest at) (or_true (is_deleted other && has_uid q other))
 
-found_deleted : (messages : List Message) (found : Message) (u q : ℕ) → is_deleted found ≡ true → (found.uid == q) ≡ true
+pub found_deleted : (messages : List Message) (found : Message) (u q : ℕ) → is_deleted found ≡ true → (found.uid == q) ≡ true
     → message_at messages u ≡ Some found → HasDeleted messages q
 found_deleted [] found u q gone is at = cc
 found_deleted (other ∷ messages) found u q gone is at =
@@ -171,7 +171,7 @@ among_deleted messages [] q any = cc
 among_deleted messages (uid ∷ uids) q any =
     some_deleted messages uid q (message_at messages uid) (deleted_among messages uids) refl (among_deleted messages uids q) any
 
-only_deleted : (box : Content) (only : Option (List ℕ)) (q : ℕ) → list_any (λ gone. gone == q) (expunged_uids box only) ≡ true → HasDeleted box.messages q
+pub only_deleted : (box : Content) (only : Option (List ℕ)) (q : ℕ) → list_any (λ gone. gone == q) (expunged_uids box only) ≡ true → HasDeleted box.messages q
 only_deleted box None q any = sym (all_deleted box.messages q) ∙ any
 only_deleted box (Some uids) q any = among_deleted box.messages (set_of uids) q any
 
@@ -199,7 +199,7 @@ among_of P messages (uid ∷ uids) q all any =
     found_of P messages uid q (deleted_among messages uids) (message_at messages uid) refl (All-head P uid uids all)
     (among_of P messages uids q (All-tail P uid uids all)) any
 
-only_meant : (box : Content) (only : Option (List ℕ)) (q : ℕ) → list_any (λ gone. gone == q) (expunged_uids box only) ≡ true → IsMeant only q
+pub only_meant : (box : Content) (only : Option (List ℕ)) (q : ℕ) → list_any (λ gone. gone == q) (expunged_uids box only) ≡ true → IsMeant only q
 only_meant box None q any = tt
 only_meant box (Some uids) q any = among_of (Contains uids) box.messages (set_of uids) q (set_within uids) any
 
@@ -240,7 +240,7 @@ labelled_by k q flags other message messages others rest false h at =
     let own : ((with_flags k flags other).uid == q) ≡ false = ap (λ n. n == q) (same_uid k flags other (has_uid k other)) ∙ h in
     rw own (rest at)
 
-labelled_at : (messages : List Message) (k q : ℕ) (flags : Flags) (message : Message) → message_at messages q ≡ Some message
+pub labelled_at : (messages : List Message) (k q : ℕ) (flags : Flags) (message : Message) → message_at messages q ≡ Some message
     → message_at (map (with_flags k flags) messages) q ≡ Some (with_flags k flags message)
 labelled_at [] k q flags message at = cc
 labelled_at (other ∷ messages) k q flags message at =

@@ -248,7 +248,7 @@ once_by told item items false is =
     asked_now (list_any is_body told) (is_body item) (list_any is_body items)
     (ap (λ b. b || list_any is_body items) (sym (list_any-append is_body told (item ∷ []))) ∙ is)
 
-once_asked : (told items : List Item) → list_any is_body (each_once told items) ≡ true → (list_any is_body told || list_any is_body items) ≡ true
+pub once_asked : (told items : List Item) → list_any is_body (each_once told items) ≡ true → (list_any is_body told || list_any is_body items) ≡ true
 once_asked told [] is = rw is refl
 once_asked told (item ∷ items) is =
     let seen : Bool = list_any (same_item item) told in

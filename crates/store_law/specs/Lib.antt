@@ -4,3 +4,6 @@ pub mod Begun
 pub mod Serials
 pub mod Refusals
 pub mod OthersUnseen
+pub mod FlagByFlag
+pub mod SetNames
+pub mod DoneIsDone

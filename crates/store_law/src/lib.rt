@@ -1,3 +1,3 @@
-//! Laws of the store alone, whatever serves it: what a command may take away, which UIDs and UIDVALIDITYs there are, what an OK to an APPEND
-//! means, when a session has begun, and that the store by itself refuses nothing because a mailbox moves. Nothing here runs.
+//! Laws of the store alone, whatever serves it: what a command may take away, what one that was answered OK has done, which UIDs and UIDVALIDITYs
+//! there are, when a session has begun, and that the store by itself refuses nothing because a mailbox moves. Nothing here runs.
 #![tactic(auto)]

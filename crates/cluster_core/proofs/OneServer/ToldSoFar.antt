@@ -34,6 +34,7 @@ use Rattle.cluster_core.specs.Shown.{given_to}
 use Rattle.cluster_core.specs.World.{start, setting_of, layout_of}
 use Rattle.store_law.proofs.BegunLaw.{begins_as_read}
 use Rattle.store_law.proofs.AppendedThere.{keeps_appended}
+use Rattle.store_law.proofs.DoneIsDone.{does_what_it_says}
 use Rattle.cluster_core.proofs.Connections.ConnectionLaw.{Story, told_of}
 use Rattle.cluster_core.proofs.Connections.NameLaw.{store_below}
 use Rattle.cluster_core.proofs.Names.HomesLaw.{AreNamesOf, has_boxes}
@@ -215,6 +216,7 @@ told_so_far config talk before later are date_is now last =
       none_lost = loses_none (setting_of config) legal.last.store
           (λ name. both_hold (box_at legal.last.store name) (below_next name) (rises name));
       appended_there = keeps_appended (setting_of config) legal.last.store rises;
+      done = does_what_it_says (setting_of config) legal.last.store rises;
       low_serials = subst GivesLowSerials (sym legal.same_store) (low_serials law.story.course.store law.backend.last_serial law.serials);
       others_unseen = λ conn. keeps_to_its_own (setting_of config) legal.last.store (legal.last.sessions conn)
           (points_own (setting_of config) (told_of law.story) first_course legal.last (history_of world) legal.legal.follows

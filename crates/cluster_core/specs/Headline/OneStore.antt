@@ -23,6 +23,7 @@ use Rattle.cluster_core.specs.declared.world.World.{World}
 use Rattle.store_law.specs.Begun.{BeginsAsRead}
 use Rattle.front_core.specs.Ending.{EndsOnlyLast}
 use Rattle.store_law.specs.Appended.{KeepsAppended}
+use Rattle.store_law.specs.DoneIsDone.{DoesWhatItSays}
 use Rattle.cluster_core.specs.Flow.{run_steps, steps_of_run}
 use Rattle.cluster_core.specs.Heard.{heard}
 use Rattle.imap_talk.specs.Heard.{bytes_heard, frames_heard, has_closed}
@@ -101,6 +102,8 @@ pub record IsToldSoFar (config : Config) (talk : Talk) (points : List Point) (st
   pub none_lost : LosesNone (law_setting config) last.store
   -- and what an APPEND was answered OK for is there
   pub appended_there : KeepsAppended (law_setting config) last.store
+  -- and what any other command was answered OK for is done
+  pub done : DoesWhatItSays (law_setting config) last.store
   pub low_serials : GivesLowSerials last.store
   -- whatever a client asks, its user learns nothing of a mailbox on which they have no rights, and changes nothing in it
   pub others_unseen : (conn : ℕ) → KeepsToItsOwn (law_setting config) last.store (last.sessions conn)
