@@ -7,3 +7,8 @@ pub mod NeedsNoCause
 pub mod NoRelocation
 pub mod StaysBegun
 pub mod BegunLaw
+pub mod ExaminedLaw
+pub mod OpenedLaw
+pub mod MirrorSteps
+pub mod CountLaw
+pub mod MirrorsAlong

@@ -3,3 +3,5 @@ pub mod Appended
 pub mod Begun
 pub mod Serials
 pub mod Refusals
+pub mod Examined
+pub mod Mirror
