@@ -12,3 +12,8 @@ pub mod OpenedLaw
 pub mod MirrorSteps
 pub mod CountLaw
 pub mod MirrorsAlong
+pub mod MirrorNews
+pub mod StoredFlags
+pub mod RisingViews
+pub mod MirrorFetch
+pub mod MirrorLaw

@@ -240,7 +240,7 @@ labelled_by k q flags other message messages others rest false h at =
     let own : ((with_flags k flags other).uid == q) ≡ false = ap (λ n. n == q) (same_uid k flags other (has_uid k other)) ∙ h in
     rw own (rest at)
 
-labelled_at : (messages : List Message) (k q : ℕ) (flags : Flags) (message : Message) → message_at messages q ≡ Some message
+pub labelled_at : (messages : List Message) (k q : ℕ) (flags : Flags) (message : Message) → message_at messages q ≡ Some message
     → message_at (map (with_flags k flags) messages) q ≡ Some (with_flags k flags message)
 labelled_at [] k q flags message at = cc
 labelled_at (other ∷ messages) k q flags message at =

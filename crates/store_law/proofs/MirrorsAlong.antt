@@ -14,7 +14,7 @@ use Rattle.imap_types.specs.declared.request.Answer.{Answer}
 use Rattle.imap_types.specs.declared.request.Request.{Request}
 use Rattle.imap_types.specs.declared.request.Request.TheVariants as request
 use Rattle.mur_model.specs.declared.session.Sess.{Sess}
-use Rattle.mur_model.specs.declared.session.Sess.TheVariants.{Off}
+use Rattle.mur_model.specs.declared.session.Sess.TheVariants.{Off, In, Selected as selected, Ended}
 use Rattle.mur_model.specs.declared.setting.Setting.{Setting}
 use Rattle.mur_model.specs.declared.store.Store.{Store}
 use Rattle.mur_model.specs.Answer.{answer_of}
@@ -22,6 +22,7 @@ use Rattle.mur_model.specs.History.{Course, Talk, Follows, IsInCommandOrder, IsL
 use Rattle.mur_model.specs.History.Follows.{no_points, a_reply, a_loss}
 use Rattle.store_law.specs.Mirror.{LosesNoneOf, Mirror, OfView, ViewsAreTold, asked_by, mirror_of, read_lines}
 use Rattle.store_law.proofs.CountLaw.{keeps_count}
+use Rattle.store_law.proofs.MirrorLaw.{Agrees, keeps_mirror}
 use Rattle.store_law.proofs.MirrorSteps.{Keeps, act_keeps}
 use Rattle.store_law.proofs.RisingStores.{AllRise, answer_rises}
 
@@ -259,8 +260,19 @@ module _ (R : Mirror → List Row → Type 0) (keeps : Keeps R) (setting : Setti
       (record { none = λ number low high. absurd (omega (arith, low, high)); one = λ number low high. legal.answered_once conn number low high }) (omega arith)
       rise (subst (OfView R []) (sym off) tt)
 
+-- what is so of more is so of less
+of_view : (R S : Mirror → List Row → Type 0) → ((mirror : Mirror) (rows : List Row) → R mirror rows → S mirror rows) → (mirror : Mirror) (session : Sess)
+    → OfView R mirror session → OfView S mirror session
+unfolding OfView
+of_view R S so mirror Off is = tt
+of_view R S so mirror (In user) is = tt
+of_view R S so mirror (selected view) is = so mirror view.rows is
+of_view R S so mirror Ended is = tt
+
 pub views_are_told : (setting : Setting) (first : Course) (talk : Talk) (points : List Point) (last : Course) → IsLegal setting first talk points last
     → AllRise first.store → ((conn : ℕ) → first.sessions conn ≡ Off) → ViewsAreTold talk points last
 views_are_told setting first talk points last legal rise off = record {
   counted = λ conn loses_none. mirrored _ keeps_count setting first talk points last legal rise conn (off conn) loses_none;
+  told = λ conn loses_none. of_view _ _ (λ mirror rows agrees. agrees.0) _ _
+      (mirrored Agrees keeps_mirror setting first talk points last legal rise conn (off conn) loses_none);
 }

@@ -103,3 +103,5 @@ pub record ViewsAreTold (talk : Talk) (points : List Point) (last : Course) : Ty
   -- a client that counts the messages of its mailbox by EXISTS and EXPUNGE has as many as the view of its session
   pub counted : (conn : ℕ) → LosesNoneOf conn points
       → OfView IsCounted (mirror_of [] (talk.requests conn) (talk.answers conn)) (last.sessions conn)
+  -- and of each message whose UID or flags it was told, those told last are those of the view's row in its place
+  pub told : (conn : ℕ) → LosesNoneOf conn points → OfView Mirrors (mirror_of [] (talk.requests conn) (talk.answers conn)) (last.sessions conn)
