@@ -26,8 +26,8 @@ use Rattle.mur_model.specs.News.{rows_there, told_of}
 use Rattle.mur_model.specs.Selected.{rows_of}
 use Rattle.mur_model.specs.StoreFlags.{own_lines, stored_at, stored_line, stored_lines}
 use Rattle.mur_model.specs.Viewing.{work_there}
-use Rattle.store_law.specs.Mirror.{IsCounted, Mirror, OfView, at_number, forgotten, read_line, read_lines, unseen}
-use Rattle.store_law.proofs.MirrorSteps.{Keeps, TurnKeeps}
+use Rattle.store_law.specs.Mirror.{IsCounted, Mirror, OfView, asked, at_number, forgotten, may_touch, read_line, read_lines, unseen}
+use Rattle.store_law.proofs.MirrorSteps.{Keeps, TurnKeeps, store_of}
 
 -- lines one behind another
 pub read_both : (mirror : Mirror) (lines more : List ReplyLine) → read_lines mirror (lines ++ more) ≡ read_lines (read_lines mirror lines) more
@@ -164,8 +164,10 @@ news_count own rows now false told mirror alone count =
 
 -- ---- each command of a view
 
-forgotten_count : (mirror : Mirror) (rows : List Row) → IsCounted mirror rows → IsCounted (forgotten mirror) rows
-forgotten_count mirror rows count = length-map mirror _ ∙ count
+forgotten_length : (is_touched : ℕ → Bool) (number : ℕ) (mirror : Mirror) → length (forgotten is_touched number mirror) ≡ length mirror
+unfolding forgotten
+forgotten_length is_touched number [] = refl
+forgotten_length is_touched number (seen ∷ mirror) = ap suc (forgotten_length is_touched (number + 1) mirror)
 
 stored_count : (mirror : Mirror) (view : View) (it : FlagStore) (box : Content) (many : Bool) → IsCounted mirror view.rows
     → TurnKeeps IsCounted mirror view (stored_at view it box many).turn
@@ -201,14 +203,18 @@ unfolding read_line
 search_alone by_uid numbers mirror = refl
 
 pub keeps_count : Keeps IsCounted
-unfolding work_there OfView
+unfolding work_there OfView asked
 keeps_count = record {
   begins = λ box rises. length-replicate (length (rows_of box)) unseen;
-  forgets = forgotten_count;
+  forgets = λ is_touched number mirror rows count. forgotten_length is_touched number mirror ∙ count;
   news = λ mirror view why box rises count. news_count [] view.rows (rows_of box) true [] mirror none_alone count;
   expunge = λ mirror view only box rises count. news_count [] view.rows _ true [] mirror none_alone count;
-  store = λ mirror view it box rises count forgets.
+  store = λ mirror view it box rises count loud.
       stored_count mirror view it box (has_too_many_flags (rows_stored box it.uids it.mode it.flags)) count;
+  silent = λ mirror view by_uid set mode flags box rises count.
+      let it = store_of view by_uid set mode true flags in
+      stored_count (forgotten (may_touch by_uid set (length mirror)) 1 mirror) view it box (has_too_many_flags (rows_stored box it.uids it.mode it.flags))
+      (forgotten_length (may_touch by_uid set (length mirror)) 1 mirror ∙ count);
   fetch = λ mirror view it box rises count. fetch_count mirror view it box count;
   search = λ mirror view it box rises count. news_count (_ ∷ []) view.rows (rows_of box) it.by_uid [] mirror (search_alone _ _) count;
 }

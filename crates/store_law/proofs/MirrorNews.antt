@@ -41,12 +41,18 @@ unfolding Mirrors
 unseen_mirrors [] = tt
 unseen_mirrors (row ∷ rows) = ((tt, tt), unseen_mirrors rows)
 
-pub forgotten_mirrors : (mirror : Mirror) (rows : List Row) → Mirrors mirror rows → Mirrors (forgotten mirror) rows
-unfolding Mirrors
-forgotten_mirrors [] [] agrees = tt
-forgotten_mirrors [] (row ∷ rows) agrees = absurd agrees
-forgotten_mirrors (seen ∷ mirror) [] agrees = absurd agrees
-forgotten_mirrors (seen ∷ mirror) (row ∷ rows) agrees = ((agrees.0.0, tt), forgotten_mirrors mirror rows agrees.1)
+less_seen : (is_touched : Bool) (seen : Seen) (row : Row) → IsSeenOf seen row → IsSeenOf (if is_touched then record seen { flags = None } else seen) row
+less_seen true seen row is = (is.0, tt)
+less_seen false seen row is = is
+
+pub forgotten_mirrors : (is_touched : ℕ → Bool) (number : ℕ) (mirror : Mirror) (rows : List Row) → Mirrors mirror rows
+    → Mirrors (forgotten is_touched number mirror) rows
+unfolding Mirrors forgotten
+forgotten_mirrors is_touched number [] [] agrees = tt
+forgotten_mirrors is_touched number [] (row ∷ rows) agrees = absurd agrees
+forgotten_mirrors is_touched number (seen ∷ mirror) [] agrees = absurd agrees
+forgotten_mirrors is_touched number (seen ∷ mirror) (row ∷ rows) agrees =
+    (less_seen (is_touched number) seen row agrees.0, forgotten_mirrors is_touched (number + 1) mirror rows agrees.1)
 
 -- the message behind a front, by its number
 at_one : {A : Type 0} (become : A → A) (front : List A) (one : A) (rest : List A)

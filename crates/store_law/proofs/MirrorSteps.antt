@@ -5,6 +5,9 @@ use Rattle.std.specs.Prelude.{⊤, IfSome}
 use Rattle.mail_message.specs.Boxes.{Content, snapshot_of}
 use Rattle.mail_message.specs.declared.message.Message.{Message}
 use Rattle.mail_message.specs.declared.message.Row.{Row}
+use Rattle.mail_message.specs.declared.mode.Mode.{Mode}
+use Rattle.mail_message.specs.declared.set.SetPart.{SetPart}
+use Rattle.mail_message.specs.FlagSets.{Flags}
 use Rattle.mail_store.specs.Append.{append_fault}
 use Rattle.mail_store.specs.declared.fault.StoreFault.{StoreFault}
 use Rattle.mur_base.specs.Inbox.{taken_name}
@@ -32,6 +35,7 @@ use Rattle.mur_model.specs.Act.{act_by, act_of, need_begun, need_in, need_of, ne
 use Rattle.mur_model.specs.Append.{append_on, append_reply, append_to}
 use Rattle.mur_model.specs.Create.{create_on, make}
 use Rattle.mur_model.specs.Left.{Worked}
+use Rattle.mur_model.specs.NamedRows.{named_uids}
 use Rattle.mur_model.specs.Rights.{has_rights}
 use Rattle.mur_model.specs.Select.{opening, select, select_as, select_by, select_on, select_told}
 use Rattle.mur_model.specs.Selected.{rows_of}
@@ -41,7 +45,7 @@ use Rattle.mur_model.specs.Traits.{is_in, may_be, traits_of}
 use Rattle.mur_model.specs.Viewing.{found_gone, viewed_on, work_there}
 use Rattle.mur_model.proofs.EachNeed.{OfWorks, each_by_works, of_refusals}
 use Rattle.mur_model.proofs.OwnView.{IsOfNeeded, IsOfWork, need_own}
-use Rattle.store_law.specs.Mirror.{Mirror, OfView, asked, forgotten, read_line, read_lines, unseen}
+use Rattle.store_law.specs.Mirror.{Mirror, OfView, asked, forgotten, may_touch, read_line, read_lines, unseen}
 use Rattle.store_law.proofs.NeedsFit.{Fits, FitsWork, Selects, StoreOf, need_fits}
 use Rattle.store_law.proofs.RisingStores.{AllRise, Rises, box_rises}
 
@@ -49,20 +53,25 @@ use Rattle.store_law.proofs.RisingStores.{AllRise, Rises, box_rises}
 abbrev pub TurnKeeps : (Mirror → List Row → Type 0) → Mirror → View → Turn → Type 0
 TurnKeeps R mirror view turn = OfView R (read_lines mirror turn.reply.lines) (session_after (selected view) turn.session)
 
--- the flags of a mirror are forgotten where the command was a silent STORE
-abbrev pub ForgetsFor : Mirror → FlagStore → Type 0
-ForgetsFor mirror it = it.is_silent ≡ true → forgotten mirror ≡ mirror
+-- the STORE that a command asks for
+abbrev pub store_of : View → Bool → List SetPart → Mode → Bool → Flags → FlagStore
+store_of view by_uid set mode is_silent flags =
+    record { by_uid = by_uid; uids = named_uids by_uid set view.rows; mode = mode; is_silent = is_silent; flags = flags }
 
 -- what keeps it: a mailbox that is selected, a silent STORE, and what each command of a view tells
 pub record Keeps (R : Mirror → List Row → Type 0) : Type 0 where
   pub begins : (box : Content) → Rises box → R (replicate (length (rows_of box)) unseen) (rows_of box)
-  pub forgets : (mirror : Mirror) (rows : List Row) → R mirror rows → R (forgotten mirror) rows
+  pub forgets : (is_touched : ℕ → Bool) (number : ℕ) (mirror : Mirror) (rows : List Row) → R mirror rows → R (forgotten is_touched number mirror) rows
   pub news : (mirror : Mirror) (view : View) (why : NewsFor) (box : Content) → Rises box → R mirror view.rows
       → TurnKeeps R mirror view (work_there view (view_work.News why) box).turn
   pub expunge : (mirror : Mirror) (view : View) (only : Option (List ℕ)) (box : Content) → Rises box → R mirror view.rows
       → TurnKeeps R mirror view (work_there view (view_work.Expunge only) box).turn
-  pub store : (mirror : Mirror) (view : View) (it : FlagStore) (box : Content) → Rises box → R mirror view.rows → ForgetsFor mirror it
+  pub store : (mirror : Mirror) (view : View) (it : FlagStore) (box : Content) → Rises box → R mirror view.rows → it.is_silent ≡ false
       → TurnKeeps R mirror view (work_there view (view_work.Store it) box).turn
+  pub silent : (mirror : Mirror) (view : View) (by_uid : Bool) (set : List SetPart) (mode : Mode) (flags : Flags) (box : Content) → Rises box
+      → R mirror view.rows
+      → TurnKeeps R (asked mirror (command.Store by_uid set mode true flags)) view
+      (work_there view (view_work.Store (store_of view by_uid set mode true flags)) box).turn
   pub fetch : (mirror : Mirror) (view : View) (it : Fetching) (box : Content) → Rises box → R mirror view.rows
       → TurnKeeps R mirror view (work_there view (view_work.Fetch it) box).turn
   pub search : (mirror : Mirror) (view : View) (it : Searching) (box : Content) → Rises box → R mirror view.rows
@@ -195,28 +204,29 @@ module _ (R : Mirror → List Row → Type 0) (keeps : Keeps R) where
 
   module _ (store : Store) (rise : AllRise store) (session : Sess) (it : Command) (serial : ℕ) (mirror : Mirror) (is : OfView R mirror session)
       (no_select : (is_writable : Bool) → Selects it is_writable → ⊥)
-      (forgets : (view : View) (asked : FlagStore) → StoreOf it view asked → ForgetsFor mirror asked) where
+      (stores : (view : View) (one : FlagStore) (box : Content) → StoreOf it view one → session ≡ selected view → Rises box
+          → TurnKeeps R mirror view (work_there view (view_work.Store one) box).turn) where
     either_behind : (view : View) (test : Bool) (one other : Worked) → TurnKeeps R mirror view one.turn → TurnKeeps R mirror view other.turn
         → TurnKeeps R mirror view (if test then one else other).turn
     either_behind view true one other one_is other_is = one_is
     either_behind view false one other one_is other_is = other_is
 
-    there_behind : (name : List ℕ) (view : View) (work : ViewWork) (box : Content) → Rises box → R mirror view.rows
+    there_behind : (name : List ℕ) (view : View) (work : ViewWork) (box : Content) → Rises box → session ≡ selected view → R mirror view.rows
         → FitsWork session it name (viewed_work view work) → TurnKeeps R mirror view (work_there view work box).turn
     unfolding work_there OfView
-    there_behind name view (view_work.News why) box rises so fits = keeps.news mirror view why box rises so
-    there_behind name view view_work.Close box rises so fits = tt
-    there_behind name view (view_work.Expunge only) box rises so fits = keeps.expunge mirror view only box rises so
-    there_behind name view (view_work.Store asked) box rises so fits = keeps.store mirror view asked box rises so (forgets view asked fits.2)
-    there_behind name view (view_work.Fetch asked) box rises so fits = keeps.fetch mirror view asked box rises so
-    there_behind name view (view_work.Search asked) box rises so fits = keeps.search mirror view asked box rises so
+    there_behind name view (view_work.News why) box rises own so fits = keeps.news mirror view why box rises so
+    there_behind name view view_work.Close box rises own so fits = tt
+    there_behind name view (view_work.Expunge only) box rises own so fits = keeps.expunge mirror view only box rises so
+    there_behind name view (view_work.Store one) box rises own so fits = stores view one box fits.2 own rises
+    there_behind name view (view_work.Fetch one) box rises own so fits = keeps.fetch mirror view one box rises so
+    there_behind name view (view_work.Search one) box rises own so fits = keeps.search mirror view one box rises so
 
-    viewed_behind : (name : List ℕ) (view : View) (work : ViewWork) (found : Option Content) → IfSome found Rises → R mirror view.rows
+    viewed_behind : (name : List ℕ) (view : View) (work : ViewWork) (found : Option Content) → IfSome found Rises → session ≡ selected view → R mirror view.rows
         → FitsWork session it name (viewed_work view work) → TurnKeeps R mirror view (viewed_on view work found).turn
     unfolding viewed_on OfView
-    viewed_behind name view work None rises so fits = tt
-    viewed_behind name view work (Some box) rises so fits =
-        either_behind view (box.serial == view.serial) (work_there view work box) found_gone (there_behind name view work box rises so fits) tt
+    viewed_behind name view work None rises own so fits = tt
+    viewed_behind name view work (Some box) rises own so fits =
+        either_behind view (box.serial == view.serial) (work_there view work box) found_gone (there_behind name view work box rises own so fits) tt
 
     work_behind : (name : List ℕ) (work : Work) (spent : Bool) (found : Option Content) → IfSome found Rises → IsOfWork session work
         → FitsWork session it name work
@@ -230,7 +240,7 @@ module _ (R : Mirror → List Row → Type 0) (keeps : Keeps R) where
         let so : OfView R mirror (selected view) = subst (OfView R mirror) own is in
         let turn = (viewed_on view work found).turn in
         subst (λ (s : Sess). OfView R (read_lines mirror turn.reply.lines) (session_after s turn.session)) (sym own)
-        (viewed_behind name view work found rises so fits)
+        (viewed_behind name view work found rises own so fits)
 
     need_behind : (need : Needed) → NeedIsStill need → IsOfNeeded session need → Fits session it need
         → let acted = act_by store session serial need in OfView R (read_lines mirror acted.reply.lines) acted.session
@@ -241,33 +251,30 @@ module _ (R : Mirror → List Row → Type 0) (keeps : Keeps R) where
         work_behind name work (is_spent store.given) (box_at store name) (box_rises store name rise) own fits
 
   -- a silent STORE has made the mirror forget, and no other command does
-  asked_view : (mirror : Mirror) (session : Sess) → OfView R mirror session → OfView R (forgotten mirror) session
+  asked_view : (is_touched : ℕ → Bool) (mirror : Mirror) (session : Sess) → OfView R mirror session → OfView R (forgotten is_touched 1 mirror) session
   unfolding OfView
-  asked_view mirror Off is = tt
-  asked_view mirror (In user) is = tt
-  asked_view mirror (selected view) is = keeps.forgets mirror view.rows is
-  asked_view mirror Ended is = tt
-
-  twice : (mirror : Mirror) → forgotten (forgotten mirror) ≡ forgotten mirror
-  twice [] = refl
-  twice (seen ∷ mirror) = ap (λ rest. record seen { flags = None } ∷ rest) (twice mirror)
+  asked_view is_touched mirror Off is = tt
+  asked_view is_touched mirror (In user) is = tt
+  asked_view is_touched mirror (selected view) is = keeps.forgets is_touched 1 mirror view.rows is
+  asked_view is_touched mirror Ended is = tt
 
   pub act_keeps : (setting : Setting) (store : Store) (session : Sess) (it : Command) (serial : ℕ) (mirror : Mirror) → AllRise store
       → OfView R mirror session
       → let acted = act_of setting store session it serial in OfView R (read_lines (asked mirror it) acted.reply.lines) acted.session
-  unfolding asked act_of
+  unfolding asked act_of OfView
   act_keeps setting store session (command.Select text) serial mirror rise is = select_so setting store session serial text rise
   act_keeps setting store session (command.Examine text) serial mirror rise is = examine_so setting store session serial text rise
   act_keeps setting store session (command.Store by_uid set mode true flags) serial mirror rise is =
       let it : Command = command.Store by_uid set mode true flags in
-      need_behind store rise session it serial (forgotten mirror) (asked_view mirror session is) (λ is_writable no. no)
-      (λ view one of. λ silent. twice mirror) (need_of setting session it) (each_by_works setting works_still session it)
+      need_behind store rise session it serial (asked mirror it) (asked_view (may_touch by_uid set (length mirror)) mirror session is) (λ is_writable no. no)
+      (λ view one box of own rises. subst (λ o. TurnKeeps R (asked mirror it) view (work_there view (view_work.Store o) box).turn) (sym of)
+      (keeps.silent mirror view by_uid set mode flags box rises (subst (OfView R mirror) own is))) (need_of setting session it) (each_by_works setting works_still session it)
       (need_own setting session it) (need_fits setting session it)
   act_keeps setting store session (command.Store by_uid set mode false flags) serial mirror rise is =
       let it : Command = command.Store by_uid set mode false flags in
       need_behind store rise session it serial mirror is (λ is_writable no. no)
-      (λ view one of. λ silent. (let both : false ≡ true = sym (ap (λ (s : FlagStore). s.is_silent) of) ∙ silent in cc)) (need_of setting session it)
+      (λ view one box of own rises. keeps.store mirror view one box rises (subst (OfView R mirror) own is) (ap (λ (s : FlagStore). s.is_silent) of)) (need_of setting session it)
       (each_by_works setting works_still session it) (need_own setting session it) (need_fits setting session it)
   act_keeps setting store session it serial mirror rise is =
-      need_behind store rise session it serial mirror is (λ is_writable no. no) (λ view one of. absurd of) (need_of setting session it)
+      need_behind store rise session it serial mirror is (λ is_writable no. no) (λ view one box of own rises. absurd of) (need_of setting session it)
       (each_by_works setting works_still session it) (need_own setting session it) (need_fits setting session it)

@@ -88,6 +88,10 @@ pub among_set : (uids : List ℕ) (uid : ℕ) → is_among (set_of uids) uid ≡
 unfolding is_among
 among_set uids uid = folded uid [] uids ∙ or_false (list_any (λ other. other == uid) uids)
 
+any_at : (uid : ℕ) (keys : List ℕ) → list_any (is_at (nat_cmp uid)) keys ≡ list_any (λ other. other == uid) keys
+any_at uid [] = refl
+any_at uid (key ∷ keys) = ap (λ b. b || list_any (is_at (nat_cmp uid)) keys) (at_uid uid key) ∙ ap (λ b. (key == uid) || b) (any_at uid keys)
+
 -- ---- the rows of a STORE
 
 some_by : (row : Row) (found : Option Row) (same : Bool) → (same || is_some found) ≡ is_some (cond same (Some row) found)
@@ -193,6 +197,32 @@ module _ (messages : List Message) (mode : Mode) (flags : Flags) (uid : ℕ) whe
   row_of_it [] row is = cc
   row_of_it (key ∷ keys) row is = row_by key keys (message_at messages key) row refl is (row_of_it keys row)
 
+  or_true : (a : Bool) → (a || true) ≡ true
+  or_true true = refl
+  or_true false = refl
+
+  key_by : (key : ℕ) (keys : List ℕ) (found : Option Message) (row : Row) → message_at messages key ≡ found
+      → row_at (stored_row mode flags found ++ stored_rows messages mode flags keys) uid ≡ Some row
+      → (row_at (stored_rows messages mode flags keys) uid ≡ Some row → list_any (λ other. other == uid) keys ≡ true)
+      → ((key == uid) || list_any (λ other. other == uid) keys) ≡ true
+  key_by key keys None row at is more = rw (more is) (or_true (key == uid))
+  key_by key keys (Some message) row at is more = by (message.uid == uid) refl is
+    where
+      by : (same : Bool) → (message.uid == uid) ≡ same
+          → cond same (Some (record { uid = message.uid; flags = flags_after mode message.flags flags })) (row_at (stored_rows messages mode flags keys) uid)
+          ≡ Some row
+          → ((key == uid) || list_any (λ other. other == uid) keys) ≡ true
+      by true e is =
+          let own : message.uid ≡ key = uid_of_found messages key message at in
+          let here : (key == uid) ≡ true = grind (arith, nat_tests, e, own) in
+          rw here refl
+      by false e is = rw (more is) (or_true (key == uid))
+
+  -- and its UID is among the keys
+  key_of_it : (keys : List ℕ) (row : Row) → row_at (stored_rows messages mode flags keys) uid ≡ Some row → list_any (λ other. other == uid) keys ≡ true
+  key_of_it [] row is = cc
+  key_of_it (key ∷ keys) row is = key_by key keys (message_at messages key) row refl is (key_of_it keys row)
+
   -- each row of the UID is that of the one message
   such_row : (first : Message) (key : ℕ) (found : Option Message) → message_at messages uid ≡ Some first → message_at messages key ≡ found
       → All (Such uid (flags_after mode first.flags flags)) (stored_row mode flags found)
@@ -227,3 +257,16 @@ stored_told box uids mode flags uid row is =
     subst (λ (found : Option Row). TellsFlags row.flags found) (sym (row_found (stored box uids mode flags).messages uid))
     (told_as row.flags (message_at (stored box uids mode flags).messages uid)
     (subst (λ f. HasFlags f (message_at (stored box uids mode flags).messages uid)) (sym it.has) has))
+
+-- what the reply takes for told was named
+pub told_named : (box : Content) (uids : List ℕ) (mode : Mode) (flags : Flags) (uid : ℕ)
+    → is_among (set_of (uids_of (rows_stored box uids mode flags))) uid ≡ true → list_any (λ other. other == uid) uids ≡ true
+unfolding is_among
+told_named box uids mode flags uid is =
+    let rows = rows_stored box uids mode flags in
+    by (row_at rows uid) refl (sym (among_set (uids_of rows) uid ∙ any_row rows uid) ∙ is)
+  where
+    by : (found : Option Row) → row_at (rows_stored box uids mode flags) uid ≡ found → is_some found ≡ true → list_any (λ other. other == uid) uids ≡ true
+    by None at some = cc
+    by (Some row) at some =
+        sym (among_set uids uid) ∙ any_at uid (set_of uids) ∙ key_of_it box.messages mode flags uid (set_of uids) row at

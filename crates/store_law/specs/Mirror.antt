@@ -1,11 +1,13 @@
 -- What a client knows of the mailbox that it has selected, by what it asked and by the lines that it was given: how many messages there are, and of the
 -- message of each number what it was told last (RFC 9051, 2.3.1.2, 7.4.1, 7.5.1 and 7.5.2).
-use Rattle.std.specs.Prelude.{◌≡◌, ℕ, zero, suc, ⊤, ◌-◌, nat_eq, Bool, true, false, if◌then◌else◌, List, [], ◌∷◌, ◌++◌, length, map, replicate, Option, None, Some}
+use Rattle.std.specs.Prelude.{◌≡◌, ℕ, zero, suc, ⊤, ◌+◌, ◌-◌, nat_eq, Bool, true, false, if◌then◌else◌, List, [], ◌∷◌, ◌++◌, length, replicate, Option, None, Some}
 use Rattle.std.specs.Prelude.{codes, IfSome, All}
 use Rattle.std.specs.List.{fold, starts_with}
 use Rattle.mail_fetch.specs.FlagText.{flags_text}
 use Rattle.mail_fetch.specs.Parts.{uid_text}
+use Rattle.mail_message.specs.Sets.{set_at, set_holds}
 use Rattle.mail_message.specs.declared.message.Row.{Row}
+use Rattle.mail_message.specs.declared.set.SetPart.{SetPart}
 use Rattle.mur_base.specs.declared.point.Point.{Point}
 use Rattle.imap_types.specs.declared.command.Command.{Command}
 use Rattle.imap_types.specs.declared.command.Command.TheVariants as command
@@ -54,15 +56,23 @@ read_line mirror line = mirror
 abbrev pub read_lines : Mirror → List ReplyLine → Mirror
 read_lines mirror lines = fold read_line mirror lines
 
--- the flags that were told are not those of the messages any more
-abbrev pub forgotten : Mirror → Mirror
-forgotten mirror = map (λ (seen : Seen). record seen { flags = None }) mirror
+-- the flags of those that are touched are known no more; the first here has this number
+unfoldable pub forgotten : (ℕ → Bool) → ℕ → Mirror → Mirror
+forgotten is_touched number [] = []
+forgotten is_touched number (seen ∷ mirror) =
+    (if is_touched number then record seen { flags = None } else seen) ∷ forgotten is_touched (number + 1) mirror
 
--- A command for a mailbox begins anew, whatever comes of it (RFC 9051, 6.3.2). Behind a STORE that is silent no flags are known (RFC 9051, 6.4.6).
+-- the numbers of the messages that a STORE may touch, among so many: those of its set, in which `*` is the last one (RFC 9051, 9: sequence-set);
+-- where it names them by UIDs, any, since a client need not know which those are
+unfoldable pub may_touch : Bool → List SetPart → ℕ → ℕ → Bool
+may_touch false set count number = set_holds (set_at count set) number
+may_touch true set count number = true
+
+-- A SELECT or an EXAMINE begins anew, whatever comes of it (RFC 9051, 6.3.2); a STORE that is silent tells no flags (RFC 9051, 6.4.6).
 unfoldable pub asked : Mirror → Command → Mirror
 asked mirror (command.Select text) = []
 asked mirror (command.Examine text) = []
-asked mirror (command.Store by_uid set mode true flags) = forgotten mirror
+asked mirror (command.Store by_uid set mode true flags) = forgotten (may_touch by_uid set (length mirror)) 1 mirror
 asked mirror it = mirror
 
 unfoldable pub asked_by : Mirror → Request → Mirror
