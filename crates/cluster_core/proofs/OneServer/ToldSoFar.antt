@@ -34,6 +34,8 @@ use Rattle.cluster_core.specs.Shown.{given_to}
 use Rattle.cluster_core.specs.World.{start, setting_of, layout_of}
 use Rattle.store_law.proofs.BegunLaw.{begins_as_read}
 use Rattle.store_law.proofs.AppendedThere.{keeps_appended}
+use Rattle.store_law.proofs.OpenedLaw.{reads_what_is_examined}
+use Rattle.store_law.proofs.MirrorsAlong.{views_are_told}
 use Rattle.cluster_core.proofs.Connections.ConnectionLaw.{Story, told_of}
 use Rattle.cluster_core.proofs.Connections.NameLaw.{store_below}
 use Rattle.cluster_core.proofs.Names.HomesLaw.{AreNamesOf, has_boxes}
@@ -213,6 +215,7 @@ told_so_far config talk before later are date_is now last =
           (λ name. both_hold (box_at legal.last.store name) (below_next name) (rises name));
       appended_there = keeps_appended (setting_of config) legal.last.store rises;
       low_serials = subst GivesLowSerials (sym legal.same_store) (low_serials law.story.course.store law.backend.last_serial law.serials);
+      views_told = views_are_told (setting_of config) first_course (told_of law.story) (history_of world) legal.last legal.legal none_rises (λ conn. refl);
       lost_next = loses_the_next (setting_of config) world law.story law.is_told (λ conn. (says conn).so);
       made_by_now = made_by_now (setting_of config) world law.story law.is_told;
       in_time = stands_in_time (setting_of config) world
@@ -242,6 +245,7 @@ told_by_one_store config events are date_is =
     let last = (all.at steps [] (sym (append-nil steps))).law in
     record {
       begins_as_read = begins_as_read (setting_of config);
+      examined_stays = reads_what_is_examined (setting_of config);
       talk = all.talk;
       at_each_step = λ before later e. told_at config all.talk steps before later e are date_is (all.at before later e) last;
       steps_rise = steps_rise (setting_of config) (run_steps (start config) steps) last.story last.is_told;

@@ -33,6 +33,8 @@ use Rattle.cluster_core.specs.LawSetting.{law_setting}
 use Rattle.link_queue.specs.Links.{on_link}
 use Rattle.store_law.specs.Refusals.{HaveCauses}
 use Rattle.store_law.specs.NoneLost.{LosesNone}
+use Rattle.store_law.specs.Examined.{ReadsWhatIsExamined}
+use Rattle.store_law.specs.Mirror.{ViewsAreTold}
 use Rattle.cluster_core.specs.Headline.Points.{AreMadeBy, LosesTheNext}
 use Rattle.imap_talk.specs.Requests.{AreRequests}
 use Rattle.store_law.specs.Serials.{GivesLowSerials}
@@ -101,6 +103,8 @@ pub record IsToldSoFar (config : Config) (talk : Talk) (points : List Point) (st
   -- and what an APPEND was answered OK for is there
   pub appended_there : KeepsAppended (law_setting config) last.store
   pub low_serials : GivesLowSerials last.store
+  -- what a client concludes of its mailbox from the lines that it is given is so of its session's view (RFC 9051, 2.3.1.2)
+  pub views_told : ViewsAreTold so_far (history_of world) last
   -- which points there may be
   pub lost_next : LosesTheNext so_far (history_of world)
   pub made_by_now : AreMadeBy world.steps (history_of world)
@@ -117,6 +121,8 @@ pub record IsToldSoFar (config : Config) (talk : Talk) (points : List Point) (st
 -- stands before it, whoever sent them (linearizability)
 pub record IsToldByOneStore (config : Config) (events : List Event) : Type 0 where
   pub begins_as_read : BeginsAsRead (law_setting config)
+  -- what EXAMINE selected stays as it is (RFC 9051, 6.3.3)
+  pub examined_stays : ReadsWhatIsExamined (law_setting config)
   pub talk : Talk
   pub at_each_step : (before later : List Event) → steps_of_run config events ≡ before ++ later
       → IsToldSoFar config talk (history_of (run_steps (start config) (steps_of_run config events))) before (run_steps (start config) before)
