@@ -17,3 +17,5 @@ pub mod StoredFlags
 pub mod RisingViews
 pub mod MirrorFetch
 pub mod MirrorLaw
+pub mod LinesSpoken
+pub mod LinesLaw

@@ -199,10 +199,10 @@ changed_one true front rest seen number row (Some it) is uid so = stays_seen fro
 changed_one false front rest seen number row (Some it) is uid so =
     changed_by front rest seen number row it (is_same_flags row.flags it.flags) refl is uid so
 
-abbrev line_of : List Row → List ℕ → ℕ → Row → List ReplyLine
+abbrev pub line_of : List Row → List ℕ → ℕ → Row → List ReplyLine
 line_of now told number row = changed_line (is_among told row.uid) number row (row_at now row.uid)
 
-changed_as : (now : List Row) (told : List ℕ) (number : ℕ) (rows : List Row) → changed_lines now told number rows ≡ lines_by (line_of now told) number rows
+pub changed_as : (now : List Row) (told : List ℕ) (number : ℕ) (rows : List Row) → changed_lines now told number rows ≡ lines_by (line_of now told) number rows
 changed_as now told number [] = refl
 changed_as now told number (row ∷ rows) = ap (λ lines. line_of now told number row ++ lines) (changed_as now told (number + 1) rows)
 

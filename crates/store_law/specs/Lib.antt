@@ -5,3 +5,4 @@ pub mod Serials
 pub mod Refusals
 pub mod Examined
 pub mod Mirror
+pub mod Lines

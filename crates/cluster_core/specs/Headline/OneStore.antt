@@ -34,6 +34,7 @@ use Rattle.link_queue.specs.Links.{on_link}
 use Rattle.store_law.specs.Refusals.{HaveCauses}
 use Rattle.store_law.specs.NoneLost.{LosesNone}
 use Rattle.store_law.specs.Examined.{ReadsWhatIsExamined}
+use Rattle.store_law.specs.Lines.{SpeaksByNumbers}
 use Rattle.store_law.specs.Mirror.{ViewsAreTold}
 use Rattle.cluster_core.specs.Headline.Points.{AreMadeBy, LosesTheNext}
 use Rattle.imap_talk.specs.Requests.{AreRequests}
@@ -123,6 +124,8 @@ pub record IsToldByOneStore (config : Config) (events : List Event) : Type 0 whe
   pub begins_as_read : BeginsAsRead (law_setting config)
   -- what EXAMINE selected stays as it is (RFC 9051, 6.3.3)
   pub examined_stays : ReadsWhatIsExamined (law_setting config)
+  -- `* n FETCH` speaks of the message that stands at n in what was told (RFC 9051, 7.5.2)
+  pub speaks_by_numbers : SpeaksByNumbers (law_setting config)
   pub talk : Talk
   pub at_each_step : (before later : List Event) → steps_of_run config events ≡ before ++ later
       → IsToldSoFar config talk (history_of (run_steps (start config) (steps_of_run config events))) before (run_steps (start config) before)
