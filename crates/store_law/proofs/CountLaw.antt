@@ -1,7 +1,6 @@
 -- A client that counts the messages of its mailbox by the EXISTS and EXPUNGE lines that it is given has as many as its session's view.
-use Rattle.std.proofs.Common.{◌≡◌, ℕ, zero, suc, ◌+◌, ◌-◌, ◌<◌, Bool, true, false, not, ◌&&◌, cond, if◌then◌else◌, List, [], ◌∷◌, ◌++◌, length, map, replicate}
+use Rattle.std.proofs.Common.{◌≡◌, ℕ, zero, suc, ◌+◌, ◌-◌, ◌<◌, Bool, true, false, not, ◌&&◌, cond, if◌then◌else◌, List, [], ◌∷◌, ◌++◌, length, replicate}
 use Rattle.std.proofs.Common.{Option, None, Some, refl, sym, ◌∙◌, ap, arith, length-append}
-use Rattle.std.proofs.lemmas.Grind.{common_steps}
 use Rattle.std.proofs.lemmas.List.{length-map, length-replicate}
 use Rattle.mail_message.specs.Boxes.{Content, messages_at}
 use Rattle.mail_message.specs.SameFlags.{is_same_flags}
@@ -13,11 +12,8 @@ use Rattle.mail_store.specs.Store.{stored, rows_stored, has_too_many_flags}
 use Rattle.imap_types.specs.declared.reply.ReplyLine.{ReplyLine}
 use Rattle.imap_types.specs.declared.reply.ReplyLine.TheVariants.{Expunge, Fetch, Search}
 use Rattle.mur_model.specs.declared.commands.fetch.Fetching.{Fetching}
-use Rattle.mur_model.specs.declared.commands.search.Searching.{Searching}
 use Rattle.mur_model.specs.declared.commands.store.FlagStore.{FlagStore}
-use Rattle.mur_model.specs.declared.news.Told.{Told}
 use Rattle.mur_model.specs.declared.view.View.{View}
-use Rattle.mur_model.specs.declared.work.ViewWork.TheVariants as view_work
 use Rattle.mur_model.specs.ClientView.{without_number}
 use Rattle.mur_model.specs.Fetch.{fetch_at, fetch_lines, fetch_reply_line, fetch_told, number_in, seen_flags, sees}
 use Rattle.mur_model.specs.Left.{Worked, changed, kept}

@@ -1,53 +1,39 @@
 -- A mailbox is selected as its client asked, and a session that has one selected to be read changes none.
 use Rattle.std.proofs.Common.{◌≡◌, ◌≢◌, ℕ, ◌==◌, Bool, true, false, if◌then◌else◌, List, [], ◌∷◌, Option, None, Some, refl, sym, ◌∙◌, ap, subst}
 use Rattle.std.proofs.Math.Logic.{⊎_elim}
-use Rattle.std.specs.Prelude.{⊤, IfSome}
+use Rattle.std.specs.Prelude.{IfSome}
 use Rattle.std.specs.List.{Contains}
 use Rattle.std.specs.Cmp.Lexicographic.{slice_cmp}
 use Rattle.std.specs.Ordering.{nat_cmp}
 use Rattle.std.proofs.lemmas.List.Elements.{All-contains_itself, All-head}
 use Rattle.mail_message.specs.Boxes.{Content, empty_box}
-use Rattle.mail_message.specs.declared.message.Message.{Message}
-use Rattle.mail_store.specs.Append.{append_fault}
 use Rattle.mail_store.specs.Expunge.{expunged}
 use Rattle.mail_store.specs.Store.{stored, rows_stored, has_too_many_flags}
-use Rattle.mail_store.specs.declared.fault.StoreFault.{StoreFault}
-use Rattle.mur_base.specs.Inbox.{taken_name}
-use Rattle.mur_base.specs.Names.{mail_name_fault}
-use Rattle.mur_base.specs.declared.name.NameFault.{NameFault}
 use Rattle.mur_base.proofs.MapLaws.{names_apart, same_or_other, value_at-with_entry-other, value_at-with_value, value_at-with_value-other}
 use Rattle.imap_types.specs.declared.command.Command.{Command}
-use Rattle.imap_types.specs.declared.command.Command.TheVariants as command
-use Rattle.imap_types.specs.declared.command.StatusItem.{StatusItem}
 use Rattle.mur_model.specs.Needed.{Needed, Refusal, Turned, Mailbox, Work, Make, Append as append_work, Status as status_work, Select as select_work, Viewed as viewed_work}
 use Rattle.mur_model.specs.declared.commands.fetch.Fetching.{Fetching}
-use Rattle.mur_model.specs.declared.commands.select.Opening.{Opening}
 use Rattle.mur_model.specs.declared.commands.store.FlagStore.{FlagStore}
-use Rattle.mur_model.specs.declared.session.Sess.{Sess}
-use Rattle.mur_model.specs.declared.session.Sess.TheVariants.{Off, In, Selected as selected, Ended}
-use Rattle.mur_model.specs.declared.session.Turn.{Turn}
+use Rattle.mur_model.specs.declared.session.Sess.TheVariants.{Selected as selected}
 use Rattle.mur_model.specs.declared.setting.Setting.{Setting}
 use Rattle.mur_model.specs.declared.store.Store.{Store}
 use Rattle.mur_model.specs.declared.view.View.{View}
 use Rattle.mur_model.specs.declared.work.ViewWork.{ViewWork}
 use Rattle.mur_model.specs.declared.work.ViewWork.TheVariants as view_work
-use Rattle.mur_model.specs.Act.{act_by, act_of, need_begun, need_in, need_of, need_selected, need_taken, session_after, work_on, worked_at}
-use Rattle.mur_model.specs.Append.{append_on, append_to}
+use Rattle.mur_model.specs.Act.{act_by, act_of, need_of, work_on}
+use Rattle.mur_model.specs.Append.{append_on}
 use Rattle.mur_model.specs.Create.{create_on, make}
 use Rattle.mur_model.specs.Fetch.{fetch_at, sees}
 use Rattle.mur_model.specs.Left.{Left, Worked, kept, made, changed, store_after}
-use Rattle.mur_model.specs.Rights.{has_rights}
-use Rattle.mur_model.specs.Select.{opening, select, select_as, select_by, select_on}
+use Rattle.mur_model.specs.Select.{select_on}
 use Rattle.mur_model.specs.Status.{status_on}
 use Rattle.mur_model.specs.Store.{box_at, is_spent, with_box}
 use Rattle.mur_model.specs.StoreFlags.{stored_at}
-use Rattle.mur_model.specs.Traits.{is_in, may_be, traits_of}
 use Rattle.mur_model.specs.Viewing.{found_gone, viewed_on, work_there}
-use Rattle.mur_model.proofs.EachNeed.{OfAnswers, OfWorks, each_by_works, of_refusals}
 use Rattle.mur_model.proofs.OwnView.{IsOfNeeded, IsOfWork, need_own}
 use Rattle.store_law.specs.Examined.{adds, AllStay}
 use Rattle.store_law.specs.NoneLost.{MayChange}
-use Rattle.store_law.proofs.NeedsFit.{Fits, FitsView, FitsWork, IsMeant, MayChangeThese, Selects, need_fits}
+use Rattle.store_law.proofs.NeedsFit.{Fits, FitsView, FitsWork, IsMeant, MayChangeThese, need_fits}
 
 -- ---- a mailbox that is there stays, where a session reads
 

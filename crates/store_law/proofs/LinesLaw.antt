@@ -41,21 +41,21 @@ use Rattle.mur_model.specs.declared.work.ViewWork.{ViewWork}
 use Rattle.mur_model.specs.declared.work.ViewWork.TheVariants as view_work
 use Rattle.mur_model.specs.Act.{act_by, act_of, need_of, work_on}
 use Rattle.mur_model.specs.Append.{append_on, append_reply, append_to}
-use Rattle.mur_model.specs.ClientView.{Known, known_after, known_after_all, uids}
+use Rattle.mur_model.specs.ClientView.{Known, known_after}
 use Rattle.mur_model.specs.Create.{create_on, make}
 use Rattle.mur_model.specs.Fetch.{fetch_at, fetch_lines, fetch_reply_line, fetch_told, items_told, number_in, seen_flags, sees}
 use Rattle.mur_model.specs.History.{numbered}
 use Rattle.mur_model.specs.Left.{Left, Worked, box_after, changed, kept, made, store_after}
-use Rattle.mur_model.specs.Select.{select_on, select_told, unselected}
+use Rattle.mur_model.specs.Select.{select_on, unselected}
 use Rattle.mur_model.specs.Selected.{rows_of}
 use Rattle.mur_model.specs.Status.{status_on, status_reply}
-use Rattle.mur_model.specs.Store.{box_at, is_spent, with_box}
+use Rattle.mur_model.specs.Store.{box_at, is_spent}
 use Rattle.mur_model.specs.StoreFlags.{own_lines, stored_at, stored_line, stored_lines}
 use Rattle.mur_model.specs.Viewing.{found_gone, viewed_on, work_there}
-use Rattle.mur_model.proofs.EachNeed.{AnyCommand, OfAnswers, OfBegun, OfViewed, OfWorks, each_by_works, each_need, of_refusals}
+use Rattle.mur_model.proofs.EachNeed.{AnyCommand, OfBegun, OfViewed, OfWorks, each_by_works, each_need, of_refusals}
 use Rattle.mur_model.proofs.FetchRowsLaw.{row_found}
 use Rattle.mur_model.proofs.OwnView.{IsOfNeeded, IsOfWork, need_own}
-use Rattle.store_law.specs.Lines.{IsPartOf, LinesSpeak, SpeaksByNumbers, SpeaksOf, known_of}
+use Rattle.store_law.specs.Lines.{IsPartOf, LinesSpeak, SpeaksByNumbers, known_of}
 use Rattle.store_law.proofs.LinesSpoken.{SpeakAlone, both_alone, each_alone, flags_speak, news_speak, none_alone, one_alone, told_uids}
 use Rattle.store_law.proofs.MessagesLeft.{IsWithFlags, IsStoredFlags, stored_left, uid_of_found}
 use Rattle.store_law.proofs.MirrorNews.{found_uid, lines_by}

@@ -1,34 +1,26 @@
 -- The lines of the news, of a STORE and of a FETCH speak of the messages of their numbers.
-use Rattle.std.proofs.Common.{◌≡◌, ℕ, zero, suc, ◌+◌, ◌-◌, ◌==◌, Bool, true, false, not, ◌&&◌, cond, if◌then◌else◌, List, [], ◌∷◌, ◌++◌, length, map, replicate}
+use Rattle.std.proofs.Common.{◌≡◌, ℕ, zero, suc, ◌+◌, ◌-◌, Bool, true, false, not, ◌&&◌, cond, if◌then◌else◌, List, [], ◌∷◌, ◌++◌, length, map, replicate}
 use Rattle.std.proofs.Common.{Option, None, Some, refl, sym, ◌∙◌, ap, subst, arith, append_assoc, append-nil, length-append}
-use Rattle.std.specs.Prelude.{⊤, All, IfSome, slice_get}
-use Rattle.std.specs.List.{position_from}
-use Rattle.std.specs.Option.{option_map, option_to_list}
-use Rattle.std.proofs.lemmas.Bool.Decides.{nat_tests}
-use Rattle.std.proofs.lemmas.List.Elements.{All-append, All-cons, All-head, All-nil, All-tail}
+use Rattle.std.specs.Prelude.{All, slice_get}
+use Rattle.std.specs.Option.{option_map}
+use Rattle.std.proofs.lemmas.List.Elements.{All-cons, All-nil}
 use Rattle.mail_fetch.specs.FlagText.{flags_text}
-use Rattle.mail_fetch.specs.Parts.{part_text, uid_text}
-use Rattle.mail_message.specs.Boxes.{Content, message_at, messages_at, relabelled, row_of}
-use Rattle.mail_message.specs.FlagSets.{Flags}
-use Rattle.mail_message.specs.RowOrder.{is_row_of, row_at}
+use Rattle.mail_fetch.specs.Parts.{uid_text}
+use Rattle.mail_message.specs.Boxes.{Content, message_at, row_of}
+use Rattle.mail_message.specs.RowOrder.{row_at}
 use Rattle.mail_message.specs.SameFlags.{is_same_flags}
-use Rattle.mail_message.specs.declared.item.Item.{Item}
 use Rattle.mail_message.specs.declared.item.Item.TheVariants as item
 use Rattle.mail_message.specs.declared.message.Message.{Message}
 use Rattle.mail_message.specs.declared.message.Row.{Row}
 use Rattle.imap_types.specs.declared.reply.ReplyLine.{ReplyLine}
 use Rattle.imap_types.specs.declared.reply.ReplyLine.TheVariants.{Expunge, Fetch}
-use Rattle.mur_model.specs.declared.commands.fetch.Fetching.{Fetching}
 use Rattle.mur_model.specs.ClientView.{Known, known_after, known_after_all, uids, without_number}
-use Rattle.mur_model.specs.Fetch.{fetch_lines, fetch_reply_line, items_told, number_in}
 use Rattle.mur_model.specs.History.{numbered}
 use Rattle.mur_model.specs.News.{changed_line, changed_lines, exists_lines, expunge_lines, flag_parts, has_row, is_among, news, rows_behind, rows_there, told_of}
 use Rattle.mur_model.specs.Selected.{rows_of}
-use Rattle.mur_model.specs.StoreFlags.{stored_line, stored_lines}
 use Rattle.mur_model.proofs.FetchRowsLaw.{row_found}
 use Rattle.store_law.specs.Lines.{IsPartOf, LinesSpeak, SpeaksOf, SpeaksOfKnown}
 use Rattle.store_law.proofs.MirrorNews.{changed_as, line_of, lines_by}
-use Rattle.store_law.proofs.StoredFlags.{TellsFlags}
 
 -- ---- UIDs by number
 
@@ -81,11 +73,10 @@ after_both known (line ∷ lines) more = after_both (known_after known line) lin
 
 pub both_alone : (box : Content) (known : Known) (lines more : List ReplyLine) → SpeakAlone box known lines → SpeakAlone box known more
     → SpeakAlone box known (lines ++ more)
-both_alone box known lines more one other =
-    (
-      both_speak box known lines more one.0 (subst (λ k. LinesSpeak box k more) (sym one.1) other.0),
-      after_both known lines more ∙ ap (λ k. known_after_all k more) one.1 ∙ other.1,
-    )
+both_alone box known lines more one other = (
+  both_speak box known lines more one.0 (subst (λ k. LinesSpeak box k more) (sym one.1) other.0),
+  after_both known lines more ∙ ap (λ k. known_after_all k more) one.1 ∙ other.1,
+)
 
 -- ---- a message's flags
 
@@ -172,7 +163,7 @@ expunged_by : (now : List Row) (number : ℕ) (front : Known) (row : Row) (rows 
     ≡ (front ++ Some row.uid ∷ []) ++ told_uids (rows_there now rows)
     → known_after_all (front ++ told_uids rows) (expunge_lines now number rows) ≡ front ++ told_uids (rows_there now rows)
     → known_after_all (front ++ Some row.uid ∷ told_uids rows)
-        (if there then expunge_lines now (number + 1) rows else Expunge number ∷ expunge_lines now number rows)
+    (if there then expunge_lines now (number + 1) rows else Expunge number ∷ expunge_lines now number rows)
     ≡ front ++ told_uids (cond there (row ∷ rows_there now rows) (rows_there now rows))
 unfolding known_after
 expunged_by now number front row rows true is stays goes =

@@ -1,7 +1,7 @@
 -- A mirror behind the lines of a FETCH: of each message whose flags a line told, it has those that the mailbox has now.
 use Rattle.std.proofs.Common.{◌≡◌, ℕ, zero, suc, ◌+◌, ◌<◌, ◌≤◌, ◌==◌, Bool, true, false, not, ◌&&◌, ◌||◌, cond, if◌then◌else◌, List, [], ◌∷◌, ◌++◌, map}
 use Rattle.std.proofs.Common.{Option, None, Some, refl, sym, ◌∙◌, ap, ap₂, subst, arith}
-use Rattle.std.specs.Prelude.{⊤, IfSome}
+use Rattle.std.specs.Prelude.{IfSome}
 use Rattle.std.specs.List.{fold, list_any, position_from}
 use Rattle.std.specs.Option.{option_map}
 use Rattle.std.proofs.lemmas.Bool.Decides.{nat_tests}
@@ -15,8 +15,6 @@ use Rattle.mail_message.specs.declared.item.Item.{Item}
 use Rattle.mail_message.specs.declared.item.Item.TheVariants as item
 use Rattle.mail_message.specs.declared.message.Message.{Message}
 use Rattle.mail_message.specs.declared.message.Row.{Row}
-use Rattle.imap_types.specs.declared.reply.ReplyLine.{ReplyLine}
-use Rattle.imap_types.specs.declared.reply.ReplyLine.TheVariants.{Fetch}
 use Rattle.mur_model.specs.declared.commands.fetch.Fetching.{Fetching}
 use Rattle.mur_model.specs.Fetch.{fetch_lines, fetch_reply_line, flag_uids, is_flags, is_uid_item, items_told, number_in, tells_flags}
 use Rattle.store_law.specs.Mirror.{IsSeenOf, Mirror, Mirrors, Seen, at_number, read_line, read_lines, seen_by}
@@ -151,7 +149,7 @@ module _ (is_told so : ℕ → Bool) (now : List Row) (uid : ℕ) (become : Seen
       → cond same (Some before) (position_from (is_row_of uid) (before + 1) rows) ≡ Some place → place ≡ before + further
       → IsSeenOf seen (row_told is_told now row) → Mirrors mirror (rows_told_by is_told now rows) → RowsRise (row.uid + 1) rows
       → ((k : ℕ) → position_from (is_row_of uid) (before + 1) rows ≡ Some place → place ≡ before + 1 + k
-          → Mirrors (at_number become (suc k) mirror) (rows_told_by so now rows))
+      → Mirrors (at_number become (suc k) mirror) (rows_told_by so now rows))
       → Mirrors (at_number become (suc further) (seen ∷ mirror)) (rows_told_by so now (row ∷ rows))
   unfolding Mirrors at_number
   at_by seen mirror row rows before place zero true e is far first rest rises more =
@@ -215,7 +213,7 @@ module _ (it : Fetching) (message : Message) (now : List Row) (is_told : ℕ →
   seen_here : (row : Row) (found : Row) (seen : Seen) → row_at now message.uid ≡ Some found → row.uid ≡ message.uid
       → IsSeenOf seen (row_told is_told now row)
       → IsSeenOf (fold seen_by seen (parts_of (relabelled message found.flags) (items_told it (not (is_same_flags message.flags found.flags)))))
-          (row_told (and_told is_told (tells_flags it message (Some found)) message.uid) now row)
+      (row_told (and_told is_told (tells_flags it message (Some found)) message.uid) now row)
   seen_here row found seen at own so =
       let changes : Bool = not (is_same_flags message.flags found.flags) in
       let items : List Item = items_told it changes in
@@ -226,8 +224,7 @@ module _ (it : Fetching) (message : Message) (now : List Row) (is_told : ℕ →
       let uid_is : (told_row (and_told is_told tells message.uid row.uid) row (row_at now row.uid)).uid ≡ row.uid =
       told_uid (and_told is_told tells message.uid row.uid) row (row_at now row.uid) (found_uid now row.uid) in
       let uid_was : (told_row (is_told row.uid) row (row_at now row.uid)).uid ≡ row.uid =
-      told_uid (is_told row.uid) row (row_at now row.uid) (found_uid now row.uid) in
-      (
+      told_uid (is_told row.uid) row (row_at now row.uid) (found_uid now row.uid) in (
         subst (λ (u : Option (List ℕ)). IfSome u (λ text. text ≡ uid_text (told_row (and_told is_told tells message.uid row.uid) row (row_at now row.uid)).uid))
             (sym (parts_uid later seen items))
             (uid_here (list_any is_uid_item items) message.uid (told_row (and_told is_told tells message.uid row.uid) row (row_at now row.uid)).uid seen.uid

@@ -1,5 +1,5 @@
 -- Of each message whose UID or flags a client was told, it knows those of its session's view, behind each command.
-use Rattle.std.proofs.Common.{◌≡◌, ℕ, suc, ◌+◌, ◌<◌, ◌≤◌, ◌==◌, ◌||◌, Bool, true, false, if◌then◌else◌, List, [], ◌∷◌, ◌++◌, length, map, replicate, Option, None, Some, is_some}
+use Rattle.std.proofs.Common.{◌≡◌, ℕ, suc, ◌+◌, ◌<◌, ◌≤◌, ◌==◌, ◌||◌, Bool, true, false, if◌then◌else◌, List, [], ◌∷◌, ◌++◌, length, map, Option, None, Some, is_some}
 use Rattle.std.proofs.Common.{refl, sym, ◌∙◌, ap, subst, arith, append-nil}
 use Rattle.std.specs.Prelude.{⊤, IfSome}
 use Rattle.std.specs.List.{list_any, zip}
@@ -19,7 +19,6 @@ use Rattle.mail_store.specs.Named.{set_of}
 use Rattle.mail_store.specs.Store.{stored, rows_stored, has_too_many_flags}
 use Rattle.imap_types.specs.declared.command.Command.TheVariants as command
 use Rattle.imap_types.specs.declared.reply.ReplyLine.{ReplyLine}
-use Rattle.imap_types.specs.declared.reply.ReplyLine.TheVariants.{Search}
 use Rattle.mur_model.specs.declared.commands.fetch.Fetching.{Fetching}
 use Rattle.mur_model.specs.declared.commands.search.Searching.{Searching}
 use Rattle.mur_model.specs.declared.commands.store.FlagStore.{FlagStore}
@@ -33,7 +32,7 @@ use Rattle.mur_model.specs.News.{flag_parts, fresh_row, is_among, news}
 use Rattle.mur_model.specs.Selected.{rows_of}
 use Rattle.mur_model.specs.StoreFlags.{own_lines, stored_at, stored_line, stored_lines}
 use Rattle.mur_model.specs.Viewing.{work_there}
-use Rattle.store_law.specs.Mirror.{IsSeenOf, Mirror, Mirrors, OfView, Seen, asked, forgotten, may_touch, read_line, read_lines, unseen}
+use Rattle.store_law.specs.Mirror.{IsSeenOf, Mirror, Mirrors, OfView, Seen, asked, forgotten, may_touch, read_line, read_lines}
 use Rattle.store_law.proofs.MirrorFetch.{alike, fetched_mirrors, told_uid}
 use Rattle.store_law.proofs.MirrorNews.{Becomes, fetch_reads, forgotten_mirrors, found_uid, lines_by, mirrors_length, news_mirrors, row_told, rows_told_by, stays_seen, told_row}
 use Rattle.store_law.proofs.MirrorNews.{unseen_mirrors, walked}
@@ -91,11 +90,10 @@ unfolding Mirrors forgotten
 forgotten_told is_touched is_told now number [] [] touched agrees = tt
 forgotten_told is_touched is_told now number [] (row ∷ rows) touched agrees = absurd agrees
 forgotten_told is_touched is_told now number (seen ∷ mirror) [] touched agrees = absurd agrees
-forgotten_told is_touched is_told now number (seen ∷ mirror) (row ∷ rows) touched agrees =
-    (
-      untold (is_touched number) (is_told row.uid) seen row (row_at now row.uid) touched.0 (found_uid now row.uid) agrees.0,
-      forgotten_told is_touched is_told now (number + 1) mirror rows touched.1 agrees.1,
-    )
+forgotten_told is_touched is_told now number (seen ∷ mirror) (row ∷ rows) touched agrees = (
+  untold (is_touched number) (is_told row.uid) seen row (row_at now row.uid) touched.0 (found_uid now row.uid) agrees.0,
+  forgotten_told is_touched is_told now (number + 1) mirror rows touched.1 agrees.1,
+)
 
 -- ---- the rows that a set of numbers names
 
@@ -129,8 +127,7 @@ named_touched : (names is_told : ℕ → Bool) (low number : ℕ) (rows : List R
     → ((uid : ℕ) → low ≤ uid → is_told uid ≡ true → any_named names uid number rows ≡ true) → AreTouched names is_told number rows
 named_touched names is_told low number [] rises named = tt
 named_touched names is_told low number (row ∷ rows) rises named =
-    let pairs = zip rows (map names (numbers_from (number + 1) rows)) in
-    (
+    let pairs = zip rows (map names (numbers_from (number + 1) rows)) in (
       λ is. first_by row (names number) pairs (none_named names row.uid (row.uid + 1) (number + 1) rows rises.1 (omega arith)) (named row.uid rises.0 is),
       named_touched names is_told (row.uid + 1) (number + 1) rows rises.1 (λ uid above is.
           let apart : (row.uid == uid) ≡ false = grind (arith, nat_tests, above) in

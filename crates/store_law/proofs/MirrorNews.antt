@@ -1,7 +1,7 @@
 -- A mirror that agrees with a view agrees with the view behind its news.
 use Rattle.std.proofs.Common.{◌≡◌, ℕ, suc, ◌+◌, ◌-◌, ◌==◌, Bool, true, false, not, cond, if◌then◌else◌, List, [], ◌∷◌, ◌++◌, length, map, replicate}
 use Rattle.std.proofs.Common.{Option, None, Some, refl, sym, ◌∙◌, ap, subst, arith, append_assoc, append-nil, length-append}
-use Rattle.std.specs.Prelude.{⊤, IfSome}
+use Rattle.std.specs.Prelude.{IfSome}
 use Rattle.std.specs.List.{fold}
 use Rattle.std.proofs.lemmas.Bool.Decides.{nat_tests}
 use Rattle.std.proofs.lemmas.List.{length-map}
@@ -9,13 +9,12 @@ use Rattle.mail_fetch.specs.FlagText.{flags_text}
 use Rattle.mail_fetch.specs.Parts.{uid_text}
 use Rattle.mail_message.specs.RowOrder.{row_at}
 use Rattle.mail_message.specs.SameFlags.{is_same_flags}
-use Rattle.mail_message.specs.FlagSets.{Flags}
 use Rattle.mail_message.specs.declared.message.Row.{Row}
 use Rattle.mail_message.proofs.FlagLaw.{same_flags_decide}
 use Rattle.imap_types.specs.declared.reply.ReplyLine.{ReplyLine}
 use Rattle.imap_types.specs.declared.reply.ReplyLine.TheVariants.{Expunge, Fetch}
 use Rattle.mur_model.specs.ClientView.{without_number}
-use Rattle.mur_model.specs.News.{changed_line, changed_lines, exists_lines, expunge_lines, flag_parts, fresh_row, fresh_rows, has_row, is_above, is_among, news}
+use Rattle.mur_model.specs.News.{changed_line, changed_lines, exists_lines, expunge_lines, flag_parts, fresh_row, fresh_rows, has_row, is_among, news}
 use Rattle.mur_model.specs.News.{rows_behind, rows_there, told_of}
 use Rattle.store_law.specs.Mirror.{IsSeenOf, Mirror, Mirrors, Seen, at_number, forgotten, read_line, read_lines, seen_by, unseen}
 use Rattle.store_law.proofs.CountLaw.{read_both}
@@ -125,8 +124,8 @@ module _ (now : List Row) (so : Row → Row) where
       → Mirrors (read_lines ((front ++ seen ∷ []) ++ mirror) (expunge_lines now (number + 1) rows)) ((firsts ++ so row ∷ []) ++ map so (rows_there now rows))
       → Mirrors (read_lines (front ++ mirror) (expunge_lines now number rows)) (firsts ++ map so (rows_there now rows))
       → Mirrors
-          (read_lines (front ++ seen ∷ mirror) (if there then expunge_lines now (number + 1) rows else Expunge number ∷ expunge_lines now number rows))
-          (firsts ++ map so (cond there (row ∷ rows_there now rows) (rows_there now rows)))
+      (read_lines (front ++ seen ∷ mirror) (if there then expunge_lines now (number + 1) rows else Expunge number ∷ expunge_lines now number rows))
+      (firsts ++ map so (cond there (row ∷ rows_there now rows) (rows_there now rows)))
   unfolding read_line
   expunged_by number front firsts seen mirror row rows true is stays goes =
       rw (append_assoc front (seen ∷ []) mirror) at (rw (append_assoc firsts (so row ∷ []) (map so (rows_there now rows))) at stays)

@@ -1,5 +1,5 @@
 -- What a client's mirror has in common with the view of its session, it has behind each command, where the news and the lines of each keep it so.
-use Rattle.std.proofs.Common.{◌≡◌, ℕ, ◌-◌, ◌==◌, Bool, true, false, if◌then◌else◌, List, [], ◌∷◌, length, map, replicate, Option, None, Some, refl, sym, ◌∙◌}
+use Rattle.std.proofs.Common.{◌≡◌, ℕ, ◌-◌, ◌==◌, Bool, true, false, if◌then◌else◌, List, [], ◌∷◌, length, replicate, Option, None, Some, refl, sym}
 use Rattle.std.proofs.Common.{ap, arith, subst}
 use Rattle.std.specs.Prelude.{⊤, IfSome}
 use Rattle.mail_message.specs.Boxes.{Content, snapshot_of}
@@ -20,7 +20,6 @@ use Rattle.imap_types.specs.declared.reply.Reply.{Reply}
 use Rattle.mur_model.specs.Needed.{Needed, Refusal, Turned, Mailbox, Work, Make, Append as append_work, Status as status_work, Select as select_work, Viewed as viewed_work}
 use Rattle.mur_model.specs.declared.commands.fetch.Fetching.{Fetching}
 use Rattle.mur_model.specs.declared.commands.search.Searching.{Searching}
-use Rattle.mur_model.specs.declared.commands.select.Opening.{Opening}
 use Rattle.mur_model.specs.declared.commands.store.FlagStore.{FlagStore}
 use Rattle.mur_model.specs.declared.session.Sess.{Sess}
 use Rattle.mur_model.specs.declared.session.Sess.TheVariants.{Off, In, Selected as selected, Ended}
@@ -31,7 +30,7 @@ use Rattle.mur_model.specs.declared.view.View.{View}
 use Rattle.mur_model.specs.declared.work.NewsFor.{NewsFor}
 use Rattle.mur_model.specs.declared.work.ViewWork.{ViewWork}
 use Rattle.mur_model.specs.declared.work.ViewWork.TheVariants as view_work
-use Rattle.mur_model.specs.Act.{act_by, act_of, need_begun, need_in, need_of, need_selected, need_taken, session_after, work_on, worked_at}
+use Rattle.mur_model.specs.Act.{act_by, act_of, need_begun, need_in, need_of, need_selected, need_taken, session_after, work_on}
 use Rattle.mur_model.specs.Append.{append_on, append_reply, append_to}
 use Rattle.mur_model.specs.Create.{create_on, make}
 use Rattle.mur_model.specs.Left.{Worked}
@@ -205,7 +204,7 @@ module _ (R : Mirror → List Row → Type 0) (keeps : Keeps R) where
   module _ (store : Store) (rise : AllRise store) (session : Sess) (it : Command) (serial : ℕ) (mirror : Mirror) (is : OfView R mirror session)
       (no_select : (is_writable : Bool) → Selects it is_writable → ⊥)
       (stores : (view : View) (one : FlagStore) (box : Content) → StoreOf it view one → session ≡ selected view → Rises box
-          → TurnKeeps R mirror view (work_there view (view_work.Store one) box).turn) where
+      → TurnKeeps R mirror view (work_there view (view_work.Store one) box).turn) where
     either_behind : (view : View) (test : Bool) (one other : Worked) → TurnKeeps R mirror view one.turn → TurnKeeps R mirror view other.turn
         → TurnKeeps R mirror view (if test then one else other).turn
     either_behind view true one other one_is other_is = one_is

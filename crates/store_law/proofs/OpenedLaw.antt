@@ -22,7 +22,7 @@ use Rattle.mur_model.specs.declared.store.Store.{Store}
 use Rattle.mur_model.specs.declared.view.View.{View}
 use Rattle.mur_model.specs.declared.work.ViewWork.{ViewWork}
 use Rattle.mur_model.specs.declared.work.ViewWork.TheVariants as view_work
-use Rattle.mur_model.specs.Act.{act_by, act_of, need_begun, need_in, need_of, need_selected, need_taken, session_after, work_on, worked_at}
+use Rattle.mur_model.specs.Act.{act_by, act_of, need_begun, need_in, need_of, need_selected, need_taken, session_after, work_on}
 use Rattle.mur_model.specs.Append.{append_on, append_to}
 use Rattle.mur_model.specs.Create.{create_on, make}
 use Rattle.mur_model.specs.Fetch.{fetch_at, fetch_told, sees, seen_flags}

@@ -1,5 +1,5 @@
 -- The rows of a view stand in rising order of UID, behind its news too.
-use Rattle.std.proofs.Common.{◌≡◌, ℕ, ◌+◌, ◌<◌, ◌≤◌, nat_lt, Bool, true, false, ◌&&◌, cond, List, [], ◌∷◌, ◌++◌, map, Option, None, Some, refl, sym, subst, arith}
+use Rattle.std.proofs.Common.{◌≡◌, ℕ, ◌+◌, ◌≤◌, nat_lt, Bool, true, false, ◌&&◌, cond, List, [], ◌∷◌, ◌++◌, map, Option, None, Some, refl, sym, subst, arith}
 use Rattle.std.specs.Prelude.{⊤, IfSome}
 use Rattle.std.specs.List.{AllByRecursion, filter}
 use Rattle.std.proofs.lemmas.Bool.Decides.{nat_tests}
@@ -60,16 +60,15 @@ from_first low (row ∷ more) rises above = (above.0, rises.1)
 both_rise : (low : ℕ) (rows more : List Row) → RowsRise low rows → RowsRise 0 more → AllByRecursion (λ (other : Row). low ≤ other.uid) more
     → AreAbove rows more → RowsRise low (rows ++ more)
 both_rise low [] more rises behind above over = from_first low more behind above
-both_rise low (row ∷ rows) more rises behind above over =
-    (
-      rises.0,
-      both_rise (row.uid + 1) rows more rises.1 behind
-          (all_so (λ (other : Row). is_above (row ∷ rows) other.uid ≡ true) (λ (other : Row). row.uid + 1 ≤ other.uid) more
-          (λ other is. (let lt : nat_lt row.uid other.uid ≡ true = first_true (nat_lt row.uid other.uid) (is_above rows other.uid) is in
-          grind (arith, nat_tests, lt))) over)
-          (all_so (λ (other : Row). is_above (row ∷ rows) other.uid ≡ true) (λ (other : Row). is_above rows other.uid ≡ true) more
-          (λ other is. second_true (nat_lt row.uid other.uid) (is_above rows other.uid) is) over),
-    )
+both_rise low (row ∷ rows) more rises behind above over = (
+  rises.0,
+  both_rise (row.uid + 1) rows more rises.1 behind
+      (all_so (λ (other : Row). is_above (row ∷ rows) other.uid ≡ true) (λ (other : Row). row.uid + 1 ≤ other.uid) more
+      (λ other is. (let lt : nat_lt row.uid other.uid ≡ true = first_true (nat_lt row.uid other.uid) (is_above rows other.uid) is in
+      grind (arith, nat_tests, lt))) over)
+      (all_so (λ (other : Row). is_above (row ∷ rows) other.uid ≡ true) (λ (other : Row). is_above rows other.uid ≡ true) more
+      (λ other is. second_true (nat_lt row.uid other.uid) (is_above rows other.uid) is) over),
+)
 
 behind_by : (rows : List Row) (row : Row) (more : List Row) (is : Bool) → is_above rows row.uid ≡ is → AreAbove rows more
     → AreAbove rows (cond is (row ∷ more) more)
@@ -93,8 +92,7 @@ fresh_uid row (Some it) is = is
 fresh_rise : (now : List Row) (low : ℕ) (rows more : List Row) → RowsRise low (rows ++ more) → RowsRise low (fresh_rows now rows ++ more)
 fresh_rise now low [] more rises = rises
 fresh_rise now low (row ∷ rows) more rises =
-    let same : (fresh_row row (row_at now row.uid)).uid ≡ row.uid = fresh_uid row (row_at now row.uid) (found_uid now row.uid) in
-    (
+    let same : (fresh_row row (row_at now row.uid)).uid ≡ row.uid = fresh_uid row (row_at now row.uid) (found_uid now row.uid) in (
       subst (λ n. low ≤ n) (sym same) rises.0,
       subst (λ n. RowsRise (n + 1) (fresh_rows now rows ++ more)) (sym same) (fresh_rise now (row.uid + 1) rows more rises.1),
     )

@@ -1,5 +1,5 @@
 -- The rows of a STORE are those of its mailbox behind it; and their UIDs are among those that the reply takes for told.
-use Rattle.std.proofs.Common.{◌≡◌, ◌≢◌, ℕ, ◌==◌, ◌||◌, Bool, true, false, cond, List, [], ◌∷◌, ◌++◌, map, Option, None, Some, is_some, refl, sym, ◌∙◌}
+use Rattle.std.proofs.Common.{◌≡◌, ◌≢◌, ℕ, ◌==◌, ◌||◌, Bool, true, false, cond, List, [], ◌∷◌, ◌++◌, Option, None, Some, is_some, refl, sym, ◌∙◌}
 use Rattle.std.proofs.Common.{ap, subst, arith}
 use Rattle.std.specs.Prelude.{All}
 use Rattle.std.specs.List.{fold, list_any}
@@ -124,7 +124,7 @@ module _ (uid : ℕ) (flags : Flags) where
       → (row.uid ≡ uid → row.flags ≡ flags) → (row.uid ≢ uid → now.flags ≡ flags)
       → message_at (content_after box (SetFlags row.uid row.flags)).messages uid ≡ Some (cond same (relabelled now row.flags) now)
       → ((later : Message) → later.uid ≡ uid → later.flags ≡ flags
-          → message_at (content_after box (SetFlags row.uid row.flags)).messages uid ≡ Some later → HasThem (row ∷ rows) box)
+      → message_at (content_after box (SetFlags row.uid row.flags)).messages uid ≡ Some later → HasThem (row ∷ rows) box)
       → HasThem (row ∷ rows) box
   by_row row rows box now true e own such other changed more =
       let here : row.uid ≡ uid = grind (arith, nat_tests, e, own) in more (relabelled now row.flags) own (such here) changed
@@ -146,7 +146,7 @@ module _ (uid : ℕ) (flags : Flags) where
       → now.uid ≡ uid → message_at (content_after box (SetFlags row.uid row.flags)).messages uid ≡ Some (with_flags row.uid row.flags now)
       → cond same (Some row) (row_at rows uid) ≡ Some found
       → (row_at rows uid ≡ Some found → (later : Message) → later.uid ≡ uid
-          → message_at (content_after box (SetFlags row.uid row.flags)).messages uid ≡ Some later → HasThem (row ∷ rows) box)
+      → message_at (content_after box (SetFlags row.uid row.flags)).messages uid ≡ Some later → HasThem (row ∷ rows) box)
       → HasThem (row ∷ rows) box
   given_by row rows box now found true e such own changed is more =
       let here : row.uid ≡ uid = grind (arith, nat_tests, e) in

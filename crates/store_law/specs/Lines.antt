@@ -1,5 +1,5 @@
 -- Of which message a FETCH line speaks (RFC 9051, 7.5.2 and 2.3.1.2): of the one whose number it has, among those that the client was told of.
-use Rattle.std.specs.Prelude.{◌≡◌, ℕ, ⊤, List, [], ◌∷◌, map, Option, None, Some, IfSome, All}
+use Rattle.std.specs.Prelude.{◌≡◌, ℕ, ⊤, List, [], ◌∷◌, map, Option, Some, IfSome, All}
 use Rattle.mail_fetch.specs.Parts.{part_text}
 use Rattle.mail_message.specs.Boxes.{Content, message_at}
 use Rattle.mail_message.specs.declared.item.Item.{Item}
