@@ -10,7 +10,6 @@ pub mod BegunLaw
 pub mod ExaminedLaw
 pub mod OpenedLaw
 pub mod MirrorSteps
-pub mod CountLaw
 pub mod MirrorsAlong
 pub mod MirrorNews
 pub mod StoredFlags

@@ -18,8 +18,7 @@ use Rattle.mail_message.specs.declared.message.Row.{Row}
 use Rattle.mur_model.specs.declared.commands.fetch.Fetching.{Fetching}
 use Rattle.mur_model.specs.Fetch.{fetch_lines, fetch_reply_line, flag_uids, is_flags, is_uid_item, items_told, number_in, tells_flags}
 use Rattle.store_law.specs.Mirror.{IsSeenOf, Mirror, Mirrors, Seen, at_number, read_line, read_lines, seen_by}
-use Rattle.store_law.proofs.CountLaw.{read_both}
-use Rattle.store_law.proofs.MirrorNews.{found_uid, row_told, rows_told_by, told_row}
+use Rattle.store_law.proofs.MirrorNews.{found_uid, read_both, row_told, rows_told_by, told_row}
 use Rattle.store_law.proofs.RisingViews.{RowsRise}
 
 -- ---- the parts of a line

@@ -17,9 +17,13 @@ use Rattle.mur_model.specs.ClientView.{without_number}
 use Rattle.mur_model.specs.News.{changed_line, changed_lines, exists_lines, expunge_lines, flag_parts, fresh_row, fresh_rows, has_row, is_among, news}
 use Rattle.mur_model.specs.News.{rows_behind, rows_there, told_of}
 use Rattle.store_law.specs.Mirror.{IsSeenOf, Mirror, Mirrors, Seen, at_number, forgotten, read_line, read_lines, seen_by, unseen}
-use Rattle.store_law.proofs.CountLaw.{read_both}
 
 -- ---- mirrors beside rows
+
+-- lines one behind another
+pub read_both : (mirror : Mirror) (lines more : List ReplyLine) → read_lines mirror (lines ++ more) ≡ read_lines (read_lines mirror lines) more
+read_both mirror [] more = refl
+read_both mirror (line ∷ lines) more = read_both (read_line mirror line) lines more
 
 pub mirrors_length : (mirror : Mirror) (rows : List Row) → Mirrors mirror rows → length mirror ≡ length rows
 unfolding Mirrors

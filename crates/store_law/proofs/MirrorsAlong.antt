@@ -21,8 +21,8 @@ use Rattle.mur_model.specs.Answer.{answer_of}
 use Rattle.mur_model.specs.History.{Course, Talk, Follows, IsInCommandOrder, IsLegal, answers_its_command, carried_out, course_after, is_about, loses, numbered, point_of, with_session}
 use Rattle.mur_model.specs.History.Follows.{no_points, a_reply, a_loss}
 use Rattle.store_law.specs.Mirror.{LosesNoneOf, Mirror, OfView, ViewsAreTold, asked_by, mirror_of, read_lines}
-use Rattle.store_law.proofs.CountLaw.{keeps_count}
 use Rattle.store_law.proofs.MirrorLaw.{Agrees, keeps_mirror}
+use Rattle.store_law.proofs.MirrorNews.{mirrors_length}
 use Rattle.store_law.proofs.MirrorSteps.{Keeps, act_keeps}
 use Rattle.store_law.proofs.RisingStores.{AllRise, answer_rises}
 
@@ -272,7 +272,10 @@ of_view R S so mirror Ended is = tt
 pub views_are_told : (setting : Setting) (first : Course) (talk : Talk) (points : List Point) (last : Course) → IsLegal setting first talk points last
     → AllRise first.store → ((conn : ℕ) → first.sessions conn ≡ Off) → ViewsAreTold talk points last
 views_are_told setting first talk points last legal rise off = record {
-  counted = λ conn loses_none. mirrored _ keeps_count setting first talk points last legal rise conn (off conn) loses_none;
-  told = λ conn loses_none. of_view _ _ (λ mirror rows agrees. agrees.0) _ _
-      (mirrored Agrees keeps_mirror setting first talk points last legal rise conn (off conn) loses_none);
+  counted = λ conn loses_none. of_view _ _ (λ mirror rows agrees. mirrors_length mirror rows agrees.0) _ _ (agrees conn loses_none);
+  told = λ conn loses_none. of_view _ _ (λ mirror rows agrees. agrees.0) _ _ (agrees conn loses_none);
 }
+  where
+    agrees : (conn : ℕ) → LosesNoneOf conn points
+        → OfView Agrees (mirror_of [] (talk.requests conn) (talk.answers conn)) (last.sessions conn)
+    agrees conn loses_none = mirrored Agrees keeps_mirror setting first talk points last legal rise conn (off conn) loses_none
