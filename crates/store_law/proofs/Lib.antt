@@ -22,3 +22,14 @@ mod DoneExpunge
 mod DoneFetch
 mod DoneStore
 pub mod DoneIsDone
+pub mod ExaminedLaw
+pub mod OpenedLaw
+pub mod MirrorSteps
+pub mod MirrorsAlong
+pub mod MirrorNews
+pub mod StoredFlags
+pub mod RisingViews
+pub mod MirrorFetch
+pub mod MirrorLaw
+pub mod LinesSpoken
+pub mod LinesLaw

@@ -1,6 +1,6 @@
--- Which command can end in which work at a mailbox that takes messages away or changes their flags.
+-- Which command can end in which work at a mailbox: that takes messages away, changes their flags, adds one, or selects it.
 use Rattle.std.proofs.Common.{◌≡◌, ℕ, ◌||◌, Bool, true, false, if◌then◌else◌, List, [], ◌∷◌, ◌++◌, length, Option, None, Some, codes}
-use Rattle.std.proofs.Common.{refl, sym, ◌∙◌, ap}
+use Rattle.std.proofs.Common.{refl, sym, ◌∙◌, ap, subst}
 use Rattle.std.specs.Prelude.{⊤}
 use Rattle.std.specs.List.{Contains, list_any}
 use Rattle.std.specs.Str.{bytes_eq}
@@ -27,6 +27,7 @@ use Rattle.mur_model.specs.declared.work.ViewWork.TheVariants as view_work
 use Rattle.imap_types.specs.declared.reply.BadText.TheVariants.{State, Syntax}
 use Rattle.imap_types.specs.declared.reply.Verdict.TheVariants.{Bad as bad_reply}
 use Rattle.mur_model.specs.declared.commands.select.Opening.{Opening}
+use Rattle.mur_model.specs.declared.commands.store.FlagStore.{FlagStore}
 use Rattle.mur_model.specs.declared.session.Sess.{Sess}
 use Rattle.mur_model.specs.declared.session.Sess.TheVariants.{Off, In, Selected as selected, Ended}
 use Rattle.mur_model.specs.declared.setting.Setting.{Setting}
@@ -49,6 +50,7 @@ use Rattle.mur_model.specs.Select.{opening, select, select_as, select_by}
 use Rattle.mur_model.specs.Status.{status, status_as, status_by}
 use Rattle.mur_model.specs.StoreFlags.{store, store_named}
 use Rattle.mur_model.specs.Traits.{Nothing, Labels, effect_of, is_in, traits_of}
+use Rattle.store_law.specs.Examined.{adds}
 use Rattle.store_law.specs.NoneLost.{Expunges, IsAbout, IsNamed, MayBecome, MayChange, MayLabel}
 
 -- all messages are meant, or those of some UIDs
@@ -60,22 +62,35 @@ IsMeant (Some uids) uid = Contains uids uid
 abbrev pub MayChangeThese : Sess → Command → List ℕ → View → (ℕ → Type 0) → Type 0
 MayChangeThese session it name view P = (box : Content) (uid : ℕ) → box.serial ≡ view.serial → P uid → MayChange session it name box uid
 
+-- the STORE is the one that the command asks for
+abbrev pub StoreOf : Command → View → FlagStore → Type 0
+StoreOf (command.Store by_uid set mode is_silent flags) view it =
+    it ≡ record { by_uid = by_uid; uids = named_uids by_uid set view.rows; mode = mode; is_silent = is_silent; flags = flags }
+StoreOf it view asked = ⊥
+
 abbrev pub FitsView : Sess → Command → List ℕ → View → ViewWork → Type 0
 FitsView session it name view (view_work.News why) = ⊤
 FitsView session it name view view_work.Close = MayChangeThese session it name view (IsMeant None) × Expunges it
 FitsView session it name view (view_work.Expunge only) = MayChangeThese session it name view (IsMeant only) × Expunges it
 FitsView session it name view (view_work.Store asked) =
     MayChangeThese session it name view (Contains asked.uids) × ((old : Flags) → MayLabel it old (flags_after asked.mode old asked.flags))
+    × StoreOf it view asked
 FitsView session it name view (view_work.Fetch asked) =
     (view.is_writable ≡ true → MayChangeThese session it name view (Contains asked.uids))
     × (list_any is_body asked.items ≡ true → (old : Flags) → MayLabel it old (with_flag old (System Seen)))
 FitsView session it name view (view_work.Search asked) = ⊤
 
+-- a SELECT selects to change, and an EXAMINE to read
+abbrev pub Selects : Command → Bool → Type 0
+Selects (command.Select text) is_writable = is_writable ≡ true
+Selects (command.Examine text) is_writable = is_writable ≡ false
+Selects it is_writable = ⊥
+
 abbrev pub FitsWork : Sess → Command → List ℕ → Work → Type 0
 FitsWork session it name Make = ⊤
-FitsWork session it name (append_work message) = ⊤
+FitsWork session it name (append_work message) = adds it ≡ true
 FitsWork session it name (status_work shown items) = ⊤
-FitsWork session it name (select_work opened) = ⊤
+FitsWork session it name (select_work opened) = Selects it opened.is_writable
 FitsWork session it name (viewed_work view work) = FitsView session it name view work
 
 -- the work is such as this command of this session ends in
@@ -144,16 +159,16 @@ module _ (session : Sess) (it : Command) where
   create_fits setting user name false (Some fault) = tt
   create_fits setting user name false None = create_by_fits name (may_create setting.users user name)
 
-  append_by_fits : (name : List ℕ) (message : Message) (may : Bool) → Fits session it (append_by name message may)
+  append_by_fits : (name : List ℕ) (message : Message) (may : Bool) → adds it ≡ true → Fits session it (append_by name message may)
   unfolding append_by
-  append_by_fits name message true = tt
-  append_by_fits name message false = tt
+  append_by_fits name message true so = so
+  append_by_fits name message false so = tt
 
-  append_fits : (setting : Setting) (user name : List ℕ) (message : Message) (fault : Option NameFault)
+  append_fits : (setting : Setting) (user name : List ℕ) (message : Message) (fault : Option NameFault) → adds it ≡ true
       → Fits session it (append_as setting user name message fault)
   unfolding append_as
-  append_fits setting user name message (Some fault) = tt
-  append_fits setting user name message None = append_by_fits name message (has_rights setting.users user name)
+  append_fits setting user name message (Some fault) so = tt
+  append_fits setting user name message None so = append_by_fits name message (has_rights setting.users user name) so
 
   status_by_fits : (user name : List ℕ) (items : List StatusItem) (may : Bool) → Fits session it (status_by user name items may)
   unfolding status_by
@@ -166,42 +181,45 @@ module _ (session : Sess) (it : Command) where
   status_fits setting user name items (Some fault) = tt
   status_fits setting user name items None = status_by_fits user name items (has_rights setting.users user name)
 
-  select_by_fits : (name : List ℕ) (opened : Opening) (may : Bool) → Fits session it (select_by name opened may)
+  select_by_fits : (name : List ℕ) (opened : Opening) (may : Bool) → Selects it opened.is_writable → Fits session it (select_by name opened may)
   unfolding select_by
-  select_by_fits name opened true = tt
-  select_by_fits name opened false = tt
+  select_by_fits name opened true so = so
+  select_by_fits name opened false so = tt
 
-  select_fits : (setting : Setting) (user name : List ℕ) (is_writable was_selected : Bool) (fault : Option NameFault)
+  select_fits : (setting : Setting) (user name : List ℕ) (is_writable was_selected : Bool) (fault : Option NameFault) → Selects it is_writable
       → Fits session it (select_as setting user name is_writable was_selected fault)
   unfolding select_as
-  select_fits setting user name is_writable was_selected (Some fault) = tt
-  select_fits setting user name is_writable was_selected None =
-      select_by_fits name (opening user name is_writable was_selected) (has_rights setting.users user name)
+  select_fits setting user name is_writable was_selected (Some fault) so = tt
+  select_fits setting user name is_writable was_selected None so =
+      select_by_fits name (opening user name is_writable was_selected) (has_rights setting.users user name) so
 
-  begun_fits : (setting : Setting) (user : List ℕ) (is_selected : Bool) (asked : Command) → Fits session it (need_begun setting user is_selected asked)
-  unfolding need_begun create create_meant append status select
-  begun_fits setting user is_selected (command.Create text) =
+  begun_fits : (setting : Setting) (user : List ℕ) (is_selected : Bool) (asked : Command) → it ≡ asked
+      → Fits session it (need_begun setting user is_selected asked)
+  unfolding need_begun create create_meant append status select adds
+  begun_fits setting user is_selected (command.Create text) same =
       let meant = without_separator text in
       create_fits setting user (taken_name user meant) (is_inbox meant) (mail_name_fault (taken_name user meant))
-  begun_fits setting user is_selected (command.Append text flags date body) =
-      append_fits setting user (taken_name user text) (new_message setting flags date body) (mail_name_fault (taken_name user text))
-  begun_fits setting user is_selected (command.Status text items) =
+  begun_fits setting user is_selected (command.Append text flags date body) same =
+      append_fits setting user (taken_name user text) (new_message setting flags date body) (mail_name_fault (taken_name user text)) (ap adds same)
+  begun_fits setting user is_selected (command.Status text items) same =
       status_fits setting user (taken_name user text) items (mail_name_fault (taken_name user text))
-  begun_fits setting user is_selected (command.Select text) =
+  begun_fits setting user is_selected (command.Select text) same =
       select_fits setting user (taken_name user text) true is_selected (mail_name_fault (taken_name user text))
-  begun_fits setting user is_selected (command.Examine text) =
+      (subst (λ (c : Command). Selects c true) (sym same) refl)
+  begun_fits setting user is_selected (command.Examine text) same =
       select_fits setting user (taken_name user text) false is_selected (mail_name_fault (taken_name user text))
-  begun_fits setting user is_selected asked = tt
+      (subst (λ (c : Command). Selects c false) (sym same) refl)
+  begun_fits setting user is_selected asked same = tt
 
   idled_fits : (line : List ℕ) (done : Needed) → Fits session it done → Fits session it (idled line done)
   idled_fits line done is = either (is_done line) done (Refusal (bad_reply Syntax)) (λ so. is) tt
 
-  in_fits : (setting : Setting) (user : List ℕ) (asked : Command) → Fits session it (need_in setting user asked)
+  in_fits : (setting : Setting) (user : List ℕ) (asked : Command) → it ≡ asked → Fits session it (need_in setting user asked)
   unfolding need_in
-  in_fits setting user command.Noop = tt
-  in_fits setting user (command.Idle (Some line)) = idled_fits line (Turned (replied (completed (codes "IDLE")))) tt
-  in_fits setting user (command.Idle None) = begun_fits setting user false (command.Idle None)
-  in_fits setting user asked = begun_fits setting user false asked
+  in_fits setting user command.Noop same = tt
+  in_fits setting user (command.Idle (Some line)) same = idled_fits line (Turned (replied (completed (codes "IDLE")))) tt
+  in_fits setting user (command.Idle None) same = begun_fits setting user false (command.Idle None) same
+  in_fits setting user asked same = begun_fits setting user false asked same
 
 -- ---- commands of a session that has this view
 
@@ -227,7 +245,7 @@ store_fits view by_uid set mode is_silent flags =
     let named = store_named view by_uid set mode is_silent flags in
     either (selected view) it (names_messages view by_uid set) (if view.is_writable then named else read_only) no_such_number
     (λ so. either (selected view) it view.is_writable named read_only
-    (λ writable. (may_change view it (Contains (named_uids by_uid set view.rows)) (λ uid meant. meant) writable, λ old. refl)) tt) tt
+    (λ writable. (may_change view it (Contains (named_uids by_uid set view.rows)) (λ uid meant. meant) writable, λ old. refl, refl)) tt) tt
 
 asked_before : (told one more : Bool) → (told || more) ≡ true → (told || (one || more)) ≡ true
 asked_before true one more is = refl
@@ -283,7 +301,7 @@ unfolding need_selected
 selected_fits setting view command.Noop = tt
 selected_fits setting view (command.Idle (Some line)) =
     idled_fits (selected view) (command.Idle (Some line)) line (at_mailbox view (view_work.News news_for.Idle)) tt
-selected_fits setting view (command.Idle None) = begun_fits (selected view) (command.Idle None) setting view.user true (command.Idle None)
+selected_fits setting view (command.Idle None) = begun_fits (selected view) (command.Idle None) setting view.user true (command.Idle None) refl
 selected_fits setting view command.Close = close_fits view
 selected_fits setting view command.Unselect = tt
 selected_fits setting view (command.Expunge only) = expunge_fits view only
@@ -293,12 +311,12 @@ selected_fits setting view (command.Search by_uid keys) =
     let placed = keys_at (length view.rows) (last_uid view.rows) keys in
     either (selected view) (command.Search by_uid keys) (have_all_numbers (length view.rows) keys)
     (at_mailbox view (view_work.Search (record { by_uid = by_uid; keys = placed }))) no_such_number (λ so. tt) tt
-selected_fits setting view it = begun_fits (selected view) it setting view.user true it
+selected_fits setting view it = begun_fits (selected view) it setting view.user true it refl
 
 taken_fits : (setting : Setting) (session : Sess) (it : Command) → Fits session it (need_taken setting session it)
 unfolding need_taken
 taken_fits setting Off it = off_fits Off it setting it
-taken_fits setting (In user) it = in_fits (In user) it setting user it
+taken_fits setting (In user) it = in_fits (In user) it setting user it refl
 taken_fits setting (selected view) it = selected_fits setting view it
 taken_fits setting Ended it = tt
 

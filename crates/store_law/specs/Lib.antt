@@ -7,3 +7,6 @@ pub mod OthersUnseen
 pub mod FlagByFlag
 pub mod SetNames
 pub mod DoneIsDone
+pub mod Examined
+pub mod Mirror
+pub mod Lines

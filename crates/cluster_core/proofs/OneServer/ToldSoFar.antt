@@ -35,6 +35,9 @@ use Rattle.cluster_core.specs.World.{start, setting_of, layout_of}
 use Rattle.store_law.proofs.BegunLaw.{begins_as_read}
 use Rattle.store_law.proofs.AppendedThere.{keeps_appended}
 use Rattle.store_law.proofs.DoneIsDone.{does_what_it_says}
+use Rattle.store_law.proofs.OpenedLaw.{reads_what_is_examined}
+use Rattle.store_law.proofs.LinesLaw.{speaks_by_numbers}
+use Rattle.store_law.proofs.MirrorsAlong.{views_are_told}
 use Rattle.cluster_core.proofs.Connections.ConnectionLaw.{Story, told_of}
 use Rattle.cluster_core.proofs.Connections.NameLaw.{store_below}
 use Rattle.cluster_core.proofs.Names.HomesLaw.{AreNamesOf, has_boxes}
@@ -221,6 +224,7 @@ told_so_far config talk before later are date_is now last =
       others_unseen = λ conn. keeps_to_its_own (setting_of config) legal.last.store (legal.last.sessions conn)
           (points_own (setting_of config) (told_of law.story) first_course legal.last (history_of world) legal.legal.follows
           (none_own (setting_of config)) conn);
+      views_told = views_are_told (setting_of config) first_course (told_of law.story) (history_of world) legal.last legal.legal none_rises (λ conn. refl);
       lost_next = loses_the_next (setting_of config) world law.story law.is_told (λ conn. (says conn).so);
       made_by_now = made_by_now (setting_of config) world law.story law.is_told;
       in_time = stands_in_time (setting_of config) world
@@ -250,6 +254,8 @@ told_by_one_store config events are date_is =
     let last = (all.at steps [] (sym (append-nil steps))).law in
     record {
       begins_as_read = begins_as_read (setting_of config);
+      examined_stays = reads_what_is_examined (setting_of config);
+      speaks_by_numbers = speaks_by_numbers (setting_of config);
       talk = all.talk;
       at_each_step = λ before later e. told_at config all.talk steps before later e are date_is (all.at before later e) last;
       steps_rise = steps_rise (setting_of config) (run_steps (start config) steps) last.story last.is_told;

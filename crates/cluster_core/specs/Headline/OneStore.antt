@@ -35,6 +35,9 @@ use Rattle.link_queue.specs.Links.{on_link}
 use Rattle.store_law.specs.Refusals.{HaveCauses}
 use Rattle.store_law.specs.NoneLost.{LosesNone}
 use Rattle.store_law.specs.OthersUnseen.{KeepsToItsOwn}
+use Rattle.store_law.specs.Examined.{ReadsWhatIsExamined}
+use Rattle.store_law.specs.Lines.{SpeaksByNumbers}
+use Rattle.store_law.specs.Mirror.{ViewsAreTold}
 use Rattle.cluster_core.specs.Headline.Points.{AreMadeBy, LosesTheNext}
 use Rattle.imap_talk.specs.Requests.{AreRequests}
 use Rattle.store_law.specs.Serials.{GivesLowSerials}
@@ -107,6 +110,8 @@ pub record IsToldSoFar (config : Config) (talk : Talk) (points : List Point) (st
   pub low_serials : GivesLowSerials last.store
   -- whatever a client asks, its user learns nothing of a mailbox on which they have no rights, and changes nothing in it
   pub others_unseen : (conn : ℕ) → KeepsToItsOwn (law_setting config) last.store (last.sessions conn)
+  -- what a client concludes of its mailbox from the lines that it is given is so of its session's view (RFC 9051, 2.3.1.2)
+  pub views_told : ViewsAreTold so_far (history_of world) last
   -- which points there may be
   pub lost_next : LosesTheNext so_far (history_of world)
   pub made_by_now : AreMadeBy world.steps (history_of world)
@@ -123,6 +128,10 @@ pub record IsToldSoFar (config : Config) (talk : Talk) (points : List Point) (st
 -- stands before it, whoever sent them (linearizability)
 pub record IsToldByOneStore (config : Config) (events : List Event) : Type 0 where
   pub begins_as_read : BeginsAsRead (law_setting config)
+  -- what EXAMINE selected stays as it is (RFC 9051, 6.3.3)
+  pub examined_stays : ReadsWhatIsExamined (law_setting config)
+  -- `* n FETCH` speaks of the message that stands at n in what was told (RFC 9051, 7.5.2)
+  pub speaks_by_numbers : SpeaksByNumbers (law_setting config)
   pub talk : Talk
   pub at_each_step : (before later : List Event) → steps_of_run config events ≡ before ++ later
       → IsToldSoFar config talk (history_of (run_steps (start config) (steps_of_run config events))) before (run_steps (start config) before)
