@@ -5,5 +5,6 @@ pub mod NoneLost
 pub mod AppendedThere
 pub mod NeedsNoCause
 pub mod NoRelocation
-pub mod StaysBegun
+pub mod StaysOwn
 pub mod BegunLaw
+pub mod LoginLaw

@@ -3,3 +3,4 @@ pub mod Appended
 pub mod Begun
 pub mod Serials
 pub mod Refusals
+pub mod Logins
