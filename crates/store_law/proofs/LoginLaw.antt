@@ -1,5 +1,5 @@
 -- A session begins only by the name and the password of a user, and stays this user's until it ends.
-use Rattle.std.proofs.Common.{◌≡◌, ℕ, ◌+◌, ◌<◌, ◌==◌, ◌||◌, Bool, true, false, if◌then◌else◌, List, [], ◌∷◌, ◌++◌, length, take, drop, position}
+use Rattle.std.proofs.Common.{◌≡◌, ℕ, ◌+◌, ◌==◌, ◌||◌, Bool, true, false, if◌then◌else◌, List, [], ◌∷◌, ◌++◌, length, take, drop, position}
 use Rattle.std.proofs.Common.{Option, None, Some, Result, Ok, Err, codes, refl, sym, ◌∙◌, ap, ap₂, subst, arith, inl, inr}
 use Rattle.std.specs.Prelude.{⊤, ◌⊎◌, slice_index}
 use Rattle.std.specs.List.{Contains, find}
@@ -31,7 +31,7 @@ use Rattle.mur_model.specs.Needed.{Needed, Refusal, Turned, Mailbox}
 use Rattle.mur_model.specs.Plain.{acts_as, authenticate, authenticate_as, authenticate_by, authenticate_with, cut_at, cut_at_nul, decoded, is_nul}
 use Rattle.mur_model.specs.Rights.{user_named}
 use Rattle.mur_model.specs.Traits.{is_in, traits_of}
-use Rattle.store_law.specs.Logins.{session_user, plain_message, IsPlainOf, LogsIn, IsLoginOf, GoesOnAsUser, BeginsByLogin}
+use Rattle.store_law.specs.Logins.{session_user, plain_message, LogsIn, IsLoginOf, BeginsByLogin}
 use Rattle.store_law.proofs.StaysOwn.{stays_own}
 
 -- ---- the user of a name

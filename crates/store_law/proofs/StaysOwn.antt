@@ -4,7 +4,6 @@ use Rattle.std.proofs.lemmas.Option.{same_Some}
 use Rattle.std.specs.Prelude.{⊤, ◌⊎◌, length}
 use Rattle.mail_message.specs.Boxes.{Content, messages_at}
 use Rattle.mail_message.specs.FlagSets.{Flags}
-use Rattle.mail_message.specs.declared.key.Key.{Key}
 use Rattle.mail_message.specs.declared.message.Message.{Message}
 use Rattle.mail_message.specs.declared.mode.Mode.{Mode}
 use Rattle.mail_message.specs.declared.mode.Mode.TheVariants.{Add}
@@ -19,12 +18,9 @@ use Rattle.imap_types.specs.declared.command.Command.{Command}
 use Rattle.imap_types.specs.declared.command.Command.TheVariants as command
 use Rattle.imap_types.specs.declared.command.StatusItem.{StatusItem}
 use Rattle.imap_types.specs.declared.reply.BadText.TheVariants.{State, Syntax}
-use Rattle.imap_types.specs.declared.reply.NoText.{NoText}
-use Rattle.imap_types.specs.declared.reply.NoText.TheVariants.{NonExistent}
 use Rattle.imap_types.specs.declared.reply.Verdict.TheVariants.{Bad as bad_reply}
 use Rattle.imap_types.specs.Reply.{completed}
 use Rattle.mur_model.specs.declared.commands.fetch.Fetching.{Fetching}
-use Rattle.mur_model.specs.declared.commands.search.Searching.{Searching}
 use Rattle.mur_model.specs.declared.commands.select.Opening.{Opening}
 use Rattle.mur_model.specs.declared.commands.store.FlagStore.{FlagStore}
 use Rattle.mur_model.specs.declared.session.Sess.{Sess}
@@ -48,14 +44,13 @@ use Rattle.mur_model.specs.Left.{Worked, kept, changed, replied}
 use Rattle.mur_model.specs.NamedRows.{last_uid, names_messages}
 use Rattle.mur_model.specs.Needed.{Needed, Refusal, Turned, Mailbox, Work, Make, Append as append_work, Status as status_work, Select as select_work, Viewed as viewed_work, at_mailbox, no_such_number, read_only}
 use Rattle.mur_model.specs.Rights.{has_rights, may_create}
-use Rattle.mur_model.specs.Select.{opening, select, select_as, select_by, select_on, unselected}
+use Rattle.mur_model.specs.Select.{opening, select, select_as, select_by, select_on}
 use Rattle.mur_model.specs.Selected.{rows_of}
 use Rattle.mur_model.specs.Status.{status, status_as, status_by, status_on}
 use Rattle.mur_model.specs.Store.{box_at, is_spent}
 use Rattle.mur_model.specs.StoreFlags.{store_named, stored_at}
 use Rattle.mur_model.specs.Traits.{is_in, traits_of}
 use Rattle.mur_model.specs.Viewing.{found_gone, viewed_on, work_there}
-use Rattle.store_law.specs.Begun.{has_begun, IsReadSo}
 use Rattle.store_law.specs.Logins.{session_user}
 
 -- a session of this user, or one that has ended
