@@ -7,4 +7,5 @@ pub mod NeedsNoCause
 pub mod NoRelocation
 pub mod StaysOwn
 pub mod BegunLaw
+pub mod LetsIn
 pub mod LoginLaw

@@ -32,6 +32,7 @@ use Rattle.mur_model.specs.Plain.{acts_as, authenticate, authenticate_as, authen
 use Rattle.mur_model.specs.Rights.{user_named}
 use Rattle.mur_model.specs.Traits.{is_in, traits_of}
 use Rattle.store_law.specs.Logins.{session_user, plain_message, LogsIn, IsLoginOf, BeginsByLogin}
+use Rattle.store_law.proofs.LetsIn.{lets_in}
 use Rattle.store_law.proofs.StaysOwn.{stays_own}
 
 -- ---- the user of a name
@@ -240,4 +241,6 @@ pub begins_by_login : (setting : Setting) → BeginsByLogin setting.users settin
 begins_by_login setting = λ store session it serial. record {
   begins = λ user e. begins setting session store it serial user e;
   stays = λ user own. stays_own setting store session it serial user own;
+  lets_in = λ are user known bare off said.
+      subst (λ s. (act_of setting store s it serial).session ≡ In user.name) (sym off) (lets_in setting store user it serial are known bare said);
 }

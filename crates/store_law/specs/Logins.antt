@@ -1,10 +1,11 @@
 -- Who logs in (RFC 9051, 6.2.2 and 6.2.3): a session is that of a user who was named with the password of the configuration, until it ends. The list of
 -- users, the bytes of names and passwords and the base64 of RFC 4648 say it, and nothing by which a password is tested.
-use Rattle.std.specs.Prelude.{◌≡◌, ◌⊎◌, ℕ, List, [], ◌∷◌, ◌++◌, Option, None, Some, Ok}
-use Rattle.std.specs.List.{Contains}
+use Rattle.std.specs.Prelude.{◌≡◌, ◌≢◌, ◌⊎◌, ℕ, List, [], ◌∷◌, ◌++◌, Option, None, Some, Ok}
+use Rattle.std.specs.List.{All, Contains}
 use Rattle.base64.specs.Engines.{standard}
 use Rattle.base64.specs.GeneralPurpose.{decode_of}
 use Rattle.mur_base.specs.Ascii.{nul}
+use Rattle.mur_base.specs.Users.{AreUsers}
 use Rattle.mur_base.specs.declared.user.User.{User}
 use Rattle.imap_types.specs.declared.command.Command.{Command}
 use Rattle.imap_types.specs.declared.command.Command.TheVariants.{Login, Authenticate}
@@ -50,6 +51,9 @@ pub record GoesOnAsUser (users : List User) (before : Sess) (it : Command) (behi
   pub begins : (user : List ℕ) → session_user behind ≡ Some user → (session_user before ≡ Some user) ⊎ ((before ≡ Off) × IsLoginOf users user it)
   -- it stays this user's until it ends
   pub stays : (user : List ℕ) → session_user before ≡ Some user → (session_user behind ≡ Some user) ⊎ (behind ≡ Ended)
+  -- and each user is let in so, where users have names of their own, without NUL, as they do in a configuration
+  pub lets_in : AreUsers users → (user : User) → Contains users user → All (λ byte. byte ≢ nul) user.name → before ≡ Off → LogsIn user it
+      → behind ≡ In user.name
 
 -- whatever the store, the session and the command: by these users
 abbrev pub BeginsByLogin : List User → Setting → Type 0
