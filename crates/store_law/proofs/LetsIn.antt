@@ -30,7 +30,7 @@ use Rattle.mur_model.specs.Needed.{Refusal, Turned}
 use Rattle.mur_model.specs.Plain.{acts_as, authenticate, authenticate_as, authenticate_by, authenticate_with, cut_at, cut_at_nul, decoded, is_nul}
 use Rattle.mur_model.specs.Rights.{user_named}
 use Rattle.mur_model.specs.Traits.{is_in, may_be, traits_of}
-use Rattle.store_law.specs.Logins.{plain_message, IsPlainOf, LogsIn}
+use Rattle.store_law.specs.Logins.{plain_message, IsPlainOf, SaysUser}
 
 -- ---- the user of a name
 
@@ -162,8 +162,8 @@ plain_taken users user response known bare said =
 -- ---- a session that has not begun
 
 need_taken_off : (setting : Setting) (user : User) (it : Command) → AreUsers setting.users → Contains setting.users user
-    → All (λ byte. byte ≢ nul) user.name → LogsIn user it → (command : List ℕ) × (need_of setting Off it ≡ Turned (begun_by command user.name))
-unfolding need_of need_taken need_off is_in may_be traits_of LogsIn
+    → All (λ byte. byte ≢ nul) user.name → SaysUser user it → (command : List ℕ) × (need_of setting Off it ≡ Turned (begun_by command user.name))
+unfolding need_of need_taken need_off is_in may_be traits_of SaysUser
 need_taken_off setting user (command.Login name password) are known bare said = (
   codes "LOGIN",
   ap (λ n. login setting.users (codes "LOGIN") n password) said.0
@@ -175,7 +175,7 @@ need_taken_off setting user (command.Authenticate None) are known bare said = ab
 need_taken_off setting user it are known bare said = absurd said
 
 pub lets_in : (setting : Setting) (store : Store) (user : User) (it : Command) (serial : ℕ) → AreUsers setting.users → Contains setting.users user
-    → All (λ byte. byte ≢ nul) user.name → LogsIn user it → (act_of setting store Off it serial).session ≡ In user.name
+    → All (λ byte. byte ≢ nul) user.name → SaysUser user it → (act_of setting store Off it serial).session ≡ In user.name
 unfolding act_of act_by
 lets_in setting store user it serial are known bare said =
     let taken = need_taken_off setting user it are known bare said in

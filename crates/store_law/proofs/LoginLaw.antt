@@ -3,6 +3,7 @@ use Rattle.std.proofs.Common.{◌≡◌, ℕ, ◌+◌, ◌==◌, ◌||◌, Bool,
 use Rattle.std.proofs.Common.{Option, None, Some, Result, Ok, Err, codes, refl, sym, ◌∙◌, ap, ap₂, subst, arith, inl, inr}
 use Rattle.std.specs.Prelude.{⊤, ◌⊎◌, slice_index}
 use Rattle.std.specs.List.{Contains, find}
+use Rattle.std.proofs.Math.Logic.{⊎_elim}
 use Rattle.std.specs.Result.{result_ok}
 use Rattle.std.specs.Str.{bytes_eq}
 use Rattle.std.proofs.lemmas.Bool.Decides.{nat_tests}
@@ -19,6 +20,9 @@ use Rattle.mur_base.specs.Users.{is_user_named}
 use Rattle.mur_base.specs.declared.user.User.{User}
 use Rattle.imap_types.specs.declared.command.Command.{Command}
 use Rattle.imap_types.specs.declared.command.Command.TheVariants as command
+use Rattle.imap_types.specs.declared.command.Tag.{Tag}
+use Rattle.imap_types.specs.declared.request.Request.{Request}
+use Rattle.imap_types.specs.declared.request.Request.TheVariants.{Command as asks, Unknown as unknown, TooBig as too_big}
 use Rattle.imap_types.specs.declared.reply.BadText.TheVariants.{State, Syntax}
 use Rattle.imap_types.specs.declared.reply.Verdict.TheVariants.{Bad as bad_reply}
 use Rattle.mur_model.specs.declared.session.Sess.{Sess}
@@ -26,12 +30,13 @@ use Rattle.mur_model.specs.declared.session.Sess.TheVariants.{Off, In, Selected 
 use Rattle.mur_model.specs.declared.setting.Setting.{Setting}
 use Rattle.mur_model.specs.declared.store.Store.{Store}
 use Rattle.mur_model.specs.Act.{act_by, act_of, need_of, need_off, need_taken, session_after}
+use Rattle.mur_model.specs.Answer.{answer_of}
 use Rattle.mur_model.specs.Login.{login, login_as, login_by, login_failed}
 use Rattle.mur_model.specs.Needed.{Needed, Refusal, Turned, Mailbox}
 use Rattle.mur_model.specs.Plain.{acts_as, authenticate, authenticate_as, authenticate_by, authenticate_with, cut_at, cut_at_nul, decoded, is_nul}
 use Rattle.mur_model.specs.Rights.{user_named}
 use Rattle.mur_model.specs.Traits.{is_in, traits_of}
-use Rattle.store_law.specs.Logins.{session_user, plain_message, LogsIn, IsLoginOf, BeginsByLogin}
+use Rattle.store_law.specs.Logins.{session_user, plain_message, SaysUser, LogsIn, IsLoginOf, GoesOnAsUser, BeginsByLogin}
 use Rattle.store_law.proofs.LetsIn.{lets_in}
 use Rattle.store_law.proofs.StaysOwn.{stays_own}
 
@@ -56,10 +61,17 @@ found (first ∷ users) name user e = found_by name first users user (bytes_eq f
 
 -- ---- what a session that has not begun needs
 
+-- the command says the user of the list who has this name
+record IsSaidOf (users : List User) (name : List ℕ) (it : Command) : Type 0 where
+  user : User
+  known : Contains users user
+  named : user.name ≡ name
+  said : SaysUser user it
+
 -- a session that begins with a turn is that of a user who logs in with the command
 abbrev BeginsOwn : List User → Command → Option Sess → Type 0
 BeginsOwn users it None = ⊤
-BeginsOwn users it (Some later) = (user : List ℕ) → session_user later ≡ Some user → IsLoginOf users user it
+BeginsOwn users it (Some later) = (user : List ℕ) → session_user later ≡ Some user → IsSaidOf users user it
 
 unfoldable IsLoginNeed : List User → Command → Needed → Type 0
 IsLoginNeed users it (Refusal verdict) = ⊤
@@ -73,7 +85,7 @@ either_need users it false one other is is_other = is_other
 
 -- a command that says the name and the password of each user of this name and this password
 abbrev SaysBoth : Command → List ℕ → List ℕ → Type 0
-SaysBoth it name password = (user : User) → user.name ≡ name → user.password ≡ password → LogsIn user it
+SaysBoth it name password = (user : User) → user.name ≡ name → user.password ≡ password → SaysUser user it
 
 login_by_is : (users : List User) (it : Command) (command name password : List ℕ) (user : User) (same : Bool) → Contains users user × (user.name ≡ name)
     → bytes_eq user.password password ≡ same → SaysBoth it name password → IsLoginNeed users it (login_by command user.name same)
@@ -128,7 +140,7 @@ acts_as_self authzid user e = own_by authzid user (length authzid == 0) refl e
 -- the response says the name and the password of each user whose they are
 plain_says : (response authzid rest name password : List ℕ) → decode_of standard response ≡ Ok (authzid ++ nul ∷ rest) → rest ≡ name ++ nul ∷ password
     → acts_as authzid name ≡ true → SaysBoth (command.Authenticate (Some response)) name password
-unfolding LogsIn
+unfolding SaysUser
 plain_says response authzid rest name password is_text is_rest acts = λ user named same. record {
   authzid = authzid;
   acts_as_self = subst (λ n. (authzid ≡ []) ⊎ (authzid ≡ n)) (sym named) (acts_as_self authzid name acts);
@@ -181,7 +193,7 @@ plain_is users response =
     (authenticate_with users (decoded response)) (λ _. tt) (plain_decoded_is users response (bytes_eq response (codes "=")) refl)
 
 off_need : (setting : Setting) (it : Command) → IsLoginNeed setting.users it (need_off setting it)
-unfolding need_off IsLoginNeed LogsIn session_user
+unfolding need_off IsLoginNeed SaysUser session_user
 off_need setting (command.Login name password) =
     login_is setting.users (command.Login name password) (codes "LOGIN") name password (λ user named same. (sym named, sym same))
 off_need setting (command.Authenticate (Some response)) = plain_is setting.users response
@@ -196,13 +208,13 @@ off_taken setting it =
 -- ---- what comes of it
 
 begins_with : (users : List User) (it : Command) (later : Option Sess) → BeginsOwn users it later → (user : List ℕ)
-    → session_user (session_after Off later) ≡ Some user → IsLoginOf users user it
+    → session_user (session_after Off later) ≡ Some user → IsSaidOf users user it
 unfolding session_user
 begins_with users it None is user e = cc
 begins_with users it (Some later) is user e = is user e
 
 begins_by : (users : List User) (it : Command) (store : Store) (serial : ℕ) (need : Needed) → IsLoginNeed users it need → (user : List ℕ)
-    → session_user (act_by store Off serial need).session ≡ Some user → IsLoginOf users user it
+    → session_user (act_by store Off serial need).session ≡ Some user → IsSaidOf users user it
 unfolding act_by IsLoginNeed session_user
 begins_by users it store serial (Refusal verdict) is user e = cc
 begins_by users it store serial (Turned turn) is user e = begins_with users it turn.session is user e
@@ -225,7 +237,7 @@ same_user before (selected view) own user was is (inr ends) = cc
 
 begins : (setting : Setting) (session : Sess) (store : Store) (it : Command) (serial : ℕ) (user : List ℕ)
     → session_user (act_of setting store session it serial).session ≡ Some user
-    → (session_user session ≡ Some user) ⊎ ((session ≡ Off) × IsLoginOf setting.users user it)
+    → (session_user session ≡ Some user) ⊎ ((session ≡ Off) × IsSaidOf setting.users user it)
 unfolding session_user act_of
 begins setting Off store it serial user e =
     inr (refl, begins_by setting.users it store serial (need_of setting Off it) (off_taken setting it) user e)
@@ -237,10 +249,35 @@ begins setting (selected view) store it serial user e =
 begins setting Ended store it serial user e =
     absurd (none-some user (sym (ap session_user (ended_stays setting store it serial)) ∙ e))
 
-pub begins_by_login : (setting : Setting) → BeginsByLogin setting.users setting
-begins_by_login setting = λ store session it serial. record {
-  begins = λ user e. begins setting session store it serial user e;
+-- the sessions before and behind a command
+goes_on : (setting : Setting) (store : Store) (session : Sess) (tag : Tag) (it : Command) (serial : ℕ)
+    → GoesOnAsUser setting.users session (asks tag it) (act_of setting store session it serial).session
+unfolding LogsIn
+goes_on setting store session tag it serial = record {
+  begins = λ user e. ⊎_elim inl (λ said. inr (said.0, logs_in said.1)) (begins setting session store it serial user e);
   stays = λ user own. stays_own setting store session it serial user own;
   lets_in = λ are user known bare off said.
       subst (λ s. (act_of setting store s it serial).session ≡ In user.name) (sym off) (lets_in setting store user it serial are known bare said);
 }
+  where
+    logs_in : {name : List ℕ} → IsSaidOf setting.users name it → IsLoginOf setting.users name (asks tag it)
+    logs_in said = record { user = said.user; known = said.known; named = said.named; said = said.said }
+
+-- those around what is no command
+same_session : (users : List User) (session : Sess) (request : Request) → ((user : User) → LogsIn user request → ⊥)
+    → GoesOnAsUser users session request session
+same_session users session request none = record {
+  begins = λ user e. inl e;
+  stays = λ user own. inl own;
+  lets_in = λ are user known bare off said. absurd (none user said);
+}
+
+pub begins_by_login : (setting : Setting) → BeginsByLogin setting.users setting
+unfolding answer_of LogsIn
+begins_by_login setting = λ store session request serial. by store session request serial
+  where
+    by : (store : Store) (session : Sess) (request : Request) (serial : ℕ)
+        → GoesOnAsUser setting.users session request (answer_of setting store session request serial).session
+    by store session (asks tag it) serial = goes_on setting store session tag it serial
+    by store session (unknown tag) serial = same_session setting.users session (unknown tag) (λ user said. said)
+    by store session (too_big tag) serial = same_session setting.users session (too_big tag) (λ user said. said)
