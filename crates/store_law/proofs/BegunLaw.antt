@@ -1,5 +1,6 @@
 -- A session is as its readers take it: it begins just where its command is read as one that begins it, and then goes on until it ends.
-use Rattle.std.proofs.Common.{◌≡◌, ℕ, Bool, true, false, if◌then◌else◌, List, Option, None, Some, codes, refl}
+use Rattle.std.proofs.Common.{◌≡◌, ℕ, Bool, true, false, if◌then◌else◌, List, Option, None, Some, codes, refl, inl, inr}
+use Rattle.std.specs.Prelude.{◌⊎◌}
 use Rattle.std.specs.Str.{bytes_eq}
 use Rattle.mur_base.specs.declared.user.User.{User}
 use Rattle.imap_types.specs.declared.command.Command.{Command}
@@ -19,7 +20,8 @@ use Rattle.mur_model.specs.Rights.{user_named}
 use Rattle.mur_model.specs.Traits.{is_in, may_be, traits_of}
 use Rattle.mur_model.specs.Waits.{begins, begins_by, begins_session, begun_behind}
 use Rattle.store_law.specs.Begun.{has_begun, IsReadSo, BeginsAsRead}
-use Rattle.store_law.proofs.StaysBegun.{stays_begun}
+use Rattle.store_law.specs.Logins.{session_user}
+use Rattle.store_law.proofs.StaysOwn.{stays_own}
 
 -- a session that hadn't begun has begun behind a need just where the need begins it
 abbrev BeginsBy : Needed → Type 0
@@ -94,13 +96,22 @@ read_so begun (In user) e = e
 read_so begun (selected view) e = e
 read_so begun Ended e = tt
 
+-- a session that stays its user's, or ends, has begun as before
+own_has_begun : (user : List ℕ) (behind : Sess) → (session_user behind ≡ Some user) ⊎ (behind ≡ Ended) → IsReadSo true behind
+unfolding session_user IsReadSo has_begun
+own_has_begun user Off (inl own) = cc
+own_has_begun user Off (inr ends) = cc
+own_has_begun user (In other) is = refl
+own_has_begun user (selected view) is = refl
+own_has_begun user Ended is = tt
+
 pub begins_as_read : (setting : Setting) → BeginsAsRead setting
-unfolding act_of need_of is_in begun_behind has_begun IsReadSo act_by
+unfolding act_of need_of is_in begun_behind has_begun IsReadSo act_by session_user
 begins_as_read setting = λ store session it serial. by store session it serial
   where
     by : (store : Store) (session : Sess) (it : Command) (serial : ℕ)
         → IsReadSo (begun_behind setting (has_begun session) it) (act_of setting store session it serial).session
     by store Off it serial = read_so (begins setting it) _ (off_is setting store serial it)
-    by store (In user) it serial = stays_begun setting store (In user) it serial refl
-    by store (selected view) it serial = stays_begun setting store (selected view) it serial refl
+    by store (In user) it serial = own_has_begun user _ (stays_own setting store (In user) it serial user refl)
+    by store (selected view) it serial = own_has_begun view.user _ (stays_own setting store (selected view) it serial view.user refl)
     by store Ended it serial = tt

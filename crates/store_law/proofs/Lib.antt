@@ -5,7 +5,7 @@ pub mod NoneLost
 pub mod AppendedThere
 pub mod NeedsNoCause
 pub mod NoRelocation
-pub mod StaysBegun
+pub mod StaysOwn
 pub mod BegunLaw
 pub mod OwnRights
 pub mod OwnNeeds
@@ -33,3 +33,5 @@ pub mod MirrorFetch
 pub mod MirrorLaw
 pub mod LinesSpoken
 pub mod LinesLaw
+pub mod LetsIn
+pub mod LoginLaw

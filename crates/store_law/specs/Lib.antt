@@ -10,3 +10,4 @@ pub mod DoneIsDone
 pub mod Examined
 pub mod Mirror
 pub mod Lines
+pub mod Logins

@@ -33,6 +33,7 @@ use Rattle.store_law.specs.Serials.{GivesLowSerials}
 use Rattle.cluster_core.specs.Shown.{given_to}
 use Rattle.cluster_core.specs.World.{start, setting_of, layout_of}
 use Rattle.store_law.proofs.BegunLaw.{begins_as_read}
+use Rattle.store_law.proofs.LoginLaw.{begins_by_login}
 use Rattle.store_law.proofs.AppendedThere.{keeps_appended}
 use Rattle.store_law.proofs.DoneIsDone.{does_what_it_says}
 use Rattle.store_law.proofs.OpenedLaw.{reads_what_is_examined}
@@ -256,6 +257,7 @@ told_by_one_store config events are date_is =
       begins_as_read = begins_as_read (setting_of config);
       examined_stays = reads_what_is_examined (setting_of config);
       speaks_by_numbers = speaks_by_numbers (setting_of config);
+      begins_by_login = begins_by_login (setting_of config);
       talk = all.talk;
       at_each_step = λ before later e. told_at config all.talk steps before later e are date_is (all.at before later e) last;
       steps_rise = steps_rise (setting_of config) (run_steps (start config) steps) last.story last.is_told;

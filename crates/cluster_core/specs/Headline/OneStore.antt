@@ -21,6 +21,7 @@ use Rattle.schedule_text.specs.declared.event.Event.{Event}
 use Rattle.cluster_core.specs.declared.layout.Layout.{Layout}
 use Rattle.cluster_core.specs.declared.world.World.{World}
 use Rattle.store_law.specs.Begun.{BeginsAsRead}
+use Rattle.store_law.specs.Logins.{BeginsByLogin}
 use Rattle.front_core.specs.Ending.{EndsOnlyLast}
 use Rattle.store_law.specs.Appended.{KeepsAppended}
 use Rattle.store_law.specs.DoneIsDone.{DoesWhatItSays}
@@ -132,6 +133,8 @@ pub record IsToldByOneStore (config : Config) (events : List Event) : Type 0 whe
   pub examined_stays : ReadsWhatIsExamined (law_setting config)
   -- `* n FETCH` speaks of the message that stands at n in what was told (RFC 9051, 7.5.2)
   pub speaks_by_numbers : SpeaksByNumbers (law_setting config)
+  -- a session begins by the login of a user of the configuration, and stays this user's
+  pub begins_by_login : BeginsByLogin config.users (law_setting config)
   pub talk : Talk
   pub at_each_step : (before later : List Event) → steps_of_run config events ≡ before ++ later
       → IsToldSoFar config talk (history_of (run_steps (start config) (steps_of_run config events))) before (run_steps (start config) before)
