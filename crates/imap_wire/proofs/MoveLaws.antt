@@ -120,12 +120,12 @@ kept-literal bytes same all front before grown more line_at at line_room literal
     let empty : cond (nat_lt 0 less) [] (drop at grown) ≡ [] = no_line (nat_lt 0 less) grown at (omega arith) in
     rw (empty, test, all_is, same_is) refl
 
-pub kept-text : (bytes all front last grown more : List ℕ) (line_at line_room literal_room left : ℕ) (spent : Bool) → left ≡ 0 → all ≡ bytes ++ more
-    → grown ≡ last ++ more → line_at ≤ length last
-    → kept all front grown line_at line_room literal_room left spent ≡ (let s = kept bytes front last line_at line_room literal_room left spent in
+pub kept-text : (bytes all front behind last grown more : List ℕ) (line_at line_room literal_room left : ℕ) (spent : Bool) → left ≡ 0 → all ≡ bytes ++ more
+    → behind ≡ front → grown ≡ last ++ more → line_at ≤ length last
+    → kept all behind grown line_at line_room literal_room left spent ≡ (let s = kept bytes front last line_at line_room literal_room left spent in
     line_moved s (bytes ++ more) (s.line ++ more))
-kept-text bytes all front last grown more line_at line_room literal_room left spent none all_is grown_is within =
-    rw (none, all_is, grown_is, drop-append-le line_at last more within, append_assoc front (drop line_at last) more) refl
+kept-text bytes all front behind last grown more line_at line_room literal_room left spent none all_is front_is grown_is within =
+    rw (none, all_is, front_is, grown_is, drop-append-le line_at last more within, append_assoc front (drop line_at last) more) refl
 
 -- a whole piece within a line
 pub Moves-whole : (s to : State) (piece : List ℕ) → s.spent ≡ false → s.literal_left ≡ 0 → IsOneLine piece → length s.line + length piece ≤ s.line_room

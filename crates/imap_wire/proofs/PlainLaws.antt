@@ -1,5 +1,5 @@
 -- Plain bytes, which end no line and announce no literal.
-use Rattle.std.proofs.Common.{◌≡◌, ℕ, suc, ◌+◌, ◌-◌, ◌<◌, ◌≤◌, true, false, List, [], ◌∷◌, ◌++◌, length, take, Option, None, refl, sym, ap, ◌∙◌, arith}
+use Rattle.std.proofs.Common.{◌≡◌, ℕ, suc, ◌+◌, ◌-◌, ◌<◌, ◌≤◌, true, false, List, [], ◌∷◌, ◌++◌, length, take, Option, None, Some, is_some, refl, sym, ap, ◌∙◌, arith}
 use Rattle.std.specs.List.{AllByRecursion}
 use Rattle.std.proofs.lemmas.List.{append-nil, length-append}
 use Rattle.std.proofs.lemmas.List.Elements.{All-from_recursion, recursion_from_All}
@@ -56,3 +56,7 @@ announced-line front back plain some =
     let at : length (front ++ back) - 1 ≡ length front + (length back - 1) = omega (arith, length-append front back) in
     ap (λ n. announced (take n (front ++ back))) at ∙ ap announced (take-append-add front back (length back - 1))
     ∙ announced_behind front (take (length back - 1) back) plain
+
+pub plain-none : (bytes : List ℕ) (found : Option ℕ) → is_some found ≡ false → IsFirstByte (is_byte3 13 10 123) bytes found → IsPlain bytes
+plain-none bytes None none first = plain-found bytes first
+plain-none bytes (Some at) none first = cc

@@ -45,7 +45,7 @@ pub struct Begun {
 }
 
 impl Begun {
-    ghost use Rattle.imap_wire.specs.Begun.{state_of, present_line, line_front, line_back, IsRoomy, IsBetween, StandsFirst, HasFirstRoom, MayWait, Moves, TakesFrame};
+    ghost use Rattle.imap_wire.specs.Begun.{state_of, present_line, line_back, IsRoomy, IsBetween, StandsFirst, HasFirstRoom, MayWait, Moves, TakesFrame};
     ghost use Rattle.imap_wire.specs.Kept.{next_room, filled_room};
     ghost use Rattle.imap_wire.specs.Bulk.{credit, account, IsPaid, IsUpTo, most_moves, frame_moves, join_moves};
     ghost use Rattle.imap_wire.specs.Steps.{start_state, step, line_step, line_end, with_literal, failing};
@@ -72,8 +72,7 @@ impl Begun {
 
     /// The bytes of the present line in the last block; those before it are plain.
     fn line_back(&self) -> &[u8]
-        ensures back { result.now ≡ line_back self.now }
-        ensures front { IsPlain (line_front self.now) }
+        ensures { result.now ≡ line_back self.now }
     {
         let at = if self.front_len > 0 { 0 } else { self.line_at };
         &self.kept.last.as_slice()[at..]
@@ -142,7 +141,8 @@ impl Begun {
 
     /// Whether a piece may wait in the first block: it ends neither a line nor anything else, and finds room there.
     fn may_wait(&self, piece: &[u8]) -> bool
-        requires { self.now.literal_left ≡ 0 }
+        requires in_line { self.now.literal_left ≡ 0 }
+        requires some { 0 < length piece.now }
         ensures { IsTrue result → MayWait self.now piece.now }
     {
         if !self.stands_first() {
