@@ -208,8 +208,8 @@ sized_found waits bytes = by (nat_lt 0 many) (ends_with nat_eq before (codes "{"
     by false brace some is = inl (sized_parts waits bytes ∙ ap (λ t. literal_if (t && ends_with nat_eq before (codes "{")) waits (drop at bytes)) some)
     by true false some is =
         inl (
-          sized_parts waits bytes ∙ ap (λ t. literal_if (t && ends_with nat_eq before (codes "{")) waits (drop at bytes)) some
-          ∙ ap (λ t. literal_if t waits (drop at bytes)) is
+        sized_parts waits bytes ∙ ap (λ t. literal_if (t && ends_with nat_eq before (codes "{")) waits (drop at bytes)) some
+        ∙ ap (λ t. literal_if t waits (drop at bytes)) is
         )
     by true true some is =
         let all : bytes ≡ take (length before - 1) before ++ 123 ∷ drop at bytes =
@@ -232,9 +232,9 @@ announced_found text = by (ends_with nat_eq text (codes "+}")) (ends_with nat_eq
     by true other is _ = elim (sized_found false (take (length text - 2) text)) [
       | inl none ↦
           inl (
-            announced_parts text
-            ∙ ap (λ t. picked t (ends_with nat_eq text (codes "}")) (sized false (take (length text - 2) text)) (sized true (take (length text - 1) text))) is
-            ∙ none
+          announced_parts text
+          ∙ ap (λ t. picked t (ends_with nat_eq text (codes "}")) (sized false (take (length text - 2) text)) (sized true (take (length text - 1) text))) is
+          ∙ none
           )
       | inr found ↦
           inr (
@@ -248,10 +248,10 @@ announced_found text = by (ends_with nat_eq text (codes "+}")) (ends_with nat_eq
     by false true not_one is = elim (sized_found true (take (length text - 1) text)) [
       | inl none ↦
           inl (
-            announced_parts text
-            ∙ ap (λ t. picked t (ends_with nat_eq text (codes "}")) (sized false (take (length text - 2) text)) (sized true (take (length text - 1) text))) not_one
-            ∙ ap (λ t. picked false t (sized false (take (length text - 2) text)) (sized true (take (length text - 1) text))) is
-            ∙ none
+          announced_parts text
+          ∙ ap (λ t. picked t (ends_with nat_eq text (codes "}")) (sized false (take (length text - 2) text)) (sized true (take (length text - 1) text))) not_one
+          ∙ ap (λ t. picked false t (sized false (take (length text - 2) text)) (sized true (take (length text - 1) text))) is
+          ∙ none
           )
       | inr found ↦
           inr (
@@ -264,9 +264,9 @@ announced_found text = by (ends_with nat_eq text (codes "+}")) (ends_with nat_eq
     ]
     by false false not_one not_other =
         inl (
-          announced_parts text
-          ∙ ap (λ t. picked t (ends_with nat_eq text (codes "}")) (sized false (take (length text - 2) text)) (sized true (take (length text - 1) text))) not_one
-          ∙ ap (λ t. picked false t (sized false (take (length text - 2) text)) (sized true (take (length text - 1) text))) not_other
+        announced_parts text
+        ∙ ap (λ t. picked t (ends_with nat_eq text (codes "}")) (sized false (take (length text - 2) text)) (sized true (take (length text - 1) text))) not_one
+        ∙ ap (λ t. picked false t (sized false (take (length text - 2) text)) (sized true (take (length text - 1) text))) not_other
         )
 
 -- a brace behind plain bytes

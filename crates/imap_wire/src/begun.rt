@@ -139,7 +139,8 @@ impl Begun {
         self.kept.last.room() == 0 || piece <= self.kept.room_left()
     }
 
-    /// Whether a piece may wait in the first block: it ends neither a line nor anything else, and finds room there.
+    /// Whether a piece may wait in the first block: it ends neither a line nor anything else, and finds room there. So a
+    /// connection that has said little takes little, and no byte is copied once more when the rest comes.
     fn may_wait(&self, piece: &[u8]) -> bool
         requires in_line { self.now.literal_left ≡ 0 }
         requires some { 0 < length piece.now }

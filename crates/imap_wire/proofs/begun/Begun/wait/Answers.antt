@@ -41,12 +41,11 @@ invariant_of-self-2-clause-line_short c =
 
 pub invariant_of-self-2-clause-line_fits : goal.invariant_of-self-2-clause-line_fits
 invariant_of-self-2-clause-line_fits c = λ _ _.
-    let it = c.args.self.now in
-    (
+    let it = c.args.self.now in (
       ap length (c.keep.ensures.full ∙ c.in_ok-make_first_room.ensures.full) ∙ c.requires.may.stands.first,
       rest-more it.line_at it.kept.last.bytes.items c.keep.new.self.last.bytes.items c.args.piece.now
-      (rw c.requires.may.stands.whole at it.line_within) (rw c.in_ok-make_first_room.ensures.bytes at c.keep.ensures.last)
-      c.requires.may.stands.line c.requires.may.plain,
+          (rw c.requires.may.stands.whole at it.line_within) (rw c.in_ok-make_first_room.ensures.bytes at c.keep.ensures.last)
+          c.requires.may.stands.line c.requires.may.plain,
     )
 
 pub returns-clause-moves : goal.returns-clause-moves
