@@ -1,6 +1,6 @@
 -- What a text announces at its end.
 use Rattle.std.proofs.Common.{◌≡◌, ◌≢◌, ℕ, ◌+◌, ◌-◌, ◌<◌, ◌≤◌, Bool, true, false, ◌&&◌, nat_lt, nat_eq, if◌then◌else◌, List, [], ◌∷◌, ◌++◌}
-use Rattle.std.proofs.Common.{codes, length, take, drop, reverse, get_or, Option, None, Some, refl, sym, ap, subst, ◌∙◌, arith, append_assoc, length-append}
+use Rattle.std.proofs.Common.{codes, length, take, drop, reverse, get_or, Option, None, Some, ◌⊎◌, inl, inr, refl, sym, ap, subst, ◌∙◌, arith, append_assoc, length-append}
 use Rattle.std.specs.Cmp.Lexicographic.{pointwise, same_text}
 use Rattle.std.specs.Char.{is_ascii_digit}
 use Rattle.std.specs.List.{AllByRecursion, ends_with}
@@ -12,6 +12,7 @@ use Rattle.std.proofs.lemmas.List.Sums.{suffix_len_is, suffix_len-le-length, pre
 use Rattle.std.proofs.lemmas.Bool.Decides.{nat_tests}
 use Rattle.imap_wire.specs.declared.literal.Literal.{Literal}
 use Rattle.imap_wire.specs.FrameLaws.{IsNumber, AnnouncesNone, announcement}
+use Rattle.imap_wire.specs.Front.{IsPlain, IsPlainByte}
 use Rattle.imap_wire.specs.Literal.{IsDigit, last_digits, sized, announced}
 use Rattle.imap_wire.proofs.LiteralLaws.{digit_value-digit}
 
@@ -187,3 +188,115 @@ announced_none text none = announced_parts text ∙ by (ends_with nat_eq text (c
         none front digits true number
         (ends_parts text (codes "}") is ∙ ap (λ b. b ++ 125 ∷ []) same ∙ append_assoc front (123 ∷ digits) (125 ∷ [])))
     by false false _ _ = refl
+
+-- what stands at the end, if something does
+sized_found : (waits : Bool) (bytes : List ℕ)
+    → (sized waits bytes ≡ None) ⊎ ((front : List ℕ) × (digits : List ℕ) × IsNumber digits × (bytes ≡ front ++ 123 ∷ digits))
+sized_found waits bytes = by (nat_lt 0 many) (ends_with nat_eq before (codes "{")) refl refl
+  where
+    many : ℕ
+    many = last_digits bytes
+
+    at : ℕ
+    at = length bytes - many
+
+    before : List ℕ
+    before = take at bytes
+
+    by : (some brace : Bool) → nat_lt 0 many ≡ some → ends_with nat_eq before (codes "{") ≡ brace
+        → (sized waits bytes ≡ None) ⊎ ((front : List ℕ) × (digits : List ℕ) × IsNumber digits × (bytes ≡ front ++ 123 ∷ digits))
+    by false brace some is = inl (sized_parts waits bytes ∙ ap (λ t. literal_if (t && ends_with nat_eq before (codes "{")) waits (drop at bytes)) some)
+    by true false some is =
+        inl (
+        sized_parts waits bytes ∙ ap (λ t. literal_if (t && ends_with nat_eq before (codes "{")) waits (drop at bytes)) some
+        ∙ ap (λ t. literal_if t waits (drop at bytes)) is
+        )
+    by true true some is =
+        let all : bytes ≡ take (length before - 1) before ++ 123 ∷ drop at bytes =
+        sym (take-append-drop at bytes) ∙ ap (λ b. b ++ drop at bytes) (ends_parts before (codes "{") is)
+        ∙ append_assoc (take (length before - 1) before) (123 ∷ []) (drop at bytes) in
+        let size : length (drop at bytes) ≡ length bytes - at = length-drop at bytes in
+        let within : many ≤ length bytes = suffix_len-le-length is_ascii_digit bytes in
+        let one : 0 < many = grind (arith, nat_tests) in
+        inr (take (length before - 1) before, drop at bytes, (omega arith, digits_behind bytes), all)
+
+-- the text ends in an announcement
+abbrev pub Announces : List ℕ → Type 0
+Announces text = (front : List ℕ) × (digits : List ℕ) × (waits : Bool) × IsNumber digits × (text ≡ front ++ announcement digits waits)
+
+announced_found : (text : List ℕ) → (announced text ≡ None) ⊎ Announces text
+announced_found text = by (ends_with nat_eq text (codes "+}")) (ends_with nat_eq text (codes "}")) refl refl
+  where
+    by : (one other : Bool) → ends_with nat_eq text (codes "+}") ≡ one → ends_with nat_eq text (codes "}") ≡ other
+        → (announced text ≡ None) ⊎ Announces text
+    by true other is _ = elim (sized_found false (take (length text - 2) text)) [
+      | inl none ↦
+          inl (
+          announced_parts text
+          ∙ ap (λ t. picked t (ends_with nat_eq text (codes "}")) (sized false (take (length text - 2) text)) (sized true (take (length text - 1) text))) is
+          ∙ none
+          )
+      | inr found ↦
+          inr (
+            found.0,
+            found.1,
+            false,
+            found.2,
+            ends_parts text (codes "+}") is ∙ ap (λ b. b ++ 43 ∷ 125 ∷ []) found.3 ∙ append_assoc found.0 (123 ∷ found.1) (43 ∷ 125 ∷ []),
+          )
+    ]
+    by false true not_one is = elim (sized_found true (take (length text - 1) text)) [
+      | inl none ↦
+          inl (
+          announced_parts text
+          ∙ ap (λ t. picked t (ends_with nat_eq text (codes "}")) (sized false (take (length text - 2) text)) (sized true (take (length text - 1) text))) not_one
+          ∙ ap (λ t. picked false t (sized false (take (length text - 2) text)) (sized true (take (length text - 1) text))) is
+          ∙ none
+          )
+      | inr found ↦
+          inr (
+            found.0,
+            found.1,
+            true,
+            found.2,
+            ends_parts text (codes "}") is ∙ ap (λ b. b ++ 125 ∷ []) found.3 ∙ append_assoc found.0 (123 ∷ found.1) (125 ∷ []),
+          )
+    ]
+    by false false not_one not_other =
+        inl (
+        announced_parts text
+        ∙ ap (λ t. picked t (ends_with nat_eq text (codes "}")) (sized false (take (length text - 2) text)) (sized true (take (length text - 1) text))) not_one
+        ∙ ap (λ t. picked false t (sized false (take (length text - 2) text)) (sized true (take (length text - 1) text))) not_other
+        )
+
+-- a brace behind plain bytes
+brace_behind : (front back before behind : List ℕ) → AllByRecursion IsPlainByte front → front ++ back ≡ before ++ 123 ∷ behind
+    → (rest : List ℕ) × (back ≡ rest ++ 123 ∷ behind)
+brace_behind [] back before behind plain same = (before, same)
+brace_behind (x ∷ front) back [] behind plain same =
+    let head : x ≡ 123 = ap (λ l. get_or l 0 0) same in
+    absurd (grind (arith, nat_tests))
+brace_behind (x ∷ front) back (y ∷ before) behind plain same =
+    brace_behind front back before behind plain.1 (ap (λ l. drop 1 l) same)
+
+announcement_behind : (front back before digits : List ℕ) (waits : Bool) → AllByRecursion IsPlainByte front → front ++ back ≡ before ++ announcement digits waits
+    → (rest : List ℕ) × (back ≡ rest ++ announcement digits waits)
+announcement_behind front back before digits true plain same = brace_behind front back before (digits ++ codes "}") plain same
+announcement_behind front back before digits false plain same = brace_behind front back before (digits ++ codes "+}") plain same
+
+-- what stands behind plain bytes says alone what the text announces
+pub announced_behind : (front back : List ℕ) → IsPlain front → announced (front ++ back) ≡ announced back
+announced_behind front back plain = elim (announced_found back) [
+  | inl none ↦
+      announced_none (front ++ back)
+      (λ before digits waits number same.
+      let rest = announcement_behind front back before digits waits (recursion_from_All IsPlainByte front plain) same in
+      let some = ap announced rest.1 ∙ announced_number rest.0 digits waits number in
+      let both = sym none ∙ some in
+      cc)
+      ∙ sym none
+  | inr found ↦
+      ap (λ b. announced (front ++ b)) found.4 ∙ ap announced (sym (append_assoc front found.0 (announcement found.1 found.2)))
+      ∙ announced_number (front ++ found.0) found.1 found.2 found.3
+      ∙ sym (ap announced found.4 ∙ announced_number found.0 found.1 found.2 found.3)
+]

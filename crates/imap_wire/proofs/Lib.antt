@@ -13,5 +13,7 @@ pub mod BulkLaws
 pub mod MoreLaws
 pub mod FaultLaws
 pub mod AnnouncedLaws
+pub mod PlainLaws
+pub mod FirstLaws
 pub mod CommandCut
 pub mod BringsLaws

@@ -43,9 +43,9 @@ line_end-step s between text literal going in_line cr text_is literal_is between
     let same = text_is ∙ without_last-is s.line in
     rw (between_is, literal_is, line_end-capped (at_line_end s text) (announced text), same) (sym (step-end s going in_line cr))
 
-pub kept-line_end : (bytes all last grown text : List ℕ) (line_at at room less literal_room left : ℕ) (spent : Bool) → all ≡ bytes ++ 10 ∷ []
-    → at ≡ length grown → less ≡ room - length text
-    → kept all grown at less literal_room left spent ≡ at_line_end (kept bytes last line_at room literal_room left spent) text
-kept-line_end bytes all last grown text line_at at room less literal_room left spent all_is at_is less_is =
+pub kept-line_end : (bytes all front last grown : List ℕ) (text line_at at room less literal_room left : ℕ) (spent : Bool) (line : List ℕ) → all ≡ bytes ++ 10 ∷ []
+    → at ≡ length grown → less ≡ room - text → text ≡ length line
+    → kept all [] grown at less literal_room left spent ≡ at_line_end (kept bytes front last line_at room literal_room left spent) line
+kept-line_end bytes all front last grown text line_at at room less literal_room left spent line all_is at_is less_is text_is =
     let empty : cond (nat_lt 0 left) [] (drop at grown) ≡ [] = no_line (nat_lt 0 left) grown at (omega arith) in
-    rw (empty, all_is, less_is) refl
+    rw (empty, all_is, less_is, text_is) refl

@@ -1,7 +1,7 @@
 -- Bytes that are taken all at once: those of a literal, and those of a line without LF.
 use Rattle.std.proofs.Common.{◌≡◌, ℕ, zero, suc, ◌+◌, ◌-◌, ◌<◌, ◌≤◌, Bool, true, false, ◌&&◌, ◌==◌, nat_lt, cond, List, []}
 use Rattle.std.proofs.Common.{◌∷◌, ◌++◌, length, take, drop, get_or, Option, None, Some, unwrap_or, refl, sym, ◌∙◌, arith, append_assoc}
-use Rattle.std.proofs.lemmas.List.{append-nil, length-append, length-take-le, drop-append-le, drop_all}
+use Rattle.std.proofs.lemmas.List.{append-nil, length-append, length-take-le, drop-append-le, drop_all, take_all}
 use Rattle.std.proofs.lemmas.Bool.{false_from_ne_true}
 use Rattle.std.proofs.lemmas.Bool.Decides.{nat_tests}
 use Rattle.memchr.specs.Find.{IsFirstByte, is_byte}
@@ -98,32 +98,42 @@ Moves-text s to piece found (suc n) going in_line first before within room is =
       arrives = is ∙ sym (after-text s (take (suc n) piece) going in_line one (omega arith));
     }
 
--- the state of a command with these bytes, whose last block has these
-abbrev pub kept : List ℕ → List ℕ → ℕ → ℕ → ℕ → ℕ → Bool → State
-kept bytes last line_at line_room literal_room literal_left spent =
+-- the state of a command with these bytes, whose present line has these before the last block, which has these
+abbrev pub kept : List ℕ → List ℕ → List ℕ → ℕ → ℕ → ℕ → ℕ → Bool → State
+kept bytes front last line_at line_room literal_room literal_left spent =
     record {
       bytes = bytes;
-      line = cond (nat_lt 0 literal_left) [] (drop line_at last);
+      line = cond (nat_lt 0 literal_left) [] (front ++ drop line_at last);
       line_room = line_room;
       literal_room = literal_room;
-      literal_left =
-          literal_left;
+      literal_left = literal_left;
       spent = spent;
     }
 
 -- while a literal comes the present line is empty, and so it is behind the literal
-pub kept-literal : (bytes same all before grown more : List ℕ) (line_at at line_room literal_room left less : ℕ) (spent : Bool) → 0 < left
+pub kept-literal : (bytes same all front before grown more : List ℕ) (line_at at line_room literal_room left less : ℕ) (spent : Bool) → 0 < left
     → same ≡ bytes
     → all ≡ same ++ more → at ≡ length grown
-    → kept all grown at line_room literal_room less spent ≡ literal_moved (kept bytes before line_at line_room literal_room left spent) (bytes ++ more) less
-kept-literal bytes same all before grown more line_at at line_room literal_room left less spent some same_is all_is at_is =
+    → kept all [] grown at line_room literal_room less spent ≡ literal_moved (kept bytes front before line_at line_room literal_room left spent) (bytes ++ more) less
+kept-literal bytes same all front before grown more line_at at line_room literal_room left less spent some same_is all_is at_is =
     let test : nat_lt 0 left ≡ true = grind (arith, nat_tests) in
     let empty : cond (nat_lt 0 less) [] (drop at grown) ≡ [] = no_line (nat_lt 0 less) grown at (omega arith) in
     rw (empty, test, all_is, same_is) refl
 
-pub kept-text : (bytes all last grown more : List ℕ) (line_at line_room literal_room left : ℕ) (spent : Bool) → left ≡ 0 → all ≡ bytes ++ more
-    → grown ≡ last ++ more → line_at ≤ length last
-    → kept all grown line_at line_room literal_room left spent ≡ (let s = kept bytes last line_at line_room literal_room left spent in
+pub kept-text : (bytes all front behind last grown more : List ℕ) (line_at line_room literal_room left : ℕ) (spent : Bool) → left ≡ 0 → all ≡ bytes ++ more
+    → behind ≡ front → grown ≡ last ++ more → line_at ≤ length last
+    → kept all behind grown line_at line_room literal_room left spent ≡ (let s = kept bytes front last line_at line_room literal_room left spent in
     line_moved s (bytes ++ more) (s.line ++ more))
-kept-text bytes all last grown more line_at line_room literal_room left spent none all_is grown_is within =
-    rw (none, all_is, grown_is, drop-append-le line_at last more within) refl
+kept-text bytes all front behind last grown more line_at line_room literal_room left spent none all_is front_is grown_is within =
+    rw (none, all_is, front_is, grown_is, drop-append-le line_at last more within, append_assoc front (drop line_at last) more) refl
+
+-- a whole piece within a line
+pub Moves-whole : (s to : State) (piece : List ℕ) → s.spent ≡ false → s.literal_left ≡ 0 → IsOneLine piece → length s.line + length piece ≤ s.line_room
+    → to ≡ line_moved s (s.bytes ++ piece) (s.line ++ piece) → Moves s piece (length piece) to
+Moves-whole s to piece going in_line one room is =
+    let whole = take_all (length piece) piece (omega arith) in
+    record {
+      within = omega arith;
+      silent = rw whole (given-text s piece going in_line one room);
+      arrives = rw whole (is ∙ sym (after-text s piece going in_line one room));
+    }

@@ -3,6 +3,7 @@ pub mod Literal
 pub mod Frames
 pub mod Tally
 pub mod Kept
+pub mod Front
 pub mod Steps
 pub mod Begun
 pub mod Bulk

@@ -1,11 +1,15 @@
 // The command that has begun, and how it grows.
-ghost use Rattle.std.specs.Prelude.{◌≡◌, ◌+◌, ◌<◌, ◌≤◌, ◌⊎◌, length, take, slice_index, IfOk, OnOk, OnErr, true, false};
+ghost use Rattle.std.specs.Prelude.{◌≡◌, ◌+◌, ◌<◌, ◌≤◌, ◌⊎◌, length, take, drop, slice_index, IfOk, OnOk, OnErr, true, false};
 ghost use Rattle.std.specs.Prelude.{[], ◌∷◌, ◌++◌, IsTrue, ◌↔◌, None, min};
 ghost use Rattle.mur_base.specs.declared.limits.TheConstants.{LINE_LIMIT};
+ghost use Rattle.imap_wire.specs.declared.block.TheConstants.{BLOCK_ROOM};
+ghost use Rattle.imap_wire.specs.Front.{IsPlain, front_of, back_at};
 
+use crate::block::{BLOCK_ROOM, FIRST_PIECE};
 use crate::frame::{Frame, FrameFault};
 use crate::kept::Kept;
 use crate::literal::{Admission, Literal, announced};
+use memchr::memchr3;
 use mur_base::limits::{COMMAND_LITERALS_LIMIT, LINE_LIMIT};
 use mur_base::{Bytes, Memory};
 use std::alloc::Global;
@@ -15,8 +19,10 @@ use std::alloc::Global;
 pub struct Begun {
     /// All its bytes, those of its literals among them.
     pub kept: Kept,
-    /// Where its present line begins in the last block, which is the end while a literal comes.
+    /// Where its present line begins: in the last block, which is its end while a literal comes, or in those before it.
     pub line_at: usize,
+    /// How many bytes of the present line stand before the last block.
+    pub front_len: usize,
     /// How many bytes the texts of this line and those behind it may have.
     pub line_room: usize,
     /// How many bytes its further literals may have.
@@ -25,16 +31,21 @@ pub struct Begun {
     pub literal_left: usize,
     /// No byte is taken any more.
     pub spent: bool,
-    ghost line_within: { line_at ≤ length kept.last.bytes.items },
+    ghost front_is: { front_len ≡ length (front_of front_len line_at kept.full.items) },
+    // So the text behind it says alone whether the line ends, and what it announces.
+    ghost front_plain: { IsPlain (front_of front_len line_at kept.full.items) },
+    ghost front_full: { 0 < front_len → 0 < length kept.full.items },
+    ghost line_within: { back_at front_len line_at ≤ length kept.last.bytes.items },
     // Only a CR that may begin the line's CRLF stands past the limit.
-    ghost line_short: { length kept.last.bytes.items ≤ line_at + line_room + 1 },
-    // A line that has begun has room to its end where it stands.
-    ghost line_fits: { line_at < length kept.last.bytes.items → line_at + line_room + 2 ≤ kept.last.room },
+    ghost line_short: { front_len + length kept.last.bytes.items ≤ back_at front_len line_at + line_room + 1 },
+    // A line that has begun has room to its end where it stands, or waits in the first block.
+    ghost line_fits: { back_at front_len line_at < length kept.last.bytes.items → kept.last.room < back_at front_len line_at + line_room + 2
+        → (length kept.full.items ≡ 0) × IsPlain (drop line_at kept.last.bytes.items) },
     ghost room_within: { line_room ≤ LINE_LIMIT },
 }
 
 impl Begun {
-    ghost use Rattle.imap_wire.specs.Begun.{state_of, present_line, IsRoomy, IsBetween, Moves, TakesFrame};
+    ghost use Rattle.imap_wire.specs.Begun.{state_of, present_line, line_back, IsRoomy, IsBetween, StandsFirst, HasFirstRoom, MayWait, Moves, TakesFrame};
     ghost use Rattle.imap_wire.specs.Kept.{next_room, filled_room};
     ghost use Rattle.imap_wire.specs.Bulk.{credit, account, IsPaid, IsUpTo, most_moves, frame_moves, join_moves};
     ghost use Rattle.imap_wire.specs.Steps.{start_state, step, line_step, line_end, with_literal, failing};
@@ -51,6 +62,7 @@ impl Begun {
         Begun {
             kept: Kept::new(alloc),
             line_at: 0,
+            front_len: 0,
             line_room: LINE_LIMIT,
             literal_room: COMMAND_LITERALS_LIMIT,
             literal_left: 0,
@@ -58,12 +70,28 @@ impl Begun {
         }
     }
 
-    /// The bytes of the present line.
-    fn line(&self) -> &[u8]
-        requires { self.now.literal_left ≡ 0 }
-        ensures { result.now ≡ (state_of self.now).line }
+    /// The bytes of the present line in the last block; those before it are plain.
+    fn line_back(&self) -> &[u8]
+        ensures { result.now ≡ line_back self.now }
     {
-        &self.kept.last.as_slice()[self.line_at..]
+        let at = if self.front_len > 0 { 0 } else { self.line_at };
+        &self.kept.last.as_slice()[at..]
+    }
+
+    /// How many bytes of the present line have come.
+    fn line_len(&self) -> usize
+        requires { self.now.literal_left ≡ 0 }
+        ensures { result ≡ length (present_line self.now) }
+    {
+        self.front_len + self.line_back().len()
+    }
+
+    /// Whether the last block has room for the present line to its end.
+    fn is_roomy(&self) -> bool
+        ensures { IsTrue result ↔ IsRoomy self.now }
+    {
+        let at = if self.front_len > 0 { 0 } else { self.line_at };
+        self.line_room + 2 <= self.kept.last.room() - at
     }
 
     /// Takes bytes of a literal, all at once as far as the last block has room for them.
@@ -79,7 +107,7 @@ impl Begun {
         ensures bulk { IfOk result (λ taken. taken ≡ min (min self.old.literal_left (next_room self.old.kept.last)) (length piece.now)) }
         ensures tally { IfOk result (λ taken. self.new.kept.tally ≡ fed self.old.kept.tally None taken) }
         ensures memory { OnErr result (self.new.kept.tally ≡ self.old.kept.tally) }
-        ensures cause { OnErr result (self.old.kept.last.room ≤ length self.old.kept.last.bytes.items) }
+        ensures cause { OnErr result (next_room self.old.kept.last ≡ BLOCK_ROOM) }
     {
         self.kept.make_room(alloc)?;
         let room = self.literal_left.min(self.kept.room_left());
@@ -87,11 +115,68 @@ impl Begun {
         self.kept.keep(&piece[..taken]);
         self.literal_left -= taken;
         self.line_at = self.kept.last.len();
+        self.front_len = 0;
         Ok(taken)
     }
 
-    /// Sees to room for the present line, which stays in one block to its end.
+    /// Whether the present line stands in the first block, or would begin there.
+    fn stands_first(&self) -> bool
+        ensures { IsTrue result → StandsFirst self.now }
+    {
+        if self.is_roomy() {
+            return false;
+        }
+        self.kept.full.is_empty() && self.kept.last.room() < BLOCK_ROOM
+    }
+
+    /// Whether the first block has room for a piece, or would have.
+    fn has_first_room_for(&self, piece: usize) -> bool
+        ensures { IsTrue result → HasFirstRoom self.now piece }
+    {
+        if piece > FIRST_PIECE {
+            return false;
+        }
+        self.kept.last.room() == 0 || piece <= self.kept.room_left()
+    }
+
+    /// Whether a piece may wait in the first block: it ends neither a line nor anything else, and finds room there. So a
+    /// connection that has said little takes little, and no byte is copied once more when the rest comes.
+    fn may_wait(&self, piece: &[u8]) -> bool
+        requires in_line { self.now.literal_left ≡ 0 }
+        requires some { 0 < length piece.now }
+        ensures { IsTrue result → MayWait self.now piece.now }
+    {
+        if !self.stands_first() {
+            return false;
+        }
+        if !self.has_first_room_for(piece.len()) {
+            return false;
+        }
+        if self.line_room.saturating_sub(self.line_len()) < piece.len() {
+            return false;
+        }
+        memchr3(b'\r', b'\n', b'{', piece).is_none()
+    }
+
+    /// Keeps a piece in the first block.
+    fn wait(&mut self, alloc: Global, piece: &[u8]) -> Result<(), Memory>
+        requires going { self.old.spent ≡ false }
+        requires in_line { self.old.literal_left ≡ 0 }
+        requires may { MayWait self.old piece.now }
+        ensures moves { OnOk result (Moves (state_of self.old) piece.now (length piece.now) (state_of self.new)) }
+        ensures tally { OnOk result (self.new.kept.tally ≡ fed self.old.kept.tally None (length piece.now)) }
+        ensures one { OnOk result (self.new.kept.moves ≡ counted (self.old.kept.moves + 1)) }
+        ensures none { OnErr result (self.new.kept.moves ≡ self.old.kept.moves) }
+        ensures memory { OnErr result (self.new.kept.tally ≡ self.old.kept.tally) }
+    {
+        self.kept.make_first_room(alloc, piece.len())?;
+        self.kept.keep(piece);
+        Ok(())
+    }
+
+    /// Sees to room for the present line, which stays in one block to its end, but for what waits in the first block.
     fn make_line_room(&mut self, alloc: Global) -> Result<(), Memory>
+        requires in_line { self.old.literal_left ≡ 0 }
         ensures state { OnOk result (state_of self.new ≡ state_of self.old) }
         ensures room { OnOk result (IsRoomy self.new) }
         ensures cause { OnErr result (¬ IsRoomy self.old) }
@@ -99,8 +184,13 @@ impl Begun {
         ensures count { self.new.kept.moves ≡ self.old.kept.moves }
         ensures filled { OnOk result (filled_room self.new.kept.last ≤ filled_room self.old.kept.last) }
     {
-        if self.kept.last.room() - self.line_at < self.line_room + 2 {
-            self.kept.next_block(alloc)?;
+        if self.is_roomy() {
+            return Ok(());
+        }
+        let front_len = self.kept.last.len() - self.line_at;
+        self.kept.next_block(alloc)?;
+        self.front_len = front_len;
+        if front_len == 0 {
             self.line_at = 0;
         }
         Ok(())
@@ -124,7 +214,7 @@ impl Begun {
         ensures bulk { result < length piece.now
             → (slice_index piece.now result ≡ lf) ⊎ (self.new.line_room ≤ length (present_line self.new)) }
     {
-        let room = self.line_room.saturating_sub(self.line().len());
+        let room = self.line_room.saturating_sub(self.line_len());
         let found = self.kept.find_lf(piece);
         let taken = found.unwrap_or(piece.len()).min(room);
         self.kept.keep(&piece[..taken]);
@@ -136,7 +226,7 @@ impl Begun {
         requires { self.now.literal_left ≡ 0 }
         ensures { result ≡ ends_with_cr (present_line self.now) }
     {
-        matches!(self.line(), [.., b'\r'])
+        matches!(self.line_back(), [.., b'\r'])
     }
 
     /// Whether the present line is within its limit with this byte at its end. A CR may begin the CRLF, which
@@ -145,7 +235,7 @@ impl Begun {
         requires { self.now.literal_left ≡ 0 }
         ensures { IsTrue result ↔ (least_length (present_line self.now ++ byte ∷ []) ≤ self.now.line_room) }
     {
-        let length = self.line().len();
+        let length = self.line_len();
         if byte == b'\r' {
             length <= self.line_room
         } else {
@@ -189,6 +279,10 @@ impl Begun {
     {
         if self.literal_left > 0 {
             return Ok((None, self.take_literal(alloc, piece)?));
+        }
+        if self.may_wait(piece) {
+            self.wait(alloc, piece)?;
+            return Ok((None, piece.len()));
         }
         self.make_line_room(alloc)?;
         let taken = self.take_text(piece);
@@ -252,14 +346,14 @@ impl Begun {
         ensures one { OnErr result (self.new.kept.moves ≡ counted (self.old.kept.moves + 1)) }
         ensures filled { IfOk result (λ frame. frame ≡ None → filled_room self.new.kept.last ≤ filled_room self.old.kept.last + 1) }
     {
-        let line = self.line();
-        let text = &line[..line.len() - 1];
-        let length = text.len();
-        let literal = announced(text);
+        let back = self.line_back();
+        let literal = announced(&back[..back.len() - 1]);
+        let length = self.line_len() - 1;
         self.kept.keep(b"\n");
         // No longer text gets here, so nothing is cut off at 0.
         self.line_room = self.line_room.saturating_sub(length);
         self.line_at = self.kept.last.len();
+        self.front_len = 0;
         self.end_line(alloc, literal)
     }
 
@@ -328,6 +422,7 @@ impl Begun {
     {
         let bytes = self.kept.take_all(alloc)?;
         self.line_at = 0;
+        self.front_len = 0;
         self.line_room = LINE_LIMIT;
         self.literal_room = COMMAND_LITERALS_LIMIT;
         self.literal_left = 0;

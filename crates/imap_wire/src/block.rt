@@ -10,6 +10,13 @@ use std::alloc::Global;
 /// full, so memory is held for no more than twice the bytes that came, and one block.
 pub const BLOCK_ROOM: usize = 2 * (LINE_LIMIT + 2);
 
+/// The least room of the first block of a command, in which plain text waits. What comes behind it goes into a block of
+/// full length, and isn't moved.
+pub const FIRST_ROOM: usize = 64;
+
+/// The longest piece that goes into a first block. A longer one begins in a block of full length.
+pub const FIRST_PIECE: usize = 1024;
+
 /// A place for bytes that never grows, so they stay where they are put. `put` is the one function of this crate that
 /// copies bytes, and counts them and its calls.
 #[derive(Drop)]

@@ -1,11 +1,11 @@
 // The bytes of the command that has begun.
-ghost use Rattle.std.specs.Prelude.{◌≡◌, ◌+◌, ◌-◌, ◌*◌, ◌^◌, ◌<◌, ◌≤◌, [], ◌++◌, length, IfOk, OnOk, OnErr};
+ghost use Rattle.std.specs.Prelude.{◌≡◌, ◌+◌, ◌-◌, ◌*◌, ◌^◌, ◌<◌, ◌≤◌, [], ◌∷◌, ◌++◌, ◌⊎◌, length, max, IfOk, OnOk, OnErr};
 ghost use Rattle.imap_wire.specs.Kept.{joined, joined_blocks, next_room};
 ghost use Rattle.mur_base.specs.declared.limits.TheConstants.{LINE_LIMIT};
-ghost use Rattle.imap_wire.specs.declared.block.TheConstants.{BLOCK_ROOM};
+ghost use Rattle.imap_wire.specs.declared.block.TheConstants.{BLOCK_ROOM, FIRST_PIECE, FIRST_ROOM};
 ghost use Rattle.imap_wire.specs.Tally.{counted};
 
-use crate::block::{BLOCK_ROOM, Block};
+use crate::block::{BLOCK_ROOM, Block, FIRST_ROOM};
 use crate::tally::Tally;
 use memchr::memchr;
 use mur_base::{Bytes, Memory};
@@ -75,7 +75,9 @@ impl Kept {
         ensures bytes { OnOk result (joined self.new.full.items self.new.last ≡ joined self.old.full.items self.old.last) }
         ensures last { OnOk result (self.new.last.bytes.items ≡ []) }
         ensures room { OnOk result (self.new.last.room ≡ BLOCK_ROOM) }
+        ensures full { OnOk result (self.new.full.items ≡ self.old.full.items ++ self.old.last ∷ []) }
         ensures err { OnErr result (self.new.last ≡ self.old.last) }
+        ensures err_full { OnErr result (self.new.full.items ≡ self.old.full.items) }
         ensures tally { self.new.tally ≡ self.old.tally }
         ensures moves { self.new.moves ≡ self.old.moves }
     {
@@ -85,17 +87,38 @@ impl Kept {
         Ok(())
     }
 
-    /// Lets a new block follow where the last one is full.
+    /// Sees to room for a piece in the first block. Where there is none yet, one is made with as much room behind the piece.
+    pub fn make_first_room(&mut self, alloc: Global, piece: usize) -> Result<(), Memory>
+        requires block { self.old.last.room < BLOCK_ROOM }
+        requires short { piece ≤ FIRST_PIECE }
+        requires room { (self.old.last.room ≡ 0) ⊎ (length self.old.last.bytes.items + piece ≤ self.old.last.room) }
+        ensures bytes { OnOk result (self.new.last.bytes.items ≡ self.old.last.bytes.items) }
+        ensures room { OnOk result (length self.new.last.bytes.items + piece ≤ self.new.last.room) }
+        ensures few { OnOk result ((self.new.last.room ≡ self.old.last.room) ⊎ (self.new.last.room ≡ max FIRST_ROOM (2 * piece))) }
+        ensures full { self.new.full.items ≡ self.old.full.items }
+        ensures err { OnErr result (self.new.last ≡ self.old.last) }
+        ensures tally { self.new.tally ≡ self.old.tally }
+        ensures moves { self.new.moves ≡ self.old.moves }
+    {
+        if self.last.room() == 0 {
+            self.last = Block::new(alloc, FIRST_ROOM.max(2 * piece))?;
+        }
+        Ok(())
+    }
+
+    /// Lets a new block follow where the last one is full or a first one.
     pub fn make_room(&mut self, alloc: Global) -> Result<(), Memory>
         ensures bytes { OnOk result (joined self.new.full.items self.new.last ≡ joined self.old.full.items self.old.last) }
         ensures some { OnOk result (length self.new.last.bytes.items < self.new.last.room) }
         ensures room { OnOk result (self.new.last.room - length self.new.last.bytes.items ≡ next_room self.old.last) }
+        ensures block { OnOk result (self.new.last.room ≡ BLOCK_ROOM) }
         ensures err { OnErr result (self.new.last ≡ self.old.last) }
-        ensures cause { OnErr result (self.old.last.room ≤ length self.old.last.bytes.items) }
+        ensures err_full { OnErr result (self.new.full.items ≡ self.old.full.items) }
+        ensures cause { OnErr result (next_room self.old.last ≡ BLOCK_ROOM) }
         ensures tally { self.new.tally ≡ self.old.tally }
         ensures moves { self.new.moves ≡ self.old.moves }
     {
-        if self.room_left() == 0 {
+        if self.room_left() == 0 || self.last.room() != BLOCK_ROOM {
             self.next_block(alloc)?;
         }
         Ok(())
@@ -105,6 +128,7 @@ impl Kept {
     pub fn find_lf(&mut self, bytes: &[u8]) -> Option<usize>
         ensures found { IsFirstByte (is_byte lf) bytes.now result }
         ensures bytes { joined self.new.full.items self.new.last ≡ joined self.old.full.items self.old.last }
+        ensures full { self.new.full.items ≡ self.old.full.items }
         ensures last { self.new.last ≡ self.old.last }
         ensures tally { self.new.tally ≡ self.old.tally }
         ensures moves { self.new.moves ≡ counted (self.old.moves + 1) }
@@ -117,6 +141,7 @@ impl Kept {
     pub fn keep(&mut self, bytes: &[u8])
         requires room { length self.old.last.bytes.items + length bytes.now ≤ self.old.last.room }
         ensures bytes { joined self.new.full.items self.new.last ≡ joined self.old.full.items self.old.last ++ bytes.now }
+        ensures full { self.new.full.items ≡ self.old.full.items }
         ensures last { self.new.last.bytes.items ≡ self.old.last.bytes.items ++ bytes.now }
         ensures room { self.new.last.room ≡ self.old.last.room }
         ensures tally { self.new.tally ≡ more self.old.tally (length bytes.now) (length bytes.now) }
@@ -130,6 +155,7 @@ impl Kept {
     /// Counts a byte that came and isn't kept.
     pub fn pass(&mut self)
         ensures bytes { joined self.new.full.items self.new.last ≡ joined self.old.full.items self.old.last }
+        ensures full { self.new.full.items ≡ self.old.full.items }
         ensures last { self.new.last ≡ self.old.last }
         ensures tally { self.new.tally ≡ more self.old.tally 1 0 }
         ensures moves { self.new.moves ≡ counted (self.old.moves + 1) }
@@ -145,6 +171,7 @@ impl Kept {
         ensures last { OnOk result (self.new.last.bytes.items ≡ []) }
         ensures tally { IfOk result (λ bytes. self.new.tally ≡ more self.old.tally 0 (length bytes)) }
         ensures err { OnErr result (self.new.last ≡ self.old.last) }
+        ensures err_full { OnErr result (self.new.full.items ≡ self.old.full.items) }
         ensures undone { OnErr result (self.new.tally ≡ self.old.tally) }
         ensures moves { IfOk result (λ bytes. IsUpTo self.old.moves (join_moves bytes) self.new.moves) }
         ensures none { OnErr result (self.new.moves ≡ self.old.moves) }

@@ -6,6 +6,7 @@ pub mod Changes
 pub mod Greeting
 pub mod Lines
 pub mod Cutting
+pub mod Intake
 pub mod Streams
 pub mod Step
 pub mod Servers

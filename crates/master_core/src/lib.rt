@@ -20,6 +20,7 @@ mod deactivate;
 mod delete;
 mod find;
 mod greeting;
+mod intake;
 mod laws;
 mod line;
 mod linked;

@@ -3,12 +3,11 @@ ghost use Rattle.std.specs.Prelude.{◌≡◌, ◌++◌, ℕ, List, IfOk, OnOk};
 ghost use Rattle.master_core.specs.Cutting.{cut_from};
 ghost use Rattle.master_core.specs.Outside.{outside_at, takes_bytes_at, IsCutAt, connect, is_open, line_comes, lines_come, bytes_in};
 
-use crate::cutting::cut_piece;
 use crate::greeting::greeting;
+use crate::intake::Intake;
 use crate::master::Master;
 use crate::sender::Sender;
 use link_msg::{Out, Outs};
-use mupdate_codec::Cutter;
 use mur_base::{Bytes, Items, Memory};
 use std::alloc::Global;
 
@@ -16,19 +15,19 @@ use std::alloc::Global;
 #[derive(Drop)]
 pub enum Outside {
     /// It is open, and this much of a line has come.
-    Open(Cutter),
+    Open(Intake),
     /// It has ended.
     Ended,
 }
 
 impl Outside {
     /// Cuts more bytes, where it is open, and puts the lines that end in them after others.
-    fn cut(&mut self, piece: &[u8], lines: &mut Items<Bytes>) -> Result<(), Memory>
+    fn cut(&mut self, alloc: Global, piece: &[u8], lines: &mut Items<Bytes>) -> Result<(), Memory>
         ensures lines { OnOk result ((begun : List ℕ) → self.old ≡ Outside.Open (Some begun) → lines.new ≡ lines.old ++ (cut_from begun piece.now).lines) }
         ensures begun { OnOk result ((begun : List ℕ) → self.old ≡ Outside.Open (Some begun) → self.new ≡ Outside.Open (Some (cut_from begun piece.now).begun)) }
     {
-        if let Outside::Open(cutter) = self {
-            cut_piece(cutter, piece, lines)?;
+        if let Outside::Open(intake) = self {
+            intake.cut(alloc, piece, lines)?;
         }
         Ok(())
     }
@@ -44,8 +43,7 @@ impl Master {
         if self.outside.contains_key(&conn) {
             return Ok(outs);
         }
-        self.outside
-            .insert(conn, Outside::Open(Cutter::new(alloc)))?;
+        self.outside.insert(conn, Outside::Open(Intake::new()))?;
         outs.push(Out::Client(conn, greeting(alloc, &self.me)?))?;
         Ok(outs)
     }
@@ -91,7 +89,7 @@ impl Master {
         ensures { result ≡ takes_bytes_at (outside_at self.now conn) }
     {
         match self.outside.get(&conn) {
-            Some(Outside::Open(cutter)) => !cutter.spent(),
+            Some(Outside::Open(intake)) => !intake.spent(),
             _ => false,
         }
     }
@@ -103,7 +101,7 @@ impl Master {
     {
         let mut lines = Items::new(alloc);
         if let Some(connection) = self.outside.get_mut(&conn) {
-            connection.cut(piece, &mut lines)?;
+            connection.cut(alloc, piece, &mut lines)?;
         }
         Ok(lines)
     }

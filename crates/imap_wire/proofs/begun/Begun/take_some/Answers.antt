@@ -12,6 +12,9 @@ use Rattle.imap_wire.proofs.begun.Begun.take_some.Goals as goal
 pub returns-then-self-gt0-clause-takes : goal.returns-then-self-gt0-clause-takes
 returns-then-self-gt0-clause-takes c = Takes-silent _ _ _ _ c.in_ok-take_literal.ensures.moves
 
+pub returns-then-may_wait-clause-takes : goal.returns-then-may_wait-clause-takes
+returns-then-may_wait-clause-takes c = Takes-silent _ _ _ _ c.in_ok-wait.ensures.moves
+
 pub returns-then-taken-piece-clause-takes : goal.returns-then-taken-piece-clause-takes
 returns-then-taken-piece-clause-takes c = Takes-silent _ _ _ _ (rw c.in_ok-make_line_room.ensures.state at c.take_text-taken.ensures.moves)
 
