@@ -263,7 +263,7 @@ goes_on setting store session tag it serial = record {
     logs_in : {name : List ℕ} → IsSaidOf setting.users name it → IsLoginOf setting.users name (asks tag it)
     logs_in said = record { user = said.user; known = said.known; named = said.named; said = said.said }
 
--- those around what is no command
+-- a request that is no command leaves its session as it was
 same_session : (users : List User) (session : Sess) (request : Request) → ((user : User) → LogsIn user request → ⊥)
     → GoesOnAsUser users session request session
 same_session users session request none = record {

@@ -1,5 +1,5 @@
--- Who logs in (RFC 9051, 6.2.2 and 6.2.3): a session is that of a user who was named with the password of the configuration, until it ends. The list of
--- users, the bytes of names and passwords and the base64 of RFC 4648 say it, and nothing by which a password is tested.
+-- Who logs in (RFC 9051, 6.2.2 and 6.2.3): a session begins only with the name and the password of a user of the list, and is this user's until it ends.
+-- The list, bytes and base64 (RFC 4648) say it, and not the server's own test of a password.
 use Rattle.std.specs.Prelude.{◌≡◌, ◌≢◌, ◌⊎◌, ℕ, List, [], ◌∷◌, ◌++◌, Option, None, Some, Ok}
 use Rattle.std.specs.List.{All, Contains}
 use Rattle.base64.specs.Engines.{standard}
