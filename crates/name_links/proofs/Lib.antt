@@ -1,0 +1,7 @@
+pub mod Outcome
+pub mod OneCommand
+pub mod ListCommand
+pub mod EachCommand
+pub mod Reading
+pub mod Outs
+pub mod MasterLaw

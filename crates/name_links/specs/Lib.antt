@@ -1,0 +1,4 @@
+pub mod Known
+pub mod Lines
+pub mod Answers
+pub mod MasterLaw
