@@ -18,10 +18,10 @@ use Rattle.name_links.proofs.Outcome.{IsStep, each_name}
 use Rattle.name_links.proofs.OneCommand.{about_reserve, about_make, about_again, about_deactivate, about_delete, about_wipe, reserve_outcome, activate_outcome, deactivate_outcome, delete_outcome}
 use Rattle.name_links.proofs.ListCommand.{list_step, find_step}
 
-some_is : {x y : SentLine} → (let o : Option SentLine = Some x in o ≡ Some y) → x ≡ y
+pub some_is : {x y : SentLine} → (let o : Option SentLine = Some x in o ≡ Some y) → x ≡ y
 some_is e = cc
 
-if_so : (t : Bool) (x y : SentLine) → (let o : Option SentLine = cond t (Some x) None in o ≡ Some y) → (t ≡ true) × (x ≡ y)
+pub if_so : (t : Bool) (x y : SentLine) → (let o : Option SentLine = cond t (Some x) None in o ≡ Some y) → (t ≡ true) × (x ≡ y)
 if_so true x y e = (refl, some_is e)
 if_so false x y e = cc
 

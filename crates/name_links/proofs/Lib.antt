@@ -5,3 +5,8 @@ pub mod EachCommand
 pub mod Reading
 pub mod Outs
 pub mod MasterLaw
+pub mod Tied
+pub mod Sends
+pub mod LinkRows
+pub mod LineAnswers
+pub mod LinkEvents

@@ -105,7 +105,7 @@ once es order = once_by es (IsDistinct-from_sorted (slice_cmp nat_cmp) (keys_of 
 
 -- ---- neither changes the record
 
-list_seen : (s : Seen) → (answer_list s).seen ≡ s
+pub list_seen : (s : Seen) → (answer_list s).seen ≡ s
 unfolding answer_list
 list_seen free = refl
 list_seen other = refl
@@ -113,7 +113,7 @@ list_seen (own active) = refl
 list_seen (own bare) = refl
 list_seen (own kept) = refl
 
-find_seen : (s : Seen) → (answer_find s).seen ≡ s
+pub find_seen : (s : Seen) → (answer_find s).seen ≡ s
 unfolding answer_find
 find_seen free = refl
 find_seen other = refl

@@ -1,5 +1,7 @@
-// The master's step to each name.
+// What the steps of the master and of a backend are to each name.
 ghost use Rattle.name_links.specs.MasterLaw.{RecordIsOne, AnswersAreOne, AnswersTakeOff, OthersHearNothing};
+ghost use Rattle.name_links.specs.Reading.{LinesAreRead, ResponsesAreRead, LinesAreMeant};
+ghost use Rattle.name_links.specs.LinkIs.{AsksKeepIt, HearsKeepsIt, TakesKeepsIt, OthersKeepIt};
 
 /// A line of a backend is to each name what the master does with it in the protocol of one name, whatever the line, and whether it is refused.
 pub fn a_line_is_one_of_each_name()
@@ -7,4 +9,20 @@ pub fn a_line_is_one_of_each_name()
     ensures answers { AnswersAreOne }
     ensures left { AnswersTakeOff }
     ensures others { OthersHearNothing }
+{}
+
+/// Lines are read as they were sent, and a backend's line is what it meant.
+pub fn a_line_is_what_was_sent()
+    ensures lines { LinesAreRead }
+    ensures responses { ResponsesAreRead }
+    ensures meant { LinesAreMeant }
+{}
+
+/// On a whole link each event keeps the invariant of one name, for every name: a frontend's ask comes to the backend, the backend takes a response (the
+/// end of a resync is another law), the master takes a line of the backend, or of another one.
+pub fn each_event_keeps_every_name()
+    ensures asks { AsksKeepIt }
+    ensures hears { HearsKeepsIt }
+    ensures takes { TakesKeepsIt }
+    ensures others { OthersKeepIt }
 {}

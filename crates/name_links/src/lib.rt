@@ -6,4 +6,6 @@
 
 mod laws;
 
-pub use laws::a_line_is_one_of_each_name;
+pub use laws::{
+    a_line_is_one_of_each_name, a_line_is_what_was_sent, each_event_keeps_every_name,
+};
