@@ -10,3 +10,7 @@ pub mod Sends
 pub mod LinkRows
 pub mod LineAnswers
 pub mod LinkEvents
+pub mod LinesByName
+pub mod ResyncEnd
+pub mod Rounds
+pub mod HearEvents

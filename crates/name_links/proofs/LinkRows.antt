@@ -12,7 +12,8 @@ use Rattle.home_law.proofs.LinkEvents.{hears_kept, takes_kept}
 use Rattle.home_law.proofs.LinkSays.{none_refused}
 use Rattle.home_law.proofs.Records.{others_same}
 use Rattle.home_law.proofs.SameName.{is_another}
-use Rattle.name_flows.specs.OneName.{heard_as}
+use Rattle.name_flows.specs.declared.ask.NameAsk.{NameAsk}
+use Rattle.name_flows.specs.OneName.{request, quiet, asked_as, heard_as}
 use Rattle.name_links.specs.Lines.{items_of, answered}
 use Rattle.name_links.specs.Answers.{NoneRefused}
 use Rattle.name_links.proofs.ListCommand.{list_seen, find_seen}
@@ -22,7 +23,7 @@ back c d u = record { ctl = c; down = d; up = u }
 
 -- ---- the backend takes some messages, one after the other
 
-one_heard : (m : Mine) (c : Ctl) (x : Item) (d u : List Item) → c.linked ≡ true → LinkOk m (back c (x ∷ d) u) → LinkOk m (back (hear c x).ctl d (u ++ (hear c x).says))
+pub one_heard : (m : Mine) (c : Ctl) (x : Item) (d u : List Item) → c.linked ≡ true → LinkOk m (back c (x ∷ d) u) → LinkOk m (back (hear c x).ctl d (u ++ (hear c x).says))
 unfolding hears_first does sent_over
 one_heard m c x d u e ok = subst (λ l. LinkOk m (back (hear c x).ctl d (u ++ sent_over l (hear c x).says))) e (hears_kept m (back c (x ∷ d) u) ok)
 
@@ -39,6 +40,14 @@ heard_kept (x ∷ xs) m c d u e ok =
 pub ask_kept : (a : Request) (m : Mine) (c : Ctl) (d u : List Item) → c.linked ≡ true → LinkOk m (back c d u) → LinkOk m (back (ask a c).ctl d (u ++ (ask a c).says))
 unfolding asked does sent_over
 ask_kept a m c d u e ok = subst (λ l. LinkOk m (back (ask a c).ctl d (u ++ sent_over l (ask a c).says))) e (asked_kept a m (back c d u) ok)
+
+pub asked_row : (n : Mailbox) (it : NameAsk) (m : Mine) (c : Ctl) (d u : List Item) → c.linked ≡ true → LinkOk m (back c d u)
+    → LinkOk m (back (asked_as n it c).ctl d (u ++ (asked_as n it c).says))
+asked_row n it m c d u e ok = by_test (is_same_mailbox it.name n)
+  where
+    by_test : (t : Bool) → LinkOk m (back (cond t (ask (request it.kind) c) (quiet c)).ctl d (u ++ (cond t (ask (request it.kind) c) (quiet c)).says))
+    by_test true = ask_kept (request it.kind) m c d u e ok
+    by_test false = subst (λ z. LinkOk m (back c d z)) (sym (append-nil u)) ok
 
 -- ---- the master takes a line, which is at most one message to a name
 

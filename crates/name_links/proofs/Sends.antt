@@ -38,7 +38,7 @@ use Rattle.name_flows.specs.Running.{has_flow, is_at}
 use Rattle.name_flows.specs.Steps.{FlowStep, given, silent, changing, handed}
 use Rattle.name_links.specs.Lines.{is_asked, backend_line}
 use Rattle.name_links.specs.OneLink.{message_of}
-use Rattle.name_links.specs.LinkIs.{tagged_line, tagged_by, tagged_lines, lines_after, AreSent, is_tagged_as, IsTagged, is_list_end}
+use Rattle.name_links.specs.LinkIs.{tagged_line, tagged_by, tagged_lines, lines_after, AreSent, is_tagged_as, IsTagged}
 
 -- ---- tags
 
@@ -85,6 +85,11 @@ sends_sent b me held (line ∷ sends) e t =
     (refl, ap (λ s. backend_line s line.tag (command_of me held line.what)) (sym e) ∙ message_is me held line t.0, sends_sent b me held sends e t.1)
 
 -- ---- steps
+
+-- LIST's OK ends a resync
+abbrev pub is_list_end : Option Sent → MResponse → Bool
+is_list_end (Some List_line) (response.Ok text) = true
+is_list_end what it = false
 
 -- of the lines sent before all are left, and of the first it is known so that a record was told
 pub record Keeps (old : Flows) (found : Bool) (step : FlowStep) : Type 0 where
@@ -190,7 +195,7 @@ all_behind [] = refl
 all_behind (line ∷ lines) = refl
 
 -- the first line is answered
-last_leaves : (f : Flows) (held : Names) (lines : List SentLine) (step : FlowStep) → f.sent ≡ lines → Keeps f false step → AllByRecursion IsTagged lines
+pub last_leaves : (f : Flows) (held : Names) (lines : List SentLine) (step : FlowStep) → f.sent ≡ lines → Keeps f false step → AllByRecursion IsTagged lines
     → Leaves f.me held step (map (tagged_line false) lines)
 last_leaves f held lines step e k t = record {
   lines_are = rw (k.sent_is, k.found_is, e) (all_behind (lines ++ step.sends) ∙ map-append (tagged_line false) lines step.sends);
@@ -213,13 +218,17 @@ first_leaves f held line lines found step e k t = record {
 
 module _ (flows : Flows) (held : Names) (tag : Tag) (line : SentLine) (lines : List SentLine) (e : flows.sent ≡ line ∷ lines) (same : is_same_tag line.tag tag ≡ true) where
   -- the step, by the line that it answers
-  step_by : MResponse → FlowStep
+  pub step_by : MResponse → FlowStep
   step_by (response.Mailbox name place acl) = record_of flows held name place true (Some line.what)
   step_by (response.Reserve name place) = record_of flows held name place false (Some line.what)
   step_by (response.Delete name) = silent flows
   step_by (response.Ok text) = ok_of (taken flows) held flows.found line.tag text line.what
   step_by (response.No text) = no_of (taken flows) text line.what
   step_by (response.Bad text) = no_of (taken flows) text line.what
+
+  pub step_ok : (text : List ℕ) → step_by (response.Ok text) ≡ ok_of (taken flows) held flows.found line.tag text line.what
+  unfolding step_by
+  step_ok text = refl
 
   answers : is_answer flows.sent tag ≡ true
   unfolding is_answer
@@ -228,7 +237,7 @@ module _ (flows : Flows) (held : Names) (tag : Tag) (line : SentLine) (lines : L
   first : first_line flows.sent ≡ Some line
   first = ap (λ ls. first_line ls) e
 
-  heard_is : (it : MResponse) → heard_step flows held tag it ≡ step_by it
+  pub heard_is : (it : MResponse) → heard_step flows held tag it ≡ step_by it
   unfolding heard_step step_by
   heard_is (response.Mailbox name place acl) = rw answers (ap (λ l. record_of flows held name place true (what_in l)) first)
   heard_is (response.Reserve name place) = rw answers (ap (λ l. record_of flows held name place false (what_in l)) first)

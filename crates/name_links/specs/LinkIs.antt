@@ -19,7 +19,8 @@ use Rattle.name_flows.specs.declared.sent.Sent.{Sent}
 use Rattle.name_flows.specs.declared.sent.Sent.TheVariants.{List as List_line, Reserve, Make, Again, Deactivate, Delete, Wipe, Find}
 use Rattle.name_flows.specs.declared.sent.SentLine.{SentLine}
 use Rattle.name_flows.specs.Creates.{serial_in}
-use Rattle.name_flows.specs.Heard.{is_same_tag, first_line, what_in}
+use Rattle.name_flows.specs.Heard.{is_same_tag}
+use Rattle.name_flows.specs.Link.{waiting_in}
 use Rattle.name_flows.specs.OneName.{open_line}
 use Rattle.name_links.specs.Known.{known}
 use Rattle.name_links.specs.Lines.{is_asked, backend_line}
@@ -89,6 +90,10 @@ pub record LinkIs (link : OneLink) : Type 0 where
   pub named : (n : Mailbox) → LinkOk (mine_of (see (known link.table n) (server_of link))) (back_of link n)
   pub tied : IsTied link
 
+-- commands whose numbers a tag tells
+abbrev pub AreNumbered : List NameAsk → Type 0
+AreNumbered asks = AllByRecursion (λ ask. (ask.id.conn < 2 ^ 64) × (ask.id.command < 2 ^ 64)) asks
+
 -- what else holds of the master and of the backend
 pub record IsReady (link : OneLink) : Type 0 where
   pub table : IsTable link.table
@@ -96,20 +101,16 @@ pub record IsReady (link : OneLink) : Type 0 where
   pub name : HasNoBang (server_of link)
   pub running : IsInOrder (slice_cmp nat_cmp) link.flows.running
   pub held : IsInOrder (slice_cmp nat_cmp) link.held
+  pub waiting : AreNumbered (waiting_in link.flows.resync)
 
 -- ---- each event keeps it
 
 abbrev pub AsksKeepIt : Type 0
 AsksKeepIt = (link : OneLink) (ask : NameAsk) → LinkIs link → ask.id.conn < 2 ^ 64 → ask.id.command < 2 ^ 64 → LinkIs (asks link ask)
 
--- LIST's OK ends a resync
-abbrev pub is_list_end : Option Sent → MResponse → Bool
-is_list_end (Some List_line) (response.Ok text) = true
-is_list_end what it = false
-
 abbrev pub HearsKeepsIt : Type 0
 HearsKeepsIt = (link : OneLink) (it : Tag × MResponse) (downs : List (Tag × MResponse)) → IsReady link → LinkIs link → link.downs ≡ it ∷ downs
-    → is_list_end (what_in (first_line link.flows.sent)) it.1 ≡ false → LinkIs (hears link it downs)
+    → LinkIs (hears link it downs)
 
 abbrev pub TakesKeepsIt : Type 0
 TakesKeepsIt = (link : OneLink) (it : Tag × MCommand) (ups : List (Tag × MCommand)) → IsReady link → LinkIs link → link.ups ≡ it ∷ ups → LinkIs (takes link it ups)

@@ -18,8 +18,8 @@ pub fn a_line_is_what_was_sent()
     ensures meant { LinesAreMeant }
 {}
 
-/// On a whole link each event keeps the invariant of one name, for every name: a frontend's ask comes to the backend, the backend takes a response (the
-/// end of a resync is another law), the master takes a line of the backend, or of another one.
+/// On a whole link each event keeps the invariant of one name, for every name: a frontend's ask comes to the backend, the backend takes a response, the
+/// master takes a line of the backend, or of another one.
 pub fn each_event_keeps_every_name()
     ensures asks { AsksKeepIt }
     ensures hears { HearsKeepsIt }

@@ -1,4 +1,5 @@
-use Rattle.name_links.proofs.LinkEvents.{asks_keep, hears_keep, takes_keep, others_keep}
+use Rattle.name_links.proofs.HearEvents.{hears_keep}
+use Rattle.name_links.proofs.LinkEvents.{asks_keep, takes_keep, others_keep}
 use Rattle.name_links.proofs.laws.each_event_keeps_every_name.Goals as goal
 
 pub returns-clause-asks : goal.returns-clause-asks
