@@ -40,7 +40,7 @@ use Rattle.name_links.specs.Known.{known}
 use Rattle.name_links.specs.Lines.{backend_line, items_of, is_full_for, NameStep, answered}
 use Rattle.name_links.specs.Answers.{HasNoBang, told_all, answers_to}
 use Rattle.name_links.specs.OneLink.{OneLink, server_of, items_if, up_items, told_pair, told_of, back_of, message_of, does, asks, hears, under, table_by, takes, takes_other}
-use Rattle.name_links.specs.LinkIs.{AreNumbered, tagged_line, tagged_by, tagged_lines, lines_after, IsAnswerTo, AreAnswers, AreSent, IsTagged, IsTied, LinkIs, IsReady, AsksKeepIt, HearsKeepsIt, TakesKeepsIt, OthersKeepIt}
+use Rattle.name_links.specs.LinkIs.{AreNumbered, tagged_line, tagged_by, tagged_lines, lines_after, IsAnswerTo, AreAnswers, AreSent, IsTagged, IsTied, LinkIs, IsReady}
 use Rattle.name_links.proofs.EachCommand.{each_command}
 use Rattle.name_links.proofs.LineAnswers.{answers_done}
 use Rattle.name_links.proofs.LinkRows.{back, one_heard, heard_kept, asked_row, items_one, answered_kept, answered_granted, others_still}
@@ -124,7 +124,7 @@ module _ (link : OneLink) (it : Tag × MResponse) (downs : List (Tag × MRespons
   answers = subst (λ (ls : List (Tag × OpenLine)). AreAnswers ls (it ∷ downs) is.tied.left) opened_is
       (subst (λ (ds : List (Tag × MResponse)). AreAnswers (tagged_lines link.flows) ds is.tied.left) e is.tied.answers)
 
-  same : is_same_tag line.tag it.0 ≡ true
+  pub same : is_same_tag line.tag it.0 ≡ true
   unfolding AreAnswers
   same = answers.0
 
@@ -339,11 +339,11 @@ module _ (link : OneLink) (it : Tag × MResponse) (downs : List (Tag × MRespons
   heard_keeps true e = list_end line.what it.1 refl refl e
   heard_keeps false e = hear_is e
 
-none_answers : (it : Tag × MResponse) (downs : List (Tag × MResponse)) (left : List (Tag × OpenLine)) → AreAnswers [] (it ∷ downs) left → ⊥
+pub none_answers : (it : Tag × MResponse) (downs : List (Tag × MResponse)) (left : List (Tag × OpenLine)) → AreAnswers [] (it ∷ downs) left → ⊥
 unfolding AreAnswers
 none_answers it downs left a = a
 
-pub hears_keep : HearsKeepsIt
+pub hears_keep : (link : OneLink) (it : Tag × MResponse) (downs : List (Tag × MResponse)) → IsReady link → LinkIs link → link.downs ≡ it ∷ downs → LinkIs (hears link it downs)
 hears_keep link it downs ready is e = by_sent link.flows.sent refl
   where
     by_sent : (ls : List SentLine) → link.flows.sent ≡ ls → LinkIs (hears link it downs)

@@ -14,3 +14,6 @@ pub mod LinesByName
 pub mod ResyncEnd
 pub mod Rounds
 pub mod HearEvents
+pub mod BackReady
+pub mod TableReady
+pub mod LinkLaw

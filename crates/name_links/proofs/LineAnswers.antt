@@ -50,13 +50,13 @@ test_none : (b : Bool) (why : Refusal) (rest : Option Refusal) → cond b (Some 
 test_none true why rest e = cc
 test_none false why rest e = refl
 
-serial_left : (table : MailboxTable) (b : Server) (found : Option Record) (place : Location) → reserve_refusal table (Backend b) found place ≡ None
+pub serial_left : (table : MailboxTable) (b : Server) (found : Option Record) (place : Location) → reserve_refusal table (Backend b) found place ≡ None
     → (table.serial == 4294967295) ≡ false
 unfolding reserve_refusal
 serial_left table b found place e =
     test_none (table.serial == 4294967295) _ _ (rest_none (is_reserved found) _ _ (rest_none (is_active found) _ _ (rest_none (not (is_server (Backend b) place)) _ _ e)))
 
-next_serial : (n : ℕ) → n < 2 ^ 32 → (n == 4294967295) ≡ false → n + 1 < 2 ^ 32
+pub next_serial : (n : ℕ) → n < 2 ^ 32 → (n == 4294967295) ≡ false → n + 1 < 2 ^ 32
 next_serial n h e = grind (arith, nat_tests, h, e)
 
 module _ (table : MailboxTable) (serial : table.serial < 2 ^ 32) (b : Server) (tag : Tag) (lines : List (Tag × OpenLine)) where

@@ -153,26 +153,28 @@ is_in_passing p n (e ∷ es) order = in_by p n e es order (is_in_passing p n es 
 
 -- ---- names that are forgotten
 
-less_kept_by : (first : Mailbox) (e : List ℕ × Held) (es rest : Names) (t : Bool) → AllByRecursion (λ k. slice_cmp nat_cmp first k ≡ Less) (keys_of (e ∷ es))
-    → AllByRecursion (λ k. slice_cmp nat_cmp first k ≡ Less) (keys_of rest) → AllByRecursion (λ k. slice_cmp nat_cmp first k ≡ Less) (keys_of (cond t es (e ∷ rest)))
-less_kept_by first e es rest true all more = all.1
-less_kept_by first e es rest false all more = (all.0, more)
+module _ {X : Type 0} where
+  less_kept_by : (first : Mailbox) (e : List ℕ × X) (es rest : List (List ℕ × X)) (t : Bool) → AllByRecursion (λ k. slice_cmp nat_cmp first k ≡ Less) (keys_of (e ∷ es))
+      → AllByRecursion (λ k. slice_cmp nat_cmp first k ≡ Less) (keys_of rest) → AllByRecursion (λ k. slice_cmp nat_cmp first k ≡ Less) (keys_of (cond t es (e ∷ rest)))
+  less_kept_by first e es rest true all more = all.1
+  less_kept_by first e es rest false all more = (all.0, more)
 
-less_kept : (first k : Mailbox) (es : Names) → AllByRecursion (λ k. slice_cmp nat_cmp first k ≡ Less) (keys_of es)
-    → AllByRecursion (λ k. slice_cmp nat_cmp first k ≡ Less) (keys_of (forgotten es k))
-less_kept first k [] all = tt
-less_kept first k (e ∷ es) all = less_kept_by first e es (forgotten es k) (is_eq (slice_cmp nat_cmp k e.0)) all (less_kept first k es all.1)
+  less_kept : (first k : Mailbox) (es : List (List ℕ × X)) → AllByRecursion (λ k. slice_cmp nat_cmp first k ≡ Less) (keys_of es)
+      → AllByRecursion (λ k. slice_cmp nat_cmp first k ≡ Less) (keys_of (without_key (slice_cmp nat_cmp) es k))
+  less_kept first k [] all = tt
+  less_kept first k (e ∷ es) all = less_kept_by first e es (without_key (slice_cmp nat_cmp) es k) (is_eq (slice_cmp nat_cmp k e.0)) all (less_kept first k es all.1)
 
-order_kept_by : (e : List ℕ × Held) (es rest : Names) (t : Bool) → IsInOrder (slice_cmp nat_cmp) (e ∷ es) → AllByRecursion (λ k. slice_cmp nat_cmp e.0 k ≡ Less) (keys_of rest)
-    → IsInOrder (slice_cmp nat_cmp) rest → IsInOrder (slice_cmp nat_cmp) (cond t es (e ∷ rest))
-unfolding IsStrictlySortedBy
-order_kept_by e es rest true order less more = order.1
-order_kept_by e es rest false order less more = (less, more)
+  order_kept_by : (e : List ℕ × X) (es rest : List (List ℕ × X)) (t : Bool) → IsInOrder (slice_cmp nat_cmp) (e ∷ es)
+      → AllByRecursion (λ k. slice_cmp nat_cmp e.0 k ≡ Less) (keys_of rest) → IsInOrder (slice_cmp nat_cmp) rest → IsInOrder (slice_cmp nat_cmp) (cond t es (e ∷ rest))
+  unfolding IsStrictlySortedBy
+  order_kept_by e es rest true order less more = order.1
+  order_kept_by e es rest false order less more = (less, more)
 
-order_kept : (k : Mailbox) (es : Names) → IsInOrder (slice_cmp nat_cmp) es → IsInOrder (slice_cmp nat_cmp) (forgotten es k)
-unfolding IsStrictlySortedBy
-order_kept k [] order = tt
-order_kept k (e ∷ es) order = order_kept_by e es (forgotten es k) (is_eq (slice_cmp nat_cmp k e.0)) order (less_kept e.0 k es order.0) (order_kept k es order.1)
+  -- without an entry the order stays
+  pub order_kept : (k : Mailbox) (es : List (List ℕ × X)) → IsInOrder (slice_cmp nat_cmp) es → IsInOrder (slice_cmp nat_cmp) (without_key (slice_cmp nat_cmp) es k)
+  unfolding IsStrictlySortedBy
+  order_kept k [] order = tt
+  order_kept k (e ∷ es) order = order_kept_by e es (without_key (slice_cmp nat_cmp) es k) (is_eq (slice_cmp nat_cmp k e.0)) order (less_kept e.0 k es order.0) (order_kept k es order.1)
 
 none_if : (t : Bool) → (let o : Option Held = None in cond t o None ≡ o)
 none_if true = refl

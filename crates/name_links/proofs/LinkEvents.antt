@@ -36,7 +36,7 @@ use Rattle.name_links.specs.Known.{known}
 use Rattle.name_links.specs.Lines.{backend_line, items_of, is_full_for, NameStep, answered}
 use Rattle.name_links.specs.Answers.{HasNoBang, told_all, answers_to}
 use Rattle.name_links.specs.OneLink.{OneLink, server_of, items_if, up_items, told_pair, told_of, back_of, message_of, does, asks, hears, under, table_by, takes, takes_other}
-use Rattle.name_links.specs.LinkIs.{tagged_line, tagged_by, tagged_lines, lines_after, IsAnswerTo, AreAnswers, AreSent, IsTagged, IsTied, LinkIs, IsReady, AsksKeepIt, HearsKeepsIt, TakesKeepsIt, OthersKeepIt}
+use Rattle.name_links.specs.LinkIs.{tagged_line, tagged_by, tagged_lines, lines_after, IsAnswerTo, AreAnswers, AreSent, IsTagged, IsTied, LinkIs, IsReady}
 use Rattle.name_links.proofs.EachCommand.{each_command}
 use Rattle.name_links.proofs.LineAnswers.{answers_done}
 use Rattle.name_links.proofs.LinkRows.{back, heard_kept, asked_row, items_one, answered_kept, answered_granted, others_still}
@@ -129,7 +129,7 @@ module _ (link : OneLink) (it : NameAsk) (is : LinkIs link) (conn : it.id.conn <
     tied = did_tied link (asked_step link.flows link.held it) (tagged_lines link.flows) is.tied.left link.downs ask_leaves is.tied.answers is.tied.sent;
   }
 
-pub asks_keep : AsksKeepIt
+pub asks_keep : (link : OneLink) (it : NameAsk) → LinkIs link → it.id.conn < 2 ^ 64 → it.id.command < 2 ^ 64 → LinkIs (asks link it)
 asks_keep link it is conn command = ask_is link it is conn command
 
 -- ---- the master takes a line
@@ -148,7 +148,7 @@ module _ (link : OneLink) (it : Tag × MCommand) (ups : List (Tag × MCommand)) 
   unfolding AreSent
   tag_is = sent_parts.0
 
-  line_is : backend_line (server_of link) it.0 it.1 ≡ Some line.1
+  pub line_is : backend_line (server_of link) it.0 it.1 ≡ Some line.1
   unfolding AreSent
   line_is = sent_parts.1
 
@@ -214,11 +214,11 @@ module _ (link : OneLink) (it : Tag × MCommand) (ups : List (Tag × MCommand)) 
     };
   }
 
-none_sent : (b : Server) (it : Tag × MCommand) (ups : List (Tag × MCommand)) → AreSent b [] (it ∷ ups) → ⊥
+pub none_sent : (b : Server) (it : Tag × MCommand) (ups : List (Tag × MCommand)) → AreSent b [] (it ∷ ups) → ⊥
 unfolding AreSent
 none_sent b it ups s = s
 
-pub takes_keep : TakesKeepsIt
+pub takes_keep : (link : OneLink) (it : Tag × MCommand) (ups : List (Tag × MCommand)) → IsReady link → LinkIs link → link.ups ≡ it ∷ ups → LinkIs (takes link it ups)
 takes_keep link it ups ready is e = by_left is.tied.left refl
   where
     by_left : (ls : List (Tag × OpenLine)) → is.tied.left ≡ ls → LinkIs (takes link it ups)
@@ -229,7 +229,8 @@ takes_keep link it ups ready is e = by_left is.tied.left refl
 
 -- ---- the master takes a line of another backend
 
-pub others_keep : OthersKeepIt
+pub others_keep : (link : OneLink) (q : Server) (tag : Tag) (it : MCommand) (line : OpenLine) → IsReady link → LinkIs link → HasNoBang q → q ≢ server_of link
+    → backend_line q tag it ≡ Some line → LinkIs (takes_other link q it)
 unfolding back_of
 others_keep link q tag it line ready is no_bang ne e = record {
   named = λ n. subst (λ (m : Mine). LinkOk m (back_of link n))

@@ -13,7 +13,7 @@ use Rattle.home_law.proofs.ManyNamesLaw.{downs-append}
 use Rattle.name_links.specs.Known.{known}
 use Rattle.name_links.specs.Lines.{is_full_for}
 use Rattle.name_links.specs.Answers.{lines_to, told_in, told_all, answers_to, AreSpelled}
-use Rattle.name_links.specs.MasterLaw.{IsLineOf, step_of, sent_to_by, RecordIsOne, AnswersAreOne, AnswersTakeOff, OthersHearNothing}
+use Rattle.name_links.specs.MasterLaw.{IsLineOf, step_of, sent_to_by, StepIsReply, RecordIsOne, AnswersAreOne, AnswersTakeOff, OthersHearNothing}
 use Rattle.name_links.proofs.Outcome.{IsStep}
 use Rattle.name_links.proofs.EachCommand.{each_command}
 use Rattle.name_links.proofs.Outs.{line_is_reply, lines_to_sender, lines_to_other}
@@ -50,6 +50,14 @@ module _ (master : Master) (b : Server) (bytes : List ℕ) (tag : Tag) (it : MCo
       ap (λ (p : Planned). flat_map told_in (lines_to b p.outs)) is_reply
       ∙ ap (λ ls. flat_map told_in ls) (lines_to_sender master b tag (reply_to master.table (Backend b) it) comes.no_stream)
       ∙ told_again tag (answers_to master.table b it) spelled
+
+pub step_is_reply : StepIsReply
+unfolding replied
+step_is_reply master b bytes tag it line comes = (
+  ap (λ (p : Planned). p.master.table) (is_reply master b bytes tag it line comes),
+  ap (λ (p : Planned). lines_to b p.outs) (is_reply master b bytes tag it line comes)
+      ∙ lines_to_sender master b tag (reply_to master.table (Backend b) it) comes.no_stream,
+)
 
 pub record_is_one : RecordIsOne
 record_is_one master b bytes tag it line comes n = record_one master b bytes tag it line comes n

@@ -218,7 +218,7 @@ first_leaves f held line lines found step e k t = record {
 
 module _ (flows : Flows) (held : Names) (tag : Tag) (line : SentLine) (lines : List SentLine) (e : flows.sent ≡ line ∷ lines) (same : is_same_tag line.tag tag ≡ true) where
   -- the step, by the line that it answers
-  pub step_by : MResponse → FlowStep
+  unfoldable pub step_by : MResponse → FlowStep
   step_by (response.Mailbox name place acl) = record_of flows held name place true (Some line.what)
   step_by (response.Reserve name place) = record_of flows held name place false (Some line.what)
   step_by (response.Delete name) = silent flows

@@ -4,6 +4,7 @@ use Rattle.std.specs.List.{AllByRecursion}
 use Rattle.std.specs.Ordering.{nat_cmp}
 use Rattle.std.specs.Cmp.Lexicographic.{slice_cmp}
 use Rattle.mur_base.specs.Map.{IsInOrder}
+use Rattle.mur_base.specs.declared.home.Location.{Location}
 use Rattle.mupdate_codec.specs.declared.command.MCommand.{MCommand}
 use Rattle.mupdate_codec.specs.declared.command.MResponse.{MResponse}
 use Rattle.mupdate_codec.specs.declared.command.MResponse.TheVariants as response
@@ -25,7 +26,7 @@ use Rattle.name_flows.specs.OneName.{open_line}
 use Rattle.name_links.specs.Known.{known}
 use Rattle.name_links.specs.Lines.{is_asked, backend_line}
 use Rattle.name_links.specs.Answers.{HasNoBang, IsTable}
-use Rattle.name_links.specs.OneLink.{OneLink, server_of, back_of, asks, hears, takes, takes_other}
+use Rattle.name_links.specs.OneLink.{OneLink, server_of, back_of, first_link, asks, hears, takes, takes_other}
 
 -- the lines whose last answer hasn't come, with their tags
 
@@ -103,19 +104,26 @@ pub record IsReady (link : OneLink) : Type 0 where
   pub held : IsInOrder (slice_cmp nat_cmp) link.held
   pub waiting : AreNumbered (waiting_in link.flows.resync)
 
--- ---- each event keeps it
+-- all of it
+pub record LinkHolds (link : OneLink) : Type 0 where
+  pub ready : IsReady link
+  pub is : LinkIs link
+
+-- ---- it holds when the link comes up first, and each event keeps it
+
+abbrev pub HoldsFirst : Type 0
+HoldsFirst = (me : Location) (master : List ℕ) → HasNoBang me.server → LinkHolds (first_link me master)
 
 abbrev pub AsksKeepIt : Type 0
-AsksKeepIt = (link : OneLink) (ask : NameAsk) → LinkIs link → ask.id.conn < 2 ^ 64 → ask.id.command < 2 ^ 64 → LinkIs (asks link ask)
+AsksKeepIt = (link : OneLink) (ask : NameAsk) → LinkHolds link → ask.id.conn < 2 ^ 64 → ask.id.command < 2 ^ 64 → LinkHolds (asks link ask)
 
 abbrev pub HearsKeepsIt : Type 0
-HearsKeepsIt = (link : OneLink) (it : Tag × MResponse) (downs : List (Tag × MResponse)) → IsReady link → LinkIs link → link.downs ≡ it ∷ downs
-    → LinkIs (hears link it downs)
+HearsKeepsIt = (link : OneLink) (it : Tag × MResponse) (downs : List (Tag × MResponse)) → LinkHolds link → link.downs ≡ it ∷ downs → LinkHolds (hears link it downs)
 
 abbrev pub TakesKeepsIt : Type 0
-TakesKeepsIt = (link : OneLink) (it : Tag × MCommand) (ups : List (Tag × MCommand)) → IsReady link → LinkIs link → link.ups ≡ it ∷ ups → LinkIs (takes link it ups)
+TakesKeepsIt = (link : OneLink) (it : Tag × MCommand) (ups : List (Tag × MCommand)) → LinkHolds link → link.ups ≡ it ∷ ups → LinkHolds (takes link it ups)
 
 -- a line that another backend sent
 abbrev pub OthersKeepIt : Type 0
-OthersKeepIt = (link : OneLink) (q : Server) (tag : Tag) (it : MCommand) (line : OpenLine) → IsReady link → LinkIs link → HasNoBang q → q ≢ server_of link
-    → backend_line q tag it ≡ Some line → LinkIs (takes_other link q it)
+OthersKeepIt = (link : OneLink) (q : Server) (tag : Tag) (it : MCommand) (line : OpenLine) → LinkHolds link → HasNoBang q → q ≢ server_of link
+    → backend_line q tag it ≡ Some line → LinkHolds (takes_other link q it)

@@ -1,5 +1,5 @@
 -- The master's step, to each name, is `home_law`'s.
-use Rattle.std.specs.Prelude.{◌≡◌, ◌≢◌, ℕ, false, List, [], ◌∷◌, ◌++◌, Some}
+use Rattle.std.specs.Prelude.{◌≡◌, ◌≢◌, ℕ, false, List, [], ◌∷◌, ◌++◌, map, Some}
 use Rattle.std.specs.List.{flat_map}
 use Rattle.mupdate_codec.specs.declared.command.MCommand.{MCommand}
 use Rattle.mupdate_codec.specs.declared.tag.Tag.{Tag}
@@ -7,7 +7,9 @@ use Rattle.node_record.specs.Table.{MailboxTable}
 use Rattle.master_core.specs.declared.master.Master.{Master}
 use Rattle.master_core.specs.declared.sender.Sender.TheVariants.{Backend}
 use Rattle.master_core.specs.Lines.{command_in}
-use Rattle.master_core.specs.Step.{line_step}
+use Rattle.master_core.specs.Changes.{text_of}
+use Rattle.master_core.specs.Replies.{reply_to}
+use Rattle.master_core.specs.Step.{table_with, line_step}
 use Rattle.master_core.specs.Streams.{is_stream}
 use Rattle.home_law.specs.Items.{Server}
 use Rattle.home_law.specs.ManyNames.{Mailbox, SentLine, BackMessage, downs_of, left_of}
@@ -30,6 +32,12 @@ step_of table b line n = answered (is_full_for table line) b (known table n) (it
 -- the lines for a backend
 abbrev pub sent_to_by : Master → Server → List ℕ → Server → List BackMessage
 sent_to_by master b bytes q = flat_map told_in (lines_to q (line_step master (Backend b) bytes).outs)
+
+-- the table after the line, and the lines for the backend
+abbrev pub StepIsReply : Type 0
+StepIsReply = (master : Master) (b : Server) (bytes : List ℕ) (tag : Tag) (it : MCommand) (line : SentLine) → IsLineOf master b bytes tag it line
+    → ((line_step master (Backend b) bytes).master.table ≡ table_with master.table (reply_to master.table (Backend b) it).entry)
+    × (lines_to b (line_step master (Backend b) bytes).outs ≡ map (text_of tag) (answers_to master.table b it))
 
 -- the record of each name
 abbrev pub RecordIsOne : Type 0

@@ -7,7 +7,7 @@ use Rattle.mupdate_codec.specs.declared.command.MCommand.{MCommand}
 use Rattle.mupdate_codec.specs.declared.command.MResponse.{MResponse}
 use Rattle.mupdate_codec.specs.declared.tag.Tag.{Tag}
 use Rattle.node_record.specs.Held.{Names}
-use Rattle.node_record.specs.Table.{MailboxTable}
+use Rattle.node_record.specs.Table.{MailboxTable, empty_table}
 use Rattle.master_core.specs.declared.sender.Sender.TheVariants.{Backend}
 use Rattle.master_core.specs.Replies.{reply_to}
 use Rattle.master_core.specs.Step.{table_with}
@@ -20,6 +20,8 @@ use Rattle.name_flows.specs.declared.sent.SentLine.{SentLine}
 use Rattle.name_flows.specs.Asked.{asked_step}
 use Rattle.name_flows.specs.Heard.{heard_step}
 use Rattle.name_flows.specs.Lines.{command_of}
+use Rattle.name_flows.specs.Listing.{up_step}
+use Rattle.name_flows.specs.Running.{new_flows}
 use Rattle.name_flows.specs.OneName.{ctl_of, open_lines, told_by}
 use Rattle.name_flows.specs.Steps.{FlowStep, held_with, Handed, handed}
 use Rattle.name_links.specs.Lines.{backend_line, items_of}
@@ -75,6 +77,13 @@ does link downs it = record link {
   ups = link.ups ++ map (message_of it.flows.me link.held) it.sends;
   downs = downs;
 }
+
+-- the link comes up first: no name has a record, no mailbox is here, and the backend sends LIST
+abbrev pub empty_link : Location → List ℕ → OneLink
+empty_link me master = record { table = empty_table; flows = new_flows me master; held = []; ups = []; downs = [] }
+
+abbrev pub first_link : Location → List ℕ → OneLink
+first_link me master = does (empty_link me master) [] (up_step (new_flows me master))
 
 -- a frontend's ask comes to the backend
 abbrev pub asks : OneLink → NameAsk → OneLink

@@ -1,5 +1,8 @@
-use Rattle.name_links.proofs.MasterLaw.{record_is_one, answers_are_one, answers_take_off, others_hear_nothing}
+use Rattle.name_links.proofs.MasterLaw.{step_is_reply, record_is_one, answers_are_one, answers_take_off, others_hear_nothing}
 use Rattle.name_links.proofs.laws.a_line_is_one_of_each_name.Goals as goal
+
+pub returns-clause-step : goal.returns-clause-step
+returns-clause-step c = step_is_reply
 
 pub returns-clause-known : goal.returns-clause-known
 returns-clause-known c = record_is_one
