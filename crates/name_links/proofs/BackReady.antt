@@ -1,6 +1,6 @@
 -- What the backend has stays in order, whatever comes to it.
-use Rattle.std.proofs.Common.{◌≡◌, ℕ, ◌<◌, ◌^◌, Bool, true, false, ◌&&◌, ◌||◌, not, cond, List, [], ◌∷◌, ◌++◌, map, filter, Option, None, Some, refl, sym, ap, subst, ◌∙◌}
-use Rattle.std.specs.List.{AllByRecursion, fold}
+use Rattle.std.proofs.Common.{◌≡◌, ℕ, ◌<◌, ◌^◌, Bool, true, false, ◌&&◌, ◌||◌, not, cond, List, [], ◌∷◌, ◌++◌, map, filter, Option, None, Some, refl, sym, subst}
+use Rattle.std.specs.List.{fold}
 use Rattle.std.specs.Ordering.{nat_cmp}
 use Rattle.std.specs.Cmp.Lexicographic.{slice_cmp}
 use Rattle.std.proofs.lemmas.Cmp.{nat_list_cmp_total}
@@ -28,11 +28,10 @@ use Rattle.name_flows.specs.Creates.{serial_in, reserved_by, reserve_ok, reserve
 use Rattle.name_flows.specs.Deletes.{deactivate_ok, delete_ok}
 use Rattle.name_flows.specs.Finds.{forgotten_if}
 use Rattle.name_flows.specs.Heard.{is_same_tag, taken, ok_of, no_of, record_of, heard_step}
-use Rattle.name_flows.specs.Lines.{unasked_line}
 use Rattle.name_flows.specs.Link.{waiting_in}
-use Rattle.name_flows.specs.Listed.{is_unmade, name_in, forget_all, Round, round_by, round, ended_resync, list_ok_by}
+use Rattle.name_flows.specs.Listed.{is_unmade, name_in, forget_all, Round, round_by, round, list_ok_by}
 use Rattle.name_flows.specs.Listing.{noted_in, noted, listed_step}
-use Rattle.name_flows.specs.Phases.{is_creating, is_open, is_closing}
+use Rattle.name_flows.specs.Phases.{is_creating, is_closing}
 use Rattle.name_flows.specs.Running.{staged, has_flow, is_at}
 use Rattle.name_flows.specs.Steps.{FlowStep, given, silent, changing, held_with}
 use Rattle.name_links.specs.LinkIs.{AreNumbered}

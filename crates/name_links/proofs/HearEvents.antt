@@ -1,113 +1,42 @@
 -- A response that the backend takes keeps the invariant of a link: to each name it is a row of steps of the protocol of one name.
-use Rattle.std.proofs.Common.{◌≡◌, ◌≢◌, ℕ, ◌<◌, ◌^◌, Bool, true, false, ◌&&◌, ◌||◌, cond, is_some, not, filter, List, [], ◌∷◌, ◌++◌, map, Option, None, Some, refl, sym, ap, subst, ◌∙◌, append-nil}
-use Rattle.std.specs.List.{flat_map, fold, AllByRecursion}
-use Rattle.std.proofs.lemmas.List.Concat.{flat_map-append}
-use Rattle.mur_base.specs.Map.{value_at}
+use Rattle.std.proofs.Common.{◌≡◌, ℕ, Bool, true, false, ◌&&◌, ◌||◌, is_some, not, filter, List, [], ◌∷◌, ◌++◌, map, Option, None, Some, refl, sym, ap, subst, ◌∙◌, append-nil}
+use Rattle.std.specs.List.{fold, AllByRecursion}
 use Rattle.mur_base.specs.declared.home.Location.{Location}
-use Rattle.mupdate_codec.specs.declared.command.MCommand.{MCommand}
 use Rattle.mupdate_codec.specs.declared.command.MResponse.{MResponse}
 use Rattle.mupdate_codec.specs.declared.command.MResponse.TheVariants as response
 use Rattle.mupdate_codec.specs.declared.tag.Tag.{Tag}
 use Rattle.node_record.specs.declared.held.Held.{Held}
-use Rattle.node_record.specs.Held.{Names, held_at, forgotten}
-use Rattle.master_core.specs.declared.sender.Sender.TheVariants.{Backend}
-use Rattle.master_core.specs.Replies.{reply_to}
-use Rattle.home_law.specs.Items.{NameRecord, Server, Mine, Item, Ctl, listed_active, listed_reserved, list_ok, synced}
+use Rattle.node_record.specs.Held.{Names, held_at}
+use Rattle.home_law.specs.Items.{Item, listed_active, listed_reserved, list_ok, synced}
 use Rattle.home_law.specs.Link.{Back, see}
 use Rattle.home_law.specs.LinkOk.{EachItem, LinkOk}
-use Rattle.home_law.specs.ManyNames.{Mailbox, is_same_mailbox, SentLine as OpenLine, sent_list, BackMessage, downs_of, left_of, line_items as told_items, ok_items}
+use Rattle.home_law.specs.ManyNames.{Mailbox, SentLine as OpenLine, BackMessage, downs_of, left_of, ok_items}
 use Rattle.home_law.specs.Rows.{mine_of, answer_ok, is_listing, is_synced, is_active, is_bare, is_kept}
 use Rattle.home_law.specs.Steps.{BackStep, hear, hear_list_ok}
 use Rattle.home_law.proofs.ManyNamesLaw.{downs-append}
-use Rattle.home_law.proofs.SameName.{is_itself}
-use Rattle.name_flows.specs.declared.ask.NameAsk.{NameAsk}
 use Rattle.name_flows.specs.declared.flows.Flows.{Flows}
 use Rattle.name_flows.specs.declared.resync.Resync.{Resync}
 use Rattle.name_flows.specs.declared.sent.Sent.{Sent}
 use Rattle.name_flows.specs.declared.sent.Sent.TheVariants.{List as List_line, Reserve, Make, Again, Deactivate, Delete, Wipe, Find}
 use Rattle.name_flows.specs.declared.sent.SentLine.{SentLine}
-use Rattle.name_flows.specs.Asked.{asked_step}
 use Rattle.name_flows.specs.Heard.{is_same_tag, is_answer, first_line, behind_first, what_in, taken, ok_of, heard_step}
 use Rattle.name_flows.specs.Link.{waiting_in}
-use Rattle.name_flows.specs.Listed.{ListedNames, is_unlisted, is_unmade, is_lost, name_in, forget_all, Round, round, ended_resync, list_ok_by}
-use Rattle.name_flows.specs.Phases.{is_closing}
+use Rattle.name_flows.specs.Listed.{is_unmade, is_lost, name_in, Round, round, ended_resync, list_ok_by}
 use Rattle.name_flows.specs.Running.{flow_at}
-use Rattle.name_flows.specs.OneName.{phase_in, flow_in, progress_in, ctl_of, sent_items, line_items, open_line, open_behind, open_by, open_lines, seen_by, request, quiet, asked_as, heard_as, told_by, CanHear, IsRead}
-use Rattle.name_flows.specs.Steps.{FlowStep, held_with}
-use Rattle.name_flows.proofs.AskedLaw.{asked_as_one}
+use Rattle.name_flows.specs.OneName.{phase_in, flow_in, progress_in, ctl_of, open_line, open_behind, open_by, open_lines, seen_by, told_by, CanHear, IsRead}
+use Rattle.name_flows.specs.Steps.{FlowStep}
 use Rattle.name_flows.proofs.HeardLaw.{heard_as_one}
 use Rattle.name_links.specs.Known.{known}
-use Rattle.name_links.specs.Lines.{backend_line, items_of, is_full_for, NameStep, answered}
-use Rattle.name_links.specs.Answers.{HasNoBang, told_all, answers_to}
-use Rattle.name_links.specs.OneLink.{OneLink, server_of, items_if, up_items, told_pair, told_of, back_of, message_of, does, asks, hears, under, table_by, takes, takes_other}
-use Rattle.name_links.specs.LinkIs.{AreNumbered, tagged_line, tagged_by, tagged_lines, lines_after, IsAnswerTo, AreAnswers, AreSent, IsTagged, IsTied, LinkIs, IsReady}
-use Rattle.name_links.proofs.EachCommand.{each_command}
-use Rattle.name_links.proofs.LineAnswers.{answers_done}
-use Rattle.name_links.proofs.LinkRows.{back, one_heard, heard_kept, asked_row, items_one, answered_kept, answered_granted, others_still}
+use Rattle.name_links.specs.OneLink.{OneLink, server_of, told_of, back_of, hears}
+use Rattle.name_links.specs.LinkIs.{AreNumbered, tagged_line, tagged_by, tagged_lines, lines_after, IsAnswerTo, AreAnswers, IsTagged, LinkIs, IsReady}
+use Rattle.name_links.proofs.LinkRows.{back, one_heard, heard_kept}
+use Rattle.name_links.proofs.HearParts.{and_left, and_right, runs, list_items, reserved_items, read_is, forget_is, not_lost}
 use Rattle.name_links.proofs.LinkEvents.{did_named, did_tied}
-use Rattle.name_links.proofs.Outcome.{IsStep}
-use Rattle.name_links.proofs.LinesByName.{says, IsAboutIt, lines_tagged, passes, is_in_passing}
+use Rattle.name_links.proofs.LinesByName.{says, IsAboutIt, lines_tagged, is_in_passing}
 use Rattle.name_links.proofs.ResyncEnd.{find_about, finds_each, finds_none, step_with, after_held, lost_lines, is_noted, after_at, list_ok_is}
 use Rattle.name_links.proofs.Rounds.{SameFor, forgotten_same, IsRound, rounds_are, rounds_kept}
-use Rattle.name_links.proofs.Sends.{is_list_end, step_by, step_ok, heard_is, Keeps, last_leaves, Leaves, heard_leaves, asked_leaves}
-use Rattle.name_links.proofs.Tied.{lines_of, untagged, left_one, left_is, answers_more, downs_more, answers_then, sent_more}
-
--- ---- a response
-
-and_left : (a b : Bool) → (a && b) ≡ true → a ≡ true
-and_left true b e = refl
-and_left false b e = cc
-
-and_right : (a b : Bool) → (a && b) ≡ true → b ≡ true
-and_right true b e = e
-and_right false b e = cc
-
--- a name is listed while a resync runs
-runs : (n : Mailbox) (r : Option Resync) → is_listing (progress_in n r) ≡ true → is_some r ≡ true
-unfolding is_listing
-runs n None e = cc
-runs n (Some w) e = refl
-
-list_items : (n : Mailbox) (place : Location) (acl : List ℕ) (rest : List OpenLine) → downs_of n (sent_list ∷ rest) (told_by (response.Mailbox n place acl)) ≡ listed_active ∷ []
-unfolding downs_of told_items
-list_items n place acl rest = rw (is_itself n) refl
-
-reserved_items : (n : Mailbox) (place : Location) (rest : List OpenLine) → downs_of n (sent_list ∷ rest) (told_by (response.Reserve n place)) ≡ listed_reserved ∷ []
-unfolding downs_of told_items
-reserved_items n place rest = rw (is_itself n) refl
-
-read_is : (flows : Flows) (found : Bool) (what : Sent) (it : MResponse) → IsAnswerTo (open_line found what) it → is_list_end (Some what) it ≡ false
-    → ((name : List ℕ) (place : Location) (acl : List ℕ) → what ≡ List_line → it ≡ response.Mailbox name place acl → is_some flows.resync ≡ true)
-    → ((name : List ℕ) (place : Location) → what ≡ List_line → it ≡ response.Reserve name place → is_some flows.resync ≡ true)
-    → IsRead (Some what) it flows
-read_is flows found List_line (response.Mailbox name place acl) a n listed reserved = listed name place acl refl refl
-read_is flows found List_line (response.Reserve name place) a n listed reserved = reserved name place refl refl
-read_is flows found List_line (response.Delete name) a n listed reserved = tt
-read_is flows found List_line (response.Ok text) a n listed reserved = cc
-read_is flows found List_line (response.No text) a n listed reserved = tt
-read_is flows found List_line (response.Bad text) a n listed reserved = tt
-read_is flows found (Reserve m) (response.Mailbox name place acl) a n listed reserved = tt
-read_is flows found (Reserve m) (response.Reserve name place) a n listed reserved = tt
-read_is flows found (Reserve m) (response.Delete name) a n listed reserved = tt
-read_is flows found (Reserve m) (response.Ok text) a n listed reserved = a
-read_is flows found (Reserve m) (response.No text) a n listed reserved = tt
-read_is flows found (Reserve m) (response.Bad text) a n listed reserved = tt
-read_is flows found (Make m) it a n listed reserved = tt
-read_is flows found (Again m) it a n listed reserved = tt
-read_is flows found (Deactivate m) it a n listed reserved = tt
-read_is flows found (Delete m) it a n listed reserved = tt
-read_is flows found (Wipe m) it a n listed reserved = tt
-read_is flows found (Find m) it a n listed reserved = tt
-
--- the entry by which some names are here no more
-forget_is : (held : Names) (names : List Mailbox) → held_with held (forget_all names) ≡ fold forgotten held names
-forget_is held [] = refl
-forget_is held (name ∷ names) = refl
-
--- a name that isn't closed here isn't looked for
-not_lost : (listed : ListedNames) (k : Mailbox) (h : Option Held) → is_closing h ≡ false → passes (is_lost listed) k h ≡ false
-not_lost listed k None e = refl
-not_lost listed k (Some it) e = ap (λ (t : Bool). t && is_unlisted listed k) e
+use Rattle.name_links.proofs.Sends.{is_list_end, step_by, step_ok, heard_is, Keeps, last_leaves, Leaves, heard_leaves}
+use Rattle.name_links.proofs.Tied.{lines_of, untagged, left_one}
 
 module _ (link : OneLink) (it : Tag × MResponse) (downs : List (Tag × MResponse)) (ready : IsReady link) (is : LinkIs link) (e : link.downs ≡ it ∷ downs)
     (line : SentLine) (lines : List SentLine) (first : link.flows.sent ≡ line ∷ lines) where

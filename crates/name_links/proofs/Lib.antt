@@ -6,6 +6,7 @@ pub mod Reading
 pub mod Outs
 pub mod MasterLaw
 pub mod Tied
+pub mod Messages
 pub mod Sends
 pub mod LinkRows
 pub mod LineAnswers
@@ -13,6 +14,7 @@ pub mod LinkEvents
 pub mod LinesByName
 pub mod ResyncEnd
 pub mod Rounds
+pub mod HearParts
 pub mod HearEvents
 pub mod BackReady
 pub mod TableReady

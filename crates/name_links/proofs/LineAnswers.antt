@@ -2,7 +2,6 @@
 use Rattle.std.proofs.Common.{◌≡◌, ℕ, ◌+◌, ◌<◌, ◌^◌, ◌==◌, nat_eq, nat_lt, Bool, true, false, cond, is_some, not, List, [], ◌∷◌, ◌++◌, map, filter, Option, None, Some, refl, sym, ap, subst, ◌∙◌, arith}
 use Rattle.std.proofs.lemmas.Bool.Decides.{nat_tests}
 use Rattle.std.specs.Cmp.Lexicographic.{pointwise}
-use Rattle.std.specs.Fmt.{decimal}
 use Rattle.grammar.specs.Numbers.{decimal_text}
 use Rattle.grammar.proofs.DecimalLaw.{decimal_is_text}
 use Rattle.mur_base.specs.Number.{number_of}
@@ -20,18 +19,18 @@ use Rattle.node_record.specs.Table.{Records, MailboxTable, record_at}
 use Rattle.master_core.specs.declared.refusal.Refusal.{Refusal}
 use Rattle.master_core.specs.declared.sender.Sender.TheVariants.{Backend}
 use Rattle.master_core.specs.Records.{listed_line, is_listed, found_line}
-use Rattle.master_core.specs.Refusals.{refusal_text, is_active, is_reserved, reserve_refusal, activate_refusal, deactivate_refusal, delete_refusal}
+use Rattle.master_core.specs.Refusals.{is_active, is_reserved, reserve_refusal, activate_refusal, deactivate_refusal, delete_refusal}
 use Rattle.master_core.specs.Replies.{done, reserve_by, activate_by, deactivate_by, delete_by, reserve_reply, activate_reply, deactivate_reply, delete_reply, find_reply, list_reply, reply_to}
-use Rattle.master_core.specs.Senders.{is_backend, is_server}
+use Rattle.master_core.specs.Senders.{is_server}
 use Rattle.home_law.specs.Items.{Server, is_same_server}
 use Rattle.home_law.specs.ManyNames.{Mailbox, SentLine as OpenLine, sent_list, sent_reserve, sent_make, sent_again, sent_deactivate, sent_delete, sent_wipe, sent_find, with_line}
-use Rattle.name_flows.specs.Creates.{serial_of, serial_in}
+use Rattle.name_flows.specs.Creates.{serial_in}
 use Rattle.name_links.specs.Lines.{is_asked, places_of, backend_line}
 use Rattle.name_links.specs.Answers.{answers_to}
 use Rattle.name_links.specs.OneLink.{under}
-use Rattle.name_links.specs.LinkIs.{IsAnswerTo, AreAnswers}
+use Rattle.name_links.specs.LinkIs.{AreAnswers}
 use Rattle.name_links.proofs.EachCommand.{some_is, if_so}
-use Rattle.name_links.proofs.Sends.{same_tag_itself}
+use Rattle.name_links.proofs.Messages.{same_tag_itself}
 
 -- a serial is read again
 serial_again : (n : ℕ) → n < 2 ^ 32 → is_some (serial_in (decimal_text n)) ≡ true

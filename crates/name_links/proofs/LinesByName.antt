@@ -2,20 +2,19 @@
 use Rattle.std.proofs.Common.{◌≡◌, ◌≢◌, ◌⊎◌, inl, inr, ℕ, Bool, true, false, cond, List, [], ◌∷◌, ◌++◌, map, filter, Option, None, Some, refl, sym, ap, subst, ◌∙◌, append-nil}
 use Rattle.std.specs.declared.cmp.Ordering.{Ordering}
 use Rattle.std.specs.declared.cmp.Ordering.TheVariants.{Less, Equal, Greater}
-use Rattle.std.specs.BTreeMap.{insert_entry}
 use Rattle.std.specs.List.{AllByRecursion, flat_map, fold}
 use Rattle.std.specs.List.Sorted.{IsStrictlySortedBy}
 use Rattle.std.specs.Map.{keys_of}
 use Rattle.std.specs.Ordering.{is_eq, nat_cmp, match_ordering}
 use Rattle.std.specs.Cmp.Lexicographic.{slice_cmp}
-use Rattle.mur_base.specs.Map.{value_at, with_entry, without_key, IsInOrder}
-use Rattle.mur_base.proofs.MapLaws.{names_apart, same_or_other, not_equal, value_at-with_entry-other}
+use Rattle.mur_base.specs.Map.{value_at, without_key, IsInOrder}
+use Rattle.mur_base.proofs.MapLaws.{names_apart, same_or_other, not_equal}
 use Rattle.home_law.specs.Items.{Item}
 use Rattle.home_law.specs.ManyNames.{Mailbox}
 use Rattle.node_record.specs.declared.held.Held.{Held}
 use Rattle.node_record.specs.Held.{Names, forgotten}
 use Rattle.name_flows.specs.declared.sent.SentLine.{SentLine}
-use Rattle.name_flows.specs.Listed.{LinesByName, with_line, with_find, find_line, line_in, name_in}
+use Rattle.name_flows.specs.Listed.{LinesByName, with_line, line_in, name_in}
 use Rattle.name_flows.specs.OneName.{line_items}
 use Rattle.name_flows.proofs.NameMaps.{value_at-without_key-same, value_at-without_key-other}
 use Rattle.name_links.specs.LinkIs.{IsTagged}

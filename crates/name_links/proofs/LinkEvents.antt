@@ -1,48 +1,42 @@
 -- The steps of a backend, its asks, and the lines that the master takes keep the invariant of a link: to each name they are rows of steps of the
 -- protocol of one name.
-use Rattle.std.proofs.Common.{◌≡◌, ◌≢◌, ℕ, ◌<◌, ◌^◌, Bool, true, false, ◌&&◌, ◌||◌, cond, is_some, List, [], ◌∷◌, ◌++◌, map, Option, None, Some, refl, sym, ap, subst, ◌∙◌, append-nil}
+use Rattle.std.proofs.Common.{◌≡◌, ◌≢◌, ◌<◌, ◌^◌, true, false, List, [], ◌∷◌, ◌++◌, map, Option, Some, refl, sym, ap, subst, ◌∙◌}
 use Rattle.std.specs.List.{flat_map, AllByRecursion}
 use Rattle.std.proofs.lemmas.List.Concat.{flat_map-append}
-use Rattle.mur_base.specs.Map.{value_at}
 use Rattle.mur_base.specs.declared.home.Location.{Location}
 use Rattle.mupdate_codec.specs.declared.command.MCommand.{MCommand}
 use Rattle.mupdate_codec.specs.declared.command.MResponse.{MResponse}
-use Rattle.mupdate_codec.specs.declared.command.MResponse.TheVariants as response
 use Rattle.mupdate_codec.specs.declared.tag.Tag.{Tag}
 use Rattle.node_record.specs.Held.{Names}
 use Rattle.master_core.specs.declared.sender.Sender.TheVariants.{Backend}
 use Rattle.master_core.specs.Replies.{reply_to}
-use Rattle.home_law.specs.Items.{NameRecord, Server, Mine, Item, Ctl, listed_active, listed_reserved, Resync as Progress, listing}
+use Rattle.home_law.specs.Items.{NameRecord, Server, Mine, Item}
 use Rattle.home_law.specs.Link.{Back, see}
-use Rattle.home_law.specs.LinkOk.{EachItem, LinkOk}
-use Rattle.home_law.specs.ManyNames.{Mailbox, is_same_mailbox, SentLine as OpenLine, sent_list, BackMessage, downs_of, left_of, line_items as told_items}
-use Rattle.home_law.specs.Rows.{mine_of, answer_ok, is_listing, is_active, is_bare, is_kept}
-use Rattle.home_law.specs.Steps.{BackStep, ask}
+use Rattle.home_law.specs.LinkOk.{LinkOk}
+use Rattle.home_law.specs.ManyNames.{Mailbox, SentLine as OpenLine, BackMessage, downs_of, left_of}
+use Rattle.home_law.specs.Rows.{mine_of}
+use Rattle.home_law.specs.Steps.{BackStep}
 use Rattle.home_law.proofs.ManyNamesLaw.{downs-append}
-use Rattle.home_law.proofs.SameName.{is_itself}
 use Rattle.name_flows.specs.declared.ask.NameAsk.{NameAsk}
-use Rattle.name_flows.specs.declared.flows.Flows.{Flows}
-use Rattle.name_flows.specs.declared.resync.Resync.{Resync}
 use Rattle.name_flows.specs.declared.sent.Sent.{Sent}
 use Rattle.name_flows.specs.declared.sent.Sent.TheVariants.{List as List_line, Reserve, Make, Again, Deactivate, Delete, Wipe, Find}
 use Rattle.name_flows.specs.declared.sent.SentLine.{SentLine}
 use Rattle.name_flows.specs.Asked.{asked_step}
-use Rattle.name_flows.specs.Heard.{is_same_tag, is_answer, first_line, what_in, heard_step}
-use Rattle.name_flows.specs.OneName.{progress_in, ctl_of, sent_items, line_items, open_line, open_behind, open_by, open_lines, seen_by, request, quiet, asked_as, heard_as, told_by, CanHear, IsRead}
-use Rattle.name_flows.specs.Steps.{FlowStep, handed}
+use Rattle.name_flows.specs.OneName.{ctl_of, sent_items, line_items, open_line, open_lines, seen_by, told_by}
+use Rattle.name_flows.specs.Steps.{FlowStep}
 use Rattle.name_flows.proofs.AskedLaw.{asked_as_one}
-use Rattle.name_flows.proofs.HeardLaw.{heard_as_one}
 use Rattle.name_links.specs.Known.{known}
 use Rattle.name_links.specs.Lines.{backend_line, items_of, is_full_for, NameStep, answered}
 use Rattle.name_links.specs.Answers.{HasNoBang, told_all, answers_to}
-use Rattle.name_links.specs.OneLink.{OneLink, server_of, items_if, up_items, told_pair, told_of, back_of, message_of, does, asks, hears, under, table_by, takes, takes_other}
-use Rattle.name_links.specs.LinkIs.{tagged_line, tagged_by, tagged_lines, lines_after, IsAnswerTo, AreAnswers, AreSent, IsTagged, IsTied, LinkIs, IsReady}
+use Rattle.name_links.specs.OneLink.{OneLink, server_of, items_if, up_items, told_pair, told_of, back_of, message_of, does, asks, under, table_by, takes, takes_other}
+use Rattle.name_links.specs.LinkIs.{tagged_line, tagged_lines, AreAnswers, AreSent, IsTagged, IsTied, LinkIs, IsReady}
 use Rattle.name_links.proofs.EachCommand.{each_command}
 use Rattle.name_links.proofs.LineAnswers.{answers_done}
-use Rattle.name_links.proofs.LinkRows.{back, heard_kept, asked_row, items_one, answered_kept, answered_granted, others_still}
+use Rattle.name_links.proofs.LinkRows.{back, asked_row, items_one, answered_kept, answered_granted, others_still}
 use Rattle.name_links.proofs.Outcome.{IsStep}
-use Rattle.name_links.proofs.Sends.{message_is, sends_sent, Leaves, heard_leaves, asked_leaves}
-use Rattle.name_links.proofs.Tied.{lines_of, untagged, left_one, left_is, answers_more, downs_more, answers_then, sent_more}
+use Rattle.name_links.proofs.Messages.{message_is, sends_sent}
+use Rattle.name_links.proofs.Sends.{Leaves, asked_leaves}
+use Rattle.name_links.proofs.Tied.{lines_of, untagged, left_is, answers_more, downs_more, answers_then, sent_more}
 
 -- ---- a step of the backend
 

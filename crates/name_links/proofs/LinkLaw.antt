@@ -1,5 +1,5 @@
 -- What holds of a link holds when it comes up first, and each event keeps it.
-use Rattle.std.proofs.Common.{◌≡◌, ℕ, ◌<◌, ◌^◌, true, List, [], ◌∷◌, ◌++◌, Option, Some, refl, sym, ap, subst, arith}
+use Rattle.std.proofs.Common.{◌≡◌, ℕ, true, List, [], ◌∷◌, ◌++◌, Option, refl, sym, ap, subst, arith}
 use Rattle.std.specs.List.Sorted.{IsStrictlySortedBy}
 use Rattle.mur_base.specs.declared.home.Location.{Location}
 use Rattle.mupdate_codec.specs.declared.command.MCommand.{MCommand}
@@ -15,17 +15,16 @@ use Rattle.home_law.proofs.Keeps.{always}
 use Rattle.name_flows.specs.declared.sent.SentLine.{SentLine}
 use Rattle.name_flows.specs.Asked.{asked_step}
 use Rattle.name_flows.specs.Heard.{heard_step}
-use Rattle.name_flows.specs.Listing.{up_step, resync_line}
-use Rattle.name_flows.specs.Running.{new_flows}
+use Rattle.name_flows.specs.Listing.{resync_line}
 use Rattle.name_flows.specs.Steps.{FlowStep}
 use Rattle.name_links.specs.Answers.{HasNoBang}
 use Rattle.name_links.specs.Lines.{items_of}
-use Rattle.name_links.specs.OneLink.{OneLink, server_of, items_if, back_of, does, takes, empty_link, first_link}
-use Rattle.name_links.specs.LinkIs.{tagged_by, AreAnswers, AreSent, IsTied, IsReady, LinkIs, LinkHolds, HoldsFirst, AsksKeepIt, HearsKeepsIt, TakesKeepsIt, OthersKeepIt}
+use Rattle.name_links.specs.OneLink.{OneLink, server_of, items_if, back_of, does, takes, first_link}
+use Rattle.name_links.specs.LinkIs.{tagged_by, AreAnswers, AreSent, IsTied, IsReady, HoldsFirst, AsksKeepIt, HearsKeepsIt, TakesKeepsIt, OthersKeepIt}
 use Rattle.name_links.proofs.BackReady.{IsOrdered, StepOrdered, asked_ordered, heard_ordered}
 use Rattle.name_links.proofs.HearEvents.{same, none_answers, hears_keep}
 use Rattle.name_links.proofs.LinkEvents.{line_is, none_sent, asks_keep, takes_keep, others_keep}
-use Rattle.name_links.proofs.Sends.{message_is}
+use Rattle.name_links.proofs.Messages.{message_is}
 use Rattle.name_links.proofs.TableReady.{IsSound, table_sound}
 
 -- ---- a step of the backend

@@ -1,7 +1,7 @@
 -- Rows of steps of the protocol of one name, each of which keeps its invariant.
-use Rattle.std.proofs.Common.{◌≡◌, ◌≢◌, ℕ, Bool, true, false, cond, List, [], ◌∷◌, ◌++◌, refl, sym, ap, subst, ◌∙◌, append-nil, append_assoc}
-use Rattle.home_law.specs.Items.{RecordKind, bare, kept, active, NameRecord, Server, Seen, free, other, own, Mine, Item, list, reserve, make, again, deactivate, delete, wipe, find, make_ok, make_no, again_ok, delete_ok, wipe_ok, refused, Ctl}
-use Rattle.home_law.specs.Steps.{hear, NameAsk as Request, ask, answer, answer_list, answer_reserve, answer_activate, answer_deactivate, answer_delete, answer_find}
+use Rattle.std.proofs.Common.{◌≡◌, ◌≢◌, Bool, true, false, cond, List, [], ◌∷◌, ◌++◌, refl, sym, ap, subst, ◌∙◌, append-nil, append_assoc}
+use Rattle.home_law.specs.Items.{bare, kept, active, NameRecord, Server, Seen, free, other, own, Mine, Item, list, reserve, make, again, deactivate, delete, wipe, find, make_ok, make_no, again_ok, delete_ok, wipe_ok, refused, Ctl}
+use Rattle.home_law.specs.Steps.{hear, NameAsk as Request, ask, answer, answer_reserve, answer_activate, answer_deactivate, answer_delete}
 use Rattle.home_law.specs.Link.{Back, sent_over, does, hears_first, asked, took, takes_first, see, put}
 use Rattle.home_law.specs.LinkOk.{EachItem, LinkOk}
 use Rattle.home_law.specs.ManyNames.{Mailbox, is_same_mailbox, SentLine, sent_list, sent_reserve, sent_make, sent_again, sent_deactivate, sent_delete, sent_wipe, sent_find}

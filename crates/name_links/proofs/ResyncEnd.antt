@@ -1,42 +1,25 @@
 -- The end of a resync: to each name it is LIST's OK, and then the asks that waited, one after the other.
-use Rattle.std.proofs.Common.{◌≡◌, ◌≢◌, ◌⊎◌, inl, inr, ℕ, ◌<◌, ◌^◌, Bool, true, false, ◌&&◌, ◌||◌, not, cond, is_some, List, [], ◌∷◌, ◌++◌, map, filter, Option, None, Some, refl, sym, ap, subst, ◌∙◌, append-nil, append_assoc}
-use Rattle.std.specs.List.{AllByRecursion, flat_map, fold}
+use Rattle.std.proofs.Common.{◌≡◌, ◌≢◌, ◌⊎◌, inl, inr, ℕ, Bool, true, false, ◌&&◌, not, cond, is_some, List, [], ◌∷◌, map, filter, Option, None, Some, refl, sym, ap, subst, ◌∙◌}
+use Rattle.std.specs.List.{fold}
 use Rattle.std.specs.List.Sorted.{IsStrictlySortedBy}
-use Rattle.std.specs.Map.{keys_of}
-use Rattle.std.specs.declared.cmp.Ordering.TheVariants.{Less}
 use Rattle.std.specs.Ordering.{is_eq, nat_cmp}
 use Rattle.std.specs.Cmp.Lexicographic.{slice_cmp}
-use Rattle.mur_base.specs.Map.{value_at, with_entry, IsInOrder}
-use Rattle.mur_base.proofs.MapLaws.{names_apart, same_or_other, not_equal, value_at-with_entry, value_at-with_entry-other}
-use Rattle.mur_base.specs.declared.home.Location.{Location}
+use Rattle.mur_base.specs.Map.{value_at, IsInOrder}
+use Rattle.mur_base.proofs.MapLaws.{names_apart, same_or_other, not_equal, value_at-with_entry-other}
 use Rattle.mur_base.specs.declared.home.Phase.{Phase}
 use Rattle.mur_base.specs.declared.home.Phase.TheVariants.{Creating, Open, Closing, Receiving, Ready, Pointer}
-use Rattle.link_msg.specs.declared.answer.AnswerBody.{AnswerBody}
-use Rattle.link_msg.specs.declared.answer.AnswerBody.TheVariants.{NotNow, Moved, Unreached}
-use Rattle.mupdate_codec.specs.Asks.{tag_of}
-use Rattle.mupdate_codec.proofs.AsksLaw.{ask_again}
 use Rattle.node_record.specs.declared.held.Held.{Held}
 use Rattle.node_record.specs.Held.{Names, held_at, forgotten}
-use Rattle.home_law.specs.Items.{Mine, HomePhase, HomeFlow, Resync as Progress, synced, listing, listed, Item, find}
+use Rattle.home_law.specs.Items.{HomePhase, HomeFlow, Resync as Progress, synced, listing, listed, Item, find}
 use Rattle.home_law.specs.Steps.{BackStep, hear_list_ok}
-use Rattle.home_law.specs.LinkOk.{LinkOk}
 use Rattle.home_law.specs.ManyNames.{Mailbox}
 use Rattle.home_law.proofs.SameName.{is_itself, is_another}
-use Rattle.name_flows.specs.declared.ask.AskKind.{AskKind}
-use Rattle.name_flows.specs.declared.ask.AskKind.TheVariants.{Create, Delete as Remove}
-use Rattle.name_flows.specs.declared.ask.NameAsk.{NameAsk}
 use Rattle.name_flows.specs.declared.flows.Flows.{Flows}
 use Rattle.name_flows.specs.declared.sent.SentLine.{SentLine}
-use Rattle.name_flows.specs.Asked.{first_of, create_refusal, delete_refusal, delete_refusal_in, refusal, first_line, flow_for, begun_flow, begun_line, tested_by, asked_by, asked_step}
-use Rattle.name_flows.specs.Listed.{ListedNames, LinesByName, is_unlisted, is_unmade, is_lost, name_in, with_line, with_find, find_line, Round, round_by, round}
-use Rattle.name_flows.specs.OneName.{phase_of, phase_in, ctl_of, line_items, seen_by, asked_as}
-use Rattle.name_flows.specs.Phases.{is_creating_phase, is_closing_phase, is_open, is_closing, pointer_in}
-use Rattle.name_flows.specs.Running.{flow_at, has_flow}
-use Rattle.name_flows.proofs.AskedLaw.{asked_as_one}
-use Rattle.name_links.specs.Lines.{is_asked}
-use Rattle.name_links.specs.LinkIs.{is_tagged_as, IsTagged}
+use Rattle.name_flows.specs.Listed.{ListedNames, LinesByName, is_unmade, is_lost, name_in, with_find, find_line}
+use Rattle.name_flows.specs.OneName.{phase_in}
+use Rattle.name_flows.specs.Phases.{is_creating_phase, is_closing_phase}
 use Rattle.name_links.proofs.LinesByName.{says, IsAboutIt, Each, differs, says_none, each_put, says_put-other, says_put-same, is_in, passes, absent, is_in_passing, gone}
-use Rattle.name_links.proofs.LinkRows.{back, asked_row}
 
 -- ---- the lines that look for names
 

@@ -1,14 +1,14 @@
 -- The asks that waited for a resync, one after the other.
 use Rattle.std.proofs.Common.{◌≡◌, ◌≢◌, ◌⊎◌, inl, inr, ℕ, ◌<◌, ◌^◌, Bool, true, false, ◌&&◌, ◌||◌, not, cond, is_some, List, [], ◌∷◌, ◌++◌, Option, None, Some, refl, sym, ap, subst, ◌∙◌, append-nil, append_assoc}
-use Rattle.std.specs.List.{AllByRecursion, flat_map, fold}
+use Rattle.std.specs.List.{fold}
 use Rattle.std.specs.Ordering.{nat_cmp}
 use Rattle.std.specs.Cmp.Lexicographic.{slice_cmp}
-use Rattle.mur_base.specs.Map.{value_at, with_entry, IsInOrder}
+use Rattle.mur_base.specs.Map.{value_at, with_entry}
 use Rattle.mur_base.proofs.MapLaws.{names_apart, same_or_other, value_at-with_entry, value_at-with_entry-other}
 use Rattle.mur_base.specs.declared.home.Phase.{Phase}
 use Rattle.mur_base.specs.declared.home.Phase.TheVariants.{Creating, Open, Closing, Receiving, Ready, Pointer}
 use Rattle.link_msg.specs.declared.answer.AnswerBody.{AnswerBody}
-use Rattle.link_msg.specs.declared.answer.AnswerBody.TheVariants.{NotNow, Moved, Unreached}
+use Rattle.link_msg.specs.declared.answer.AnswerBody.TheVariants.{NotNow, Unreached}
 use Rattle.mupdate_codec.specs.Asks.{tag_of}
 use Rattle.mupdate_codec.proofs.AsksLaw.{ask_again}
 use Rattle.node_record.specs.declared.held.Held.{Held}
@@ -23,13 +23,11 @@ use Rattle.name_flows.specs.declared.ask.AskKind.TheVariants.{Create, Delete as 
 use Rattle.name_flows.specs.declared.ask.NameAsk.{NameAsk}
 use Rattle.name_flows.specs.declared.flows.Flows.{Flows}
 use Rattle.name_flows.specs.declared.resync.Resync.{Resync}
-use Rattle.name_flows.specs.declared.sent.SentLine.{SentLine}
 use Rattle.name_flows.specs.Asked.{first_of, create_refusal, delete_refusal, delete_refusal_in, refusal, first_line, flow_for, begun_flow, begun_line, tested_by, asked_by, asked_step}
-use Rattle.name_flows.specs.Listed.{LinesByName, with_line, Round, round_by, round}
+use Rattle.name_flows.specs.Listed.{with_line, Round, round_by, round}
 use Rattle.name_flows.specs.OneName.{sent_items, line_items, ctl_of, seen_by, asked_as}
 use Rattle.name_flows.specs.Phases.{is_creating_phase, is_open, is_closing, pointer_in}
 use Rattle.name_flows.specs.Running.{has_flow}
-use Rattle.name_flows.specs.Steps.{FlowStep}
 use Rattle.name_flows.proofs.AskedLaw.{asked_as_one}
 use Rattle.name_links.specs.Lines.{is_asked}
 use Rattle.name_links.specs.LinkIs.{AreNumbered, is_tagged_as, IsTagged}

@@ -1,21 +1,17 @@
 -- What a step of the backend sends, and what it leaves of the lines that it sent before.
-use Rattle.std.proofs.Common.{◌≡◌, ℕ, ◌<◌, ◌^◌, Bool, true, false, ◌&&◌, ◌||◌, not, cond, is_some, nat_eq, codes, List, [], ◌∷◌, ◌++◌, map, Option, None, Some, refl, sym, ap, subst, ◌∙◌, append-nil}
+use Rattle.std.proofs.Common.{◌≡◌, ℕ, ◌<◌, ◌^◌, Bool, true, false, ◌&&◌, ◌||◌, not, cond, is_some, List, [], ◌∷◌, ◌++◌, map, Option, None, Some, refl, sym, ap, subst, ◌∙◌, append-nil}
 use Rattle.std.specs.List.{AllByRecursion}
 use Rattle.std.proofs.lemmas.List.{map-append}
 use Rattle.mur_base.specs.declared.home.Location.{Location}
 use Rattle.link_msg.specs.declared.answer.AnswerBody.{AnswerBody}
-use Rattle.mupdate_codec.specs.declared.command.MCommand.{MCommand}
 use Rattle.mupdate_codec.specs.declared.command.MResponse.{MResponse}
 use Rattle.mupdate_codec.specs.declared.command.MResponse.TheVariants as response
 use Rattle.mupdate_codec.specs.declared.tag.Tag.{Tag}
-use Rattle.mupdate_codec.specs.declared.tag.Tag.TheVariants.{Star, Text}
-use Rattle.mupdate_codec.specs.Asks.{ask_in, ask_id_of, tag_of}
-use Rattle.mupdate_codec.proofs.AsksLaw.{ask_again, none_of}
+use Rattle.mupdate_codec.specs.Asks.{tag_of}
+use Rattle.mupdate_codec.proofs.AsksLaw.{ask_again}
 use Rattle.node_record.specs.declared.backend.BackendRecord.TheVariants as entry
 use Rattle.node_record.specs.Held.{Names, held_at}
-use Rattle.home_law.specs.Items.{Server}
 use Rattle.home_law.specs.ManyNames.{SentLine as OpenLine, with_line}
-use Rattle.home_law.proofs.SameName.{is_itself, is_the_same}
 use Rattle.name_flows.specs.declared.ask.AskKind.{AskKind}
 use Rattle.name_flows.specs.declared.ask.AskKind.TheVariants.{Create, Delete as Remove}
 use Rattle.name_flows.specs.declared.ask.NameAsk.{NameAsk}
@@ -26,63 +22,19 @@ use Rattle.name_flows.specs.declared.sent.Sent.{Sent}
 use Rattle.name_flows.specs.declared.sent.Sent.TheVariants.{List as List_line, Reserve, Make, Again, Deactivate, Delete, Wipe, Find}
 use Rattle.name_flows.specs.declared.sent.SentLine.{SentLine}
 use Rattle.name_flows.specs.Asked.{first_line as line_of_kind, begun_line, refusal, tested_by, asked_by, asked_step}
-use Rattle.name_flows.specs.Creates.{serial_in, reserved_by, reserve_ok, reserve_no, make_ok, make_no, full}
+use Rattle.name_flows.specs.Creates.{serial_in, reserved_by, reserve_ok, reserve_no, make_ok, make_no}
 use Rattle.name_flows.specs.Deletes.{deactivate_ok, delete_ok}
-use Rattle.name_flows.specs.Finds.{forgotten_if, again_ok, wipe_ok, find_line_step, find_ok}
-use Rattle.name_flows.specs.Heard.{is_same_tag, is_answer, first_line, what_in, taken, ok_of, ok_by, no_of, no_by, record_of, response_step, heard_step}
-use Rattle.name_flows.specs.Lines.{server_prefix, command_of, unasked_line}
-use Rattle.name_flows.specs.Listing.{noted, active_listed, reserved_listed, listed_step}
-use Rattle.name_flows.specs.OneName.{open_line, open_behind}
+use Rattle.name_flows.specs.Finds.{forgotten_if}
+use Rattle.name_flows.specs.Heard.{is_same_tag, is_answer, first_line, what_in, taken, ok_of, ok_by, no_of, no_by, record_of, heard_step}
+use Rattle.name_flows.specs.Lines.{unasked_line}
+use Rattle.name_flows.specs.Listing.{noted, listed_step}
+use Rattle.name_flows.specs.OneName.{open_line}
 use Rattle.name_flows.specs.Phases.{is_creating, is_open, is_closing}
 use Rattle.name_flows.specs.Running.{has_flow, is_at}
 use Rattle.name_flows.specs.Steps.{FlowStep, given, silent, changing, handed}
-use Rattle.name_links.specs.Lines.{is_asked, backend_line}
-use Rattle.name_links.specs.OneLink.{message_of}
-use Rattle.name_links.specs.LinkIs.{tagged_line, tagged_by, tagged_lines, lines_after, AreSent, is_tagged_as, IsTagged}
-
--- ---- tags
-
-same_tags : (one other : Tag) → is_same_tag one other ≡ true → one ≡ other
-same_tags Star Star e = refl
-same_tags (Text one) (Text other) e = ap (λ (t : List ℕ). Text t) (is_the_same one other e)
-same_tags Star (Text other) e = cc
-same_tags (Text one) Star e = cc
-
-pub same_tag_itself : (tag : Tag) → is_same_tag tag tag ≡ true
-same_tag_itself Star = refl
-same_tag_itself (Text text) = is_itself text
-
-unasked : is_asked (Text (codes "r0")) ≡ false
-unfolding ask_id_of
-unasked = ap (λ p. is_some (ask_in p)) (none_of (codes "r0") refl [])
-
--- ---- a line as a message is that line
-
-pub message_is : (me : Location) (held : Names) (line : SentLine) → IsTagged line
-    → backend_line me.server line.tag (command_of me held line.what) ≡ Some (open_behind line)
-unfolding backend_line
-message_is me held line t = by_what line.what t
-  where
-    by_what : (what : Sent) → is_tagged_as (is_asked line.tag) what → backend_line me.server line.tag (command_of me held what) ≡ Some (open_line false what)
-    by_what List_line t = rw (is_itself (server_prefix me)) refl
-    by_what (Reserve m) t = rw (is_itself me.server) refl
-    by_what (Make m) t = rw (is_itself me.server, t) refl
-    by_what (Again m) t = rw (is_itself me.server, t) refl
-    by_what (Deactivate m) t = rw (is_itself me.server) refl
-    by_what (Delete m) t = rw t refl
-    by_what (Wipe m) t = rw t refl
-    by_what (Find m) t = refl
-
-pub all_more : (xs ys : List SentLine) → AllByRecursion IsTagged xs → AllByRecursion IsTagged ys → AllByRecursion IsTagged (xs ++ ys)
-all_more [] ys a b = b
-all_more (x ∷ xs) ys a b = (a.0, all_more xs ys a.1 b)
-
-pub sends_sent : (b : Server) (me : Location) (held : Names) (sends : List SentLine) → me.server ≡ b → AllByRecursion IsTagged sends
-    → AreSent b (map (tagged_line false) sends) (map (message_of me held) sends)
-unfolding AreSent
-sends_sent b me held [] e t = tt
-sends_sent b me held (line ∷ sends) e t =
-    (refl, ap (λ s. backend_line s line.tag (command_of me held line.what)) (sym e) ∙ message_is me held line t.0, sends_sent b me held sends e t.1)
+use Rattle.name_links.specs.Lines.{is_asked}
+use Rattle.name_links.specs.LinkIs.{tagged_line, tagged_by, tagged_lines, lines_after, is_tagged_as, IsTagged}
+use Rattle.name_links.proofs.Messages.{unasked, all_more}
 
 -- ---- steps
 

@@ -1,16 +1,14 @@
 -- Responses that answer lines in their order: what is left of the lines, and what more lines behind them change.
-use Rattle.std.proofs.Common.{◌≡◌, ℕ, Bool, true, false, cond, List, [], ◌∷◌, ◌++◌, map, Option, None, Some, refl, sym, ap, subst, ◌∙◌, append-nil}
-use Rattle.std.specs.List.{flat_map}
+use Rattle.std.proofs.Common.{◌≡◌, Bool, false, List, [], ◌∷◌, ◌++◌, map, refl, sym, ap, subst, ◌∙◌, append-nil}
 use Rattle.mupdate_codec.specs.declared.command.MResponse.{MResponse}
 use Rattle.mupdate_codec.specs.declared.command.MResponse.TheVariants as response
 use Rattle.mupdate_codec.specs.declared.command.MCommand.{MCommand}
 use Rattle.mupdate_codec.specs.declared.tag.Tag.{Tag}
 use Rattle.home_law.specs.Items.{Server, Item, listed_active, listed_reserved}
 use Rattle.home_law.specs.ManyNames.{Mailbox, SentLine as OpenLine, BackMessage, with_line, line_items, ok_items, no_items, downs_of, left_of}
-use Rattle.home_law.proofs.ManyNamesLaw.{downs-append}
 use Rattle.name_flows.specs.declared.sent.SentLine.{SentLine}
 use Rattle.name_flows.specs.OneName.{told_by, open_line, open_behind, open_by}
-use Rattle.name_links.specs.OneLink.{told_pair, told_of}
+use Rattle.name_links.specs.OneLink.{told_of}
 use Rattle.name_links.specs.LinkIs.{tagged_line, tagged_by, lines_after, AreAnswers, AreSent}
 
 abbrev pub line_of : Tag × OpenLine → OpenLine

@@ -1,6 +1,6 @@
 -- One link while it is whole: the master's table, a backend, and the messages between them that are on their way; what it is to each name, and what
 -- each of its events does.
-use Rattle.std.specs.Prelude.{ℕ, List, [], ◌∷◌, ◌++◌, map, Bool, true, Option, None, Some}
+use Rattle.std.specs.Prelude.{ℕ, List, [], ◌++◌, map, true, Option, None, Some}
 use Rattle.std.specs.List.{flat_map}
 use Rattle.mur_base.specs.declared.home.Location.{Location}
 use Rattle.mupdate_codec.specs.declared.command.MCommand.{MCommand}
@@ -23,7 +23,7 @@ use Rattle.name_flows.specs.Lines.{command_of}
 use Rattle.name_flows.specs.Listing.{up_step}
 use Rattle.name_flows.specs.Running.{new_flows}
 use Rattle.name_flows.specs.OneName.{ctl_of, open_lines, told_by}
-use Rattle.name_flows.specs.Steps.{FlowStep, held_with, Handed, handed}
+use Rattle.name_flows.specs.Steps.{FlowStep, held_with, handed}
 use Rattle.name_links.specs.Lines.{backend_line, items_of}
 use Rattle.name_links.specs.Answers.{answers_to}
 

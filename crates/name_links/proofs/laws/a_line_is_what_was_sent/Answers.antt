@@ -1,5 +1,5 @@
 use Rattle.name_links.proofs.Reading.{line_read, read_back}
-use Rattle.name_links.proofs.Sends.{message_is}
+use Rattle.name_links.proofs.Messages.{message_is}
 use Rattle.name_links.proofs.laws.a_line_is_what_was_sent.Goals as goal
 
 pub returns-clause-lines : goal.returns-clause-lines
