@@ -19,3 +19,4 @@ pub mod HearEvents
 pub mod BackReady
 pub mod TableReady
 pub mod LinkLaw
+pub mod Spelled

@@ -5,3 +5,4 @@ pub mod MasterLaw
 pub mod OneLink
 pub mod LinkIs
 pub mod Reading
+pub mod Spelled

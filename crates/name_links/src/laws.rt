@@ -1,5 +1,6 @@
 // What the steps of the master and of a backend are to each name.
 ghost use Rattle.name_links.specs.MasterLaw.{StepIsReply, RecordIsOne, AnswersAreOne, AnswersTakeOff, OthersHearNothing};
+ghost use Rattle.name_links.specs.Spelled.{CommandsAreSpelled, ResponsesAreSpelled};
 ghost use Rattle.name_links.specs.Reading.{LinesAreRead, ResponsesAreRead, LinesAreMeant};
 ghost use Rattle.name_links.specs.LinkIs.{HoldsFirst, AsksKeepIt, HearsKeepsIt, TakesKeepsIt, OthersKeepIt};
 
@@ -12,8 +13,11 @@ pub fn a_line_is_one_of_each_name()
     ensures others { OthersHearNothing }
 {}
 
-/// Lines are read as they were sent, and a backend's line is what it meant.
+/// Lines whose names are names, whose locations are locations and whose texts aren't too long are read as they were sent, and a backend's line is what
+/// it meant.
 pub fn a_line_is_what_was_sent()
+    ensures commands_spelled { CommandsAreSpelled }
+    ensures responses_spelled { ResponsesAreSpelled }
     ensures lines { LinesAreRead }
     ensures responses { ResponsesAreRead }
     ensures meant { LinesAreMeant }

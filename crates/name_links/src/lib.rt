@@ -6,7 +6,7 @@
 //! | a backend's line, to one name, read off its command and its tag | `specs/Lines.antt` |
 //! | the lines that a step of the master puts on its links | `specs/Answers.antt` |
 //! | the master's step on a line, to each name | `specs/MasterLaw.antt` |
-//! | lines are read as they were sent | `specs/Reading.antt` |
+//! | lines are read as they were sent | `specs/Reading.antt`, `specs/Spelled.antt` |
 //! | one whole link: table, backend, both queues, its events, and what it is to one name | `specs/OneLink.antt` |
 //! | what holds of it | `specs/LinkIs.antt` |
 //!
