@@ -1,5 +1,5 @@
 -- What is printed of lines that can be is a line.
-use Rattle.std.proofs.Common.{◌≡◌, ℕ, ◌==◌, Bool, true, List, [], ◌∷◌, ◌++◌, Option, None, Some, inl, inr, refl, sym, ap, subst, ◌∙◌}
+use Rattle.std.proofs.Common.{◌≡◌, ℕ, true, List, [], ◌∷◌, None, Some, inl, inr, refl, subst}
 use Rattle.mur_base.specs.declared.home.Location.{Location}
 use Rattle.grammar.specs.Part.{map as map_part, byte, give}
 use Rattle.grammar.specs.Tables.{any_case}
@@ -11,15 +11,14 @@ use Rattle.mupdate_codec.specs.declared.command.MCommand.{MCommand}
 use Rattle.mupdate_codec.specs.declared.command.MCommand.TheVariants as command
 use Rattle.mupdate_codec.specs.declared.command.MResponse.{MResponse}
 use Rattle.mupdate_codec.specs.declared.command.MResponse.TheVariants as response
-use Rattle.mupdate_codec.specs.declared.tag.Tag.{Tag}
 use Rattle.mupdate_codec.specs.declared.tag.Tag.TheVariants.{Text}
 use Rattle.mupdate_codec.specs.declared.word.Verb.{Verb}
 use Rattle.mupdate_codec.specs.declared.word.Verb.TheVariants as verb
 use Rattle.mupdate_codec.specs.declared.word.Kind.{Kind}
 use Rattle.mupdate_codec.specs.declared.word.Kind.TheVariants as kind
 use Rattle.mupdate_codec.specs.Arguments.{exact, a_string, maybe_string, a_name, a_place, a_mailbox, ended_line}
-use Rattle.mupdate_codec.specs.Commands.{command_verbs, command_word, command_verb_form, command_verb, command_arguments, command_arguments_text, command_printed_as, command_line}
-use Rattle.mupdate_codec.specs.Responses.{kinds, response_word, kind_form, response_kind, response_arguments, response_arguments_text, response_printed_as, response_line}
+use Rattle.mupdate_codec.specs.Commands.{command_verbs, command_word, command_verb_form, command_verb, command_arguments, command_printed_as, command_line}
+use Rattle.mupdate_codec.specs.Responses.{kinds, response_word, kind_form, response_kind, response_arguments, response_printed_as, response_line}
 use Rattle.mupdate_codec.specs.Strings.{string_form, name_form, location_form}
 use Rattle.mupdate_codec.specs.Tags.{mupdate_tag_text, mupdate_tags, command_tag, response_tag}
 use Rattle.mupdate_codec.proofs.StringsPrinted.{spell_string, spell_name, spell_location}
@@ -113,9 +112,11 @@ command_printed it t = printed_next command_verb_form command_verb (command_argu
 
 pub commands_are_spelled : CommandsAreSpelled
 unfolding command_line
-commands_are_spelled tag it a t =
-    (_, printed_spaced command_tag (ended_line (dispatch command_verb_form command_verb (command_arguments exact))) (Text tag) it (tag_printed tag a)
-    (printed_line (dispatch command_verb_form command_verb (command_arguments exact)) it (command_printed it t)))
+commands_are_spelled tag it a t = (
+  _,
+  printed_spaced command_tag (ended_line (dispatch command_verb_form command_verb (command_arguments exact))) (Text tag) it (tag_printed tag a)
+      (printed_line (dispatch command_verb_form command_verb (command_arguments exact)) it (command_printed it t)),
+)
 
 -- ---- responses
 
@@ -139,7 +140,9 @@ told_printed (response.Bad text) t = spell_map (λ x. response.Bad x) a_string.p
 
 pub responses_are_spelled : ResponsesAreSpelled
 unfolding response_line
-responses_are_spelled tag it a t =
-    (_, printed_spaced response_tag (ended_line (dispatch kind_form response_kind (response_arguments exact))) (Text tag) it (inr (tag_printed tag a))
-    (printed_line (dispatch kind_form response_kind (response_arguments exact)) it
-    (printed_next kind_form response_kind (response_arguments exact) it (kind_printed (response_kind it)) (told_printed it t))))
+responses_are_spelled tag it a t = (
+  _,
+  printed_spaced response_tag (ended_line (dispatch kind_form response_kind (response_arguments exact))) (Text tag) it (inr (tag_printed tag a))
+      (printed_line (dispatch kind_form response_kind (response_arguments exact)) it
+      (printed_next kind_form response_kind (response_arguments exact) it (kind_printed (response_kind it)) (told_printed it t))),
+)

@@ -1,5 +1,5 @@
 -- Which lines can be printed so that they are read again: names that are names, locations whose parts are, strings that aren't too long.
-use Rattle.std.specs.Prelude.{◌≡◌, ℕ, ◌≤◌, true, List, length, Option, None, Some}
+use Rattle.std.specs.Prelude.{◌≡◌, ℕ, ◌≤◌, true, List, length, None, Some}
 use Rattle.mur_base.specs.Names.{mail_name_fault}
 use Rattle.mur_base.specs.declared.home.Location.{Location}
 use Rattle.text_parts.specs.Locations.{short_names}
@@ -7,8 +7,7 @@ use Rattle.mupdate_codec.specs.declared.command.MCommand.{MCommand}
 use Rattle.mupdate_codec.specs.declared.command.MCommand.TheVariants as command
 use Rattle.mupdate_codec.specs.declared.command.MResponse.{MResponse}
 use Rattle.mupdate_codec.specs.declared.command.MResponse.TheVariants as response
-use Rattle.mupdate_codec.specs.declared.tag.Tag.{Tag}
-use Rattle.mupdate_codec.specs.declared.tag.Tag.TheVariants.{Star, Text}
+use Rattle.mupdate_codec.specs.declared.tag.Tag.TheVariants.{Text}
 use Rattle.mupdate_codec.specs.Commands.{IsSpelledCommand}
 use Rattle.mupdate_codec.specs.Responses.{IsSpelledResponse}
 use Rattle.mupdate_codec.specs.Tags.{mupdate_tags}
