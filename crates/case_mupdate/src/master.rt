@@ -13,7 +13,8 @@ pub fn put(alloc: Global, steps: &[&str], out: &mut Bytes) -> Result<(), Fault> 
         return Err(Fault::Unreadable("no entries"));
     };
     let entries = entries_of(alloc, entries)?;
-    match Master::boot(alloc, node_name(alloc, b"m")?, entries.as_slice()) {
+    let backends = Items::new(alloc);
+    match Master::boot(alloc, node_name(alloc, b"m")?, backends, entries.as_slice()) {
         Ok(mut master) => put_steps(alloc, &mut master, steps, out),
         Err(RecordFault::Bad(at)) => {
             Ok(out.extend_from_slice(format!(in alloc; "bad {at}")?.as_bytes())?)

@@ -18,7 +18,7 @@ use Rattle.master_core.specs.declared.reply.Reply.{Reply}
 use Rattle.master_core.specs.declared.sender.Sender.TheVariants.{Backend}
 use Rattle.master_core.specs.declared.streams.StreamStep.TheVariants as stream
 use Rattle.master_core.specs.Changes.{text_of, node_told, watcher_told, change_line, change_outs}
-use Rattle.master_core.specs.Lines.{command_in}
+use Rattle.mupdate_codec.specs.Whole.{command_in}
 use Rattle.master_core.specs.Replies.{reply_to}
 use Rattle.master_core.specs.Step.{answered, mark_of, mark_outs, reply_outs, replied, settled, command_step, line_by, line_step}
 use Rattle.master_core.specs.Streams.{is_stream, stream_step}

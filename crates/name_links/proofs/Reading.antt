@@ -8,14 +8,14 @@ use Rattle.mupdate_codec.specs.Responses.{response_line, IsSpelledResponse}
 use Rattle.mupdate_codec.proofs.AnswersLaw.{whole_read}
 use Rattle.mupdate_codec.proofs.LinesLaw.{law_command_line, law_response_line}
 use Rattle.master_core.specs.Changes.{text_of}
-use Rattle.master_core.specs.Lines.{whole_by}
-use Rattle.master_core.proofs.LinesLaw.{line_is}
+use Rattle.mupdate_codec.specs.Whole.{response_in, whole_by}
+use Rattle.mupdate_codec.proofs.WholeLaw.{line_is}
 use Rattle.home_law.specs.ManyNames.{BackMessage}
 use Rattle.name_flows.specs.Lines.{line_text}
 use Rattle.name_flows.specs.OneName.{told_by}
 use Rattle.name_links.specs.OneLink.{message_of}
 use Rattle.name_links.specs.Reading.{LinesAreRead}
-use Rattle.name_links.specs.Answers.{response_in, told_in, told_all, AreSpelled}
+use Rattle.name_links.specs.Answers.{told_in, told_all, AreSpelled}
 
 pub line_read : LinesAreRead
 line_read me held line s = line_is (line_text me held line) (message_of me held line) (law_command_line.prints s.0 (message_of me held line) s.1)

@@ -17,16 +17,12 @@ use Rattle.mupdate_codec.specs.Arguments.{exact}
 use Rattle.mupdate_codec.specs.Responses.{response_line, IsSpelledResponse}
 use Rattle.node_record.specs.Table.{MailboxTable}
 use Rattle.master_core.specs.declared.sender.Sender.TheVariants.{Backend}
-use Rattle.master_core.specs.Lines.{whole_by}
+use Rattle.mupdate_codec.specs.Whole.{response_in}
 use Rattle.master_core.specs.Replies.{reply_to}
 use Rattle.home_law.specs.Items.{Server, Item, refused}
 use Rattle.home_law.specs.LinkOk.{EachItem}
 use Rattle.home_law.specs.ManyNames.{BackMessage}
 use Rattle.name_flows.specs.OneName.{told_by}
-
--- the response whose line the bytes are
-unfoldable pub response_in : List ℕ → Option (Tag × MResponse)
-response_in bytes = whole_by ((response_line exact).part.at bytes)
 
 abbrev pub told_if : Option (Tag × MResponse) → List BackMessage
 told_if None = []

@@ -6,7 +6,7 @@ use Rattle.mupdate_codec.specs.declared.tag.Tag.{Tag}
 use Rattle.node_record.specs.Table.{MailboxTable}
 use Rattle.master_core.specs.declared.master.Master.{Master}
 use Rattle.master_core.specs.declared.sender.Sender.TheVariants.{Backend}
-use Rattle.master_core.specs.Lines.{command_in}
+use Rattle.mupdate_codec.specs.Whole.{command_in}
 use Rattle.master_core.specs.Changes.{text_of}
 use Rattle.master_core.specs.Replies.{reply_to}
 use Rattle.master_core.specs.Step.{table_with, line_step}

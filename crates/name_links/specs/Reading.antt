@@ -7,12 +7,11 @@ use Rattle.mupdate_codec.specs.Commands.{IsSpelledCommand}
 use Rattle.mupdate_codec.specs.Responses.{IsSpelledResponse}
 use Rattle.node_record.specs.Held.{Names}
 use Rattle.master_core.specs.Changes.{text_of}
-use Rattle.master_core.specs.Lines.{command_in}
+use Rattle.mupdate_codec.specs.Whole.{command_in, response_in}
 use Rattle.name_flows.specs.declared.sent.SentLine.{SentLine}
 use Rattle.name_flows.specs.Lines.{command_of, line_text}
 use Rattle.name_flows.specs.OneName.{open_behind}
 use Rattle.name_links.specs.Lines.{backend_line}
-use Rattle.name_links.specs.Answers.{response_in}
 use Rattle.name_links.specs.OneLink.{message_of}
 use Rattle.name_links.specs.LinkIs.{IsTagged}
 
