@@ -17,4 +17,5 @@ pub mod RisingViews
 pub mod MirrorFetch
 pub mod MirrorLaw
 pub mod LinesSpoken
+pub mod CommandsSpeak
 pub mod LinesLaw
