@@ -32,6 +32,7 @@ pub mod RisingViews
 pub mod MirrorFetch
 pub mod MirrorLaw
 pub mod LinesSpoken
+pub mod CommandsSpeak
 pub mod LinesLaw
 pub mod LetsIn
 pub mod LoginLaw
