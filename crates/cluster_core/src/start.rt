@@ -79,7 +79,8 @@ fn add_nodes(
     world: &mut World,
     nodes: &[Node],
 ) -> Result<(), Memory>
-    requires { layout.now ≡ layout_of config.now }
+    requires layout { layout.now ≡ layout_of config.now }
+    requires backends { 0 < length (layout.now).backends }
     ensures { OnOk result (world.new ≡ with_nodes config.now world.old nodes.now) }
 {
     for node in nodes {
@@ -95,7 +96,8 @@ fn add_node(
     world: &mut World,
     node: &Node,
 ) -> Result<(), Memory>
-    requires { layout.now ≡ layout_of config.now }
+    requires layout { layout.now ≡ layout_of config.now }
+    requires backends { 0 < length (layout.now).backends }
     ensures { OnOk result (world.new ≡ with_node config.now world.old node.now) }
 {
     let first = first_state(alloc, config, layout, node)?;
@@ -111,7 +113,8 @@ fn first_state(
     layout: &Layout,
     node: &Node,
 ) -> Result<NodeState, Memory>
-    requires { layout.now ≡ layout_of config.now }
+    requires layout { layout.now ≡ layout_of config.now }
+    requires backends { 0 < length (layout.now).backends }
     ensures { IfOk result (λ it. it ≡ first_state config.now node.now (node.now).kind) }
 {
     let name = node.name.copy(alloc)?;
@@ -138,7 +141,8 @@ fn first_front(
     layout: &Layout,
     name: NodeName,
 ) -> Result<NodeState, Memory>
-    requires { layout.now ≡ layout_of config.now }
+    requires layout { layout.now ≡ layout_of config.now }
+    requires backends { 0 < length (layout.now).backends }
     ensures { IfOk result (λ it. it ≡ state.Front (new_front name (home_of config.now) (master_of config.now) (setting_of config.now))) }
 {
     let home = first_name(alloc, &layout.backends)?;
