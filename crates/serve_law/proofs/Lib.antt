@@ -13,3 +13,4 @@ pub mod FetchLaw
 pub mod SearchLaw
 pub mod MissingAlike
 pub mod ServeLaw
+pub mod AnswersAsActed
