@@ -14,3 +14,4 @@ pub mod SearchLaw
 pub mod MissingAlike
 pub mod ServeLaw
 pub mod AnswersAsActed
+pub mod DoneHere

@@ -3,4 +3,4 @@
 
 mod laws;
 
-pub use laws::a_home_answers_as_the_store;
+pub use laws::{a_home_answers_as_the_store, done_is_answered_where_a_name_is_open};
