@@ -1,7 +1,8 @@
 // Limits, each at its number and one above it (RFC 9051, 5.1, 6.4.4 and 9).
-ghost use Rattle.std.specs.Prelude.{◌≡◌, ◌++◌, [], ◌∷◌, codes, length, replicate};
+ghost use Rattle.std.specs.Prelude.{◌≡◌, ◌++◌, List, [], ◌∷◌, codes, length, replicate};
 ghost use Rattle.std.specs.List.{concat};
 ghost use Rattle.mail_message.specs.Boxes.{Content};
+ghost use Rattle.mail_message.specs.declared.message.Message.{Message};
 ghost use Rattle.reply_law.specs.Scenes.{as_admin, as_bob_with, connected, selected, two};
 ghost use Rattle.reply_law.specs.Talk.{IsAnswered, IsAnsweredTo};
 
@@ -24,6 +25,8 @@ pub fn texts_have_limits()
 
 /// A mailbox takes a message if it has fewer than 20,000, and if its UIDNEXT stays within 32 bits.
 pub fn a_mailbox_has_limits()
+    ensures room { (messages : List Message) → length messages ≡ 19999
+        → IsAnswered (as_bob_with (record two { messages = messages })) "a APPEND INBOX {1+}\r\nx" ("a OK [APPENDUID 7 3] APPEND completed" ∷ []) }
     ensures full { (box : Content) → length box.messages ≡ 20000
         → IsAnswered (as_bob_with box) "a APPEND INBOX {1+}\r\nx" ("a NO [LIMIT] too large or too many" ∷ []) }
     ensures last_uid { IsAnswered (as_bob_with (record two { next = 4294967294 })) "a APPEND INBOX {1+}\r\nx"

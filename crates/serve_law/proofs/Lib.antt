@@ -13,3 +13,5 @@ pub mod FetchLaw
 pub mod SearchLaw
 pub mod MissingAlike
 pub mod ServeLaw
+pub mod AnswersAsActed
+pub mod DoneHere

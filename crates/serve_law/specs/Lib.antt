@@ -1,0 +1,2 @@
+pub mod AsTheStore
+pub mod DoneHere
