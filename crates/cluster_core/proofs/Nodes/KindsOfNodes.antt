@@ -62,15 +62,15 @@ behind_by : (node : Node) (nodes : List Node) (kind : Kind) → node.kind ≡ ki
     → (master_among nodes ≡ or_master kind node.name (master_among nodes)) × (1 ≤ count_of_kind Master nodes)
 unfolding or_master
 behind_by node nodes Master k ne counted = absurd (ne refl)
-behind_by node nodes Frontend k ne counted = (refl , omega (arith, counted, not_counted node nodes Frontend k ne))
-behind_by node nodes Backend k ne counted = (refl , omega (arith, counted, not_counted node nodes Backend k ne))
+behind_by node nodes Frontend k ne counted = (refl, omega (arith, counted, not_counted node nodes Frontend k ne))
+behind_by node nodes Backend k ne counted = (refl, omega (arith, counted, not_counted node nodes Backend k ne))
 
 pub master_behind : (nodes rest : List Node) (node : Node) → nodes ≡ node ∷ rest → node.kind ≢ Master → 1 ≤ count_of_kind Master nodes
     → (master_among rest ≡ master_among nodes) × (1 ≤ count_of_kind Master rest)
 unfolding master_among
 master_behind nodes rest node at ne counted =
     let here = behind_by node rest node.kind refl ne (subst (λ all. 1 ≤ count_of_kind Master all) at counted) in
-    (here.0 ∙ sym (ap master_among at) , here.1)
+    (here.0 ∙ sym (ap master_among at), here.1)
 
 pub some_nodes : (nodes : List Node) → nodes ≡ [] → 1 ≤ count_of_kind Master nodes → ⊥
 some_nodes nodes none counted = omega (arith, subst (λ all. 1 ≤ count_of_kind Master all) none counted, none_counted)

@@ -10,7 +10,7 @@ loop-node-preserved c =
     let at = item_at c.args.nodes.now c.loop-node.node-index c.node-item.result (omega arith) c.node-item.is in
     let other : c.node-item.result.kind ≢ Master = λ e. first_of (cc, search rules) in
     let behind = master_behind _ _ c.node-item.result at other c.loop-node.invariant.1 in
-    (behind.0 ∙ c.loop-node.invariant.0 , behind.1)
+    (behind.0 ∙ c.loop-node.invariant.0, behind.1)
 
 pub unreachable-requires : goal.unreachable-requires
 unreachable-requires c =
