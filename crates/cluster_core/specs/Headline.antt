@@ -19,22 +19,24 @@ use Rattle.cluster_core.specs.Headline.Closed.{GivesNoMore}
 use Rattle.cluster_core.specs.Flow.{run_of, run_steps, steps_of_run}
 use Rattle.cluster_core.specs.Headline.FlowLaw.{AreStepsOfAll}
 use Rattle.cluster_core.specs.Headline.HomeLaw.{KeepsOneHomeEach, RefusesForCause}
-use Rattle.cluster_core.specs.Headline.OneNode.{OneNodeWorksEach, ServesItsOwnEach}
+use Rattle.cluster_core.specs.Headline.OneNode.{GoesOverLinks, OneNodeWorksEach, ServesItsOwnEach}
 use Rattle.cluster_core.specs.Headline.OneStore.{IsToldByOneStore}
 use Rattle.cluster_core.specs.Headline.Outside.{ServesGuests}
 use Rattle.cluster_core.specs.Headline.Replicas.{FollowTheTable}
 use Rattle.cluster_core.specs.World.{start}
 
 -- what the mail clients were given is what one mailbox store replies to the printed history, one command at a time, in each session's order;
--- in each single step one node works, for its own clients alone; a client that has closed its connection is given nothing more; a client
--- at the master is given the replies to its lines of MUPDATE, and changes no table; the replicas of the frontends follow the master's table; a mailbox has at most one writable home; a refusal of
--- relocation comes only at a reserved name or an unreached node
+-- in each single step one node works, for its own clients alone, and sends only over the links that it has; a client that has closed its
+-- connection is given nothing more; a client at the master is given the replies to its lines of MUPDATE, and changes no table; the replicas of
+-- the frontends follow the master's table; a mailbox has at most one writable home; a refusal of relocation comes only at a reserved name or
+-- an unreached node
 pub record IsOneServer (config : Config) (events : List Event) : Type 0 where
   -- the run is that of its single steps, and those are its events, but of a flow as many deliveries as it may make, or until none is left
   pub by_steps : run_of config events ≡ run_steps (start config) (steps_of_run config events)
   pub its_steps : AreStepsOfAll (links_of config.nodes) (start config) events (steps_of_run config events)
   pub one_node : OneNodeWorksEach (start config) (steps_of_run config events)
   pub own_clients : ServesItsOwnEach (start config) (steps_of_run config events)
+  pub over_links : GoesOverLinks config events
   pub one_store : IsToldByOneStore config events
   pub closed : GivesNoMore config events
   pub guests : ServesGuests config events

@@ -25,6 +25,7 @@ use Rattle.cluster_core.specs.Heard.{hears}
 use Rattle.imap_talk.specs.Heard.{Heard, nobody}
 use Rattle.link_queue.specs.Links.{Links, same_link, on_link, sent, without_first}
 use Rattle.link_queue.proofs.Wires.{same_names, on_link-sent, on_link-taken}
+use Rattle.cluster_core.specs.Headline.OneNode.{GoesOverLinks}
 use Rattle.cluster_core.specs.Headline.OneStore.{AreEmpty}
 use Rattle.cluster_core.specs.World.{start, master_of, client_at, node_at, front_at, given_more, carry, carry_all, with_state, not_lost, comes_to, with_client, opens}
 use Rattle.cluster_core.specs.World.{client_does, taken_from_link, deliver_first, takes, stepped, steps_by}
@@ -179,6 +180,10 @@ start_on config are from to = ⊎_elim
 on_pairs : (config : Config) (steps : List Event) → AreNodes config.nodes → AreOn (links_of config.nodes) (run_steps (start config) steps).links
 on_pairs config steps are =
     run_on config (λ conn. nobody) (start config) steps (start_keeps config are) (start_feeds config are) (start_on config are)
+
+pub goes_over_links : (config : Config) (events : List Event) → AreNodes config.nodes → GoesOverLinks config events
+goes_over_links config events are before later parts from to some =
+    ⊎_elim (λ empty. absurd (some empty)) (λ joined. joined.0) (on_pairs config before are from to)
 
 -- nothing is on its way on this link
 abbrev pub IsIdle : World → Link → Type 0

@@ -25,6 +25,7 @@ use Rattle.cluster_core.proofs.Feeds.FeedLaw.{replicas_follow}
 use Rattle.cluster_core.proofs.Feeds.FeedStart.{feeds_of_run}
 use Rattle.cluster_core.proofs.Nodes.OneNodeLaw.{one_node_each}
 use Rattle.cluster_core.proofs.Names.OneHome.{keeps_one_home_each}
+use Rattle.cluster_core.proofs.Nodes.OnPairs.{goes_over_links}
 use Rattle.cluster_core.proofs.Nodes.OwnClientsLaw.{serves_its_own_each}
 use Rattle.cluster_core.proofs.OneServer.ToldSoFar.{told_by_one_store}
 use Rattle.cluster_core.proofs.Runs.Unrolled.{by_steps}
@@ -55,6 +56,7 @@ one_server config events are date_is = record {
   its_steps = are_steps_of_all config events are;
   one_node = one_node_each (start config) (steps_of_run config events);
   own_clients = serves_its_own_each config (steps_of_run config events) are;
+  over_links = goes_over_links config events are;
   one_store = told_by_one_store config events are date_is;
   closed = gives_no_more config events are;
   guests = serves_guests config events are;

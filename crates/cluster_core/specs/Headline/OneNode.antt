@@ -1,14 +1,14 @@
 -- One node works in a step, as one machine does in a network: it takes what came to it, sends, and gives bytes to its own clients.
-use Rattle.std.specs.Prelude.{◌≡◌, ◌≢◌, ℕ, ◌+◌, ◌==◌, if◌then◌else◌, List, [], ◌∷◌, ◌++◌, drop, Option, None, Some}
+use Rattle.std.specs.Prelude.{◌≡◌, ◌≢◌, ℕ, ◌+◌, ◌==◌, if◌then◌else◌, List, [], ◌∷◌, ◌++◌, drop, Contains, Option, None, Some}
 use Rattle.link_msg.specs.declared.message.LinkMsg.{LinkMsg}
 use Rattle.mur_config.specs.declared.config.Config.{Config}
-use Rattle.mur_config.specs.Nodes.{AreNodes}
+use Rattle.mur_config.specs.Nodes.{AreNodes, links_of}
 use Rattle.schedule_text.specs.declared.event.Event.{Event}
 use Rattle.schedule_text.specs.declared.event.Event.TheVariants.{Open, Data, Hang, Deliver}
 use Rattle.cluster_core.specs.declared.world.Client.{Client}
 use Rattle.cluster_core.specs.declared.layout.Layout.{Layout}
 use Rattle.cluster_core.specs.declared.world.World.{World}
-use Rattle.cluster_core.specs.Flow.{run_steps, steps_of_event}
+use Rattle.cluster_core.specs.Flow.{run_steps, steps_of_event, steps_of_run}
 use Rattle.link_queue.specs.Links.{same_link, on_link}
 use Rattle.cluster_core.specs.World.{start, client_at, node_at}
 
@@ -61,6 +61,11 @@ pub record OneNodeWorks (event : Event) (before after : World) : Type 0 where
 abbrev pub OneNodeWorksEach : World → List Event → Type 0
 OneNodeWorksEach world steps = (before : List Event) (event : Event) (later : List Event) → steps ≡ before ++ event ∷ later
     → OneNodeWorks event (run_steps world before) (run_steps world (before ++ event ∷ []))
+
+-- after each single step of a run a message is on its way only between two nodes that the configuration links
+abbrev pub GoesOverLinks : Config → List Event → Type 0
+GoesOverLinks config events = (before later : List Event) → steps_of_run config events ≡ before ++ later → (from to : List ℕ)
+    → on_link (run_steps (start config) before).links from to ≢ [] → Contains (links_of config.nodes) (record { from = from; to = to })
 
 -- a client that is connected at another node is as it was, and so was given nothing
 abbrev pub ServesItsOwn : Event → World → World → Type 0
