@@ -1,5 +1,5 @@
 -- An ask that comes keeps the law: its command is carried out at the home, and is then in the answer.
-use Rattle.std.proofs.Common.{◌≡◌, ◌≢◌, ℕ, ◌+◌, true, List, [], ◌∷◌, ◌++◌, length, None, Some, refl, sym, ◌∙◌, ap, subst}
+use Rattle.std.proofs.Common.{◌≡◌, ◌≢◌, ℕ, ◌+◌, true, List, [], ◌∷◌, ◌++◌, length, Some, refl, sym, ◌∙◌, ap, subst}
 use Rattle.std.specs.Ordering.{nat_cmp}
 use Rattle.std.specs.Cmp.Lexicographic.{slice_cmp}
 use Rattle.std.proofs.Math.Logic.{⊎_elim}
@@ -66,7 +66,7 @@ use Rattle.serve_law.proofs.ServeLaw.{serves_alike}
 use Rattle.cluster_core.specs.declared.world.MarkKind.TheVariants.{Home}
 use Rattle.cluster_core.proofs.Histories.Tally.{acts}
 use Rattle.cluster_core.proofs.Histories.Told.{still_told, IsTold, having_said, next_course, told_push}
-use Rattle.front_core.proofs.OneConnection.Places.{About, of_connection, of_nobody, is_answered, in_an_ask, nobody_whom, other_whom, IsPlaced, PlacesStay, others_sent, others_taken, sent_alone}
+use Rattle.front_core.proofs.OneConnection.Places.{About, of_connection, is_answered, in_an_ask, other_whom, IsPlaced, PlacesStay, others_sent, others_taken, sent_alone}
 use Rattle.front_core.proofs.OneConnection.Standing.{next_ask, next_id}
 use Rattle.front_core.proofs.OneConnection.Standing.Knows.{answered_so}
 use Rattle.front_core.proofs.OneConnection.Waits.{in_ask}

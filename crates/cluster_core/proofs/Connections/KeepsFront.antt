@@ -1,5 +1,5 @@
 -- A step of one connection at its frontend keeps the law.
-use Rattle.std.proofs.Common.{◌≡◌, ◌≢◌, ℕ, true, List, [], Option, None, Some, refl, sym, ◌∙◌, ap, subst}
+use Rattle.std.proofs.Common.{◌≡◌, ◌≢◌, ℕ, true, List, [], Option, Some, refl, sym, ◌∙◌, ap, subst}
 use Rattle.std.specs.Ordering.{nat_cmp}
 use Rattle.std.specs.Cmp.Lexicographic.{slice_cmp}
 use Rattle.std.proofs.Math.Logic.{⊎_elim}
@@ -33,7 +33,7 @@ use Rattle.mur_model.specs.declared.store.Store.{Store}
 use Rattle.serve_law.proofs.HomeStore.{AreSerialsTo}
 use Rattle.cluster_core.proofs.Connections.KeepsStill.{fronts_at_other, nodes_with_front, having_nodes, carry_all_nodes}
 use Rattle.cluster_core.proofs.Runs.WholeLaw.{carry_all_broken}
-use Rattle.front_core.proofs.OneConnection.Places.{About, of_connection, of_nobody, nobody_whom, other_whom, PlacesStay}
+use Rattle.front_core.proofs.OneConnection.Places.{About, of_connection, other_whom, PlacesStay}
 use Rattle.imap_talk.proofs.RequestsOf.{requests_of}
 
 -- a frontend with another state of one connection

@@ -33,7 +33,7 @@ use Rattle.cluster_core.proofs.Connections.NameLaw.{NameIs}
 use Rattle.cluster_core.proofs.Histories.Told.{IsTold}
 use Rattle.mur_config.specs.Nodes.{links_of}
 use Rattle.serve_law.proofs.HomeStore.{AreSerialsTo}
-use Rattle.front_core.proofs.OneConnection.Places.{About, of_connection, of_nobody, IsPlaced, PlacesStay, Place, its_message}
+use Rattle.front_core.proofs.OneConnection.Places.{of_connection, IsPlaced, PlacesStay, Place, its_message}
 
 -- a connection that no frontend has
 pub record IsUntold (conn : ℕ) (links : Links LinkMsg) (story : Story) : Type 0 where

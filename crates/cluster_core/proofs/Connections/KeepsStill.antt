@@ -31,7 +31,6 @@ use Rattle.cluster_core.proofs.Connections.KeepsLaw.ConnectionIs.{is_nobody, is_
 use Rattle.cluster_core.proofs.Connections.KeepsLaw.SameFront.{both, both_none}
 use Rattle.cluster_core.proofs.Connections.KeepsLaw.{FrontStays}
 use Rattle.cluster_core.proofs.Connections.KeepsLaw.FrontStays.{no_front_there, front_there}
-use Rattle.front_core.proofs.OneConnection.Places.{of_connection, of_nobody}
 use Rattle.imap_talk.proofs.RequestsOf.{requests_of}
 use Rattle.cluster_core.proofs.Histories.Told.{IsTold, told_later}
 

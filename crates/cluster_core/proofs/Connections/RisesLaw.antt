@@ -3,14 +3,13 @@ use Rattle.std.proofs.Common.{◌≡◌, ℕ, List, None, Some, sym, ◌∙◌, 
 use Rattle.std.specs.Prelude.{IfSome}
 use Rattle.backend_core.specs.declared.backend.Backend.{Backend}
 use Rattle.backend_core.specs.HomeLaws.{RisesAt}
-use Rattle.backend_core.specs.HomeStep.{held_at}
 use Rattle.mail_message.specs.Boxes.{Content, IsRising}
 use Rattle.mur_model.specs.History.{Course, Talk}
 use Rattle.mur_model.specs.Store.{box_at}
 use Rattle.mur_model.specs.declared.setting.Setting.{Setting}
 use Rattle.mur_model.specs.declared.store.Store.{Store}
 use Rattle.node_record.specs.declared.held.Held.{Held}
-use Rattle.serve_law.proofs.HomeStore.{IsAtHome, IsStoreOf}
+use Rattle.serve_law.proofs.HomeStore.{IsStoreOf}
 use Rattle.serve_law.proofs.HomeStore.IsStoreOf.{is_missing, is_there}
 use Rattle.store_law.proofs.RisingStores.{AllRise, answer_rises, box_rises, some_rising}
 use Rattle.cluster_core.specs.declared.world.Mark.{Mark}

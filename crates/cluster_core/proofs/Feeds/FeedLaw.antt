@@ -1,7 +1,7 @@
 -- The law that every step keeps of the frontends' replicas.
-use Rattle.std.proofs.Common.{◌≡◌, ◌≢◌, ℕ, Bool, true, false, nat_eq, List, [], ◌∷◌, ◌++◌, map, Option, None, Some, refl, sym, ap, ◌∙◌, subst}
+use Rattle.std.proofs.Common.{◌≡◌, ◌≢◌, ℕ, false, nat_eq, List, [], ◌∷◌, map, Option, None, Some, refl, sym, ap, ◌∙◌, subst}
 use Rattle.std.specs.Prelude.{All}
-use Rattle.std.specs.List.{fold, flat_map, list_any}
+use Rattle.std.specs.List.{fold, list_any}
 use Rattle.std.specs.Ordering.{nat_cmp}
 use Rattle.std.specs.Cmp.Lexicographic.{pointwise, slice_cmp}
 use Rattle.feed_core.specs.declared.replica.Replica.{Replica}
@@ -21,7 +21,7 @@ use Rattle.mur_base.specs.Map.{value_at, IsInOrder}
 use Rattle.mur_config.specs.declared.config.Config.{Config}
 use Rattle.node_record.specs.Table.{MailboxTable}
 use Rattle.cluster_core.specs.declared.world.World.{World}
-use Rattle.cluster_core.specs.Headline.Outside.{master_at, table_at, table_by}
+use Rattle.cluster_core.specs.Headline.Outside.{master_at, table_by}
 use Rattle.cluster_core.specs.Headline.Replicas.{Follows, asks, is_told, ReplicasFollow, recs_of, replica_of, stream_message}
 use Rattle.cluster_core.specs.World.{front_at, master_of}
 

@@ -1,40 +1,36 @@
 -- A frontend asks for the table, and takes what it is told.
-use Rattle.std.proofs.Common.{◌≡◌, ◌≢◌, ◌⊎◌, inl, inr, ℕ, ◌+◌, Bool, true, false, nat_eq, cond, List, [], ◌∷◌, ◌++◌, map, drop, Option, None, Some, refl, sym, ap, ◌∙◌, subst, append-nil, arith}
-use Rattle.std.specs.Prelude.{All}
+use Rattle.std.proofs.Common.{◌≡◌, ◌≢◌, ◌⊎◌, inl, inr, ℕ, Bool, true, false, nat_eq, cond, List, [], ◌∷◌, ◌++◌, map, drop, Option, None, Some, refl, sym, ap, ◌∙◌, subst, arith}
 use Rattle.std.proofs.lemmas.Bool.Decides.{nat_tests}
 use Rattle.std.specs.List.{flat_map, fold}
 use Rattle.std.specs.Ordering.{nat_cmp}
-use Rattle.std.specs.Cmp.Lexicographic.{pointwise, same_text, slice_cmp}
+use Rattle.std.specs.Cmp.Lexicographic.{pointwise, slice_cmp}
 use Rattle.std.proofs.Math.Logic.{⊎_elim}
 use Rattle.std.proofs.lemmas.Grind.{fold-append}
 use Rattle.std.proofs.lemmas.List.Concat.{flat_map-cons}
 use Rattle.std.proofs.lemmas.List.Elements.{All-head, All-tail}
 use Rattle.feed_core.specs.declared.replica.Replica.{Replica}
-use Rattle.feed_core.specs.Feed.{empty_replica, recs_after, replica_after, fed as fed_lines}
+use Rattle.feed_core.specs.Feed.{empty_replica, replica_after, fed as fed_lines}
 use Rattle.feed_core.specs.RecLines.{rec_lines}
-use Rattle.feed_core.specs.Stream.{heard, update_line, update_tag}
+use Rattle.feed_core.specs.Stream.{update_tag}
 use Rattle.feed_core.proofs.LinesLaw.{lines_make}
 use Rattle.feed_core.proofs.StreamLaw.{heard_line, stream_line}
 use Rattle.front_core.specs.declared.front.Front.{Front}
 use Rattle.front_core.specs.Front.{deliver, hearing, line_from, still}
-use Rattle.front_core.proofs.KnownStays.{KeepsKnown}
 use Rattle.link_msg.specs.declared.message.LinkMsg.{LinkMsg}
 use Rattle.link_msg.specs.declared.message.LinkMsg.TheVariants.{Line}
-use Rattle.link_queue.specs.Links.{Links, on_link, same_link, without_first}
-use Rattle.link_queue.proofs.Wires.{on_link-taken, same_itself, same_names}
+use Rattle.link_queue.specs.Links.{Links, on_link, without_first}
+use Rattle.link_queue.proofs.Wires.{on_link-taken, same_itself}
 use Rattle.master_core.specs.declared.master.Master.{Master}
 use Rattle.master_core.specs.declared.sender.Sender.TheVariants.{Frontend}
-use Rattle.master_core.specs.Linked.{node_says}
 use Rattle.master_core.specs.Records.{record_lines}
 use Rattle.master_core.specs.Replies.{done}
-use Rattle.master_core.specs.Step.{answered}
 use Rattle.master_core.specs.Streams.{streaming}
 use Rattle.master_core.proofs.UpdateLaw.{table_lines}
 use Rattle.mupdate_codec.specs.declared.command.MResponse.{MResponse}
 use Rattle.mupdate_codec.specs.declared.command.MResponse.TheVariants as response
 use Rattle.mupdate_codec.specs.declared.tag.Tag.{Tag}
 use Rattle.mupdate_codec.specs.Responses.{IsSpelledResponse}
-use Rattle.mur_base.specs.Map.{value_at, with_entry, with_value, IsInOrder}
+use Rattle.mur_base.specs.Map.{with_entry, with_value, IsInOrder}
 use Rattle.mur_base.specs.declared.home.Location.{Location}
 use Rattle.mur_base.proofs.MapLaws.{names_apart, same_or_other, value_at-with_entry-other, value_at-with_value, value_at-with_value-other}
 use Rattle.mur_config.specs.declared.config.Config.{Config}
@@ -48,10 +44,9 @@ use Rattle.node_step.specs.declared.node.NodeState.TheVariants as state
 use Rattle.node_step.specs.NodeStep.{as_front, as_master, front_acted, front_takes, master_acted, master_takes, takes as node_takes}
 use Rattle.node_step.proofs.NodeKinds.{front_is}
 use Rattle.cluster_core.specs.declared.world.World.{World}
-use Rattle.cluster_core.specs.Headline.Outside.{master_at}
 use Rattle.cluster_core.specs.Headline.Replicas.{rec_entry, recs_of, replica_of, stream_message}
 use Rattle.cluster_core.specs.World.{carry_all, comes, comes_to, front_at, master_of, node_at, taken_from_link, with_state}
-use Rattle.cluster_core.proofs.Feeds.FeedLaw.{AreSpelled, FeedLaw, IsFed, IsFedBy, IsQuiet, KeepsTable, asking, fed, kept_front}
+use Rattle.cluster_core.proofs.Feeds.FeedLaw.{AreSpelled, FeedLaw, IsFed, IsFedBy, IsQuiet, asking, fed}
 use Rattle.cluster_core.proofs.Feeds.FeedSteps.{apart_link, taken_elsewhere}
 use Rattle.cluster_core.proofs.Feeds.ForNodes.{IsUpdate, only_updates}
 use Rattle.cluster_core.proofs.Feeds.LinesOut.{all_elsewhere, all_on, all_there, line_messages, lines_carried}

@@ -5,7 +5,6 @@ use Rattle.std.specs.List.{list_any}
 use Rattle.std.specs.Ordering.{nat_cmp, is_eq}
 use Rattle.std.specs.Cmp.Lexicographic.{pointwise, same_text, slice_cmp}
 use Rattle.std.specs.List.Sorted.{IsStrictlySortedBy}
-use Rattle.std.proofs.Math.Logic.{⊎_elim}
 use Rattle.std.proofs.lemmas.Bool.Decides.{nat_tests}
 use Rattle.std.proofs.lemmas.List.Elements.{All-cons, All-nil}
 use Rattle.backend_core.specs.declared.backend.Backend.{Backend}
@@ -37,7 +36,7 @@ use Rattle.mur_base.proofs.MapLaws.{names_apart}
 use Rattle.mur_config.specs.declared.config.Config.{Config}
 use Rattle.mur_config.specs.declared.node.Kind.TheVariants.{Master as master_kind, Frontend}
 use Rattle.mur_config.specs.declared.node.Link.{Link}
-use Rattle.mur_config.specs.Nodes.{AreNodes, are_kinds_linked, links_of, node_named}
+use Rattle.mur_config.specs.Nodes.{AreNodes, are_kinds_linked, links_of}
 use Rattle.mur_config.proofs.OncePairs.{pairs_once, times}
 use Rattle.node_record.specs.Table.{empty_table}
 use Rattle.node_step.specs.declared.node.NodeState.{NodeState}
@@ -45,21 +44,21 @@ use Rattle.node_step.specs.declared.node.NodeState.TheVariants as state
 use Rattle.node_step.specs.NodeStep.{as_back, as_front, as_master}
 use Rattle.node_step.proofs.NodeKinds.{front_is}
 use Rattle.cluster_core.specs.declared.world.World.{World}
-use Rattle.cluster_core.specs.Headline.Outside.{is_master, is_master_node, master_at}
+use Rattle.cluster_core.specs.Headline.Outside.{is_master, master_at}
 use Rattle.cluster_core.specs.Headline.Replicas.{recs_of}
 use Rattle.schedule_text.specs.declared.event.Event.{Event}
 use Rattle.cluster_core.specs.Flow.{run_steps}
 use Rattle.cluster_core.proofs.Feeds.FeedMaster.{master_is_none}
 use Rattle.cluster_core.proofs.Feeds.FeedRuns.{feeds_step}
-use Rattle.cluster_core.specs.World.{backends_of, front_at, home_at, home_of, master_among, master_of, node_at, setting_of, start, steps_by}
-use Rattle.cluster_core.proofs.Feeds.FeedLaw.{AreSpelled, FeedLaw, IsFed, IsFedBy, IsQuiet, asking}
+use Rattle.cluster_core.specs.World.{backends_of, front_at, home_at, home_of, master_of, node_at, start, steps_by}
+use Rattle.cluster_core.proofs.Feeds.FeedLaw.{AreSpelled, FeedLaw, IsFed, asking}
 use Rattle.cluster_core.proofs.Guests.MastersAtStart.{master_at_start}
 use Rattle.cluster_core.proofs.Guests.MastersStay.{name_by}
 use Rattle.cluster_core.proofs.Nodes.KindsOfNodes.{master_named, master_node, no_backend, only_master}
 use Rattle.cluster_core.proofs.Nodes.LinkedNodes.{front_node, pair_of}
 use Rattle.cluster_core.proofs.Runs.FrontsOfStart.{frontends_at_start}
-use Rattle.cluster_core.proofs.Runs.StartLaw.{IsFresh, first_front, fresh_front, fresh_start, home_at_start}
-use Rattle.cluster_core.proofs.Runs.UpsLaw.{all_sent, first_links, fresh_nodes, sent_by, started}
+use Rattle.cluster_core.proofs.Runs.StartLaw.{first_front, fresh_front, fresh_start, home_at_start}
+use Rattle.cluster_core.proofs.Runs.UpsLaw.{all_sent, fresh_nodes, sent_by, started}
 
 -- so many times UPDATE
 unfoldable updates : ℕ → List LinkMsg

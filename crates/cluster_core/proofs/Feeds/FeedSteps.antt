@@ -1,51 +1,33 @@
 -- Each step keeps the law of the replicas.
-use Rattle.std.proofs.Common.{◌≡◌, ◌≢◌, ℕ, ◌+◌, Bool, true, false, ◌&&◌, nat_eq, cond, List, [], ◌∷◌, ◌++◌, map, drop, Option, None, Some, refl, sym, ap, ◌∙◌, subst, append-nil}
-use Rattle.std.specs.Prelude.{⊤, All}
-use Rattle.std.specs.List.{fold, list_any}
-use Rattle.std.specs.Ordering.{nat_cmp, is_eq}
-use Rattle.std.specs.Cmp.Lexicographic.{pointwise, same_text, slice_cmp}
-use Rattle.std.proofs.Math.Logic.{⊎_elim}
-use Rattle.std.proofs.lemmas.List.Elements.{All-head, All-tail}
+use Rattle.std.proofs.Common.{◌≡◌, ◌≢◌, ℕ, Bool, true, false, cond, List, [], ◌∷◌, ◌++◌, drop, Option, None, Some, refl, sym, ap, ◌∙◌, append-nil}
 use Rattle.backend_core.specs.declared.backend.Backend.{Backend}
 use Rattle.backend_core.specs.declared.input.BackInput.{BackInput}
-use Rattle.feed_core.specs.declared.replica.Replica.{Replica}
-use Rattle.feed_core.specs.Feed.{empty_replica, replica_after, fed as fed_lines}
-use Rattle.feed_core.specs.RecLines.{rec_lines}
-use Rattle.feed_core.specs.Stream.{heard, update_line, update_tag}
-use Rattle.feed_core.proofs.LinesLaw.{lines_make}
-use Rattle.feed_core.proofs.StreamLaw.{heard_line}
 use Rattle.front_core.specs.declared.front.Front.{Front}
-use Rattle.front_core.specs.Front.{Stepped, bytes_in, connect, deliver, hang, hearing, line_from, still}
-use Rattle.front_core.proofs.KnownStays.{KeepsKnown, bytes_known, connect_known, hang_known, others_known, same_known}
+use Rattle.front_core.specs.Front.{bytes_in, connect, deliver, hang}
+use Rattle.front_core.proofs.KnownStays.{bytes_known, connect_known, hang_known, others_known, same_known}
 use Rattle.link_msg.specs.declared.message.LinkMsg.{LinkMsg}
-use Rattle.link_msg.specs.declared.message.LinkMsg.TheVariants.{Up, End, Line, Ask, Answer}
 use Rattle.link_msg.specs.declared.out.Out.{Out}
 use Rattle.link_msg.specs.declared.out.Out.TheVariants.{Client as to_client, Close, Link as to_node, Mark as mark_out, Told as tell}
 use Rattle.link_queue.specs.Links.{Links, on_link, same_link, sent, without_first}
-use Rattle.link_queue.proofs.Wires.{on_link-sent, on_link-taken, same_itself, same_names}
+use Rattle.link_queue.proofs.Wires.{on_link-sent, on_link-taken, same_names}
 use Rattle.master_core.specs.declared.master.Master.{Master}
-use Rattle.master_core.specs.declared.sender.Sender.TheVariants.{Frontend, Outside}
+use Rattle.master_core.specs.declared.sender.Sender.TheVariants.{Outside}
 use Rattle.master_core.specs.Outside.{connect as outside_connects, bytes_in as outside_says}
-use Rattle.master_core.specs.Streams.{streaming, without}
+use Rattle.master_core.specs.Streams.{without}
 use Rattle.master_core.proofs.OutsideAlone.{IsBeside, bytes_alone, connects_alone, ends_alone}
-use Rattle.mur_base.specs.Map.{value_at}
-use Rattle.mur_base.proofs.MapLaws.{names_apart, not_equal, same_or_other}
 use Rattle.mur_config.specs.declared.config.Config.{Config}
 use Rattle.node_step.specs.declared.input.NodeInput.{NodeInput}
 use Rattle.node_step.specs.declared.input.NodeInput.TheVariants.{Opened, Piece, Hung, From}
 use Rattle.node_step.specs.declared.node.NodeState.{NodeState}
 use Rattle.node_step.specs.declared.node.NodeState.TheVariants as state
 use Rattle.node_step.specs.NodeStep.{as_front, as_master, back_by, back_input, back_takes, front_takes, master_takes, takes as node_takes}
-use Rattle.node_step.proofs.OwnOuts.{AreTo, IsTo, SaysTo, sender_of, takes_goes}
-use Rattle.schedule_text.specs.declared.event.Event.{Event}
-use Rattle.schedule_text.specs.declared.event.Event.TheVariants.{Open, Data, Hang, Deliver}
+use Rattle.node_step.proofs.OwnOuts.{AreTo, IsTo, sender_of, takes_goes}
 use Rattle.cluster_core.specs.declared.world.Client.{Client}
 use Rattle.cluster_core.specs.declared.world.World.{World}
 use Rattle.cluster_core.specs.Headline.Outside.{master_at}
-use Rattle.cluster_core.specs.Headline.Replicas.{replica_of, stream_message}
-use Rattle.cluster_core.specs.World.{carry, carry_all, client_at, client_does, comes, comes_to, deliver_first, front_at, given_more, master_of, node_at, not_lost}
-use Rattle.cluster_core.specs.World.{opens, stepped, steps_by, taken_from_link, takes, with_client, with_state}
-use Rattle.cluster_core.proofs.Feeds.FeedLaw.{FeedLaw, FrontKnows, IsFed, IsFedBy, KeepsTable, KeepsWires, MasterKeeps, asking, fed, feeds_stay}
+use Rattle.cluster_core.specs.World.{carry, carry_all, client_at, client_does, comes, comes_to, front_at, given_more, master_of, node_at, not_lost}
+use Rattle.cluster_core.specs.World.{opens, taken_from_link, with_client, with_state}
+use Rattle.cluster_core.proofs.Feeds.FeedLaw.{FeedLaw, FrontKnows, KeepsTable, KeepsWires, MasterKeeps, feeds_stay}
 use Rattle.cluster_core.proofs.Feeds.FeedLaw.FrontKnows.{no_front_knows, front_knows}
 use Rattle.cluster_core.proofs.Feeds.FeedLaw.MasterKeeps.{no_master_keeps, master_keeps}
 use Rattle.cluster_core.proofs.Guests.MastersStay.{each_node}

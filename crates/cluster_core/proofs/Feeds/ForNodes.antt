@@ -1,5 +1,5 @@
 -- What the master does for a message of a node is for that node: no client is given anything, and none is served otherwise.
-use Rattle.std.proofs.Common.{◌≡◌, ◌≢◌, ℕ, Bool, true, false, nat_eq, List, [], ◌∷◌, ◌++◌, map, Option, None, Some, refl, sym, ap, ◌∙◌, subst}
+use Rattle.std.proofs.Common.{◌≡◌, ℕ, List, [], ◌∷◌, map, Option, None, Some, refl, sym, ap, ◌∙◌, subst}
 use Rattle.std.specs.Prelude.{⊤}
 use Rattle.link_msg.specs.declared.message.LinkMsg.{LinkMsg}
 use Rattle.link_msg.specs.declared.message.LinkMsg.TheVariants.{Up, End, Line, Ask, Answer}
@@ -21,7 +21,7 @@ use Rattle.node_step.specs.declared.input.NodeInput.{NodeInput}
 use Rattle.node_step.specs.declared.input.NodeInput.TheVariants.{Opened, Piece, Hung, From}
 use Rattle.node_step.specs.declared.node.NodeState.{NodeState}
 use Rattle.node_step.specs.declared.node.NodeState.TheVariants as state
-use Rattle.node_step.specs.NodeStep.{as_front, as_master}
+use Rattle.node_step.specs.NodeStep.{as_master}
 use Rattle.node_step.proofs.OwnOuts.{AreNotFor, AreTo, sender_of}
 use Rattle.mur_config.specs.declared.config.Config.{Config}
 use Rattle.cluster_core.specs.declared.world.World.{World}

@@ -20,7 +20,7 @@ use Rattle.cluster_core.specs.Headline.OneNode.{node_of}
 use Rattle.cluster_core.specs.Headline.Outside.{Guest, unopened, at_another, guest, master_at}
 use Rattle.cluster_core.specs.World.{client_at, node_at, front_at, carry_all, with_state, not_lost, comes_to}
 use Rattle.cluster_core.proofs.Guests.MastersStay.{acting, SameMaster, no_master, one_master, serving_master, still_master, fronts_stay, masters_stay}
-use Rattle.cluster_core.proofs.Feeds.ForNodes.{KeepsClients, SaysForNodes, not_for_lines}
+use Rattle.cluster_core.proofs.Feeds.ForNodes.{SaysForNodes, not_for_lines}
 use Rattle.master_core.specs.Linked.{node_says}
 use Rattle.cluster_core.proofs.Nodes.NotLost.{not_for_left}
 use Rattle.cluster_core.proofs.Nodes.OneNodeLaw.{carry_all_sends}

@@ -1,11 +1,8 @@
 -- Before the first step there is no client, and the master is that of the configuration, which has none.
-use Rattle.std.proofs.Common.{◌≡◌, ◌≢◌, ℕ, Bool, true, false, cond, List, [], ◌∷◌, Option, None, Some, refl, sym, ◌∙◌, ap, subst}
-use Rattle.std.specs.Prelude.{All, AllPairs}
+use Rattle.std.proofs.Common.{◌≡◌, ◌≢◌, ℕ, List, [], ◌∷◌, None, Some, refl, sym, ◌∙◌, ap, subst}
 use Rattle.std.specs.Ordering.{nat_cmp}
 use Rattle.std.specs.Cmp.Lexicographic.{slice_cmp}
-use Rattle.std.specs.Str.{bytes_eq}
 use Rattle.std.proofs.Math.Logic.{⊎_elim}
-use Rattle.std.proofs.lemmas.Slice.Eq.{bytes_eq-Decides}
 use Rattle.master_core.specs.declared.master.Master.{Master}
 use Rattle.master_core.specs.Boot.{booted}
 use Rattle.master_core.proofs.DialogLaw.{IsNoDialog}
@@ -15,19 +12,16 @@ use Rattle.mur_config.specs.declared.config.Config.{Config}
 use Rattle.mur_config.specs.declared.node.Kind.{Kind}
 use Rattle.mur_config.specs.declared.node.Kind.TheVariants.{Master as master_kind, Frontend, Backend as backend_kind}
 use Rattle.mur_config.specs.declared.node.Node.{Node}
-use Rattle.mur_config.proofs.NodesApart.{head_apart, tail_apart}
-use Rattle.mur_config.specs.Nodes.{AreNodes, is_node_named, is_node_of_kind, is_of_kind, node_named}
-use Rattle.mur_model.specs.declared.setting.Setting.{Setting}
+use Rattle.mur_config.specs.Nodes.{AreNodes}
 use Rattle.node_record.specs.Table.{empty_table}
 use Rattle.node_step.specs.NodeStep.{as_master}
 use Rattle.cluster_core.specs.declared.world.World.{World}
-use Rattle.cluster_core.specs.Headline.Outside.{unopened, is_master_node, master_at}
+use Rattle.cluster_core.specs.Headline.Outside.{unopened, master_at}
 use Rattle.cluster_core.specs.World.{no_world, backends_of, first_state, with_node, with_nodes, start}
 use Rattle.cluster_core.proofs.Guests.GuestLaw.GuestIs.{is_unopened}
 use Rattle.cluster_core.proofs.Guests.GuestSteps.{GuestsLaw}
 use Rattle.cluster_core.proofs.Guests.MastersAtStart.{masters_come, no_master_yet}
-use Rattle.cluster_core.proofs.Guests.MastersStay.{name_by}
-use Rattle.cluster_core.proofs.Runs.FrontsOfStart.{others_here, node_stays, nodes_stay}
+use Rattle.cluster_core.proofs.Runs.FrontsOfStart.{node_stays}
 use Rattle.cluster_core.proofs.Runs.UpsLaw.{started}
 
 -- no master has a connection yet

@@ -1,5 +1,5 @@
 -- The listed backends are those of the configuration, and a name is open at no node but its home.
-use Rattle.std.proofs.Common.{◌≡◌, ◌≢◌, ℕ, Bool, true, false, cond, List, [], ◌∷◌, None, Some, refl, sym, ◌∙◌, ap, subst, get_or}
+use Rattle.std.proofs.Common.{◌≡◌, ◌≢◌, ℕ, Bool, true, false, cond, List, [], ◌∷◌, None, Some, refl, sym, ◌∙◌, ap, get_or}
 use Rattle.std.specs.Prelude.{All, AllPairs}
 use Rattle.std.specs.Ordering.{nat_cmp}
 use Rattle.std.specs.Cmp.Lexicographic.{slice_cmp}
@@ -19,7 +19,6 @@ use Rattle.cluster_core.specs.Headline.OpenAt.{IsOpenAt, OpensAtOneNode}
 use Rattle.cluster_core.specs.World.{or_backend, backends_of}
 use Rattle.mur_config.proofs.NodesApart.{head_apart, tail_apart}
 use Rattle.cluster_core.proofs.Runs.StartLaw.{all_named}
-use Rattle.cluster_core.proofs.Connections.KeepsLaw.{AreNodesOf}
 use Rattle.cluster_core.proofs.Connections.NameLaw.{NameIs, lacks_elsewhere}
 use Rattle.mur_model.specs.declared.store.Store.{Store}
 use Rattle.cluster_core.proofs.Names.NamesHeld.{bytes_itself}

@@ -14,10 +14,9 @@ use Rattle.mur_config.specs.declared.node.Kind.TheVariants.{Master, Frontend, Ba
 use Rattle.mur_config.specs.declared.node.Link.{Link}
 use Rattle.mur_config.specs.declared.node.Node.{Node}
 use Rattle.mur_config.specs.Nodes.{AreNodes, is_node_named, are_kinds_linked, are_linked, link, links_from, links_between, links_of}
-use Rattle.mur_model.specs.declared.setting.Setting.{Setting}
 use Rattle.node_step.specs.NodeStep.{as_front}
 use Rattle.cluster_core.specs.declared.world.World.{World}
-use Rattle.cluster_core.specs.World.{no_world, or_backend, backends_of, home_of, setting_of, first_state, with_node, with_nodes, start, front_at}
+use Rattle.cluster_core.specs.World.{no_world, or_backend, backends_of, home_of, first_state, with_node, with_nodes, start, front_at}
 use Rattle.cluster_core.proofs.Runs.UpsLaw.{started}
 use Rattle.cluster_core.proofs.Runs.FrontsOfStart.{frontends_at_start}
 use Rattle.cluster_core.proofs.Runs.StartLaw.{first_backend, home_no_front, others_apart, start_keeps_for}

@@ -13,11 +13,10 @@ use Rattle.mur_config.specs.declared.node.Kind.TheVariants.{Master, Frontend, Ba
 use Rattle.mur_config.specs.declared.node.Node.{Node}
 use Rattle.mur_config.proofs.NodesApart.{head_apart, tail_apart}
 use Rattle.mur_config.specs.Nodes.{AreNodes, is_node_named, is_node_of_kind, is_of_kind, node_named, count_of_kind}
-use Rattle.mur_model.specs.declared.setting.Setting.{Setting}
 use Rattle.node_step.specs.NodeStep.{as_front}
 use Rattle.cluster_core.specs.declared.world.World.{World}
 use Rattle.cluster_core.specs.Heard.{is_frontend_node, is_frontend}
-use Rattle.cluster_core.specs.World.{no_world, backends_of, home_of, setting_of, first_state, with_node, with_nodes, start, node_at, front_at, or_backend}
+use Rattle.cluster_core.specs.World.{no_world, backends_of, first_state, with_node, with_nodes, start, node_at, front_at, or_backend}
 use Rattle.cluster_core.proofs.Runs.UpsLaw.{started}
 
 -- a node of another name

@@ -1,7 +1,7 @@
 -- The law holds before the first step.
 use Rattle.std.proofs.Common.{◌≡◌, ◌≢◌, ℕ, suc, nat_eq, Bool, true, false, cond, ◌≤◌, List, [], ◌∷◌, length, Option, None}
 use Rattle.std.proofs.Common.{Some, refl, sym, ◌∙◌, ap, subst, arith}
-use Rattle.std.specs.Prelude.{All, AllPairs, ⊤}
+use Rattle.std.specs.Prelude.{All, AllPairs}
 use Rattle.std.specs.Ordering.{nat_cmp}
 use Rattle.std.specs.Cmp.Lexicographic.{pointwise, slice_cmp}
 use Rattle.std.proofs.Math.Logic.{⊎_elim}

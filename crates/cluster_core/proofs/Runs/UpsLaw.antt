@@ -26,10 +26,10 @@ use Rattle.node_step.specs.declared.input.NodeInput.TheVariants.{From}
 use Rattle.node_step.specs.declared.node.NodeState.{NodeState}
 use Rattle.node_step.specs.declared.node.NodeState.TheVariants as state
 use Rattle.node_step.specs.Room.{FrontHasRoom, HasRoomToTake}
-use Rattle.node_step.specs.NodeStep.{Acted, idle, takes as node_takes, front_takes, back_takes, back_input, back_by, master_takes}
+use Rattle.node_step.specs.NodeStep.{takes as node_takes, front_takes, back_takes, back_input, back_by, master_takes}
 use Rattle.cluster_core.specs.declared.world.World.{World}
-use Rattle.cluster_core.specs.World.{no_world, home_of, master_of, setting_of, first_state, with_node, with_nodes, carry, carry_all, with_state, not_lost, acts, comes_to, node_at, told_up, with_ups, start}
-use Rattle.cluster_core.proofs.Runs.WholeLaw.{acts_whole, carried_out}
+use Rattle.cluster_core.specs.World.{no_world, home_of, master_of, setting_of, first_state, with_node, with_nodes, carry, carry_all, with_state, comes_to, node_at, with_ups, start}
+use Rattle.cluster_core.proofs.Runs.WholeLaw.{acts_whole}
 
 -- what is on the links once a node was told that this one is up
 abbrev pub sent_by : Links LinkMsg → Link → Option NodeState → Links LinkMsg
