@@ -1,5 +1,5 @@
 -- The mailboxes that the talks are about, and how far the clients are with them.
-use Rattle.std.specs.Prelude.{ℕ, true, false, [], ◌∷◌, ◌^◌, ◌-◌, codes}
+use Rattle.std.specs.Prelude.{ℕ, true, false, List, [], ◌∷◌, ◌^◌, ◌-◌, codes}
 use Rattle.mail_message.specs.Boxes.{Content}
 use Rattle.mail_message.specs.declared.message.Message.{Message}
 use Rattle.mail_message.specs.declared.system_flags.SystemFlags.{SystemFlags}
@@ -82,6 +82,12 @@ scene_with store = record { setting = setting; store = store; serial = 9; first_
 -- two clients have just connected
 unfoldable pub connected : Scene
 connected = scene_with (store_with four)
+
+-- two clients have just connected where the administrator has this password, and is the only user
+abbrev pub connected_with : List ℕ → Scene
+connected_with password = record (scene_with (store_with four)) {
+  setting = record setting { users = (record { name = codes "adm"; password = password; admin = true }) ∷ [] };
+}
 
 -- bob, amy or the administrator has logged in
 unfoldable pub as_bob : Scene

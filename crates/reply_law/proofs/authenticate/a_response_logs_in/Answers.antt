@@ -18,6 +18,10 @@ pub returns-clause-same_name : goal.returns-clause-same_name
 unfolding computes
 returns-clause-same_name c = refl
 
+pub returns-clause-standard : goal.returns-clause-standard
+unfolding computes
+returns-clause-standard c = refl
+
 pub returns-clause-by_bob : goal.returns-clause-by_bob
 unfolding computes
 returns-clause-by_bob c = refl

@@ -18,6 +18,10 @@ pub returns-clause-no_text : goal.returns-clause-no_text
 unfolding computes
 returns-clause-no_text c = refl
 
+pub returns-clause-for_urls : goal.returns-clause-for_urls
+unfolding computes
+returns-clause-for_urls c = refl
+
 pub returns-clause-cut_short : goal.returns-clause-cut_short
 unfolding computes
 returns-clause-cut_short c = refl
