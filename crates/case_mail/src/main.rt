@@ -2,6 +2,7 @@
 //! file passed, or ends with status 1 at the first one that doesn't. The first lines of each file say what its cases are.
 #![tactic(auto)]
 
+mod flags;
 mod home;
 mod line;
 mod messages;
@@ -29,6 +30,8 @@ impl Cases for Kinds {
             ["model", steps @ ..] => model::put(alloc, steps, out),
             ["search", key] => messages::put_found(alloc, key, out),
             ["part", from, count] => messages::put_part(alloc, from, count, out),
+            ["without", flags, flag] => flags::put_without(alloc, flags, flag, out),
+            ["access list", first, later] => values::put_acl(alloc, first, later, out),
             ["name", kind, text] => names::put_fault(alloc, kind, text, out),
             ["first access list", name] => names::put_first_acl(alloc, name, out),
             ["pattern", pattern, text] => names::put_match(alloc, pattern, text, out),

@@ -1,7 +1,16 @@
-// Lists and queues.
-use case_base::{Fault, put_value};
+// Lists, queues, and the access list of a mailbox.
+use case_base::{Fault, put_field, put_value};
+use mail_message::MailBox;
 use mur_base::{Bytes, Items, Queue};
 use std::alloc::Global;
+
+/// Prints the access list of a mailbox as it is made, and after another one was put in its place.
+pub fn put_acl(alloc: Global, first: &str, later: &str, out: &mut Bytes) -> Result<(), Fault> {
+    let mut mailbox = MailBox::make(alloc, 1, Bytes::from_slice(alloc, first.as_bytes())?);
+    put_field(mailbox.acl(), out)?;
+    mailbox.set_acl(Bytes::from_slice(alloc, later.as_bytes())?);
+    Ok(put_field(mailbox.acl(), out)?)
+}
 
 /// Prints the first and the second letter of a list.
 pub fn put_list(alloc: Global, letters: &str, out: &mut Bytes) -> Result<(), Fault> {
