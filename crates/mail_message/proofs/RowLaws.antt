@@ -1,7 +1,7 @@
 -- Rows in rising order of UID, and where a row stands in them.
-use Rattle.std.proofs.Common.{◌≡◌, ℕ, zero, suc, ◌+◌, ◌-◌, ◌<◌, ◌≤◌, false, ◌==◌, List, [], ◌∷◌, ◌++◌, map, length, slice_get, None, Some}
+use Rattle.std.proofs.Common.{◌≡◌, ℕ, zero, suc, ◌+◌, ◌-◌, ◌<◌, ◌≤◌, ◌^◌, Bool, true, false, ◌==◌, List, [], ◌∷◌, ◌++◌, map, length, slice_get, Option, None, Some, cond}
 use Rattle.std.proofs.Common.{if◌then◌else◌, Result, Ok, Err, OnOk, OnErr, refl, sym, ap, subst, arith}
-use Rattle.std.specs.Option.{unwrap_or}
+use Rattle.std.specs.Option.{unwrap_or, IfSome}
 use Rattle.std.proofs.lemmas.List.{length-map}
 use native.Mathlib.Numerals.{unary_clauses}
 use Rattle.std.proofs.Math.ListN.{get_or-map}
@@ -14,7 +14,7 @@ use Rattle.std.proofs.lemmas.Map.Keys.{non_decreasing_from_sorted}
 use Rattle.mail_message.specs.declared.message.Row.{Row}
 use Rattle.mail_message.specs.declared.message.Message.{Message}
 use Rattle.mail_message.specs.Boxes.{row_of, uids_of, IsRising}
-use Rattle.mail_message.specs.RowOrder.{AreRising, IsAbove, IsPlace, is_row_of, row_at, if_row_of, place_if_row_of}
+use Rattle.mail_message.specs.RowOrder.{AreOrdered, AreRising, IsAbove, IsPlace, is_row_of, row_at, if_row_of, place_if_row_of}
 use Rattle.mail_message.proofs.SlotLaws.{less, below}
 
 -- ---- the rows of messages
@@ -52,11 +52,47 @@ pub rising-none : AreRising []
 unfolding IsStrictlySortedBy
 rising-none = tt
 
+pub ordered-none : AreOrdered []
+ordered-none = record { rising = rising-none; numbers = omega arith }
+
 -- a row that was put at the end, or for which there was no memory
 pub rising-pushed : {A E : Type 0} (result : Result A E) (old new : List Row) (row : Row) → OnOk result (new ≡ old ++ row ∷ []) → OnErr result (new ≡ old)
     → AreRising old → IsAbove old row.uid → AreRising new
 rising-pushed (Ok done) old new row ok err rising above = subst AreRising (sym ok) (rising-more old row rising above)
 rising-pushed (Err fault) old new row ok err rising above = subst AreRising (sym err) rising
+
+more_rows : (rows : List Row) (row : Row) → length (rows ++ row ∷ []) ≡ length rows + 1
+more_rows [] row = refl
+more_rows (other ∷ rows) row = omega (arith, more_rows rows row)
+
+-- the same, with room for the row
+pub ordered-pushed : {A E : Type 0} (result : Result A E) (old new : List Row) (row : Row) → OnOk result (new ≡ old ++ row ∷ []) → OnErr result (new ≡ old)
+    → AreOrdered old → IsAbove old row.uid → length old + 1 < 2 ^ 32 → AreOrdered new
+ordered-pushed (Ok done) old new row ok err ordered above room =
+    subst AreOrdered (sym ok) (record { rising = rising-more old row ordered.rising above; numbers = rw (more_rows old row) room })
+ordered-pushed (Err fault) old new row ok err ordered above room = subst AreOrdered (sym err) ordered
+
+-- a place of one of the rows
+pub place-within : (test : Row → Bool) (from : ℕ) (rows : List Row) → IfSome (position_from test from rows) (λ place. place < from + length rows)
+place-within test from [] = tt
+place-within test from (row ∷ rows) = by (test row) (place-within test (from + 1) rows)
+  where
+    next : (found : Option ℕ) → IfSome found (λ place. place < (from + 1) + length rows) → IfSome found (λ place. place < from + suc (length rows))
+    next None is = tt
+    next (Some place) is = omega (arith, is)
+
+    by : (here : Bool) → IfSome (position_from test (from + 1) rows) (λ place. place < (from + 1) + length rows)
+        → IfSome (cond here (Some from) (position_from test (from + 1) rows)) (λ place. place < from + suc (length rows))
+    by true is = omega arith
+    by false is = next (position_from test (from + 1) rows) is
+
+-- which has a number of 32 bits
+pub place-numbered : (test : Row → Bool) (rows : List Row) → length rows < 2 ^ 32 → IfSome (position_from test 0 rows) (λ place. place + 1 < 2 ^ 32)
+place-numbered test rows room = by (position_from test 0 rows) (place-within test 0 rows)
+  where
+    by : (found : Option ℕ) → IfSome found (λ place. place < 0 + length rows) → IfSome found (λ place. place + 1 < 2 ^ 32)
+    by None is = tt
+    by (Some place) is = omega (arith, is, room)
 
 some_is : (row other : Row) → Some row ≡ Some other → row ≡ other
 some_is row other same = ap (λ found. unwrap_or found row) same

@@ -1,5 +1,5 @@
 -- Rows of a mailbox in rising order of UID (RFC 9051, 2.3.1.1).
-use Rattle.std.specs.Prelude.{ℕ, Bool, ◌<◌, ◌≤◌, ◌==◌, if◌then◌else◌, List, map, Option, None, Some}
+use Rattle.std.specs.Prelude.{ℕ, Bool, ◌<◌, ◌≤◌, ◌^◌, ◌==◌, if◌then◌else◌, List, map, length, Option, None, Some}
 use Rattle.std.specs.List.{AllByRecursion, find}
 use Rattle.std.specs.List.Sorted.{IsStrictlySortedBy, IsPartitionPoint}
 use Rattle.std.specs.Ordering.{nat_cmp}
@@ -8,6 +8,11 @@ use Rattle.mail_message.specs.declared.message.Row.{Row}
 -- the rows stand in strictly rising order of UID
 abbrev pub AreRising : List Row → Type 0
 AreRising rows = IsStrictlySortedBy nat_cmp (map (λ row. row.uid) rows)
+
+-- rows that rise, each of which has a number of 32 bits (RFC 9051, 2.3.1.2 and 9: nz-number)
+pub record AreOrdered (rows : List Row) : Type 0 where
+  pub rising : AreRising rows
+  pub numbers : length rows < 2 ^ 32
 
 -- a UID is higher than that of each row
 abbrev pub IsAbove : List Row → ℕ → Type 0

@@ -1,7 +1,8 @@
 // The flags of a message.
-ghost use Rattle.std.specs.Prelude.{◌≡◌, ◌≤◌, ◌↔◌, length, IfOk, IfErr, OnOk, OnErr, IsTrue};
+ghost use Rattle.std.specs.Prelude.{◌≡◌, ◌≤◌, ◌↔◌, [], length, IfOk, IfErr, OnOk, OnErr, IsTrue};
 ghost use Rattle.mail_message.specs.FlagSets.{no_flags, has_flag, with_flag, without_flag, flags_after, IsMade, now_holding, IsNoRoom, limited};
 ghost use Rattle.mail_message.specs.Keywords.{with_keyword};
+ghost use Rattle.mail_message.specs.declared.flag_name.FlagFault.TheVariants.{Memory as memory};
 ghost use Rattle.mail_message.specs.SameFlags.{is_same_flags};
 
 use crate::flag_name::{FlagFault, FlagName};
@@ -119,9 +120,11 @@ impl FlagSet {
         Ok(FlagSet { system, keywords })
     }
 
-    /// What a STORE of some flags makes of these. `TooMany` exactly where there would be more than 16 keywords.
+    /// What a STORE of some flags makes of these. `TooMany` exactly where there would be more than 16 keywords, so never for flags
+    /// that are no keywords.
     pub fn after(&self, alloc: Global, mode: Mode, flags: &FlagSet) -> Result<FlagSet, FlagFault>
-        ensures { IsMade (flags_after mode self.now flags.now) result }
+        ensures made { IsMade (flags_after mode self.now flags.now) result }
+        ensures system { flags.now.keywords ≡ [] → IfErr result (λ fault. fault ≡ memory) }
     {
         match mode {
             Mode::Replace => Ok(flags.copy(alloc)?),

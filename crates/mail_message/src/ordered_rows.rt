@@ -1,7 +1,7 @@
-// Rows by UID: a list that rises, so that a look-up is a binary search.
-ghost use Rattle.std.specs.Prelude.{◌≡◌, ◌<◌, ◌≤◌, ◌↔◌, [], ◌∷◌, ◌++◌, length, OnOk, OnErr, IsTrue, IfOk};
+// Rows by UID: a list that rises, so that a look-up is a binary search, and whose rows 32 bits number.
+ghost use Rattle.std.specs.Prelude.{◌≡◌, ◌+◌, ◌<◌, ◌≤◌, ◌^◌, ◌↔◌, [], ◌∷◌, ◌++◌, length, OnOk, OnErr, IsTrue, IfOk};
 ghost use Rattle.std.specs.List.{AllWithin, position_from};
-ghost use Rattle.std.specs.Option.{option_copied};
+ghost use Rattle.std.specs.Option.{option_copied, IfSome};
 ghost use Rattle.mail_message.specs.RowOrder.{AreRising, IsAbove, IsPlace, is_row_of, row_at, if_row_of, place_if_row_of};
 
 use crate::message::{Row, Rows};
@@ -9,7 +9,8 @@ use mur_base::{Copied, Memory};
 use std::alloc::Global;
 use std::marker::Model;
 
-/// Rows of a mailbox in strictly rising order of UID. Contracts see them as a list.
+/// Rows of a mailbox in strictly rising order of UID, with room for 4,294,967,295 of them, so that the number of each has 32 bits
+/// (RFC 9051, 2.3.1.2). Contracts see them as a list.
 #[derive(Drop)]
 pub struct OrderedRows {
     rows: Rows,
@@ -18,13 +19,13 @@ pub struct OrderedRows {
 impl Model for OrderedRows {
     ghost use Rattle.std.specs.Prelude.{List};
     ghost use Rattle.mail_message.specs.declared.message.Row.{Row};
-    ghost use Rattle.mail_message.specs.RowOrder.{AreRising};
+    ghost use Rattle.mail_message.specs.RowOrder.{AreOrdered};
 
     ghost Value = { List Row };
 
     ghost view = { λ list. list.rows };
 
-    ghost invariant = { λ list. AreRising list.rows };
+    ghost invariant = { λ list. AreOrdered list.rows };
 }
 
 impl OrderedRows {
@@ -46,16 +47,18 @@ impl OrderedRows {
         })
     }
 
-    /// Rows that rise, which aren't copied.
-    pub fn from_rising(rows: Rows) -> OrderedRows
+    /// Rows that rise, which aren't copied. `Memory` too where there is no room for so many.
+    pub fn from_rising(rows: Rows) -> Result<OrderedRows, Memory>
         requires { AreRising rows }
-        ensures { result ≡ rows }
+        ensures { IfOk result (λ list. list ≡ rows) }
     {
-        OrderedRows { rows }
+        has_room(rows.len())?;
+        Ok(OrderedRows { rows })
     }
 
     pub fn len(&self) -> usize
-        ensures { result ≡ length self.now }
+        ensures count { result ≡ length self.now }
+        ensures numbers { result < 2 ^ 32 }
     {
         self.rows.len()
     }
@@ -70,6 +73,7 @@ impl OrderedRows {
     pub fn as_slice(&self) -> &[Row]
         ensures rows { result.now ≡ self.now }
         ensures rising { AreRising self.now }
+        ensures numbers { length self.now < 2 ^ 32 }
     {
         self.rows.as_slice()
     }
@@ -84,12 +88,13 @@ impl OrderedRows {
         }
     }
 
-    /// Puts a row at the end; for want of memory the list stays as it was.
+    /// Puts a row at the end; for want of memory, or of room for one more, the list stays as it was.
     pub fn push(&mut self, row: Row) -> Result<(), Memory>
         requires { IsAbove self.old row.uid }
         ensures ok { OnOk result (self.new ≡ self.old ++ row ∷ []) }
         ensures err { OnErr result (self.new ≡ self.old) }
     {
+        has_room(self.rows.len().saturating_add(1))?;
         self.rows.push(row)
     }
 
@@ -103,7 +108,8 @@ impl OrderedRows {
 
     /// How many rows stand before the one with a UID, if that is there; looked for near a place first, as `find` does.
     pub fn place(&self, uid: u32, near: &mut usize) -> Option<usize>
-        ensures { result ≡ position_from (is_row_of uid) 0 self.now }
+        ensures place { result ≡ position_from (is_row_of uid) 0 self.now }
+        ensures numbers { IfSome result (λ place. place + 1 < 2 ^ 32) }
     {
         *near = place_of(self.rows.as_slice(), uid, *near);
         place_if_row_of(*near, self.rows.get(*near), uid)
@@ -125,6 +131,16 @@ impl Copied for OrderedRows {
             rows: self.rows.copy(alloc)?,
         })
     }
+}
+
+/// Room for so many rows. Here alone it is looked at whether 32 bits number them.
+fn has_room(count: usize) -> Result<(), Memory>
+    ensures { OnOk result (count < 2 ^ 32) }
+{
+    if count > u32::MAX as usize {
+        return Err(Memory);
+    }
+    Ok(())
 }
 
 fn if_row_of(row: Option<&Row>, uid: u32) -> Option<&Row>

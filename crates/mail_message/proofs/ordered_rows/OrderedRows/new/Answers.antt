@@ -1,7 +1,7 @@
 use Rattle.std.proofs.Common.{sym, subst}
-use Rattle.mail_message.specs.RowOrder.{AreRising}
-use Rattle.mail_message.proofs.RowLaws.{rising-none}
+use Rattle.mail_message.specs.RowOrder.{AreOrdered}
+use Rattle.mail_message.proofs.RowLaws.{ordered-none}
 use Rattle.mail_message.proofs.ordered_rows.OrderedRows.new.Goals as goal
 
 pub invariant_of-result : goal.invariant_of-result
-invariant_of-result c = subst AreRising (sym c.new.ensures) rising-none
+invariant_of-result c = subst AreOrdered (sym c.new.ensures) ordered-none
