@@ -12,6 +12,14 @@ use Rattle.mail_store.specs.declared.fault.StoreFault.{StoreFault}
 use Rattle.mail_store.specs.declared.fault.StoreFault.TheVariants.{TooManyFlags, Memory}
 use Rattle.mail_store.specs.Named.{set_of}
 
+abbrev pub IsMadeRowBy : Bool → Row → Result Row StoreFault → Type 0
+IsMadeRowBy true row result = (result ≡ Err TooManyFlags) ⊎ (result ≡ Err Memory)
+IsMadeRowBy false row result = MatchResult result (λ given. given ≡ row) (λ fault. fault ≡ Memory)
+
+-- the result is this row: refused where it would have too many keywords, and where memory is wanting
+abbrev pub IsMadeRow : Row → Result Row StoreFault → Type 0
+IsMadeRow row result = IsMadeRowBy (has_too_many row.flags) row result
+
 -- the row of a message after a STORE, where there is a message
 abbrev pub stored_row : Mode → Flags → Option Message → List Row
 stored_row mode flags None = []

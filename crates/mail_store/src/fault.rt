@@ -1,5 +1,4 @@
 // Why a mailbox isn't changed.
-use mail_message::FlagFault;
 use mur_base::Memory;
 
 /// Why a mailbox isn't changed, the first that holds.
@@ -23,21 +22,5 @@ impl From<Memory> for StoreFault {
 
     fn from(_memory: Memory) -> StoreFault {
         StoreFault::Memory
-    }
-}
-
-impl From<FlagFault> for StoreFault {
-    ghost use Rattle.std.specs.Prelude.{◌≡◌};
-    ghost use Rattle.mail_store.specs.Faults.{store_fault};
-
-    ghost from_gives = { λ fault given. given ≡ store_fault fault };
-
-    fn from(fault: FlagFault) -> StoreFault {
-        match fault {
-            FlagFault::TooMany => StoreFault::TooManyFlags,
-            FlagFault::Empty | FlagFault::TooLong | FlagFault::BadByte | FlagFault::Memory => {
-                StoreFault::Memory
-            }
-        }
     }
 }

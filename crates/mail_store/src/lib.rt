@@ -11,4 +11,4 @@ pub use append::append_all;
 pub use expunging::expunge;
 pub use fault::StoreFault;
 pub use named::set_of;
-pub use store::set_flags;
+pub use store::{rows_stored, set_flags};
