@@ -54,7 +54,7 @@ fn changed_rows(alloc: Global, old: &OrderedRows, now: &[Row]) -> Result<Ordered
             changed.push(row.copy(alloc)?)?;
         }
     }
-    Ok(OrderedRows::from_rising(changed))
+    OrderedRows::from_rising(changed)
 }
 
 /// Whether there was a row, with the flags of this one.
