@@ -1,5 +1,6 @@
 // A view beside the rows of its mailbox: the news by one walk, and without a copy of a row.
-ghost use Rattle.std.specs.Prelude.{◌≡◌, ◌++◌, Some, None, ◌≤◌, ◌∷◌, List, drop, length, if◌then◌else◌, IfOk, OnOk};
+ghost use Rattle.std.specs.Prelude.{◌≡◌, ◌+◌, ◌<◌, ◌^◌, ◌++◌, Some, None, ◌≤◌, ◌∷◌, List, drop, length, if◌then◌else◌, IfOk, OnOk};
+ghost use Rattle.std.specs.Option.{IfSome};
 ghost use Rattle.mail_message.specs.declared.message.Row.{Row as row_type};
 ghost use Rattle.mur_model.specs.Beside.{from_place, one_gone, one_kept, same_until, told_walked, walked};
 ghost use Rattle.mur_model.specs.News.{changed_line, is_among};
@@ -41,6 +42,7 @@ pub fn same_until(rows: &[Row], now: &[Row]) -> usize
 
 /// The news of so many messages that are all there with the flags that were told.
 pub fn told_unchanged(alloc: Global, count: usize, now: OrderedRows) -> Result<Told, Memory>
+    requires { count < 2 ^ 32 }
     ensures { IfOk result (λ it. it ≡ told_walked (from_place count) now) }
 {
     let mut lines = ReplyLines::new(alloc);
@@ -50,6 +52,7 @@ pub fn told_unchanged(alloc: Global, count: usize, now: OrderedRows) -> Result<T
 
 /// The news of a walk.
 pub fn told_walked(walked: Walked, now: OrderedRows) -> Result<Told, Memory>
+    requires { walked.kept < 2 ^ 32 }
     ensures { IfOk result (λ it. it ≡ told_walked walked now) }
 {
     let Walked {
@@ -73,8 +76,10 @@ pub fn walk(
     told: &BTreeSet<u32>,
     place: usize,
 ) -> Result<Option<Walked>, Memory>
-    requires { place ≤ length rows.now }
-    ensures { IfOk result (λ found. found ≡ walked expunges told.now.keys (from_place place) (drop place rows.now) (drop place now.now)) }
+    requires within { place ≤ length rows.now }
+    requires numbers { length rows.now < 2 ^ 32 }
+    ensures walked { IfOk result (λ found. found ≡ walked expunges told.now.keys (from_place place) (drop place rows.now) (drop place now.now)) }
+    ensures numbers { IfOk result (λ found. IfSome found (λ it. it.kept < 2 ^ 32)) }
 {
     let mut walked = Walked {
         gone: ReplyLines::new(alloc),
@@ -99,7 +104,9 @@ impl Walked {
         expunges: bool,
         told: &BTreeSet<u32>,
     ) -> Result<bool, Memory>
-        ensures { IfOk result (λ goes. (rows : List row_type) → walked expunges told.now.keys self.old (row.now ∷ rows) (drop self.old.kept now.now)
+        requires { self.old.kept + 1 < 2 ^ 32 }
+        ensures kept { OnOk result (self.new.kept ≤ self.old.kept + 1) }
+        ensures walked { IfOk result (λ goes. (rows : List row_type) → walked expunges told.now.keys self.old (row.now ∷ rows) (drop self.old.kept now.now)
             ≡ (if goes then walked expunges told.now.keys self.new rows (drop self.new.kept now.now) else None)) }
     {
         let Some(it) = now.get(self.kept) else {
@@ -114,12 +121,13 @@ impl Walked {
 
     /// By a message that is gone, if that may be told.
     fn loses(&mut self, may: bool) -> Result<bool, Memory>
+        requires { self.old.kept + 1 < 2 ^ 32 }
         ensures may { IfOk result (λ goes. goes ≡ may) }
         ensures walked { OnOk result (self.new ≡ (if may then one_gone self.old else self.old)) }
     {
         if may {
-            let number = number_of(self.kept.checked_add(1).ok_or(Memory)?)?;
-            self.gone.push(ReplyLine::Expunge(number))?;
+            self.gone
+                .push(ReplyLine::Expunge(number_of(self.kept + 1)))?;
         }
         Ok(may)
     }
@@ -132,9 +140,10 @@ impl Walked {
         it: &Row,
         told: &BTreeSet<u32>,
     ) -> Result<(), Memory>
+        requires { self.old.kept + 1 < 2 ^ 32 }
         ensures { OnOk result (self.new ≡ one_kept told.now.keys row.now it.now self.old) }
     {
-        self.kept = self.kept.checked_add(1).ok_or(Memory)?;
+        self.kept += 1;
         put_kept_line(alloc, &mut self.changed, self.kept, row, it, told)
     }
 }
@@ -149,11 +158,12 @@ fn put_kept_line(
     it: &Row,
     told: &BTreeSet<u32>,
 ) -> Result<(), Memory>
+    requires { number < 2 ^ 32 }
     ensures { OnOk result (lines.new ≡ lines.old ++ changed_line (is_among told.now.keys row.now.uid) number row.now (Some it.now)) }
 {
     if row.flags.is_same(&it.flags) {
         return Ok(());
     }
     let is_told = is_among(told, row.uid);
-    put_changed_line(alloc, lines, number_of(number)?, row, Some(it), is_told)
+    put_changed_line(alloc, lines, number_of(number), row, Some(it), is_told)
 }

@@ -1,5 +1,5 @@
 // The messages that a command of a selected session names (RFC 9051, 9: sequence-set; 6.4.9).
-ghost use Rattle.std.specs.Prelude.{◌≡◌, ◌-◌, ◌<◌, ◌≤◌, max, [], ◌∷◌, drop, length, take, IfOk};
+ghost use Rattle.std.specs.Prelude.{◌≡◌, ◌-◌, ◌<◌, ◌≤◌, ◌^◌, max, [], ◌∷◌, drop, length, take, IfOk};
 ghost use Rattle.std.specs.List.{zip};
 ghost use Rattle.std.specs.List.Sorted.{IsPartitionPoint};
 ghost use Rattle.mail_message.specs.RowOrder.{AreRising};
@@ -64,13 +64,14 @@ pub fn named_uids(
 
 #[tactic(auto, unfolding(crate::specs::NamedRows::named_uids))]
 fn uids_of_part(alloc: Global, by_uid: bool, part: SetPart, rows: &[Row]) -> Result<Uids, Memory>
-    requires { AreRising rows.now }
+    requires rising { AreRising rows.now }
+    requires numbers { length rows.now < 2 ^ 32 }
     ensures { IfOk result (λ uids. uids ≡ named_uids by_uid (part ∷ []) rows.now) }
 {
     if by_uid {
         uids_in_part(alloc, part.at(last_uid(rows)), rows)
     } else {
-        numbered_in_part(alloc, part.at(number_of(rows.len())?), rows)
+        numbered_in_part(alloc, part.at(number_of(rows.len())), rows)
     }
 }
 
@@ -134,6 +135,7 @@ fn rows_until(rows: &[Row], uid: u32) -> usize
 
 #[tactic(auto, unfolding(crate::specs::NamedRows::named_uids))]
 fn uids_of_set(alloc: Global, by_uid: bool, set: &SetParts, rows: &[Row]) -> Result<Uids, Memory>
+    requires { length rows.now < 2 ^ 32 }
     ensures { IfOk result (λ uids. uids ≡ named_uids by_uid set.now rows.now) }
 {
     if by_uid {
@@ -143,7 +145,7 @@ fn uids_of_set(alloc: Global, by_uid: bool, set: &SetParts, rows: &[Row]) -> Res
         let numbers = numbers_of(alloc, rows)?;
         uids_by(
             alloc,
-            &set_at(alloc, number_of(rows.len())?, set)?,
+            &set_at(alloc, number_of(rows.len()), set)?,
             &numbers,
             rows,
         )
@@ -193,13 +195,14 @@ pub fn uids_of(alloc: Global, rows: &[Row]) -> Result<Uids, Memory>
 
 /// The numbers of rows, from 1 on.
 fn numbers_of(alloc: Global, rows: &[Row]) -> Result<Uids, Memory>
+    requires { length rows.now < 2 ^ 32 }
     ensures list { IfOk result (λ list. list ≡ numbers_from 1 rows.now) }
     ensures length { IfOk result (λ list. length list ≡ length rows.now) }
 {
     let mut list = Uids::new(alloc);
     let mut number = 0u32;
     for _row in rows {
-        number = number.checked_add(1).ok_or(Memory)?;
+        number += 1;
         list.push(number)?;
     }
     Ok(list)

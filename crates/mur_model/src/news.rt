@@ -1,5 +1,5 @@
 // What a client is told of its view (RFC 9051, 7.4 and 7.5).
-ghost use Rattle.std.specs.Prelude.{◌≡◌, ◌≤◌, ◌++◌, length, IfOk, OnOk};
+ghost use Rattle.std.specs.Prelude.{◌≡◌, ◌+◌, ◌<◌, ◌≤◌, ◌^◌, ◌++◌, length, IfOk, OnOk};
 ghost use Rattle.mail_message.specs.RowOrder.{AreRising};
 ghost use Rattle.mail_store.specs.Named.{set_of};
 ghost use Rattle.mur_model.specs.ClientView.{Known, Agrees, known_after_all, uids};
@@ -99,11 +99,12 @@ fn news_apart(
     }
 }
 
-/// The number of a message. Want of memory where it has more than 32 bits.
-pub fn number_of(count: usize) -> Result<u32, Memory>
-    ensures { IfOk result (λ number. number ≡ count) }
+/// The number of a message behind so many others, itself among them (RFC 9051, 9: nz-number).
+pub fn number_of(count: usize) -> u32
+    requires { count < 2 ^ 32 }
+    ensures { result ≡ count }
 {
-    u32::try_from(count).map_err(|_| Memory)
+    count as u32
 }
 
 /// Puts a line for each message that is no more.
@@ -111,12 +112,12 @@ fn put_expunged(lines: &mut ReplyLines, rows: &OrderedRows, now: &OrderedRows) -
     ensures { OnOk result (lines.new ≡ lines.old ++ expunge_lines now.now 1 rows.now) }
 {
     let mut near = 0;
-    let mut number = 1u32;
+    let mut kept = 0u32;
     for row in rows.as_slice() {
         if now.find(row.uid, &mut near).is_some() {
-            number = number.checked_add(1).ok_or(Memory)?;
+            kept += 1;
         } else {
-            lines.push(ReplyLine::Expunge(number))?;
+            lines.push(ReplyLine::Expunge(kept + 1))?;
         }
     }
     Ok(())
@@ -133,7 +134,7 @@ fn rows_there(alloc: Global, rows: &OrderedRows, now: &OrderedRows) -> Result<Or
             there.push(row.copy(alloc)?)?;
         }
     }
-    Ok(OrderedRows::from_rising(there))
+    OrderedRows::from_rising(there)
 }
 
 fn told_of(
@@ -158,7 +159,7 @@ fn view_of(alloc: Global, rows: &OrderedRows, now: &OrderedRows) -> Result<Order
 {
     let mut view = fresh_rows(alloc, rows, now)?;
     put_behind(alloc, &mut view, rows, now)?;
-    Ok(OrderedRows::from_rising(view))
+    OrderedRows::from_rising(view)
 }
 
 /// The rows of a view as the mailbox has them.
@@ -200,13 +201,13 @@ fn is_behind(rows: &OrderedRows, uid: u32) -> bool
 }
 
 pub fn put_exists(lines: &mut ReplyLines, before: usize, more: usize) -> Result<(), Memory>
+    requires { before + more < 2 ^ 32 }
     ensures { OnOk result (lines.new ≡ lines.old ++ exists_lines before more) }
 {
     if more == 0 {
         return Ok(());
     }
-    let count = before.checked_add(more).ok_or(Memory)?;
-    lines.push(ReplyLine::Exists(number_of(count)?))
+    lines.push(ReplyLine::Exists(number_of(before + more)))
 }
 
 /// Puts a line for each message with other flags than were told.
@@ -222,7 +223,7 @@ fn put_changed(
     let mut near = 0;
     let mut number = 0u32;
     for row in rows.as_slice() {
-        number = number.checked_add(1).ok_or(Memory)?;
+        number += 1;
         let it = now.find(row.uid, &mut near);
         let is_told = is_among(told, row.uid);
         put_changed_line(alloc, lines, number, row, it, is_told)?;

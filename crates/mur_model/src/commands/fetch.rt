@@ -1,7 +1,7 @@
 // FETCH and UID FETCH (RFC 9051, 6.4.5, 6.4.9 and 7.5.2).
-ghost use Rattle.std.specs.Prelude.{◌≡◌, ◌+◌, ◌∷◌, [], ◌++◌, if◌then◌else◌, IfOk, OnOk, Some, map};
+ghost use Rattle.std.specs.Prelude.{◌≡◌, ◌+◌, ◌<◌, ◌^◌, ◌∷◌, [], ◌++◌, if◌then◌else◌, IfOk, OnOk, Some, map};
 ghost use Rattle.std.specs.List.{list_any};
-ghost use Rattle.std.specs.Option.{option_copied, option_map};
+ghost use Rattle.std.specs.Option.{option_copied, option_map, IfSome};
 ghost use Rattle.mail_fetch.specs.Parts.{part_text};
 ghost use Rattle.mail_message.specs.Boxes.{relabelled};
 ghost use Rattle.mail_message.specs.declared.mode.Mode.TheVariants.{Add};
@@ -30,10 +30,10 @@ use crate::work::ViewWork;
 use imap_types::{Op, Parts, ReplyLine, ReplyLines, Verdict};
 use mail_fetch::{flags_part, part};
 use mail_message::{
-    FetchItems, FlagName, FlagSet, Item, MailBox, Message, Messages, Mode, OrderedRows, Partial,
-    Row, SetParts, SystemFlag, Uids,
+    FetchItems, FlagFault, FlagName, FlagSet, Item, MailBox, Message, Messages, Mode, OrderedRows,
+    Partial, Row, SetParts, SystemFlag, Uids,
 };
-use mail_store::set_flags;
+use mail_store::{StoreFault, set_flags};
 use mur_base::{Bytes, Copied, Memory};
 use std::alloc::Global;
 
@@ -265,6 +265,7 @@ fn put_line(
     place: Option<usize>,
     row: Option<&Row>,
 ) -> Result<(), Memory>
+    requires { IfSome place (λ p. p + 1 < 2 ^ 32) }
     ensures { OnOk result (lines.new ≡ lines.old ++ fetch_reply_line it.now message.now (option_map (λ p. p + 1) place) (option_copied row.entry)) }
 {
     match (place, row) {
@@ -281,9 +282,10 @@ fn put_some_line(
     place: usize,
     row: &Row,
 ) -> Result<(), Memory>
+    requires { place + 1 < 2 ^ 32 }
     ensures { OnOk result (lines.new ≡ lines.old ++ fetch_reply_line it.now message.now (Some (place + 1)) (Some row.now)) }
 {
-    let number = number_of(place.checked_add(1).ok_or(Memory)?)?;
+    let number = number_of(place + 1);
     let changes = !message.flags.is_same(&row.flags);
     let items = items_told(alloc, it, changes)?;
     let parts = parts_of(alloc, &items, message, &row.flags)?;
@@ -366,12 +368,20 @@ pub fn fetch_at(
 fn see(alloc: Global, mailbox: &mut MailBox, it: &Fetching) -> Result<(), Memory>
     ensures { OnOk result (mailbox.new ≡ stored mailbox.old it.now.uids Add seen_flags) }
 {
-    let seen = FlagSet::new(alloc).with(alloc, &FlagName::System(SystemFlag::Seen));
-    let Ok(seen) = seen else {
-        return Err(Memory);
-    };
+    let seen = seen_flags(alloc)?;
     match set_flags(alloc, mailbox, it.uids.as_slice(), Mode::Add, &seen) {
         Ok(_rows) => Ok(()),
-        Err(_) => Err(Memory),
+        Err(StoreFault::Memory) => Err(Memory),
+        Err(_) => unreachable!(),
+    }
+}
+
+fn seen_flags(alloc: Global) -> Result<FlagSet, Memory>
+    ensures { IfOk result (λ flags. flags ≡ seen_flags) }
+{
+    match FlagSet::new(alloc).with(alloc, &FlagName::System(SystemFlag::Seen)) {
+        Ok(flags) => Ok(flags),
+        Err(FlagFault::Memory) => Err(Memory),
+        Err(_) => unreachable!(),
     }
 }

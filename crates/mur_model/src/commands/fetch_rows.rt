@@ -1,7 +1,7 @@
 // FETCH and UID FETCH of flags and UIDs alone (RFC 9051, 6.4.5).
-ghost use Rattle.std.specs.Prelude.{◌≡◌, ◌+◌, ◌++◌, IfOk, OnOk, map};
+ghost use Rattle.std.specs.Prelude.{◌≡◌, ◌+◌, ◌<◌, ◌^◌, ◌++◌, IfOk, OnOk, map};
 ghost use Rattle.std.specs.List.{filter};
-ghost use Rattle.std.specs.Option.{option_copied, option_map};
+ghost use Rattle.std.specs.Option.{option_copied, option_map, IfSome};
 ghost use Rattle.mur_model.specs.FetchRows.{asks_rows, is_in_row, row_line, row_lines, row_part, rows_told, told_uids};
 ghost use Rattle.mur_model.specs.News.{has_row};
 
@@ -56,11 +56,12 @@ fn put_row_line(
     place: Option<usize>,
     row: Option<&Row>,
 ) -> Result<(), Memory>
+    requires { IfSome place (λ p. p + 1 < 2 ^ 32) }
     ensures { OnOk result (lines.new ≡ lines.old ++ row_line items.now (option_map (λ p. p + 1) place) (option_copied row.entry)) }
 {
     match (place, row) {
         (Some(place), Some(row)) => {
-            let number = number_of(place.checked_add(1).ok_or(Memory)?)?;
+            let number = number_of(place + 1);
             lines.push(ReplyLine::Fetch(number, row_parts(alloc, items, row)?))
         }
         _ => Ok(()),

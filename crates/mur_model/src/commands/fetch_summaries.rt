@@ -1,6 +1,6 @@
 // FETCH and UID FETCH of flags, UIDs, dates and sizes alone (RFC 9051, 6.4.5).
-ghost use Rattle.std.specs.Prelude.{◌≡◌, ◌+◌, ◌++◌, IfOk, OnOk, map};
-ghost use Rattle.std.specs.Option.{option_map};
+ghost use Rattle.std.specs.Prelude.{◌≡◌, ◌+◌, ◌<◌, ◌^◌, ◌++◌, IfOk, OnOk, map};
+ghost use Rattle.std.specs.Option.{option_map, IfSome};
 ghost use Rattle.mur_model.specs.FetchSummaries.{asks_summaries, is_in_summary, summaries_told, summary_line, summary_lines, summary_part, uids_told};
 
 use crate::commands::fetch::{Fetching, asks_flags, fetch_name, items_told};
@@ -56,11 +56,12 @@ fn put_summary_line(
     summary: &Summary,
     place: Option<usize>,
 ) -> Result<(), Memory>
+    requires { IfSome place (λ p. p + 1 < 2 ^ 32) }
     ensures { OnOk result (lines.new ≡ lines.old ++ summary_line items.now summary.now (option_map (λ p. p + 1) place)) }
 {
     match place {
         Some(place) => {
-            let number = number_of(place.checked_add(1).ok_or(Memory)?)?;
+            let number = number_of(place + 1);
             lines.push(ReplyLine::Fetch(number, summary_parts(alloc, items, summary)?))
         }
         None => Ok(()),

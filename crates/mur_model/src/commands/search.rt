@@ -42,7 +42,7 @@ pub fn search(alloc: Global, view: &View, by_uid: bool, keys: &Keys) -> Result<B
         return Ok(no_such_number(alloc));
     }
     let last = last_uid(view.rows.as_slice());
-    let keys = keys_at(alloc, number_of(count)?, last, keys.as_slice())?;
+    let keys = keys_at(alloc, number_of(count), last, keys.as_slice())?;
     search_asks(alloc, view, Searching { by_uid, keys })
 }
 
@@ -66,12 +66,12 @@ fn search_op(alloc: Global, view: &View, it: &Searching) -> Result<Op, Memory>
 }
 
 /// The number of a message in a view that has it; looked for near a place first, as `OrderedRows::place` does.
-fn number_at(rows: &OrderedRows, uid: u32, near: &mut usize) -> Result<u32, Memory>
-    ensures { IfOk result (λ number. number ≡ number_at rows.now uid) }
+fn number_at(rows: &OrderedRows, uid: u32, near: &mut usize) -> u32
+    ensures { result ≡ number_at rows.now uid }
 {
     match rows.place(uid, near) {
-        Some(place) => number_of(place.checked_add(1).ok_or(Memory)?),
-        None => Ok(0),
+        Some(place) => number_of(place + 1),
+        None => 0,
     }
 }
 
@@ -83,7 +83,7 @@ fn numbers_of(alloc: Global, rows: &OrderedRows, messages: &[Summary]) -> Result
     let mut numbers = Uids::new(alloc);
     let mut near = 0;
     for message in messages {
-        numbers.push(number_at(rows, message.uid, &mut near)?)?;
+        numbers.push(number_at(rows, message.uid, &mut near))?;
     }
     Ok(numbers)
 }
@@ -104,7 +104,7 @@ fn numbers_by(alloc: Global, rows: &OrderedRows, uids: &[u32]) -> Result<Uids, M
     let mut numbers = Uids::new(alloc);
     let mut near = 0;
     for uid in uids {
-        numbers.push(number_at(rows, *uid, &mut near)?)?;
+        numbers.push(number_at(rows, *uid, &mut near))?;
     }
     Ok(numbers)
 }

@@ -153,7 +153,7 @@ fn select_lines(alloc: Global, it: &Opening, seen: &Snapshot) -> Result<ReplyLin
     let keywords = keywords_in(alloc, seen.rows.as_slice())?;
     let mut lines = closed_lines(alloc, it.was_selected)?;
     lines.push(ReplyLine::Flags(flags_of(alloc, &keywords)?))?;
-    lines.push(ReplyLine::Exists(number_of(seen.rows.len())?))?;
+    lines.push(ReplyLine::Exists(number_of(seen.rows.len())))?;
     let shown = Bytes::from_slice(alloc, it.shown.as_slice())?;
     lines.push(ReplyLine::Listed(Attribute::None, shown))?;
     lines.push(permanent_line(alloc, it.is_writable, &keywords)?)?;

@@ -1,5 +1,6 @@
 // STORE and UID STORE (RFC 9051, 6.4.6 and 6.4.9).
-ghost use Rattle.std.specs.Prelude.{◌≡◌, ◌≢◌, ◌++◌, IfOk, OnOk};
+ghost use Rattle.std.specs.Prelude.{◌≡◌, ◌≢◌, ◌+◌, ◌<◌, ◌^◌, ◌++◌, IfOk, OnOk};
+ghost use Rattle.std.specs.Option.{IfSome};
 ghost use Rattle.mur_model.specs.Left.{IsLeft};
 ghost use Rattle.mur_model.specs.Selected.{rows_of};
 ghost use Rattle.mur_model.specs.StoreFlags.{store, store_at, store_told, store_refused};
@@ -204,11 +205,12 @@ fn put_placed_line(
     place: Option<usize>,
     change: &Row,
 ) -> Result<(), Memory>
+    requires { IfSome place (λ p. p + 1 < 2 ^ 32) }
     ensures { OnOk result (lines.new ≡ lines.old ++ placed_line by_uid place change.now) }
 {
     match place {
         Some(place) => {
-            let number = number_of(place.checked_add(1).ok_or(Memory)?)?;
+            let number = number_of(place + 1);
             let parts = flag_parts(alloc, by_uid, change)?;
             lines.push(ReplyLine::Fetch(number, parts))
         }

@@ -6,4 +6,5 @@ abbrev pub invariant-loop-row : goal.invariant-loop-row
 invariant-loop-row l = record {
   list : l.list ++ numbers_from (l.number + 1) (drop l._row-index l.rows) ≡ numbers_from 1 l.rows;
   length : length l.list ≡ l._row-index;
+  number : l.number ≡ l._row-index;
 }

@@ -3,8 +3,8 @@ use Rattle.std.proofs.lemmas.Bool.Decides.{nat_tests}
 use Rattle.mur_model.proofs.BesideLaw.{kept_step}
 use Rattle.mur_model.proofs.beside.Walked.takes.Goals as goal
 
-pub returns-then-it-row : goal.returns-then-it-row
-returns-then-it-row c rows =
+pub returns-then-it-row-clause-walked : goal.returns-then-it-row-clause-walked
+returns-then-it-row-clause-walked c rows =
     let row = c.args.row.now in
     let it = c.in-Some.it.now in
     let done = c.args.self.now in
