@@ -7,7 +7,7 @@ ghost use Rattle.text_parts.specs.Locations.{run_within, located, location_of};
 
 use grammar::{Class, Kind, ReadError, Stop, byte_of, exactly_of, word_of};
 use mur_base::limits::SHORT_NAME_LIMIT;
-use mur_base::{Bytes, Location, Memory, NodeName, node_name};
+use mur_base::{Bytes, Location, Memory, NameFault, NodeName, node_name};
 use std::alloc::Global;
 
 /// A byte of a server's or a partition's name.
@@ -79,7 +79,8 @@ pub fn made_server(alloc: Global, text: &[u8]) -> Result<NodeName, Memory>
 {
     match node_name(alloc, text) {
         Ok(name) => Ok(name),
-        Err(_) => Err(Memory),
+        Err(NameFault::Memory) => Err(Memory),
+        Err(_) => unreachable!(),
     }
 }
 

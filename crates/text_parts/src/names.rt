@@ -7,7 +7,7 @@ ghost use Rattle.text_parts.specs.Names.{lead_of, is_letter, after_tail, after_l
 
 use grammar::{Kind, ReadError, word_of};
 use mur_base::limits::NAME_LIMIT;
-use mur_base::{MailName, Memory, mail_name};
+use mur_base::{MailName, Memory, NameFault, mail_name};
 use std::alloc::Global;
 
 /// What the first byte of a character of several bytes says (RFC 3629, 4).
@@ -253,7 +253,8 @@ pub fn made_name(alloc: Global, text: &[u8]) -> Result<MailName, Memory>
 {
     match mail_name(alloc, text) {
         Ok(name) => Ok(name),
-        Err(_) => Err(Memory),
+        Err(NameFault::Memory) => Err(Memory),
+        Err(_) => unreachable!(),
     }
 }
 
