@@ -20,5 +20,4 @@ pub mod OnlyOpen
 pub mod PlanLaw
 pub mod RelabelsBy
 pub mod RisesOn
-pub mod RisingRows
 pub mod RisingHome

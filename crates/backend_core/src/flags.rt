@@ -7,10 +7,10 @@ use crate::entry::flagged;
 use crate::op_plan::{OpPlan, Telling};
 use crate::refusal::refusal;
 use crate::response::Response;
-use crate::rows::{differing, rows_stored};
+use crate::rows::differing;
 use link_msg::Outcome;
 use mail_message::{FlagSet, MailBox, Mode, OrderedRows, Uids};
-use mail_store::StoreFault;
+use mail_store::{StoreFault, rows_stored};
 use mur_base::{MailName, Memory};
 use node_record::Held;
 use std::alloc::Global;
@@ -51,7 +51,8 @@ fn relabel(
     match rows_stored(alloc, content, uids.as_slice(), mode, flags) {
         Ok(rows) => relabel_rows(alloc, name, content, rows),
         Err(StoreFault::TooManyFlags) => Ok(OpPlan::looks(alloc, name, Outcome::Limit)),
-        Err(_) => Err(Memory),
+        Err(StoreFault::Memory) => Err(Memory),
+        Err(_) => unreachable!(),
     }
 }
 

@@ -9,9 +9,10 @@ use crate::entry::flagged;
 use crate::op_plan::{Entries, OpPlan, Telling};
 use crate::refusal::refusal;
 use crate::response::Response;
-use crate::rows::{differing, rows_stored};
+use crate::rows::differing;
 use link_msg::Outcome;
-use mail_message::{FlagName, FlagSet, MailBox, Mode, OrderedRows, SystemFlag, Uids};
+use mail_message::{FlagFault, FlagName, FlagSet, MailBox, Mode, OrderedRows, SystemFlag, Uids};
+use mail_store::{StoreFault, rows_stored};
 use mur_base::{MailName, Memory};
 use node_record::Held;
 use std::alloc::Global;
@@ -72,7 +73,7 @@ fn seen_entries(
     flagged(alloc, name, differing(alloc, content, rows.as_slice())?)
 }
 
-/// The rows of messages with `\Seen`. It is no keyword, so that none gets too many and memory alone can be wanting.
+/// The rows of messages with `\Seen`. It is no keyword, so that none gets too many.
 fn seen_rows(alloc: Global, content: &MailBox, uids: &Uids) -> Result<OrderedRows, Memory>
     ensures { IfOk result (λ rows. rows ≡ rows_stored content.now uids.now Add seen_flag) }
 {
@@ -84,7 +85,8 @@ fn seen_rows(alloc: Global, content: &MailBox, uids: &Uids) -> Result<OrderedRow
         &seen_flag(alloc)?,
     ) {
         Ok(rows) => Ok(rows),
-        Err(_) => Err(Memory),
+        Err(StoreFault::Memory) => Err(Memory),
+        Err(_) => unreachable!(),
     }
 }
 
@@ -93,6 +95,7 @@ fn seen_flag(alloc: Global) -> Result<FlagSet, Memory>
 {
     match FlagSet::new(alloc).with(alloc, &FlagName::System(SystemFlag::Seen)) {
         Ok(flags) => Ok(flags),
-        Err(_) => Err(Memory),
+        Err(FlagFault::Memory) => Err(Memory),
+        Err(_) => unreachable!(),
     }
 }

@@ -99,7 +99,7 @@ fn news_apart(
     }
 }
 
-/// The number of a message behind so many others, itself among them (RFC 9051, 9: nz-number).
+/// The number of the last of so many messages (RFC 9051, 9: nz-number).
 pub fn number_of(count: usize) -> u32
     requires { count < 2 ^ 32 }
     ensures { result ≡ count }
