@@ -30,6 +30,7 @@ pub mod MirrorNews
 pub mod StoredFlags
 pub mod RisingViews
 pub mod MirrorFetch
+mod SilentStores
 pub mod MirrorLaw
 pub mod LinesSpoken
 pub mod CommandsSpeak
