@@ -35,5 +35,9 @@ pub mod MirrorLaw
 pub mod LinesSpoken
 pub mod CommandsSpeak
 pub mod LinesLaw
+mod NewsWhole
+mod BoxesGrow
+mod ViewsCover
+pub mod NewsTold
 pub mod LetsIn
 pub mod LoginLaw

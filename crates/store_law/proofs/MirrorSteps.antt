@@ -79,21 +79,21 @@ pub record Keeps (R : Mirror → List Row → Type 0) : Type 0 where
 -- ---- replies that tell nothing of a view
 
 -- a turn leaves the session as it was, by lines that tell nothing, or with no mailbox selected
-abbrev IsStillBy : Option Sess → Reply → Type 0
+abbrev pub IsStillBy : Option Sess → Reply → Type 0
 IsStillBy None reply = (mirror : Mirror) → read_lines mirror reply.lines ≡ mirror
 IsStillBy (Some Off) reply = ⊤
 IsStillBy (Some (In user)) reply = ⊤
 IsStillBy (Some (selected view)) reply = ⊥
 IsStillBy (Some Ended) reply = ⊤
 
-abbrev IsStill : Turn → Type 0
+abbrev pub IsStill : Turn → Type 0
 IsStill turn = IsStillBy turn.session turn.reply
 
-abbrev NeedIsStill : Needed → Type 0
+abbrev pub NeedIsStill : Needed → Type 0
 NeedIsStill (Turned turn) = IsStill turn
 NeedIsStill need = ⊤
 
-works_still : OfWorks NeedIsStill
+pub works_still : OfWorks NeedIsStill
 unfolding read_line
 works_still = record {
   answers = of_refusals (λ verdict. tt) (λ name plain. λ mirror. refl) (λ name user plain. tt) (λ mirror. refl) tt;
@@ -108,7 +108,7 @@ unfolding make
 made_still name serial true = λ mirror. refl
 made_still name serial false = λ mirror. refl
 
-created_still : (name : List ℕ) (serial : ℕ) (spent : Bool) (found : Option Content) → IsStill (create_on name serial spent found).turn
+pub created_still : (name : List ℕ) (serial : ℕ) (spent : Bool) (found : Option Content) → IsStill (create_on name serial spent found).turn
 unfolding create_on
 created_still name serial spent None = made_still name serial spent
 created_still name serial spent (Some box) = λ mirror. refl
@@ -118,12 +118,12 @@ unfolding append_to append_reply
 appended_still message box (Some fault) = λ mirror. refl
 appended_still message box None = λ mirror. refl
 
-append_still : (message : Message) (found : Option Content) → IsStill (append_on message found).turn
+pub append_still : (message : Message) (found : Option Content) → IsStill (append_on message found).turn
 unfolding append_on
 append_still message None = λ mirror. refl
 append_still message (Some box) = appended_still message box (append_fault box (message ∷ []))
 
-status_still : (shown : List ℕ) (items : List StatusItem) (found : Option Content) → IsStill (status_on shown items found).turn
+pub status_still : (shown : List ℕ) (items : List StatusItem) (found : Option Content) → IsStill (status_on shown items found).turn
 unfolding status_on status_reply read_line
 status_still shown items None = λ mirror. refl
 status_still shown items (Some box) = λ mirror. refl
