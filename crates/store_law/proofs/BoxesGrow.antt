@@ -1,7 +1,7 @@
 -- What commands leave of a mailbox: its UIDVALIDITY, and new messages from its UIDNEXT on alone.
-use Rattle.std.proofs.Common.{◌≡◌, ℕ, ◌+◌, ◌<◌, ◌≤◌, ◌==◌, Bool, true, false, not, cond, if◌then◌else◌, List, [], ◌∷◌, map, Option, None, Some, is_some}
+use Rattle.std.proofs.Common.{◌≡◌, ℕ, ◌≤◌, ◌==◌, Bool, true, false, not, cond, if◌then◌else◌, List, [], ◌∷◌, map, Option, None, Some, is_some}
 use Rattle.std.proofs.Common.{refl, sym, ◌∙◌, ap, subst, inl, inr, ⊎_elim, arith}
-use Rattle.std.specs.Prelude.{◌⊎◌, ⊤, IfSome}
+use Rattle.std.specs.Prelude.{◌⊎◌, ⊤}
 use Rattle.std.specs.Cmp.Lexicographic.{slice_cmp}
 use Rattle.std.specs.Ordering.{nat_cmp, match_ordering}
 use Rattle.std.specs.declared.cmp.Ordering.{Ordering}
@@ -14,11 +14,10 @@ use Rattle.mail_message.specs.declared.message.Message.{Message}
 use Rattle.mail_message.specs.declared.message.Row.{Row}
 use Rattle.mail_message.specs.declared.mode.Mode.TheVariants.{Add}
 use Rattle.mail_store.specs.Append.{appended, append_fault}
-use Rattle.mail_store.specs.Expunge.{expunged, expunged_uids}
-use Rattle.mail_store.specs.Store.{flag_changes, has_too_many_flags, rows_stored, stored}
+use Rattle.mail_store.specs.Expunge.{expunged_uids}
+use Rattle.mail_store.specs.Store.{flag_changes, has_too_many_flags, rows_stored}
 use Rattle.mail_store.specs.declared.fault.StoreFault.{StoreFault}
 use Rattle.mur_base.proofs.MapLaws.{names_apart, same_or_other, value_at-with_value}
-use Rattle.mur_model.specs.declared.commands.fetch.Fetching.{Fetching}
 use Rattle.mur_model.specs.Needed.{Needed, Refusal, Turned, Mailbox, Work, Make, Append as append_work, Status as status_work, Select as select_work, Viewed as viewed_work}
 use Rattle.mur_model.specs.declared.commands.store.FlagStore.{FlagStore}
 use Rattle.mur_model.specs.declared.session.Sess.{Sess}
@@ -28,12 +27,12 @@ use Rattle.mur_model.specs.declared.work.ViewWork.{ViewWork}
 use Rattle.mur_model.specs.declared.work.ViewWork.TheVariants as view_work
 use Rattle.mur_model.specs.Act.{act_by, work_on}
 use Rattle.mur_model.specs.Append.{append_on, append_to}
-use Rattle.mur_model.specs.Create.{create_on, make}
-use Rattle.mur_model.specs.Fetch.{fetch_at, seen_flags, sees}
+use Rattle.mur_model.specs.Create.{create_on}
+use Rattle.mur_model.specs.Fetch.{seen_flags, sees}
 use Rattle.mur_model.specs.Left.{Left, Worked, kept, made, changed, store_after}
 use Rattle.mur_model.specs.Select.{select_on}
 use Rattle.mur_model.specs.Status.{status_on}
-use Rattle.mur_model.specs.Store.{box_at, is_spent, with_box}
+use Rattle.mur_model.specs.Store.{box_at, is_spent}
 use Rattle.mur_model.specs.StoreFlags.{stored_at}
 use Rattle.mur_model.specs.Viewing.{found_gone, viewed_on, work_there}
 use Rattle.store_law.proofs.NoneLost.{others_stay}

@@ -1,9 +1,8 @@
 -- Of each message whose UID or flags a client was told, it knows those of its session's view, behind each command.
-use Rattle.std.proofs.Common.{◌≡◌, ℕ, suc, ◌+◌, ◌<◌, ◌≤◌, ◌==◌, ◌||◌, Bool, true, false, if◌then◌else◌, List, [], ◌∷◌, ◌++◌, length, map, Option, None, Some, is_some}
-use Rattle.std.proofs.Common.{refl, sym, ◌∙◌, ap, subst, arith, append-nil}
-use Rattle.std.specs.Prelude.{⊤, IfSome}
-use Rattle.std.specs.List.{list_any, zip}
-use Rattle.std.proofs.lemmas.Bool.Decides.{nat_tests}
+use Rattle.std.proofs.Common.{◌≡◌, ℕ, suc, ◌+◌, ◌==◌, ◌||◌, Bool, true, false, if◌then◌else◌, List, [], ◌∷◌, ◌++◌, length, Option, None, Some, is_some}
+use Rattle.std.proofs.Common.{refl, sym, ◌∙◌, ap, subst, append-nil}
+use Rattle.std.specs.Prelude.{IfSome}
+use Rattle.std.specs.List.{list_any}
 use Rattle.mail_fetch.specs.FlagText.{flags_text}
 use Rattle.mail_fetch.specs.Parts.{uid_text}
 use Rattle.mail_message.specs.Boxes.{Content, messages_at}
@@ -27,13 +26,12 @@ use Rattle.mur_model.specs.declared.work.ViewWork.TheVariants as view_work
 use Rattle.mur_model.specs.ClientView.{uids}
 use Rattle.mur_model.specs.Fetch.{fetch_at, fetch_lines, fetch_told, flag_uids, seen_flags, sees}
 use Rattle.mur_model.specs.Left.{Worked, changed, kept}
-use Rattle.mur_model.specs.NamedRows.{named_uids, numbers_from, picked}
 use Rattle.mur_model.specs.News.{flag_parts, fresh_row, is_among, news}
 use Rattle.mur_model.specs.Selected.{rows_of}
 use Rattle.mur_model.specs.StoreFlags.{own_lines, stored_at, stored_line, stored_lines}
 use Rattle.mur_model.specs.Viewing.{work_there}
 use Rattle.store_law.specs.Mirror.{IsSeenOf, Mirror, Mirrors, OfView, Seen, asked, names, no_uid, read_line, read_lines, with_silent}
-use Rattle.store_law.proofs.MirrorFetch.{alike, fetched_mirrors, told_uid}
+use Rattle.store_law.proofs.MirrorFetch.{alike, fetched_mirrors}
 use Rattle.store_law.proofs.MirrorNews.{Becomes, fetch_reads, found_uid, lines_by, news_mirrors, row_told, rows_told_by, silent_mirrors, stays_seen, told_row}
 use Rattle.store_law.proofs.MirrorNews.{unseen_mirrors, walked}
 use Rattle.store_law.proofs.MirrorSteps.{Keeps, TurnKeeps, store_of}

@@ -196,8 +196,7 @@ changed_by : (front rest : Mirror) (seen : Seen) (number : ℕ) (row it : Row) (
     → Becomes front rest seen (if not same then Fetch number (flag_parts true it) ∷ [] else []) it
 changed_by front rest seen number row it true e is uid so =
     let flags : row.flags ≡ it.flags = (same_flags_decide row.flags it.flags).0 e in
-    stays_seen front rest seen it
-    (
+    stays_seen front rest seen it (
       subst (λ n. IfSome seen.uid (λ text. text ≡ uid_text n)) (sym uid) so.0,
       subst (λ f. IfSome seen.flags (λ text. seen.silenced it.uid ≡ false → text ≡ flags_text f)) flags
           (subst (λ n. IfSome seen.flags (λ text. seen.silenced n ≡ false → text ≡ flags_text row.flags)) (sym uid) so.1),

@@ -5,13 +5,9 @@ use Rattle.std.specs.Cmp.Lexicographic.{slice_cmp}
 use Rattle.std.specs.Ordering.{nat_cmp}
 use Rattle.std.proofs.lemmas.Bool.Decides.{nat_tests}
 use Rattle.mail_message.specs.Boxes.{Content, messages_at}
-use Rattle.mail_message.specs.declared.item.Item.{Item}
-use Rattle.mail_message.specs.declared.key.Key.{Key}
 use Rattle.mail_message.specs.declared.message.Row.{Row}
-use Rattle.mail_message.specs.declared.mode.Mode.{Mode}
 use Rattle.mail_message.specs.declared.mode.Mode.TheVariants.{Add}
 use Rattle.mail_message.specs.declared.set.SetPart.{SetPart}
-use Rattle.mail_message.specs.FlagSets.{Flags}
 use Rattle.mail_store.specs.Expunge.{expunged}
 use Rattle.mail_store.specs.Named.{set_of}
 use Rattle.mail_store.specs.Store.{has_too_many_flags, rows_stored, stored}
@@ -33,7 +29,7 @@ use Rattle.mur_model.specs.declared.view.View.{View}
 use Rattle.mur_model.specs.declared.work.NewsFor.TheVariants as news_for
 use Rattle.mur_model.specs.declared.work.ViewWork.{ViewWork}
 use Rattle.mur_model.specs.declared.work.ViewWork.TheVariants as view_work
-use Rattle.mur_model.specs.Act.{Acted, act_by, act_of, need_of, need_selected, need_taken, session_after, work_on}
+use Rattle.mur_model.specs.Act.{act_by, act_of, need_of, need_selected, need_taken, session_after, work_on}
 use Rattle.mur_model.specs.AtOnce.{is_done}
 use Rattle.mur_model.specs.ClientView.{uids}
 use Rattle.mur_model.specs.Expunge.{expunge_named}
@@ -45,11 +41,11 @@ use Rattle.mur_model.specs.NamedRows.{last_uid, named_uids, names_messages}
 use Rattle.mur_model.specs.Needed.{Needed, Refusal, at_mailbox, no_such_number, read_only}
 use Rattle.mur_model.specs.News.{news}
 use Rattle.mur_model.specs.Selected.{rows_of}
-use Rattle.mur_model.specs.Store.{box_at, is_spent}
+use Rattle.mur_model.specs.Store.{box_at}
 use Rattle.mur_model.specs.StoreFlags.{store_named, stored_at}
 use Rattle.mur_model.specs.Traits.{is_in, may_be, traits_of}
-use Rattle.mur_model.specs.Viewing.{found_gone, viewed_on, work_there}
-use Rattle.store_law.specs.Mirror.{Mirror, Mirrors, OfView, asked, mirror_of, read_lines}
+use Rattle.mur_model.specs.Viewing.{viewed_on, work_there}
+use Rattle.store_law.specs.Mirror.{Mirror, OfView, mirror_of}
 use Rattle.store_law.specs.NewsTold.{IsToldAll, KnowsAll, NewsAreTold, tells_all}
 use Rattle.store_law.proofs.BoxesGrow.{Grows, LeftGrows, there_grows}
 use Rattle.store_law.proofs.MirrorLaw.{Agrees, keeps_mirror}

@@ -1,5 +1,5 @@
 -- The news of a view that misses no message of its mailbox but those above it leave it with all of them; told with what is gone, it is the mailbox.
-use Rattle.std.proofs.Common.{◌≡◌, ℕ, ◌+◌, ◌<◌, ◌≤◌, ◌==◌, ◌&&◌, nat_lt, Bool, true, false, cond, List, [], ◌∷◌, ◌++◌, map, Option, None, Some, is_some}
+use Rattle.std.proofs.Common.{◌≡◌, ℕ, ◌+◌, ◌<◌, ◌≤◌, ◌==◌, ◌&&◌, nat_lt, Bool, true, false, cond, List, [], ◌∷◌, ◌++◌, Option, None, Some, is_some}
 use Rattle.std.proofs.Common.{refl, sym, ◌∙◌, ap, ap₂, subst, arith}
 use Rattle.std.specs.List.{filter}
 use Rattle.std.proofs.lemmas.Bool.Decides.{nat_tests}
@@ -55,7 +55,7 @@ same_rows low high (x ∷ xs) [] rises rise same =
     let here : Some x ≡ None = subst (λ b. cond b (Some x) (row_at xs x.uid) ≡ None) (itself x.uid) (same x.uid) in cc
 same_rows low high (x ∷ xs) (y ∷ ys) rises rise same =
     by (nat_lt x.uid y.uid) (nat_lt y.uid x.uid) refl refl (λ own. same_rows (x.uid + 1) (y.uid + 1) xs ys rises.1 rise.1 (λ uid.
-        tails_same x y xs ys uid (x.uid == uid) refl own rises.1 rise.1 (same uid)))
+    tails_same x y xs ys uid (x.uid == uid) refl own rises.1 rise.1 (same uid)))
   where
     by : (less more : Bool) → nat_lt x.uid y.uid ≡ less → nat_lt y.uid x.uid ≡ more → (x.uid ≡ y.uid → xs ≡ ys) → x ∷ xs ≡ y ∷ ys
     by true more e f rest =

@@ -1,7 +1,7 @@
 -- A mirror agrees with the view behind a silent STORE: only messages that it names have other flags than were told.
-use Rattle.std.proofs.Common.{◌≡◌, ℕ, zero, suc, ◌+◌, ◌<◌, ◌≤◌, ◌==◌, ◌||◌, Bool, true, false, if◌then◌else◌, List, [], ◌∷◌, length, map, Option, None, Some}
+use Rattle.std.proofs.Common.{◌≡◌, ℕ, ◌+◌, ◌<◌, ◌≤◌, ◌==◌, ◌||◌, Bool, true, false, List, [], ◌∷◌, length, map, Option, None, Some}
 use Rattle.std.proofs.Common.{refl, sym, ◌∙◌, ap, subst, inl, inr, arith}
-use Rattle.std.specs.Prelude.{◌⊎◌, ⊤, IfSome}
+use Rattle.std.specs.Prelude.{⊤, IfSome}
 use Rattle.std.specs.List.{list_any, zip}
 use Rattle.std.proofs.lemmas.Bool.Decides.{nat_tests}
 use Rattle.mail_fetch.specs.FlagText.{flags_text}
@@ -14,7 +14,7 @@ use Rattle.mail_message.specs.declared.set.SetPart.{SetPart}
 use Rattle.mail_message.specs.declared.set.SetPart.TheVariants.{One, Range}
 use Rattle.mur_model.specs.NamedRows.{named_uids, numbers_from, picked}
 use Rattle.store_law.specs.Mirror.{IsSeenOf, Mirror, Mirrors, Seen, names, silenced_by, with_silent}
-use Rattle.store_law.specs.SetNames.{IsBetween, IsInPart, IsInSet, last_number}
+use Rattle.store_law.specs.SetNames.{IsInPart, IsInSet, last_number}
 use Rattle.store_law.proofs.ContainsLaws.{stands}
 use Rattle.store_law.proofs.MirrorNews.{found_uid, less_seen, mirrors_length, rows_told_by, told_row}
 use Rattle.store_law.proofs.RisingViews.{RowsRise}
