@@ -9,7 +9,7 @@ use Rattle.std.specs.Ordering.{nat_cmp, match_ordering}
 use Rattle.std.specs.declared.cmp.Ordering.{Ordering}
 use Rattle.std.specs.declared.cmp.Ordering.TheVariants.{Less, Equal, Greater}
 use Rattle.std.proofs.lemmas.List.Elements.{All-nil, All-cons, All-head, All-tail, All-append, All-map, All-weaker, All-filter}
-use Rattle.std.proofs.lemmas.Map.Views.{All-insert_key, All-remove_key, All-values-insert_entry, All-values-set_value, IfSome-lookup_from_All}
+use Rattle.std.proofs.lemmas.Map.Views.{All-insert_key, All-values-insert_entry, All-values-set_value, IfSome-lookup_from_All}
 use Rattle.mail_message.specs.Boxes.{Content, content_after, content_after_all, has_uid, message_at, messages_after, messages_at, relabelled, row_of}
 use Rattle.mail_message.specs.Boxes.{with_flags, with_message}
 use Rattle.mail_message.specs.FlagSets.{Flags, HasRuledKeywords, flags_after}
@@ -49,7 +49,7 @@ with_all keywords (keyword ∷ others) one other =
 without_all : (keywords others : List (List ℕ)) → All IsKeyword keywords → All IsKeyword (without_keywords keywords others)
 without_all keywords [] one = one
 without_all keywords (keyword ∷ others) one =
-    without_all (without_keyword keywords keyword) others (All-remove_key (is_at (slice_cmp nat_cmp keyword)) IsKeyword keywords one)
+    without_all (without_keyword keywords keyword) others (All-filter (λ other. not (is_at (slice_cmp nat_cmp keyword) other)) IsKeyword keywords one)
 
 flags_kept : (mode : Mode) (old flags : Flags) → HasRuledKeywords old → HasRuledKeywords flags → HasRuledKeywords (flags_after mode old flags)
 flags_kept Replace old flags one other = other

@@ -1,7 +1,7 @@
 -- Keys in strictly rising order: where a key stands, and what a binary search makes of it.
 use Rattle.std.proofs.Common.{◌≡◌, ℕ, zero, suc, ◌<◌, ◌≤◌, Bool, true, false, ◌||◌, cond, List, [], ◌∷◌, length, slice_index_or, refl, sym, ap, ◌∙◌, subst, arith}
-use Rattle.std.specs.Prelude.{insert, remove, Result, Ok, Err, is_ok}
-use Rattle.std.specs.List.{AllByRecursion, HoldsAt, list_any}
+use Rattle.std.specs.Prelude.{insert, not, remove, Result, Ok, Err, is_ok}
+use Rattle.std.specs.List.{AllByRecursion, HoldsAt, filter, list_any}
 use Rattle.std.specs.List.Sorted.{IsStrictlySortedBy, IsNonDecreasingBy, IsPartitionPoint, IsBinarySearchResult, IsSearchInRange}
 use Rattle.std.specs.declared.cmp.Ordering.{Ordering}
 use Rattle.std.specs.declared.cmp.Ordering.TheVariants.{Less, Equal, Greater}
@@ -9,7 +9,6 @@ use Rattle.std.specs.Ordering.{ordering_index, ordering_reverse, is_eq, match_or
 use Rattle.std.specs.Cmp.{IsTotalOrder}
 use Rattle.std.specs.BTreeMap.{is_at}
 use Rattle.std.specs.BTreeSet.{insert_key}
-use Rattle.std.specs.Set.{remove_key}
 use Rattle.std.proofs.lemmas.Cmp.{alike_right, tied_back}
 use Rattle.std.proofs.lemmas.Map.Keys.{Less-from_sorted}
 
@@ -25,29 +24,33 @@ module _ {K : Type 0} where
       by Equal rest = all
       by Greater rest = (all.0, rest)
 
-  all_removed : (test : K → Bool) (P : K → Type 0) (xs : List K) → AllByRecursion P xs → AllByRecursion P (remove_key test xs)
+  -- the keys that a test doesn't find
+  abbrev pub others_than : (K → Bool) → List K → List K
+  others_than test xs = filter (λ x. not (test x)) xs
+
+  all_removed : (test : K → Bool) (P : K → Type 0) (xs : List K) → AllByRecursion P xs → AllByRecursion P (others_than test xs)
   all_removed test P [] all = tt
   all_removed test P (x ∷ xs) all = by (test x) (all_removed test P xs all.1)
     where
-      by : (b : Bool) → AllByRecursion P (remove_key test xs) → AllByRecursion P (cond b xs (x ∷ remove_key test xs))
-      by true rest = all.1
+      by : (b : Bool) → AllByRecursion P (others_than test xs) → AllByRecursion P (cond (not b) (x ∷ others_than test xs) (others_than test xs))
+      by true rest = rest
       by false rest = (all.0, rest)
 
-  pub length_removed : (test : K → Bool) (xs : List K) → length (remove_key test xs) ≤ length xs
+  pub length_removed : (test : K → Bool) (xs : List K) → length (others_than test xs) ≤ length xs
   length_removed test [] = omega arith
   length_removed test (x ∷ xs) = by (test x) (length_removed test xs)
     where
-      by : (b : Bool) → length (remove_key test xs) ≤ length xs → length (cond b xs (x ∷ remove_key test xs)) ≤ suc (length xs)
-      by true rest = omega arith
+      by : (b : Bool) → length (others_than test xs) ≤ length xs → length (cond (not b) (x ∷ others_than test xs) (others_than test xs)) ≤ suc (length xs)
+      by true rest = omega (arith, rest)
       by false rest = omega (arith, rest)
 
   -- a key that isn't there is not taken out
-  remove_absent : (test : K → Bool) (xs : List K) → list_any test xs ≡ false → remove_key test xs ≡ xs
+  remove_absent : (test : K → Bool) (xs : List K) → list_any test xs ≡ false → others_than test xs ≡ xs
   remove_absent test [] none = refl
   remove_absent test (x ∷ xs) none = by (test x) none (remove_absent test xs)
     where
-      by : (b : Bool) → (b || list_any test xs) ≡ false → (list_any test xs ≡ false → remove_key test xs ≡ xs)
-          → cond b xs (x ∷ remove_key test xs) ≡ x ∷ xs
+      by : (b : Bool) → (b || list_any test xs) ≡ false → (list_any test xs ≡ false → others_than test xs ≡ xs)
+          → cond (not b) (x ∷ others_than test xs) (others_than test xs) ≡ x ∷ xs
       by true none rest = cc
       by false none rest = ap (λ ys. x ∷ ys) (rest none)
 
@@ -82,13 +85,14 @@ module _ {K : Type 0} where
         by Equal e rest = s
         by Greater e rest = (all_inserted cmp (λ y. cmp x y ≡ Less) xs k s.0 (turned k x Greater e), rest)
 
-    sorted_removed : (test : K → Bool) (xs : List K) → IsStrictlySortedBy cmp xs → IsStrictlySortedBy cmp (remove_key test xs)
+    sorted_removed : (test : K → Bool) (xs : List K) → IsStrictlySortedBy cmp xs → IsStrictlySortedBy cmp (others_than test xs)
     unfolding IsStrictlySortedBy
     sorted_removed test [] s = tt
     sorted_removed test (x ∷ xs) s = by (test x) (sorted_removed test xs s.1)
       where
-        by : (b : Bool) → IsStrictlySortedBy cmp (remove_key test xs) → IsStrictlySortedBy cmp (cond b xs (x ∷ remove_key test xs))
-        by true rest = s.1
+        by : (b : Bool) → IsStrictlySortedBy cmp (others_than test xs)
+            → IsStrictlySortedBy cmp (cond (not b) (x ∷ others_than test xs) (others_than test xs))
+        by true rest = rest
         by false rest = (all_removed test (λ y. cmp x y ≡ Less) xs s.0, rest)
 
     pub sorted_none : IsStrictlySortedBy cmp []
@@ -123,6 +127,12 @@ module _ {K : Type 0} where
       any_below x [] less all = refl
       any_below x (y ∷ ys) less all = rw (order.trans k x y less all.0) (any_below x ys less all.1)
 
+      -- a key stands once
+      any_behind : (x : K) (xs : List K) → cmp k x ≡ Equal → AllByRecursion (λ y. cmp x y ≡ Less) xs → list_any (is_at (cmp k)) xs ≡ false
+      any_behind x [] same all = refl
+      any_behind x (y ∷ ys) same all =
+          rw (turned y k Greater (alike_right order k x y same ∙ turned x y Less all.0)) (any_behind x ys same all.1)
+
       -- a key that is there is not put in again
       pub there_stays : (xs : List K) → IsStrictlySortedBy cmp xs → list_any (is_at (cmp k)) xs ≡ true → insert_key cmp xs k ≡ xs
       unfolding IsStrictlySortedBy
@@ -140,14 +150,18 @@ module _ {K : Type 0} where
       record Found (xs : List K) (i : ℕ) : Type 0 where
         pub there : list_any (is_at (cmp k)) xs ≡ true
         pub stays : insert_key cmp xs k ≡ xs
-        pub without : remove xs i ≡ remove_key (is_at (cmp k)) xs
+        pub without : remove xs i ≡ others_than (is_at (cmp k)) xs
 
       found : (xs : List K) (i : ℕ) → IsStrictlySortedBy cmp xs → i < length xs → HoldsAt (λ y. cmp y k ≡ Equal) xs i → Found xs i
       unfolding IsStrictlySortedBy
       found [] i s lt at = let no : ⊥ = omega (arith, lt) in absurd no
       found (x ∷ xs) zero s lt at =
           let same : cmp k x ≡ Equal = tied_back order x k (at x) in
-          record { there = rw same refl; stays = rw same refl; without = rw same refl }
+          record {
+            there = rw same refl;
+            stays = rw same refl;
+            without = rw same (sym (remove_absent (is_at (cmp k)) xs (any_behind x xs same s.0)));
+          }
       found (x ∷ xs) (suc i) s lt at =
           let less = Less-from_sorted cmp (x ∷ xs) 0 (suc i) x s (omega arith) lt in
           let above : cmp k x ≡ Greater = turned x k Less (sym (alike_right order (slice_index_or xs i x) k x (at x)) ∙ less) in
@@ -186,10 +200,10 @@ module _ {K : Type 0} where
         pub search_puts : (i : ℕ) → IsBinarySearchResult (λ y. cmp y k) xs (Err i) → insert xs i k ≡ insert_key cmp xs k
         search_puts i at = sym (missing xs i (at (ranks_rise xs s))).put
 
-        pub search_takes : (i : ℕ) → i < length xs → HoldsAt (λ y. cmp y k ≡ Equal) xs i → remove xs i ≡ remove_key (is_at (cmp k)) xs
+        pub search_takes : (i : ℕ) → i < length xs → HoldsAt (λ y. cmp y k ≡ Equal) xs i → remove xs i ≡ others_than (is_at (cmp k)) xs
         search_takes i lt at = (found xs i s lt at).without
 
-        pub search_leaves : (i : ℕ) → IsBinarySearchResult (λ y. cmp y k) xs (Err i) → xs ≡ remove_key (is_at (cmp k)) xs
+        pub search_leaves : (i : ℕ) → IsBinarySearchResult (λ y. cmp y k) xs (Err i) → xs ≡ others_than (is_at (cmp k)) xs
         search_leaves i at = sym (remove_absent (is_at (cmp k)) xs (missing xs i (at (ranks_rise xs s))).none)
 
         pub sorted_put : (i : ℕ) → IsBinarySearchResult (λ y. cmp y k) xs (Err i) → IsStrictlySortedBy cmp (insert xs i k)

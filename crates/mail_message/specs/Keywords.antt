@@ -1,12 +1,11 @@
 -- Keywords of messages (RFC 9051, 9: flag-keyword), and sets of them.
 use Rattle.std.specs.Prelude.{ℕ, Bool, ◌&&◌, not, ◌==◌, nat_lt, nat_le, if◌then◌else◌, List, length, Option, None, Some, Result, Ok, Err}
-use Rattle.std.specs.List.{list_all, list_any, fold}
+use Rattle.std.specs.List.{filter, list_all, list_any, fold}
 use Rattle.std.specs.List.Sorted.{IsStrictlySortedBy}
 use Rattle.std.specs.Ordering.{nat_cmp}
 use Rattle.std.specs.Cmp.Lexicographic.{slice_cmp}
 use Rattle.std.specs.BTreeMap.{is_at}
 use Rattle.std.specs.BTreeSet.{insert_key}
-use Rattle.std.specs.Set.{remove_key}
 use Rattle.mur_base.specs.declared.name.NameFault.{NameFault}
 use Rattle.mur_base.specs.declared.name.NameFault.TheVariants.{Empty, TooLong, BadByte}
 use Rattle.mur_base.specs.declared.limits.TheConstants.{KEYWORD_LIMIT}
@@ -44,9 +43,9 @@ keyword_in keywords keyword = list_any (is_at (slice_cmp nat_cmp keyword)) keywo
 abbrev pub with_keyword : List (List ℕ) → List ℕ → List (List ℕ)
 with_keyword keywords keyword = insert_key (slice_cmp nat_cmp) keywords keyword
 
--- the keywords without this one
+-- the keywords but this one, wherever it stands
 abbrev pub without_keyword : List (List ℕ) → List ℕ → List (List ℕ)
-without_keyword keywords keyword = remove_key (is_at (slice_cmp nat_cmp keyword)) keywords
+without_keyword keywords keyword = filter (λ other. not (is_at (slice_cmp nat_cmp keyword) other)) keywords
 
 -- all keywords of two sets
 abbrev pub with_keywords : List (List ℕ) → List (List ℕ) → List (List ℕ)

@@ -1,16 +1,14 @@
 -- What stands in a list once something is put to its front, into a set in order, or taken out.
-use Rattle.std.proofs.Common.{◌≡◌, ◌≢◌, ℕ, zero, suc, Bool, true, false, ◌||◌, ◌==◌, List, [], ◌∷◌, refl, sym, ◌∙◌, ap, subst, inl, inr, ⊎_elim, arith, cond}
+use Rattle.std.proofs.Common.{◌≡◌, ◌≢◌, ℕ, zero, suc, Bool, true, false, not, ◌||◌, ◌==◌, List, [], ◌∷◌, refl, sym, ◌∙◌, ap, subst, inl, inr, ⊎_elim, arith, cond}
 use Rattle.std.specs.Prelude.{◌⊎◌}
-use Rattle.std.specs.List.{Contains, fold, list_any}
+use Rattle.std.specs.List.{Contains, filter, fold, list_any}
 use Rattle.std.specs.Ordering.{is_eq, match_ordering}
 use Rattle.std.specs.declared.cmp.Ordering.{Ordering}
 use Rattle.std.specs.declared.cmp.Ordering.TheVariants.{Less, Equal, Greater}
 use Rattle.std.specs.BTreeMap.{is_at}
 use Rattle.std.specs.BTreeSet.{insert_key}
-use Rattle.std.specs.Set.{remove_key}
 use Rattle.std.proofs.lemmas.Bool.Decides.{nat_tests}
 use Rattle.mur_base.proofs.MapLaws.{TellsApart}
-use Rattle.store_law.specs.FlagByFlag.{AreApart}
 
 module _ {X : Type 0} where
   pub at_first : (x : X) (xs : List X) → Contains (x ∷ xs) x
@@ -109,53 +107,41 @@ module _ {K : Type 0} (cmp : K → K → Ordering) (apart : TellsApart cmp) wher
   tests_same : (key other : K) → is_at (cmp key) other ≡ true → key ≡ other
   tests_same key other is = apart.exact key other is
 
-  out_within : (key x : K) (keys : List K) → Contains (remove_key (is_at (cmp key)) keys) x → Contains keys x
+  abbrev pub taken_out : List K → K → List K
+  taken_out keys key = filter (λ other. not (is_at (cmp key) other)) keys
+
+  out_within : (key x : K) (keys : List K) → Contains (taken_out keys key) x → Contains keys x
   out_within key x [] is = is
   out_within key x (other ∷ keys) is = by (is_at (cmp key) other) is (out_within key x keys)
     where
-      by : (test : Bool) → Contains (cond test keys (other ∷ remove_key (is_at (cmp key)) keys)) x
-          → (Contains (remove_key (is_at (cmp key)) keys) x → Contains keys x) → Contains (other ∷ keys) x
-      by true is rest = behind_first other x keys is
+      by : (test : Bool) → Contains (cond (not test) (other ∷ taken_out keys key) (taken_out keys key)) x → (Contains (taken_out keys key) x → Contains keys x)
+          → Contains (other ∷ keys) x
+      by true is rest = behind_first other x keys (rest is)
       by false is rest = ⊎_elim (λ (here : other ≡ x). subst (λ y. Contains (y ∷ keys) x) (sym here) (at_first x keys))
-          (λ (behind : Contains (remove_key (is_at (cmp key)) keys) x). behind_first other x keys (rest behind))
-          (first_or_behind other x (remove_key (is_at (cmp key)) keys) is)
+          (λ (behind : Contains (taken_out keys key) x). behind_first other x keys (rest behind)) (first_or_behind other x (taken_out keys key) is)
 
-  out_kept : (key x : K) (keys : List K) → key ≢ x → Contains keys x → Contains (remove_key (is_at (cmp key)) keys) x
+  out_kept : (key x : K) (keys : List K) → key ≢ x → Contains keys x → Contains (taken_out keys key) x
   out_kept key x [] ne is = is
   out_kept key x (other ∷ keys) ne is = by (is_at (cmp key) other) refl (first_or_behind other x keys is) (out_kept key x keys ne)
     where
-      by : (test : Bool) → is_at (cmp key) other ≡ test → (other ≡ x) ⊎ Contains keys x
-          → (Contains keys x → Contains (remove_key (is_at (cmp key)) keys) x) → Contains (cond test keys (other ∷ remove_key (is_at (cmp key)) keys)) x
+      by : (test : Bool) → is_at (cmp key) other ≡ test → (other ≡ x) ⊎ Contains keys x → (Contains keys x → Contains (taken_out keys key) x)
+          → Contains (cond (not test) (other ∷ taken_out keys key) (taken_out keys key)) x
       by true e (inl here) rest = absurd (ne (tests_same key other e ∙ here))
-      by true e (inr behind) rest = behind
-      by false e (inl here) rest =
-          subst (λ y. Contains (y ∷ remove_key (is_at (cmp key)) keys) x) (sym here) (at_first x (remove_key (is_at (cmp key)) keys))
-      by false e (inr behind) rest = behind_first other x (remove_key (is_at (cmp key)) keys) (rest behind)
+      by true e (inr behind) rest = rest behind
+      by false e (inl here) rest = subst (λ y. Contains (y ∷ taken_out keys key) x) (sym here) (at_first x (taken_out keys key))
+      by false e (inr behind) rest = behind_first other x (taken_out keys key) (rest behind)
 
-  out_gone : (key : K) (keys : List K) → AreApart keys → Contains (remove_key (is_at (cmp key)) keys) key → ⊥
-  unfolding AreApart
-  out_gone key [] once is = none_there key is
-  out_gone key (other ∷ keys) once is = by (is_at (cmp key) other) refl is (out_gone key keys once.1)
+  out_gone : (key : K) (keys : List K) → Contains (taken_out keys key) key → ⊥
+  out_gone key [] is = none_there key is
+  out_gone key (other ∷ keys) is = by (is_at (cmp key) other) refl is (out_gone key keys)
     where
-      by : (test : Bool) → is_at (cmp key) other ≡ test → Contains (cond test keys (other ∷ remove_key (is_at (cmp key)) keys)) key
-          → (Contains (remove_key (is_at (cmp key)) keys) key → ⊥) → ⊥
-      by true e is rest = once.0 (subst (Contains keys) (tests_same key other e) is)
+      by : (test : Bool) → is_at (cmp key) other ≡ test → Contains (cond (not test) (other ∷ taken_out keys key) (taken_out keys key)) key
+          → (Contains (taken_out keys key) key → ⊥) → ⊥
+      by true e is rest = rest is
       by false e is rest = ⊎_elim
           (λ (here : other ≡ key). (let own : is_at (cmp key) other ≡ true = subst (λ y. is_at (cmp key) y ≡ true) (sym here) (apart.itself key) in
           let both : false ≡ true = sym e ∙ own in cc))
-          rest (first_or_behind other key (remove_key (is_at (cmp key)) keys) is)
-
-  out_once : (key : K) (keys : List K) → AreApart keys → AreApart (remove_key (is_at (cmp key)) keys)
-  unfolding AreApart
-  out_once key [] once = tt
-  out_once key (other ∷ keys) once = by (is_at (cmp key) other) (out_once key keys once.1)
-    where
-      by : (test : Bool) → AreApart (remove_key (is_at (cmp key)) keys) → AreApart (cond test keys (other ∷ remove_key (is_at (cmp key)) keys))
-      by true rest = once.1
-      by false rest = (λ there. once.0 (out_within key other keys there), rest)
-
-  abbrev pub taken_out : List K → K → List K
-  taken_out keys key = remove_key (is_at (cmp key)) keys
+          rest (first_or_behind other key (taken_out keys key) is)
 
   pub rest_within : (keys out : List K) (x : K) → Contains (fold taken_out keys out) x → Contains keys x
   rest_within keys [] x is = is
@@ -167,8 +153,8 @@ module _ {K : Type 0} (cmp : K → K → Ordering) (apart : TellsApart cmp) wher
       rest_kept (taken_out keys key) out x (λ there. none (behind_first key x out there))
       (out_kept key x keys (λ same. none (subst (λ y. Contains (y ∷ out) x) (sym same) (at_first x out))) is)
 
-  pub rest_gone : (keys out : List K) (x : K) → AreApart keys → Contains out x → Contains (fold taken_out keys out) x → ⊥
-  rest_gone keys [] x once out is = none_there x out
-  rest_gone keys (key ∷ out) x once among is = ⊎_elim
-      (λ (here : key ≡ x). out_gone key keys once (subst (Contains (taken_out keys key)) (sym here) (rest_within (taken_out keys key) out x is)))
-      (λ (behind : Contains out x). rest_gone (taken_out keys key) out x (out_once key keys once) behind is) (first_or_behind key x out among)
+  pub rest_gone : (keys out : List K) (x : K) → Contains out x → Contains (fold taken_out keys out) x → ⊥
+  rest_gone keys [] x out is = none_there x out
+  rest_gone keys (key ∷ out) x among is = ⊎_elim
+      (λ (here : key ≡ x). out_gone key keys (subst (Contains (taken_out keys key)) (sym here) (rest_within (taken_out keys key) out x is)))
+      (λ (behind : Contains out x). rest_gone (taken_out keys key) out x behind is) (first_or_behind key x out among)

@@ -10,7 +10,7 @@ use Rattle.mail_message.specs.declared.mode.Mode.{Mode}
 use Rattle.mail_message.specs.declared.mode.Mode.TheVariants.{Replace, Add, Remove}
 use Rattle.mail_message.specs.declared.system_flags.SystemFlag.TheVariants.{Answered, Flagged, Deleted, Seen, Draft}
 use Rattle.mur_base.proofs.MapLaws.{names_apart}
-use Rattle.store_law.specs.FlagByFlag.{AreStored, HasFlag, IsByMode, MayBeTaken}
+use Rattle.store_law.specs.FlagByFlag.{AreStored, HasFlag, IsByMode}
 use Rattle.store_law.proofs.ContainsLaws.{all_kept, all_there, all_within, rest_gone, rest_kept, rest_within}
 
 either_is : (one other : Bool) → ((one || other) ≡ true) ↔ ((one ≡ true) ⊎ (other ≡ true))
@@ -38,22 +38,21 @@ module _ (old listed : Flags) where
         (all_there (slice_cmp nat_cmp) names_apart old.keywords listed.keywords keyword),
   )
 
-  removed : (flag : FlagName) → MayBeTaken Remove old flag
-      → IsByMode Remove (HasFlag old flag) (HasFlag listed flag) (HasFlag (flags_after Remove old listed) flag)
-  removed (System Answered) may = but_is old.system.answered listed.system.answered
-  removed (System Flagged) may = but_is old.system.flagged listed.system.flagged
-  removed (System Deleted) may = but_is old.system.deleted listed.system.deleted
-  removed (System Seen) may = but_is old.system.seen listed.system.seen
-  removed (System Draft) may = but_is old.system.draft listed.system.draft
-  removed (Keyword keyword) apart = (
+  removed : (flag : FlagName) → IsByMode Remove (HasFlag old flag) (HasFlag listed flag) (HasFlag (flags_after Remove old listed) flag)
+  removed (System Answered) = but_is old.system.answered listed.system.answered
+  removed (System Flagged) = but_is old.system.flagged listed.system.flagged
+  removed (System Deleted) = but_is old.system.deleted listed.system.deleted
+  removed (System Seen) = but_is old.system.seen listed.system.seen
+  removed (System Draft) = but_is old.system.draft listed.system.draft
+  removed (Keyword keyword) = (
     λ is. (
       rest_within (slice_cmp nat_cmp) names_apart old.keywords listed.keywords keyword is,
-      λ out. rest_gone (slice_cmp nat_cmp) names_apart old.keywords listed.keywords keyword apart out is,
+      λ out. rest_gone (slice_cmp nat_cmp) names_apart old.keywords listed.keywords keyword out is,
     ),
     λ is. rest_kept (slice_cmp nat_cmp) names_apart old.keywords listed.keywords keyword is.1 is.0,
   )
 
 pub are_stored : (mode : Mode) (old listed : Flags) → AreStored mode listed old (flags_after mode old listed)
-are_stored Replace old listed flag may = both_ways (HasFlag listed flag)
-are_stored Add old listed flag may = added old listed flag
-are_stored Remove old listed flag may = removed old listed flag may
+are_stored Replace old listed flag = both_ways (HasFlag listed flag)
+are_stored Add old listed flag = added old listed flag
+are_stored Remove old listed flag = removed old listed flag

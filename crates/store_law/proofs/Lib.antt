@@ -30,9 +30,14 @@ pub mod MirrorNews
 pub mod StoredFlags
 pub mod RisingViews
 pub mod MirrorFetch
+mod SilentStores
 pub mod MirrorLaw
 pub mod LinesSpoken
 pub mod CommandsSpeak
 pub mod LinesLaw
+mod NewsWhole
+mod BoxesGrow
+mod ViewsCover
+pub mod NewsTold
 pub mod LetsIn
 pub mod LoginLaw

@@ -153,7 +153,7 @@ works_quiet = record {
 
 -- ---- work for a view is at the mailbox of its name
 
-abbrev IsAtOwn : Needed → Type 0
+abbrev pub IsAtOwn : Needed → Type 0
 IsAtOwn (Mailbox name (viewed_work view it)) = name ≡ view.name
 IsAtOwn need = ⊤
 
@@ -179,7 +179,7 @@ viewed_at_own view = record {
   search = λ it. refl;
 }
 
-need_at_own : (setting : Setting) (session : Sess) (it : Command) → IsAtOwn (need_of setting session it)
+pub need_at_own : (setting : Setting) (session : Sess) (it : Command) → IsAtOwn (need_of setting session it)
 need_at_own setting session it = each_need (begun_at_own setting) session (λ view is. viewed_at_own view) it tt
 
 -- ---- each command

@@ -17,7 +17,7 @@ use Rattle.mail_message.specs.declared.message.Message.{Message}
 use Rattle.mail_message.specs.declared.message.Row.{Row}
 use Rattle.mur_model.specs.declared.commands.fetch.Fetching.{Fetching}
 use Rattle.mur_model.specs.Fetch.{fetch_lines, fetch_reply_line, flag_uids, is_flags, is_uid_item, items_told, number_in, tells_flags}
-use Rattle.store_law.specs.Mirror.{IsSeenOf, Mirror, Mirrors, Seen, at_number, read_line, read_lines, seen_by}
+use Rattle.store_law.specs.Mirror.{IsSeenOf, Mirror, Mirrors, Seen, at_number, no_uid, read_line, read_lines, seen_by}
 use Rattle.store_law.proofs.MirrorNews.{found_uid, read_both, row_told, rows_told_by, told_row}
 use Rattle.store_law.proofs.RisingViews.{RowsRise}
 
@@ -38,6 +38,17 @@ part_flags message seen (item.Body (Some partial)) = refl
 part_flags message seen (item.BodyPeek None) = refl
 part_flags message seen (item.BodyPeek (Some partial)) = refl
 
+part_silenced : (message : Message) (seen : Seen) (asked : Item)
+    → (seen_by seen (part_text asked message)).silenced ≡ cond (is_flags asked) no_uid seen.silenced
+part_silenced message seen item.Flags = refl
+part_silenced message seen item.Uid = refl
+part_silenced message seen item.InternalDate = refl
+part_silenced message seen item.Size = refl
+part_silenced message seen (item.Body None) = refl
+part_silenced message seen (item.Body (Some partial)) = refl
+part_silenced message seen (item.BodyPeek None) = refl
+part_silenced message seen (item.BodyPeek (Some partial)) = refl
+
 part_uid : (message : Message) (seen : Seen) (asked : Item)
     → (seen_by seen (part_text asked message)).uid ≡ cond (is_uid_item asked) (Some (uid_text message.uid)) seen.uid
 part_uid message seen item.Flags = refl
@@ -49,11 +60,10 @@ part_uid message seen (item.Body (Some partial)) = refl
 part_uid message seen (item.BodyPeek None) = refl
 part_uid message seen (item.BodyPeek (Some partial)) = refl
 
-either_told : {A : Type 0} (one more : Bool) (text : A) (before : Option A)
-    → cond more (Some text) (cond one (Some text) before) ≡ cond (one || more) (Some text) before
-either_told true true text before = refl
-either_told true false text before = refl
-either_told false more text before = refl
+either_told : {A : Type 0} (one more : Bool) (told before : A) → cond more told (cond one told before) ≡ cond (one || more) told before
+either_told true true told before = refl
+either_told true false told before = refl
+either_told false more told before = refl
 
 -- flags are told where they are among the items
 parts_flags : (message : Message) (seen : Seen) (items : List Item)
@@ -62,7 +72,16 @@ parts_flags message seen [] = refl
 parts_flags message seen (asked ∷ items) =
     parts_flags message (seen_by seen (part_text asked message)) items
     ∙ ap (λ before. cond (list_any is_flags items) (Some (flags_text message.flags)) before) (part_flags message seen asked)
-    ∙ either_told (is_flags asked) (list_any is_flags items) (flags_text message.flags) seen.flags
+    ∙ either_told (is_flags asked) (list_any is_flags items) (Some (flags_text message.flags)) seen.flags
+
+-- and then no silent STORE has named the message since
+parts_silenced : (message : Message) (seen : Seen) (items : List Item)
+    → (fold seen_by seen (parts_of message items)).silenced ≡ cond (list_any is_flags items) no_uid seen.silenced
+parts_silenced message seen [] = refl
+parts_silenced message seen (asked ∷ items) =
+    parts_silenced message (seen_by seen (part_text asked message)) items
+    ∙ ap (λ before. cond (list_any is_flags items) no_uid before) (part_silenced message seen asked)
+    ∙ either_told (is_flags asked) (list_any is_flags items) no_uid seen.silenced
 
 parts_uid : (message : Message) (seen : Seen) (items : List Item)
     → (fold seen_by seen (parts_of message items)).uid ≡ cond (list_any is_uid_item items) (Some (uid_text message.uid)) seen.uid
@@ -70,7 +89,7 @@ parts_uid message seen [] = refl
 parts_uid message seen (asked ∷ items) =
     parts_uid message (seen_by seen (part_text asked message)) items
     ∙ ap (λ before. cond (list_any is_uid_item items) (Some (uid_text message.uid)) before) (part_uid message seen asked)
-    ∙ either_told (is_uid_item asked) (list_any is_uid_item items) (uid_text message.uid) seen.uid
+    ∙ either_told (is_uid_item asked) (list_any is_uid_item items) (Some (uid_text message.uid)) seen.uid
 
 -- the flags are among the items that are told where they were asked for, or were changed
 
@@ -188,14 +207,18 @@ other_told is_told tells uid other apart =
     let back : (uid == other) ≡ false = grind (arith, nat_tests, apart) in
     rw back (rw (and_false tells) (or_false (is_told other)))
 
-flags_here : (tells known same : Bool) (row it : Row) (before : Option (List ℕ)) → same ≡ true
-    → IfSome before (λ text. text ≡ flags_text (told_row known row (Some it)).flags)
-    → IfSome (cond tells (Some (flags_text it.flags)) before) (λ text. text ≡ flags_text (told_row (known || (tells && same)) row (Some it)).flags)
-flags_here true true same row it before is so = refl
-flags_here true false true row it before is so = refl
-flags_here true false false row it before is so = cc
-flags_here false true same row it before is so = so
-flags_here false false same row it before is so = so
+-- a text that was told says the flags of a row, unless a silent STORE has named it since
+abbrev SaysFlags : (ℕ → Bool) → Row → Option (List ℕ) → Type 0
+SaysFlags silenced row told = IfSome told (λ text. silenced row.uid ≡ false → text ≡ flags_text row.flags)
+
+flags_here : (tells known same : Bool) (row it : Row) (before : Option (List ℕ)) (silenced : ℕ → Bool) → same ≡ true
+    → SaysFlags silenced (told_row known row (Some it)) before
+    → SaysFlags (cond tells no_uid silenced) (told_row (known || (tells && same)) row (Some it)) (cond tells (Some (flags_text it.flags)) before)
+flags_here true true same row it before silenced is so = λ silent. refl
+flags_here true false true row it before silenced is so = λ silent. refl
+flags_here true false false row it before silenced is so = cc
+flags_here false true same row it before silenced is so = so
+flags_here false false same row it before silenced is so = so
 
 uid_here : (tells : Bool) (own uid : ℕ) (before : Option (List ℕ)) → own ≡ uid → IfSome before (λ text. text ≡ uid_text uid)
     → IfSome (cond tells (Some (uid_text own)) before) (λ text. text ≡ uid_text uid)
@@ -229,12 +252,15 @@ module _ (it : Fetching) (message : Message) (now : List Row) (is_told : ℕ →
             (uid_here (list_any is_uid_item items) message.uid (told_row (and_told is_told tells message.uid row.uid) row (row_at now row.uid)).uid seen.uid
             (sym own ∙ sym uid_is) (subst (λ n. IfSome seen.uid (λ text. text ≡ uid_text n)) (uid_was ∙ sym uid_is) so.0)),
         subst (λ (f : Option (List ℕ)).
-            IfSome f (λ text. text ≡ flags_text (told_row (and_told is_told tells message.uid row.uid) row (row_at now row.uid)).flags))
+            SaysFlags (fold seen_by seen (parts_of later items)).silenced (told_row (and_told is_told tells message.uid row.uid) row (row_at now row.uid)) f)
             (sym (parts_flags later seen items ∙ ap (λ b. cond b (Some (flags_text found.flags)) seen.flags) (any_told it changes)))
-            (subst (λ (r : Option Row). IfSome (cond tells (Some (flags_text found.flags)) seen.flags)
-            (λ text. text ≡ flags_text (told_row (and_told is_told tells message.uid row.uid) row r).flags)) (sym here)
-            (flags_here tells (is_told row.uid) (message.uid == row.uid) row found seen.flags same
-            (subst (λ (r : Option Row). IfSome seen.flags (λ text. text ≡ flags_text (told_row (is_told row.uid) row r).flags)) here so.1))),
+            (subst (λ (s : ℕ → Bool). SaysFlags s (told_row (and_told is_told tells message.uid row.uid) row (row_at now row.uid))
+            (cond tells (Some (flags_text found.flags)) seen.flags))
+            (sym (parts_silenced later seen items ∙ ap (λ b. cond b no_uid seen.silenced) (any_told it changes)))
+            (subst (λ (r : Option Row). SaysFlags (cond tells no_uid seen.silenced) (told_row (and_told is_told tells message.uid row.uid) row r)
+            (cond tells (Some (flags_text found.flags)) seen.flags)) (sym here)
+            (flags_here tells (is_told row.uid) (message.uid == row.uid) row found seen.flags seen.silenced same
+            (subst (λ (r : Option Row). SaysFlags seen.silenced (told_row (is_told row.uid) row r) seen.flags) here so.1)))),
       )
 
   line_by : (rows : List Row) (mirror : Mirror) (found : Option Row) (place : Option ℕ) → RowsRise 0 rows → row_at now message.uid ≡ found

@@ -1,9 +1,8 @@
 -- Of each message whose UID or flags a client was told, it knows those of its session's view, behind each command.
-use Rattle.std.proofs.Common.{◌≡◌, ℕ, suc, ◌+◌, ◌<◌, ◌≤◌, ◌==◌, ◌||◌, Bool, true, false, if◌then◌else◌, List, [], ◌∷◌, ◌++◌, length, map, Option, None, Some, is_some}
-use Rattle.std.proofs.Common.{refl, sym, ◌∙◌, ap, subst, arith, append-nil}
-use Rattle.std.specs.Prelude.{⊤, IfSome}
-use Rattle.std.specs.List.{list_any, zip}
-use Rattle.std.proofs.lemmas.Bool.Decides.{nat_tests}
+use Rattle.std.proofs.Common.{◌≡◌, ℕ, suc, ◌+◌, ◌==◌, ◌||◌, Bool, true, false, if◌then◌else◌, List, [], ◌∷◌, ◌++◌, length, Option, None, Some, is_some}
+use Rattle.std.proofs.Common.{refl, sym, ◌∙◌, ap, subst, append-nil}
+use Rattle.std.specs.Prelude.{IfSome}
+use Rattle.std.specs.List.{list_any}
 use Rattle.mail_fetch.specs.FlagText.{flags_text}
 use Rattle.mail_fetch.specs.Parts.{uid_text}
 use Rattle.mail_message.specs.Boxes.{Content, messages_at}
@@ -27,18 +26,18 @@ use Rattle.mur_model.specs.declared.work.ViewWork.TheVariants as view_work
 use Rattle.mur_model.specs.ClientView.{uids}
 use Rattle.mur_model.specs.Fetch.{fetch_at, fetch_lines, fetch_told, flag_uids, seen_flags, sees}
 use Rattle.mur_model.specs.Left.{Worked, changed, kept}
-use Rattle.mur_model.specs.NamedRows.{named_uids, numbers_from, picked}
 use Rattle.mur_model.specs.News.{flag_parts, fresh_row, is_among, news}
 use Rattle.mur_model.specs.Selected.{rows_of}
 use Rattle.mur_model.specs.StoreFlags.{own_lines, stored_at, stored_line, stored_lines}
 use Rattle.mur_model.specs.Viewing.{work_there}
-use Rattle.store_law.specs.Mirror.{IsSeenOf, Mirror, Mirrors, OfView, Seen, asked, forgotten, may_touch, read_line, read_lines}
-use Rattle.store_law.proofs.MirrorFetch.{alike, fetched_mirrors, told_uid}
-use Rattle.store_law.proofs.MirrorNews.{Becomes, fetch_reads, forgotten_mirrors, found_uid, lines_by, mirrors_length, news_mirrors, row_told, rows_told_by, stays_seen, told_row}
+use Rattle.store_law.specs.Mirror.{IsSeenOf, Mirror, Mirrors, OfView, Seen, asked, names, no_uid, read_line, read_lines, with_silent}
+use Rattle.store_law.proofs.MirrorFetch.{alike, fetched_mirrors}
+use Rattle.store_law.proofs.MirrorNews.{Becomes, fetch_reads, found_uid, lines_by, news_mirrors, row_told, rows_told_by, silent_mirrors, stays_seen, told_row}
 use Rattle.store_law.proofs.MirrorNews.{unseen_mirrors, walked}
 use Rattle.store_law.proofs.MirrorSteps.{Keeps, TurnKeeps, store_of}
 use Rattle.store_law.proofs.RisingStores.{Rises, expunged_rises, stored_rises}
 use Rattle.store_law.proofs.RisingViews.{RowsRise, news_rise, rows_rise}
+use Rattle.store_law.proofs.SilentStores.{silent_agree}
 use Rattle.store_law.proofs.StoredFlags.{TellsFlags, among_set, any_row, stored_told, told_named}
 
 -- it agrees with rows that rise
@@ -68,88 +67,18 @@ plain_agree rows now expunges mirror rise agrees =
 
 -- ---- STORE
 
--- the rows that were told to be others have a number that is touched
-abbrev AreTouched : (ℕ → Bool) → (ℕ → Bool) → ℕ → List Row → Type 0
-AreTouched is_touched is_told number [] = ⊤
-AreTouched is_touched is_told number (row ∷ rows) =
-    (is_told row.uid ≡ true → is_touched number ≡ true) × AreTouched is_touched is_told (number + 1) rows
-
-untold : (is_touched is_told : Bool) (seen : Seen) (row : Row) (it : Option Row) → (is_told ≡ true → is_touched ≡ true)
-    → IfSome it (λ (r : Row). r.uid ≡ row.uid) → IsSeenOf seen row
-    → IsSeenOf (if is_touched then record seen { flags = None } else seen) (told_row is_told row it)
-untold true is_told seen row it touched own so =
-    (subst (λ n. IfSome seen.uid (λ text. text ≡ uid_text n)) (sym (told_uid is_told row it own)) so.0, tt)
-untold false true seen row it touched own so = (let both : false ≡ true = touched refl in cc)
-untold false false seen row it touched own so = so
-
--- a client that has forgotten their flags knows none that are wrong
-forgotten_told : (is_touched is_told : ℕ → Bool) (now : List Row) (number : ℕ) (mirror : Mirror) (rows : List Row)
-    → AreTouched is_touched is_told number rows → Mirrors mirror rows
-    → Mirrors (forgotten is_touched number mirror) (rows_told_by is_told now rows)
-unfolding Mirrors forgotten
-forgotten_told is_touched is_told now number [] [] touched agrees = tt
-forgotten_told is_touched is_told now number [] (row ∷ rows) touched agrees = absurd agrees
-forgotten_told is_touched is_told now number (seen ∷ mirror) [] touched agrees = absurd agrees
-forgotten_told is_touched is_told now number (seen ∷ mirror) (row ∷ rows) touched agrees = (
-  untold (is_touched number) (is_told row.uid) seen row (row_at now row.uid) touched.0 (found_uid now row.uid) agrees.0,
-  forgotten_told is_touched is_told now (number + 1) mirror rows touched.1 agrees.1,
-)
-
--- ---- the rows that a set of numbers names
-
--- a UID is one that numbers of a set name
-abbrev any_named : (ℕ → Bool) → ℕ → ℕ → List Row → Bool
-any_named names uid number rows = list_any (λ other. other == uid) (picked (zip rows (map names (numbers_from number rows))))
-
-none_by : (uid : ℕ) (row : Row) (is : Bool) (pairs : List (Row × Bool)) → (row.uid == uid) ≡ false → list_any (λ other. other == uid) (picked pairs) ≡ false
-    → list_any (λ other. other == uid) (picked ((row, is) ∷ pairs)) ≡ false
-none_by uid row true pairs apart none = rw (apart, none) refl
-none_by uid row false pairs apart none = none
-
-none_named : (names : ℕ → Bool) (uid low number : ℕ) (rows : List Row) → RowsRise low rows → uid < low → any_named names uid number rows ≡ false
-none_named names uid low number [] rises lt = refl
-none_named names uid low number (row ∷ rows) rises lt =
-    none_by uid row (names number) (zip rows (map names (numbers_from (number + 1) rows)))
-    (let apart : (row.uid == uid) ≡ false = grind (arith, nat_tests, lt, rises.0) in apart)
-    (none_named names uid (row.uid + 1) (number + 1) rows rises.1 (omega (arith, lt, rises.0)))
-
-first_by : (row : Row) (is : Bool) (pairs : List (Row × Bool)) → list_any (λ other. other == row.uid) (picked pairs) ≡ false
-    → list_any (λ other. other == row.uid) (picked ((row, is) ∷ pairs)) ≡ true → is ≡ true
-first_by row true pairs none any = refl
-first_by row false pairs none any = sym none ∙ any
-
-rest_by : (uid : ℕ) (row : Row) (is : Bool) (pairs : List (Row × Bool)) → (row.uid == uid) ≡ false
-    → list_any (λ other. other == uid) (picked ((row, is) ∷ pairs)) ≡ true → list_any (λ other. other == uid) (picked pairs) ≡ true
-rest_by uid row true pairs apart any = sym (ap (λ b. b || list_any (λ other. other == uid) (picked pairs)) apart) ∙ any
-rest_by uid row false pairs apart any = any
-
-named_touched : (names is_told : ℕ → Bool) (low number : ℕ) (rows : List Row) → RowsRise low rows
-    → ((uid : ℕ) → low ≤ uid → is_told uid ≡ true → any_named names uid number rows ≡ true) → AreTouched names is_told number rows
-named_touched names is_told low number [] rises named = tt
-named_touched names is_told low number (row ∷ rows) rises named =
-    let pairs = zip rows (map names (numbers_from (number + 1) rows)) in (
-      λ is. first_by row (names number) pairs (none_named names row.uid (row.uid + 1) (number + 1) rows rises.1 (omega arith)) (named row.uid rises.0 is),
-      named_touched names is_told (row.uid + 1) (number + 1) rows rises.1 (λ uid above is.
-          let apart : (row.uid == uid) ≡ false = grind (arith, nat_tests, above) in
-          rest_by uid row (names number) pairs apart (named uid (omega (arith, above, rises.0)) is)),
-    )
-
-all_touched : (set : List SetPart) (count : ℕ) (is_told : ℕ → Bool) (number : ℕ) (rows : List Row) → AreTouched (may_touch true set count) is_told number rows
-unfolding may_touch
-all_touched set count is_told number [] = tt
-all_touched set count is_told number (row ∷ rows) = (λ is. refl, all_touched set count is_told (number + 1) rows)
-
 line_tells : (by_uid : Bool) (front rest : Mirror) (seen : Seen) (number : ℕ) (row change : Row) (found : Option Row) → number ≡ suc (length front)
     → change.uid ≡ row.uid → IfSome found (λ (it : Row). it.uid ≡ row.uid) → TellsFlags change.flags found
     → IfSome seen.uid (λ text. text ≡ uid_text row.uid)
     → Becomes front rest seen (stored_line by_uid number (Some change)) (fresh_row row found)
 line_tells by_uid front rest seen number row change None is own uid flags so = absurd flags
 line_tells true front rest seen number row change (Some it) is own uid flags so =
-    fetch_reads front rest seen (record { uid = Some (uid_text change.uid); flags = Some (flags_text change.flags) }) number (flag_parts true change) it is refl
-    (ap uid_text (own ∙ sym uid), ap flags_text (sym flags))
+    fetch_reads front rest seen (record { uid = Some (uid_text change.uid); flags = Some (flags_text change.flags); silenced = no_uid }) number
+    (flag_parts true change) it is refl (ap uid_text (own ∙ sym uid), λ silent. ap flags_text (sym flags))
 line_tells false front rest seen number row change (Some it) is own uid flags so =
-    fetch_reads front rest seen (record { uid = seen.uid; flags = Some (flags_text change.flags) }) number (flag_parts false change) it is refl
-    (subst (λ n. IfSome seen.uid (λ text. text ≡ uid_text n)) (sym uid) so, ap flags_text (sym flags))
+    fetch_reads front rest seen (record { uid = seen.uid; flags = Some (flags_text change.flags); silenced = no_uid }) number (flag_parts false change) it
+    is refl
+    (subst (λ n. IfSome seen.uid (λ text. text ≡ uid_text n)) (sym uid) so, λ silent. ap flags_text (sym flags))
 
 module _ (it : FlagStore) (box : Content) where
   abbrev changes : List Row
@@ -202,22 +131,13 @@ store_agrees mirror view it box false rises view_rises before tells =
     news_agree (own_lines it (changes it box) view.rows) view.rows (after it box) it.by_uid (set_of (uids (changes it box))) mirror view_rises
     (rows_rise (stored box it.uids it.mode it.flags) (stored_rises box it rises)) tells
 
--- by a silent STORE a client forgets the flags of all whose flags it isn't told
+-- of a silent STORE a client isn't told, but knows which messages it names
 silent_told : (mirror : Mirror) (view : View) (by_uid : Bool) (set : List SetPart) (mode : Mode) (flags : Flags) (box : Content) → Agrees mirror view.rows
     → let it = store_of view by_uid set mode true flags in
-    Mirrors (forgotten (may_touch by_uid set (length mirror)) 1 mirror) (rows_told_by (is_told it box) (after it box) view.rows)
-unfolding named_uids may_touch
-silent_told mirror view true set mode flags box agrees =
-    let it = store_of view true set mode true flags in
-    forgotten_told (may_touch true set (length mirror)) (is_told it box) (after it box) 1 mirror view.rows
-    (all_touched set (length mirror) (is_told it box) 1 view.rows) agrees.0
-silent_told mirror view false set mode flags box agrees =
-    let it = store_of view false set mode true flags in
-    let named : AreTouched (may_touch false set (length view.rows)) (is_told it box) 1 view.rows =
-    named_touched (may_touch false set (length view.rows)) (is_told it box) 0 1 view.rows agrees.1
-    (λ uid low is. told_named box it.uids mode flags uid is) in
-    forgotten_told (may_touch false set (length mirror)) (is_told it box) (after it box) 1 mirror view.rows
-    (subst (λ count. AreTouched (may_touch false set count) (is_told it box) 1 view.rows) (sym (mirrors_length mirror view.rows agrees.0)) named) agrees.0
+    Mirrors (with_silent (names by_uid set (length mirror)) 1 mirror) (rows_told_by (is_told it box) (after it box) view.rows)
+silent_told mirror view by_uid set mode flags box agrees =
+    let it = store_of view by_uid set mode true flags in
+    silent_agree by_uid set (is_told it box) mirror view.rows (after it box) agrees.1 (λ uid is. told_named box it.uids mode flags uid is) agrees.0
 
 -- ---- FETCH
 
@@ -270,16 +190,16 @@ silent_agrees : (mirror : Mirror) (view : View) (by_uid : Bool) (set : List SetP
 unfolding work_there asked
 silent_agrees mirror view by_uid set mode flags box rises agrees =
     let it = store_of view by_uid set mode true flags in
-    let left : Mirror = forgotten (may_touch by_uid set (length mirror)) 1 mirror in
+    let left : Mirror = with_silent (names by_uid set (length mirror)) 1 mirror in
     store_agrees left view it box (has_too_many_flags (rows_stored box it.uids it.mode it.flags)) rises agrees.1
-    (λ many. forgotten_mirrors (may_touch by_uid set (length mirror)) 1 mirror view.rows agrees.0)
+    (λ many. silent_mirrors (names by_uid set (length mirror)) 1 mirror view.rows agrees.0)
     (silent_told mirror view by_uid set mode flags box agrees)
 
 pub keeps_mirror : Keeps Agrees
 unfolding work_there OfView
 keeps_mirror = record {
   begins = λ box rises. (unseen_mirrors (rows_of box), rows_rise box rises);
-  forgets = λ is_touched number mirror rows agrees. (forgotten_mirrors is_touched number mirror rows agrees.0, agrees.1);
+  silences = λ is_named number mirror rows agrees. (silent_mirrors is_named number mirror rows agrees.0, agrees.1);
   news = λ mirror view why box rises agrees. plain_agree view.rows (rows_of box) true mirror (rows_rise box rises) agrees;
   expunge = λ mirror view only box rises agrees.
       plain_agree view.rows (rows_of (expunged box only)) true mirror (rows_rise (expunged box only) (expunged_rises box only rises)) agrees;

@@ -1,5 +1,5 @@
 -- A mirror that agrees with a view agrees with the view behind its news.
-use Rattle.std.proofs.Common.{◌≡◌, ℕ, suc, ◌+◌, ◌-◌, ◌==◌, Bool, true, false, not, cond, if◌then◌else◌, List, [], ◌∷◌, ◌++◌, length, map, replicate}
+use Rattle.std.proofs.Common.{◌≡◌, ℕ, suc, ◌+◌, ◌-◌, ◌==◌, ◌||◌, Bool, true, false, not, cond, if◌then◌else◌, List, [], ◌∷◌, ◌++◌, length, map, replicate}
 use Rattle.std.proofs.Common.{Option, None, Some, refl, sym, ◌∙◌, ap, subst, arith, append_assoc, append-nil, length-append}
 use Rattle.std.specs.Prelude.{IfSome}
 use Rattle.std.specs.List.{fold}
@@ -16,7 +16,7 @@ use Rattle.imap_types.specs.declared.reply.ReplyLine.TheVariants.{Expunge, Fetch
 use Rattle.mur_model.specs.ClientView.{without_number}
 use Rattle.mur_model.specs.News.{changed_line, changed_lines, exists_lines, expunge_lines, flag_parts, fresh_row, fresh_rows, has_row, is_among, news}
 use Rattle.mur_model.specs.News.{rows_behind, rows_there, told_of}
-use Rattle.store_law.specs.Mirror.{IsSeenOf, Mirror, Mirrors, Seen, at_number, forgotten, read_line, read_lines, seen_by, unseen}
+use Rattle.store_law.specs.Mirror.{IsSeenOf, Mirror, Mirrors, Seen, at_number, no_uid, read_line, read_lines, seen_by, silenced_by, unseen, with_silent}
 
 -- ---- mirrors beside rows
 
@@ -44,18 +44,26 @@ unfolding Mirrors
 unseen_mirrors [] = tt
 unseen_mirrors (row ∷ rows) = ((tt, tt), unseen_mirrors rows)
 
-less_seen : (is_touched : Bool) (seen : Seen) (row : Row) → IsSeenOf seen row → IsSeenOf (if is_touched then record seen { flags = None } else seen) row
-less_seen true seen row is = (is.0, tt)
-less_seen false seen row is = is
+-- flags that are told unless something is so
+abbrev pub AreToldBut : Bool → Option (List ℕ) → Row → Type 0
+AreToldBut is_silenced flags row = IfSome flags (λ text. is_silenced ≡ false → text ≡ flags_text row.flags)
 
-pub forgotten_mirrors : (is_touched : ℕ → Bool) (number : ℕ) (mirror : Mirror) (rows : List Row) → Mirrors mirror rows
-    → Mirrors (forgotten is_touched number mirror) rows
-unfolding Mirrors forgotten
-forgotten_mirrors is_touched number [] [] agrees = tt
-forgotten_mirrors is_touched number [] (row ∷ rows) agrees = absurd agrees
-forgotten_mirrors is_touched number (seen ∷ mirror) [] agrees = absurd agrees
-forgotten_mirrors is_touched number (seen ∷ mirror) (row ∷ rows) agrees =
-    (less_seen (is_touched number) seen row agrees.0, forgotten_mirrors is_touched (number + 1) mirror rows agrees.1)
+more_silenced : (one more : Bool) (flags : Option (List ℕ)) (row : Row) → AreToldBut one flags row → AreToldBut (one || more) flags row
+more_silenced one more None row is = tt
+more_silenced true more (Some text) row is = λ silent. cc
+more_silenced false more (Some text) row is = λ silent. is refl
+
+pub less_seen : (is_named : ℕ → Bool) (seen : Seen) (row : Row) → IsSeenOf seen row → IsSeenOf (silenced_by is_named seen) row
+less_seen is_named seen row is = (is.0, more_silenced (seen.silenced row.uid) (is_named row.uid) seen.flags row is.1)
+
+pub silent_mirrors : (is_named : ℕ → ℕ → Bool) (number : ℕ) (mirror : Mirror) (rows : List Row) → Mirrors mirror rows
+    → Mirrors (with_silent is_named number mirror) rows
+unfolding Mirrors with_silent
+silent_mirrors is_named number [] [] agrees = tt
+silent_mirrors is_named number [] (row ∷ rows) agrees = absurd agrees
+silent_mirrors is_named number (seen ∷ mirror) [] agrees = absurd agrees
+silent_mirrors is_named number (seen ∷ mirror) (row ∷ rows) agrees =
+    (less_seen (is_named number) seen row agrees.0, silent_mirrors is_named (number + 1) mirror rows agrees.1)
 
 -- the message behind a front, by its number
 at_one : {A : Type 0} (become : A → A) (front : List A) (one : A) (rest : List A)
@@ -188,10 +196,14 @@ changed_by : (front rest : Mirror) (seen : Seen) (number : ℕ) (row it : Row) (
     → Becomes front rest seen (if not same then Fetch number (flag_parts true it) ∷ [] else []) it
 changed_by front rest seen number row it true e is uid so =
     let flags : row.flags ≡ it.flags = (same_flags_decide row.flags it.flags).0 e in
-    stays_seen front rest seen it
-    (subst (λ n. IfSome seen.uid (λ text. text ≡ uid_text n)) (sym uid) so.0, subst (λ f. IfSome seen.flags (λ text. text ≡ flags_text f)) flags so.1)
+    stays_seen front rest seen it (
+      subst (λ n. IfSome seen.uid (λ text. text ≡ uid_text n)) (sym uid) so.0,
+      subst (λ f. IfSome seen.flags (λ text. seen.silenced it.uid ≡ false → text ≡ flags_text f)) flags
+          (subst (λ n. IfSome seen.flags (λ text. seen.silenced n ≡ false → text ≡ flags_text row.flags)) (sym uid) so.1),
+    )
 changed_by front rest seen number row it false e is uid so =
-    fetch_reads front rest seen (record { uid = Some (uid_text it.uid); flags = Some (flags_text it.flags) }) number (flag_parts true it) it is refl (refl, refl)
+    fetch_reads front rest seen (record { uid = Some (uid_text it.uid); flags = Some (flags_text it.flags); silenced = no_uid }) number (flag_parts true it) it is
+    refl (refl, λ silent. refl)
 
 changed_one : (is_told : Bool) (front rest : Mirror) (seen : Seen) (number : ℕ) (row : Row) (it : Option Row) → number ≡ suc (length front)
     → IfSome it (λ (r : Row). r.uid ≡ row.uid) → IsSeenOf seen (told_row is_told row it)

@@ -44,7 +44,7 @@ use Rattle.mur_model.specs.Traits.{is_in, may_be, traits_of}
 use Rattle.mur_model.specs.Viewing.{found_gone, viewed_on, work_there}
 use Rattle.mur_model.proofs.EachNeed.{OfWorks, each_by_works, of_refusals}
 use Rattle.mur_model.proofs.OwnView.{IsOfNeeded, IsOfWork, need_own}
-use Rattle.store_law.specs.Mirror.{Mirror, OfView, asked, forgotten, may_touch, read_line, read_lines, unseen}
+use Rattle.store_law.specs.Mirror.{Mirror, OfView, asked, names, read_line, read_lines, unseen, with_silent}
 use Rattle.store_law.proofs.NeedsFit.{Fits, FitsWork, Selects, StoreOf, need_fits}
 use Rattle.store_law.proofs.RisingStores.{AllRise, Rises, box_rises}
 
@@ -60,7 +60,7 @@ store_of view by_uid set mode is_silent flags =
 -- what keeps it: a mailbox that is selected, a silent STORE, and what each command of a view tells
 pub record Keeps (R : Mirror → List Row → Type 0) : Type 0 where
   pub begins : (box : Content) → Rises box → R (replicate (length (rows_of box)) unseen) (rows_of box)
-  pub forgets : (is_touched : ℕ → Bool) (number : ℕ) (mirror : Mirror) (rows : List Row) → R mirror rows → R (forgotten is_touched number mirror) rows
+  pub silences : (is_named : ℕ → ℕ → Bool) (number : ℕ) (mirror : Mirror) (rows : List Row) → R mirror rows → R (with_silent is_named number mirror) rows
   pub news : (mirror : Mirror) (view : View) (why : NewsFor) (box : Content) → Rises box → R mirror view.rows
       → TurnKeeps R mirror view (work_there view (view_work.News why) box).turn
   pub expunge : (mirror : Mirror) (view : View) (only : Option (List ℕ)) (box : Content) → Rises box → R mirror view.rows
@@ -79,21 +79,21 @@ pub record Keeps (R : Mirror → List Row → Type 0) : Type 0 where
 -- ---- replies that tell nothing of a view
 
 -- a turn leaves the session as it was, by lines that tell nothing, or with no mailbox selected
-abbrev IsStillBy : Option Sess → Reply → Type 0
+abbrev pub IsStillBy : Option Sess → Reply → Type 0
 IsStillBy None reply = (mirror : Mirror) → read_lines mirror reply.lines ≡ mirror
 IsStillBy (Some Off) reply = ⊤
 IsStillBy (Some (In user)) reply = ⊤
 IsStillBy (Some (selected view)) reply = ⊥
 IsStillBy (Some Ended) reply = ⊤
 
-abbrev IsStill : Turn → Type 0
+abbrev pub IsStill : Turn → Type 0
 IsStill turn = IsStillBy turn.session turn.reply
 
-abbrev NeedIsStill : Needed → Type 0
+abbrev pub NeedIsStill : Needed → Type 0
 NeedIsStill (Turned turn) = IsStill turn
 NeedIsStill need = ⊤
 
-works_still : OfWorks NeedIsStill
+pub works_still : OfWorks NeedIsStill
 unfolding read_line
 works_still = record {
   answers = of_refusals (λ verdict. tt) (λ name plain. λ mirror. refl) (λ name user plain. tt) (λ mirror. refl) tt;
@@ -108,7 +108,7 @@ unfolding make
 made_still name serial true = λ mirror. refl
 made_still name serial false = λ mirror. refl
 
-created_still : (name : List ℕ) (serial : ℕ) (spent : Bool) (found : Option Content) → IsStill (create_on name serial spent found).turn
+pub created_still : (name : List ℕ) (serial : ℕ) (spent : Bool) (found : Option Content) → IsStill (create_on name serial spent found).turn
 unfolding create_on
 created_still name serial spent None = made_still name serial spent
 created_still name serial spent (Some box) = λ mirror. refl
@@ -118,12 +118,12 @@ unfolding append_to append_reply
 appended_still message box (Some fault) = λ mirror. refl
 appended_still message box None = λ mirror. refl
 
-append_still : (message : Message) (found : Option Content) → IsStill (append_on message found).turn
+pub append_still : (message : Message) (found : Option Content) → IsStill (append_on message found).turn
 unfolding append_on
 append_still message None = λ mirror. refl
 append_still message (Some box) = appended_still message box (append_fault box (message ∷ []))
 
-status_still : (shown : List ℕ) (items : List StatusItem) (found : Option Content) → IsStill (status_on shown items found).turn
+pub status_still : (shown : List ℕ) (items : List StatusItem) (found : Option Content) → IsStill (status_on shown items found).turn
 unfolding status_on status_reply read_line
 status_still shown items None = λ mirror. refl
 status_still shown items (Some box) = λ mirror. refl
@@ -249,13 +249,13 @@ module _ (R : Mirror → List Row → Type 0) (keeps : Keeps R) where
     need_behind (Mailbox name work) still own fits =
         work_behind name work (is_spent store.given) (box_at store name) (box_rises store name rise) own fits
 
-  -- a silent STORE has made the mirror forget, and no other command does
-  asked_view : (is_touched : ℕ → Bool) (mirror : Mirror) (session : Sess) → OfView R mirror session → OfView R (forgotten is_touched 1 mirror) session
+  -- a silent STORE is kept in mind, and no other command
+  asked_view : (is_named : ℕ → ℕ → Bool) (mirror : Mirror) (session : Sess) → OfView R mirror session → OfView R (with_silent is_named 1 mirror) session
   unfolding OfView
-  asked_view is_touched mirror Off is = tt
-  asked_view is_touched mirror (In user) is = tt
-  asked_view is_touched mirror (selected view) is = keeps.forgets is_touched 1 mirror view.rows is
-  asked_view is_touched mirror Ended is = tt
+  asked_view is_named mirror Off is = tt
+  asked_view is_named mirror (In user) is = tt
+  asked_view is_named mirror (selected view) is = keeps.silences is_named 1 mirror view.rows is
+  asked_view is_named mirror Ended is = tt
 
   pub act_keeps : (setting : Setting) (store : Store) (session : Sess) (it : Command) (serial : ℕ) (mirror : Mirror) → AllRise store
       → OfView R mirror session
@@ -265,7 +265,7 @@ module _ (R : Mirror → List Row → Type 0) (keeps : Keeps R) where
   act_keeps setting store session (command.Examine text) serial mirror rise is = examine_so setting store session serial text rise
   act_keeps setting store session (command.Store by_uid set mode true flags) serial mirror rise is =
       let it : Command = command.Store by_uid set mode true flags in
-      need_behind store rise session it serial (asked mirror it) (asked_view (may_touch by_uid set (length mirror)) mirror session is) (λ is_writable no. no)
+      need_behind store rise session it serial (asked mirror it) (asked_view (names by_uid set (length mirror)) mirror session is) (λ is_writable no. no)
       (λ view one box of own rises. subst (λ o. TurnKeeps R (asked mirror it) view (work_there view (view_work.Store o) box).turn) (sym of)
       (keeps.silent mirror view by_uid set mode flags box rises (subst (OfView R mirror) own is))) (need_of setting session it) (each_by_works setting works_still session it)
       (need_own setting session it) (need_fits setting session it)

@@ -52,7 +52,7 @@ module _ (largest number : ℕ) where
   in_part (Range Last (Number other)) is = holds_range largest other number is
   in_part (Range Last Last) is = holds_range largest largest number is
 
-  set_in : (set : List SetPart) → IsInSet largest set number → set_holds (set_at largest set) number ≡ true
+  pub set_in : (set : List SetPart) → IsInSet largest set number → set_holds (set_at largest set) number ≡ true
   unfolding IsInSet
   set_in [] is = absurd is
   set_in (part ∷ set) (inl is) = rw (part_in part is) refl

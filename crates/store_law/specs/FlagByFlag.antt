@@ -1,5 +1,5 @@
 -- What a STORE makes of a message's flags, flag by flag (RFC 9051, 2.3.2 and 6.4.6).
-use Rattle.std.specs.Prelude.{◌≡◌, ◌⊎◌, ◌↔◌, ⊤, true, List, [], ◌∷◌}
+use Rattle.std.specs.Prelude.{◌≡◌, ◌⊎◌, ◌↔◌, true}
 use Rattle.std.specs.List.{Contains}
 use Rattle.mail_message.specs.FlagSets.{Flags}
 use Rattle.mail_message.specs.declared.flag_name.FlagName.{FlagName}
@@ -24,16 +24,6 @@ IsByMode Replace had listed has = has ↔ listed
 IsByMode Add had listed has = has ↔ (had ⊎ listed)
 IsByMode Remove had listed has = has ↔ (had × (listed → ⊥))
 
--- none stands twice
-unfoldable pub AreApart : {X : Type 0} → List X → Type 0
-AreApart [] = ⊤
-AreApart (one ∷ others) = (Contains others one → ⊥) × AreApart others
-
--- a keyword is taken away from keywords none of which stands twice
-abbrev pub MayBeTaken : Mode → Flags → FlagName → Type 0
-MayBeTaken Remove old (Keyword keyword) = AreApart old.keywords
-MayBeTaken mode old flag = ⊤
-
 -- each flag
 abbrev pub AreStored : Mode → Flags → Flags → Flags → Type 0
-AreStored mode listed old new = (flag : FlagName) → MayBeTaken mode old flag → IsByMode mode (HasFlag old flag) (HasFlag listed flag) (HasFlag new flag)
+AreStored mode listed old new = (flag : FlagName) → IsByMode mode (HasFlag old flag) (HasFlag listed flag) (HasFlag new flag)

@@ -9,5 +9,6 @@ pub mod SetNames
 pub mod DoneIsDone
 pub mod Examined
 pub mod Mirror
+pub mod NewsTold
 pub mod Lines
 pub mod Logins

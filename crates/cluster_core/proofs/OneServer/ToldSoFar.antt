@@ -39,6 +39,7 @@ use Rattle.store_law.proofs.DoneIsDone.{does_what_it_says}
 use Rattle.store_law.proofs.OpenedLaw.{reads_what_is_examined}
 use Rattle.store_law.proofs.LinesLaw.{speaks_by_numbers}
 use Rattle.store_law.proofs.MirrorsAlong.{views_are_told}
+use Rattle.store_law.proofs.NewsTold.{news_are_told}
 use Rattle.cluster_core.proofs.Connections.ConnectionLaw.{Story, told_of}
 use Rattle.cluster_core.proofs.Connections.NameLaw.{store_below}
 use Rattle.cluster_core.proofs.Names.HomesLaw.{AreNamesOf, has_boxes}
@@ -226,6 +227,7 @@ told_so_far config talk before later are date_is now last =
           (points_own (setting_of config) (told_of law.story) first_course legal.last (history_of world) legal.legal.follows
           (none_own (setting_of config)) conn);
       views_told = views_are_told (setting_of config) first_course (told_of law.story) (history_of world) legal.last legal.legal none_rises (λ conn. refl);
+      news_told = news_are_told (setting_of config) first_course (told_of law.story) (history_of world) legal.last legal.legal none_rises (λ conn. refl);
       lost_next = loses_the_next (setting_of config) world law.story law.is_told (λ conn. (says conn).so);
       made_by_now = made_by_now (setting_of config) world law.story law.is_told;
       in_time = stands_in_time (setting_of config) world

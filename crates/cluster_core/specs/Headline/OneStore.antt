@@ -39,6 +39,7 @@ use Rattle.store_law.specs.OthersUnseen.{KeepsToItsOwn}
 use Rattle.store_law.specs.Examined.{ReadsWhatIsExamined}
 use Rattle.store_law.specs.Lines.{SpeaksByNumbers}
 use Rattle.store_law.specs.Mirror.{ViewsAreTold}
+use Rattle.store_law.specs.NewsTold.{NewsAreTold}
 use Rattle.cluster_core.specs.Headline.Points.{AreMadeBy, LosesTheNext}
 use Rattle.imap_talk.specs.Requests.{AreRequests}
 use Rattle.store_law.specs.Serials.{GivesLowSerials}
@@ -113,6 +114,8 @@ pub record IsToldSoFar (config : Config) (talk : Talk) (points : List Point) (st
   pub others_unseen : (conn : ℕ) → KeepsToItsOwn (law_setting config) last.store (last.sessions conn)
   -- what a client concludes of its mailbox from the lines that it is given is so of its session's view (RFC 9051, 2.3.1.2)
   pub views_told : ViewsAreTold so_far (history_of world) last
+  -- and of its mailbox as it is then, once it is answered OK a NOOP or another command behind which it is told all (RFC 9051, 5.2 and 6.1.2)
+  pub news_told : NewsAreTold (law_setting config) so_far (history_of world) last
   -- which points there may be
   pub lost_next : LosesTheNext so_far (history_of world)
   pub made_by_now : AreMadeBy world.steps (history_of world)
