@@ -3,7 +3,7 @@ ghost use Rattle.std.specs.Prelude.{◌≡◌, ◌++◌, ◌<◌, None, codes, d
 ghost use Rattle.mur_base.specs.Names.{short_name_fault};
 ghost use Rattle.drill_gen.specs.Drill.{frontend_of, backend_named};
 
-use mur_base::{Bytes, Memory, NodeName, UserName, node_name, put_number, user_name};
+use mur_base::{Bytes, Memory, NameFault, NodeName, UserName, node_name, put_number, user_name};
 use std::alloc::Global;
 
 /// The node's name that a text is.
@@ -13,7 +13,8 @@ pub fn node_named(alloc: Global, text: &[u8]) -> Result<NodeName, Memory>
 {
     match node_name(alloc, text) {
         Ok(name) => Ok(name),
-        Err(_) => Err(Memory),
+        Err(NameFault::Memory) => Err(Memory),
+        Err(_) => unreachable!(),
     }
 }
 
@@ -24,7 +25,8 @@ pub fn user_named(alloc: Global, text: &[u8]) -> Result<UserName, Memory>
 {
     match user_name(alloc, text) {
         Ok(name) => Ok(name),
-        Err(_) => Err(Memory),
+        Err(NameFault::Memory) => Err(Memory),
+        Err(_) => unreachable!(),
     }
 }
 

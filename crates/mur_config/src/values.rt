@@ -10,7 +10,8 @@ use crate::node::{FRONTEND_PORT, Kind, MASTER_PORT, NO_PORT, Node};
 use crate::nodes::{Nodes, fits_kind};
 use mail_message::date;
 use mur_base::{
-    Bytes, Items, Memory, NameRule, NodeRule, User, Users, is_password, node_name, user_name,
+    Bytes, Items, Memory, NameFault, NameRule, NodeRule, User, Users, is_password, node_name,
+    user_name,
 };
 use std::alloc::Global;
 
@@ -106,7 +107,8 @@ fn node_at(alloc: Global, draft: &NodeDraft, kind: Kind, port: u16) -> Result<No
             partition,
             port,
         }),
-        Err(_) => Err(Memory),
+        Err(NameFault::Memory) => Err(Memory),
+        Err(_) => unreachable!(),
     }
 }
 
@@ -132,7 +134,8 @@ fn user_at(alloc: Global, draft: &UserDraft) -> Result<User, Memory>
             password,
             admin: draft.admin,
         }),
-        Err(_) => Err(Memory),
+        Err(NameFault::Memory) => Err(Memory),
+        Err(_) => unreachable!(),
     }
 }
 
