@@ -1,12 +1,8 @@
 -- A line that the master takes keeps what holds of a link's contents.
-use Rattle.std.proofs.Common.{◌≡◌, ℕ, ◌+◌, ◌<◌, ◌^◌, Bool, true, false, cond, nat_eq, nat_lt, List, [], ◌∷◌, ◌++◌, map, filter, Option, None, Some, refl, sym, ap, subst, ◌∙◌, arith}
-use Rattle.std.proofs.lemmas.Bool.Decides.{nat_tests}
+use Rattle.std.proofs.Common.{◌≡◌, ℕ, ◌+◌, Bool, true, false, cond, nat_eq, List, [], ◌∷◌, ◌++◌, map, filter, Option, None, Some, refl, sym, ap, subst, ◌∙◌}
 use Rattle.std.specs.List.{flat_map, AllByRecursion}
 use Rattle.std.specs.Cmp.Lexicographic.{pointwise}
 use Rattle.grammar.specs.Numbers.{decimal_text}
-use Rattle.grammar.proofs.DecimalLaw.{decimal_is_text}
-use Rattle.mur_base.specs.Number.{number_of}
-use Rattle.mur_base.proofs.DecimalReadBack.{number_of-decimal}
 use Rattle.mur_base.specs.declared.home.Location.{Location}
 use Rattle.mupdate_codec.specs.declared.command.MCommand.{MCommand}
 use Rattle.mupdate_codec.specs.declared.command.MCommand.TheVariants as command
@@ -32,7 +28,6 @@ use Rattle.home_law.specs.LinkOk.{EachItem}
 use Rattle.home_law.specs.ManyNames.{Mailbox, SentLine as OpenLine, sent_list, sent_reserve, sent_make, sent_again, sent_deactivate, sent_delete, sent_wipe, sent_find, with_line, downs_of}
 use Rattle.home_law.specs.Rows.{mine_of, is_bare, is_reserving, answer_ok, line_ok}
 use Rattle.name_flows.specs.declared.flow.Stage.TheVariants.{Making}
-use Rattle.name_flows.specs.Creates.{serial_in}
 use Rattle.name_flows.specs.OneName.{ctl_of}
 use Rattle.name_flows.specs.Running.{flow_at, has_stage}
 use Rattle.name_links.specs.Answers.{answers_to}
@@ -43,7 +38,7 @@ use Rattle.name_links.specs.LinkIs.{tagged_lines, AreSent, LinkHolds}
 use Rattle.name_links.specs.OneLink.{OneLink, server_of, up_items, told_of, back_of, under, table_by, takes}
 use Rattle.name_links.proofs.ContentSteps.{waits_making}
 use Rattle.name_links.proofs.EachCommand.{some_is, if_so}
-use Rattle.name_links.proofs.LineAnswers.{serial_left, next_serial}
+use Rattle.name_links.proofs.LineAnswers.{serial_again, serial_left, next_serial}
 use Rattle.name_links.proofs.LinkEvents.{tag_is, line_is, none_sent}
 use Rattle.name_links.proofs.LinkLaw.{takes_law}
 use Rattle.name_links.proofs.OnWay.{all_both, item_fits, ItemFits, lines_on_way, told_fits, answers_on_way, answer_both, answer_first, answer_then}
@@ -53,13 +48,6 @@ use Rattle.name_links.proofs.TableTurn.{entry_of, line_changes}
 use Rattle.name_links.proofs.Tied.{lines_of, untagged}
 
 -- ---- the answers to a line
-
-serial_again : (n : ℕ) → n < 2 ^ 32 → serial_in (decimal_text n) ≡ Some n
-unfolding serial_in
-serial_again n h =
-    let read : number_of (decimal_text n) ≡ Some n = ap number_of (sym (decimal_is_text n (omega (arith, h)))) ∙ number_of-decimal n (omega (arith, h)) in
-    let within : nat_lt n (2 ^ 32) ≡ true = grind (arith, nat_tests, h) in
-    rw (read, within) refl
 
 module _ (table : MailboxTable) (b : Server) (then : MailboxTable) (tag : Tag) (lines : List (Tag × OpenLine)) where
   abbrev Fit : MCommand → OpenLine → Type 0

@@ -98,9 +98,11 @@ EachAnswer P (line ∷ lines) (it ∷ more) = P line.1 it.1 × EachAnswer P (lin
 pub record ContentHolds (link : OneLink) : Type 0 where
   -- a mailbox is at the server of its record, with the access list of the record, whether it is open, made or closed there
   pub mailboxes : (n : Mailbox) (acl : List ℕ) → acl_in (state_at link.table (server_of link) n) ≡ Some acl → HasAcl (held_at link.held n) acl
-  -- a name is reserved without an access list, and its CREATE made the mailbox and waits for ACTIVATE's answer: it is new, with that serial
+  -- a name is reserved without an access list, and its CREATE made the mailbox and waits for ACTIVATE's answer: the mailbox is new, with that serial.
+  -- Without that CREATE, after a crash, the name may have a mailbox of an earlier one until DELETE's OK.
   pub making : (n : Mailbox) (serial : ℕ) → state_at link.table (server_of link) n ≡ Some (Bare serial) → is_at link.flows n Making ≡ true
       → held_at link.held n ≡ Some (new_box n serial)
+  -- each ACTIVATE on its way to the master, and each RESERVE's OK on its way to the backend
   pub lines : AllByRecursion (LineFits link.table (server_of link) link.held) link.ups
   pub answers : EachAnswer (answer_fits link.table (server_of link)) (tagged_lines link.flows) link.downs
 

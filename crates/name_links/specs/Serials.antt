@@ -135,7 +135,8 @@ ServesKeepsBoxes = (link : OneLink) (given : Given) (it : BackendRecord) → Box
 -- mailboxes of two names, at one backend or at two, have two UIDVALIDITYs
 abbrev pub MailboxesDiffer : Type 0
 MailboxesDiffer = (link other : OneLink) (given : Given) → SerialsHold link.table given → BoxesHold link given → BoxesHold other given
-    → (m n : Mailbox) (one two : List ℕ) (serial : ℕ) → acl_in (state_at link.table (server_of link) m) ≡ Some one → acl_in (state_at other.table (server_of other) n) ≡ Some two
+    → (m n : Mailbox) (one two : List ℕ) (serial : ℕ)
+    → acl_in (state_at link.table (server_of link) m) ≡ Some one → acl_in (state_at other.table (server_of other) n) ≡ Some two
     → uid_validity (held_at link.held m) ≡ Some serial → uid_validity (held_at other.held n) ≡ Some serial → m ≡ n
 
 -- ---- the mailbox that a CREATE makes: the master takes its ACTIVATE, and doesn't refuse it
