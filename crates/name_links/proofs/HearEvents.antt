@@ -40,13 +40,13 @@ use Rattle.name_links.proofs.Tied.{lines_of, untagged, left_one}
 
 module _ (link : OneLink) (it : Tag × MResponse) (downs : List (Tag × MResponse)) (ready : IsReady link) (is : LinkIs link) (e : link.downs ≡ it ∷ downs)
     (line : SentLine) (lines : List SentLine) (first : link.flows.sent ≡ line ∷ lines) where
-  abbrev opened : List (Tag × OpenLine)
+  abbrev pub opened : List (Tag × OpenLine)
   opened = tagged_line link.flows.found line ∷ map (tagged_line false) lines
 
-  abbrev then : List (Tag × OpenLine)
+  abbrev pub then : List (Tag × OpenLine)
   then = lines_after (tagged_line link.flows.found line) (map (tagged_line false) lines) it.1
 
-  opened_is : tagged_lines link.flows ≡ opened
+  pub opened_is : tagged_lines link.flows ≡ opened
   opened_is = ap (λ (ls : List SentLine). tagged_by link.flows.found ls) first
 
   answers : AreAnswers opened (it ∷ downs) is.tied.left
@@ -61,7 +61,7 @@ module _ (link : OneLink) (it : Tag × MResponse) (downs : List (Tag × MRespons
   unfolding AreAnswers
   told = answers.1
 
-  rest : AreAnswers then downs is.tied.left
+  pub rest : AreAnswers then downs is.tied.left
   unfolding AreAnswers
   rest = answers.2
 
@@ -263,6 +263,16 @@ module _ (link : OneLink) (it : Tag × MResponse) (downs : List (Tag × MRespons
   list_end (Delete m) r w ok e = cc
   list_end (Wipe m) r w ok e = cc
   list_end (Find m) r w ok e = cc
+
+  -- what is left of the lines, whatever the response
+  leaves_end : (what : Sent) (r : MResponse) → line.what ≡ what → it.1 ≡ r → is_list_end (Some what) r ≡ true
+      → Leaves link.flows.me link.held (heard_step link.flows link.held it.0 it.1) then
+  leaves_end List_line (response.Ok text) w ok e = let run = resync_runs text w ok in end_leaves run.0 run.1 text w ok
+  leaves_end what r w ok e = cc
+
+  pub leaves_then : (t : Bool) → is_list_end (Some line.what) it.1 ≡ t → Leaves link.flows.me link.held (heard_step link.flows link.held it.0 it.1) then
+  leaves_then true e = leaves_end line.what it.1 refl refl e
+  leaves_then false e = hear_leaves e
 
   pub heard_keeps : (t : Bool) → is_list_end (Some line.what) it.1 ≡ t → LinkIs (hears link it downs)
   heard_keeps true e = list_end line.what it.1 refl refl e

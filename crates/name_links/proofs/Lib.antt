@@ -20,3 +20,16 @@ pub mod BackReady
 pub mod TableReady
 pub mod LinkLaw
 pub mod Spelled
+pub mod TableTurn
+pub mod StateTurn
+pub mod HeldTurn
+pub mod OnWay
+pub mod PhaseFacts
+pub mod ContentSteps
+pub mod ContentTakes
+pub mod ContentLaw
+pub mod ServedLaw
+pub mod SerialTurn
+pub mod BoxLaw
+pub mod MadeLaw
+pub mod LeavesLaw

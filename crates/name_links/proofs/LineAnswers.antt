@@ -33,7 +33,7 @@ use Rattle.name_links.proofs.EachCommand.{some_is, if_so}
 use Rattle.name_links.proofs.Messages.{same_tag_itself}
 
 -- a serial is read again
-serial_again : (n : ℕ) → n < 2 ^ 32 → is_some (serial_in (decimal_text n)) ≡ true
+pub serial_again : (n : ℕ) → n < 2 ^ 32 → serial_in (decimal_text n) ≡ Some n
 unfolding serial_in
 serial_again n h =
     let read : number_of (decimal_text n) ≡ Some n = ap number_of (sym (decimal_is_text n (omega (arith, h)))) ∙ number_of-decimal n (omega (arith, h)) in
@@ -69,7 +69,11 @@ module _ (table : MailboxTable) (serial : table.serial < 2 ^ 32) (b : Server) (t
       by_refusal : (r : Option Refusal) → reserve_refusal table (Backend b) (record_at table m) place ≡ r
           → AreAnswers ((tag, sent_reserve m) ∷ lines) (map (under tag) (reserve_by table m place r).answers) lines
       by_refusal (Some why) e = (same_tag_itself tag, tt, refl)
-      by_refusal None e = (same_tag_itself tag, serial_again (table.serial + 1) (next_serial table.serial serial (serial_left table b (record_at table m) place e)), refl)
+      by_refusal None e = (
+        same_tag_itself tag,
+        ap (λ (s : Option ℕ). is_some s) (serial_again (table.serial + 1) (next_serial table.serial serial (serial_left table b (record_at table m) place e))),
+        refl,
+      )
 
   activate_done : (m acl : Mailbox) (place : Location) (t : Bool) → Done (command.Activate m place acl) (cond t (sent_make m) (sent_again m))
   unfolding reply_to activate_reply AreAnswers

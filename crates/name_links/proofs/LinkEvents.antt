@@ -138,7 +138,7 @@ module _ (link : OneLink) (it : Tag × MCommand) (ups : List (Tag × MCommand)) 
   sent_parts = subst (λ (ls : List (Tag × OpenLine)). AreSent (server_of link) ls (it ∷ ups)) first
       (subst (λ (us : List (Tag × MCommand)). AreSent (server_of link) is.tied.left us) e is.tied.sent)
 
-  tag_is : line.0 ≡ it.0
+  pub tag_is : line.0 ≡ it.0
   unfolding AreSent
   tag_is = sent_parts.0
 
@@ -146,7 +146,7 @@ module _ (link : OneLink) (it : Tag × MCommand) (ups : List (Tag × MCommand)) 
   unfolding AreSent
   line_is = sent_parts.1
 
-  sent_rest : AreSent (server_of link) lines ups
+  pub sent_rest : AreSent (server_of link) lines ups
   unfolding AreSent
   sent_rest = sent_parts.2
 

@@ -46,7 +46,7 @@ left_is (line ∷ lines) (it ∷ more) left a = left_one line lines it.1 (told_o
 
 -- lines behind them are left too
 
-after_more : (line : Tag × OpenLine) (lines extra : List (Tag × OpenLine)) (it : MResponse) → lines_after line (lines ++ extra) it ≡ lines_after line lines it ++ extra
+pub after_more : (line : Tag × OpenLine) (lines extra : List (Tag × OpenLine)) (it : MResponse) → lines_after line (lines ++ extra) it ≡ lines_after line lines it ++ extra
 after_more line lines extra (response.Mailbox name place acl) = refl
 after_more line lines extra (response.Reserve name place) = refl
 after_more line lines extra (response.Delete name) = refl

@@ -13,8 +13,7 @@ use Rattle.link_msg.specs.declared.out.Out.TheVariants.{Link}
 use Rattle.mupdate_codec.specs.declared.command.MCommand.{MCommand}
 use Rattle.mupdate_codec.specs.declared.command.MResponse.{MResponse}
 use Rattle.mupdate_codec.specs.declared.tag.Tag.{Tag}
-use Rattle.mupdate_codec.specs.Arguments.{exact}
-use Rattle.mupdate_codec.specs.Responses.{response_line, IsSpelledResponse}
+use Rattle.mupdate_codec.specs.Responses.{IsSpelledResponse}
 use Rattle.node_record.specs.Table.{MailboxTable}
 use Rattle.master_core.specs.declared.sender.Sender.TheVariants.{Backend}
 use Rattle.mupdate_codec.specs.Whole.{response_in}

@@ -4,5 +4,7 @@ pub mod Answers
 pub mod MasterLaw
 pub mod OneLink
 pub mod LinkIs
+pub mod Contents
+pub mod Serials
 pub mod Reading
 pub mod Spelled

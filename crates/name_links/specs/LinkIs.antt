@@ -9,6 +9,7 @@ use Rattle.mupdate_codec.specs.declared.command.MCommand.{MCommand}
 use Rattle.mupdate_codec.specs.declared.command.MResponse.{MResponse}
 use Rattle.mupdate_codec.specs.declared.command.MResponse.TheVariants as response
 use Rattle.mupdate_codec.specs.declared.tag.Tag.{Tag}
+use Rattle.node_record.specs.declared.backend.BackendRecord.{BackendRecord}
 use Rattle.home_law.specs.Items.{Server}
 use Rattle.home_law.specs.Link.{see}
 use Rattle.home_law.specs.LinkOk.{LinkOk}
@@ -26,7 +27,7 @@ use Rattle.name_flows.specs.OneName.{open_line}
 use Rattle.name_links.specs.Known.{known}
 use Rattle.name_links.specs.Lines.{is_asked, backend_line}
 use Rattle.name_links.specs.Answers.{HasNoBang, IsTable}
-use Rattle.name_links.specs.OneLink.{OneLink, server_of, back_of, first_link, asks, hears, takes, takes_other}
+use Rattle.name_links.specs.OneLink.{OneLink, server_of, back_of, first_link, asks, hears, takes, takes_other, IsMessageStep, serves}
 
 -- the lines whose last answer hasn't come, with their tags
 
@@ -127,3 +128,6 @@ TakesKeepsIt = (link : OneLink) (it : Tag × MCommand) (ups : List (Tag × MComm
 abbrev pub OthersKeepIt : Type 0
 OthersKeepIt = (link : OneLink) (q : Server) (tag : Tag) (it : MCommand) (line : OpenLine) → LinkHolds link → HasNoBang q → q ≢ server_of link
     → backend_line q tag it ≡ Some line → LinkHolds (takes_other link q it)
+
+abbrev pub ServesKeepsIt : Type 0
+ServesKeepsIt = (link : OneLink) (it : BackendRecord) → LinkHolds link → IsMessageStep link.held it → LinkHolds (serves link it)

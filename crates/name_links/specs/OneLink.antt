@@ -6,7 +6,9 @@ use Rattle.mur_base.specs.declared.home.Location.{Location}
 use Rattle.mupdate_codec.specs.declared.command.MCommand.{MCommand}
 use Rattle.mupdate_codec.specs.declared.command.MResponse.{MResponse}
 use Rattle.mupdate_codec.specs.declared.tag.Tag.{Tag}
-use Rattle.node_record.specs.Held.{Names}
+use Rattle.node_record.specs.declared.backend.BackendRecord.{BackendRecord}
+use Rattle.node_record.specs.declared.backend.BackendRecord.TheVariants as entry
+use Rattle.node_record.specs.Held.{Names, IsWritableHome, held_after}
 use Rattle.node_record.specs.Table.{MailboxTable, empty_table}
 use Rattle.master_core.specs.declared.sender.Sender.TheVariants.{Backend}
 use Rattle.master_core.specs.Replies.{reply_to}
@@ -111,3 +113,13 @@ takes link it ups = record link {
 -- the master takes a line of another backend
 abbrev pub takes_other : OneLink → Server → MCommand → OneLink
 takes_other link q it = record link { table = table_by link.table q it }
+
+-- the backend changes the messages of a mailbox that is open there (RFC 9051, 6.4)
+abbrev pub IsMessageStep : Names → BackendRecord → Type 0
+IsMessageStep held (entry.Added name messages) = IsWritableHome held name
+IsMessageStep held (entry.Flagged name rows) = IsWritableHome held name
+IsMessageStep held (entry.Gone name uids) = IsWritableHome held name
+IsMessageStep held it = ⊥
+
+abbrev pub serves : OneLink → BackendRecord → OneLink
+serves link it = record link { held = held_after link.held it }
