@@ -1,5 +1,5 @@
 // Steps of the master.
-use case_base::{Fault, bytes_of, number_of, wide_number_of};
+use case_base::{Fault, Steps, bytes_of, number_of, put_steps, wide_number_of};
 use link_msg::{LinkMsg, Out, Outs};
 use master_core::{Master, Sender};
 use mur_base::{Bytes, Items, Location, MailName, Memory, mail_name, node_name};
@@ -21,25 +21,6 @@ pub fn put(alloc: Global, steps: &[&str], out: &mut Bytes) -> Result<(), Fault> 
         }
         Err(RecordFault::Memory) => Err(Fault::Memory),
     }
-}
-
-fn put_steps(
-    alloc: Global,
-    master: &mut Master,
-    steps: &[&str],
-    out: &mut Bytes,
-) -> Result<(), Fault> {
-    for step in steps {
-        if !out.is_empty() {
-            out.extend_from_slice(b" | ")?;
-        }
-        let before = out.len();
-        put_step(alloc, master, step, out)?;
-        if out.len() == before {
-            out.push(b'-')?;
-        }
-    }
-    Ok(())
 }
 
 /// The entries that a field writes: `-` for none, `full COUNT` for so many active mailboxes at b1, or the bytes of one.
@@ -80,13 +61,15 @@ fn place(alloc: Global) -> Result<Location, Fault> {
 }
 
 /// Takes a step: a connection opens, its bytes come, a sender ends, or a node sends a line.
-fn put_step(alloc: Global, master: &mut Master, step: &str, out: &mut Bytes) -> Result<(), Fault> {
-    let (word, rest) = step.split_once(' ').unwrap_or((step, ""));
-    match word {
-        "open" => put_opened(alloc, master, rest, out),
-        "data" => put_answered(alloc, master, rest, out),
-        "end" => end(alloc, master, rest),
-        kind => put_said(alloc, master, kind, rest, out),
+impl Steps for Master {
+    fn take_step(&mut self, alloc: Global, step: &str, out: &mut Bytes) -> Result<(), Fault> {
+        let (word, rest) = step.split_once(' ').unwrap_or((step, ""));
+        match word {
+            "open" => put_opened(alloc, self, rest, out),
+            "data" => put_answered(alloc, self, rest, out),
+            "end" => end(alloc, self, rest),
+            kind => put_said(alloc, self, kind, rest, out),
+        }
     }
 }
 
