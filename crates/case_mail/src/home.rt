@@ -14,9 +14,17 @@ const ID: AskId = AskId {
     command: 2,
 };
 
+/// The home of a case.
+#[derive(Drop)]
+struct Home {
+    backend: Backend,
+}
+
 /// Takes steps of a home that begins without mailboxes, and prints what each gives.
 pub fn put(alloc: Global, steps: &[&str], out: &mut Bytes) -> Result<(), Fault> {
-    let mut home = empty(alloc)?;
+    let mut home = Home {
+        backend: empty(alloc)?,
+    };
     put_steps(alloc, &mut home, steps, out)
 }
 
@@ -27,11 +35,16 @@ pub fn empty(alloc: Global) -> Result<Backend, Fault> {
     Ok(Backend::boot(alloc, Location { server, partition }))
 }
 
-impl Steps for Backend {
+impl Steps for Home {
     fn take_step(&mut self, alloc: Global, step: &str, out: &mut Bytes) -> Result<(), Fault> {
-        let words = parts_of(alloc, step, " ")?;
-        take_words(alloc, self, words.as_slice(), out)
+        take(alloc, &mut self.backend, step, out)
     }
+}
+
+/// Takes a step of a home, and prints what comes of it.
+pub fn take(alloc: Global, home: &mut Backend, step: &str, out: &mut Bytes) -> Result<(), Fault> {
+    let words = parts_of(alloc, step, " ")?;
+    take_words(alloc, home, words.as_slice(), out)
 }
 
 fn take_words(

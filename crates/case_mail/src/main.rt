@@ -1,5 +1,5 @@
-//! Worked cases of what no client can see of names, mailboxes, their moves and changes, homes and sessions: `case_mail FILE ..`. It prints how many cases of each
-//! file passed, or ends with status 1 at the first one that doesn't. The first lines of each file say what its cases are.
+//! Worked cases of what no client can see of names, mailboxes, their moves and changes, homes and sessions: `case_mail FILE ..`. It prints how many
+//! cases of each file passed, or ends with status 1 at the first one that doesn't. The first lines of each file say what its cases are.
 #![tactic(auto)]
 
 mod content;

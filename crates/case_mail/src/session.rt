@@ -51,7 +51,7 @@ fn empty(alloc: Global) -> Result<Stage, Fault> {
 impl Steps for Stage {
     fn take_step(&mut self, alloc: Global, step: &str, out: &mut Bytes) -> Result<(), Fault> {
         match step.split_once(' ') {
-            Some(("home", step)) => self.home.take_step(alloc, step, out),
+            Some(("home", step)) => home::take(alloc, &mut self.home, step, out),
             _ if self.has_left => Ok(()),
             Some(("moved", line)) => self.put_told(alloc, line, Course::BeingMoved, out),
             Some(("unreached", line)) => self.put_told(alloc, line, Course::NotReached, out),

@@ -7,6 +7,12 @@ use node_record::{MasterRecord, RecordFault, encode_master};
 use schedule_text::put_text;
 use std::alloc::Global;
 
+/// The master of a case.
+#[derive(Drop)]
+struct Stage {
+    master: Master,
+}
+
 /// Takes steps of a master, of which the first is its boot, and prints what each gives.
 pub fn put(alloc: Global, steps: &[&str], out: &mut Bytes) -> Result<(), Fault> {
     let [entries, steps @ ..] = steps else {
@@ -15,7 +21,7 @@ pub fn put(alloc: Global, steps: &[&str], out: &mut Bytes) -> Result<(), Fault> 
     let entries = entries_of(alloc, entries)?;
     let backends = Items::new(alloc);
     match Master::boot(alloc, node_name(alloc, b"m")?, backends, entries.as_slice()) {
-        Ok(mut master) => put_steps(alloc, &mut master, steps, out),
+        Ok(master) => put_steps(alloc, &mut Stage { master }, steps, out),
         Err(RecordFault::Bad(at)) => {
             Ok(out.extend_from_slice(format!(in alloc; "bad {at}")?.as_bytes())?)
         }
@@ -61,14 +67,14 @@ fn place(alloc: Global) -> Result<Location, Fault> {
 }
 
 /// Takes a step: a connection opens, its bytes come, a sender ends, or a node sends a line.
-impl Steps for Master {
+impl Steps for Stage {
     fn take_step(&mut self, alloc: Global, step: &str, out: &mut Bytes) -> Result<(), Fault> {
         let (word, rest) = step.split_once(' ').unwrap_or((step, ""));
         match word {
-            "open" => put_opened(alloc, self, rest, out),
-            "data" => put_answered(alloc, self, rest, out),
-            "end" => end(alloc, self, rest),
-            kind => put_said(alloc, self, kind, rest, out),
+            "open" => put_opened(alloc, &mut self.master, rest, out),
+            "data" => put_answered(alloc, &mut self.master, rest, out),
+            "end" => end(alloc, &mut self.master, rest),
+            kind => put_said(alloc, &mut self.master, kind, rest, out),
         }
     }
 }

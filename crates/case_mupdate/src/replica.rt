@@ -6,34 +6,52 @@ use mur_base::{Bytes, Location, MailName, Memory, mail_name};
 use schedule_text::put_text;
 use std::alloc::Global;
 
-/// Takes steps of a replica that was told nothing, and prints what each gives.
-pub fn put(alloc: Global, steps: &[&str], out: &mut Bytes) -> Result<(), Fault> {
-    let mut replica = Replica::new(alloc);
-    put_steps(alloc, &mut replica, steps, out)
+/// The replica of a case.
+#[derive(Drop)]
+struct Stage {
+    replica: Replica,
 }
 
-impl Steps for Replica {
+/// Takes steps of a replica that was told nothing, and prints what each gives.
+pub fn put(alloc: Global, steps: &[&str], out: &mut Bytes) -> Result<(), Fault> {
+    let mut stage = Stage {
+        replica: Replica::new(alloc),
+    };
+    put_steps(alloc, &mut stage, steps, out)
+}
+
+impl Steps for Stage {
     fn take_step(&mut self, alloc: Global, step: &str, out: &mut Bytes) -> Result<(), Fault> {
         let (word, rest) = step.split_once(' ').unwrap_or((step, ""));
         match word {
-            "hear" => Ok(self.hear(alloc, bytes_of(alloc, rest)?.as_slice())?),
-            "take" => take(self, response_of(alloc, rest)?, out),
-            "find" => {
-                let name = mail_name(alloc, rest.as_bytes())?;
-                Ok(put_found(self.find(&name), out)?)
-            }
-            "above" => {
-                let name = mail_name(alloc, rest.as_bytes())?;
-                Ok(put_found(self.nearest_above(alloc, &name)?, out)?)
-            }
-            "names" => Ok(put_names(self.names(alloc)?.as_slice(), out)?),
-            "matching" => {
-                let names = self.matching(alloc, rest.as_bytes())?;
-                Ok(put_names(names.as_slice(), out)?)
-            }
-            "whole" => Ok(put_whole(self.is_whole(), out)?),
-            _ => Err(Fault::Unreadable("no such step")),
+            "hear" => Ok(self.replica.hear(alloc, bytes_of(alloc, rest)?.as_slice())?),
+            "take" => take(&mut self.replica, response_of(alloc, rest)?, out),
+            _ => put_told(alloc, &self.replica, word, rest, out),
         }
+    }
+}
+
+/// Prints what a replica tells.
+fn put_told(
+    alloc: Global,
+    replica: &Replica,
+    word: &str,
+    rest: &str,
+    out: &mut Bytes,
+) -> Result<(), Fault> {
+    match word {
+        "find" => Ok(put_found(replica.find(&mail_name(alloc, rest.as_bytes())?), out)?),
+        "above" => {
+            let name = mail_name(alloc, rest.as_bytes())?;
+            Ok(put_found(replica.nearest_above(alloc, &name)?, out)?)
+        }
+        "names" => Ok(put_names(replica.names(alloc)?.as_slice(), out)?),
+        "matching" => {
+            let names = replica.matching(alloc, rest.as_bytes())?;
+            Ok(put_names(names.as_slice(), out)?)
+        }
+        "whole" => Ok(put_whole(replica.is_whole(), out)?),
+        _ => Err(Fault::Unreadable("no such step")),
     }
 }
 
