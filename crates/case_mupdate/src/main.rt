@@ -1,8 +1,9 @@
 //! Worked cases of lines of MUPDATE: `case_mupdate FILE ..`. It prints how many cases of each file passed, or ends with status 1 at the first one
 //! that doesn't.
 //!
-//! The kinds of cases: `command` and `response` take bytes, `ask` takes a tag, `tag` takes a command, `cut` takes the bytes of a connection; `long command` and `long cut`
-//! take bytes between which a text is repeated; `master` takes entries and steps, `replica` takes steps. The first lines of each file say more.
+//! The kinds of cases: `command` and `response` take bytes, `ask` takes a tag, `tag` takes a command, `cut` takes the bytes of a connection;
+//! `long command` and `long cut` take bytes between which a text is repeated; `master` takes entries and steps, `replica` takes steps. The first
+//! lines of each file say more.
 #![tactic(auto)]
 
 mod cuts;

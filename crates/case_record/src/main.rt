@@ -1,5 +1,5 @@
-//! Worked cases of entries of disks, of merged logs and of printed schedules: `case_record FILE ..`. It prints how many cases of each file passed, or ends with status 1 at the first one
-//! that doesn't.
+//! Worked cases of entries of disks, of merged logs and of printed schedules: `case_record FILE ..`. It prints how many cases of each file passed, or
+//! ends with status 1 at the first one that doesn't.
 //!
 //! The kinds of cases: `master` and `backend` take the bytes of an entry in hexadecimal digits, `merged` takes logs, `printed` a schedule. The first
 //! lines of each file say more.
