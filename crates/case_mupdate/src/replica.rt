@@ -77,24 +77,27 @@ fn put_whole(whole: bool, out: &mut Bytes) -> Result<(), Memory> {
     out.extend_from_slice(if whole { b"whole" } else { b"not yet" })
 }
 
-/// Prints a record: `active PLACE [ACL]`, `reserved PLACE [ACL]`, `reserved PLACE`, or `none`.
 fn put_found(found: Option<&Rec>, out: &mut Bytes) -> Result<(), Memory> {
     match found {
+        Some(rec) => put_rec(rec, out),
         None => out.extend_from_slice(b"none"),
-        Some(Rec::Active(place, acl)) => {
-            put_place(b"active ", place, out)?;
-            put_bracketed(acl.as_slice(), out)
-        }
-        Some(Rec::Reserved(place, None)) => put_place(b"reserved ", place, out),
-        Some(Rec::Reserved(place, Some(acl))) => {
-            put_place(b"reserved ", place, out)?;
-            put_bracketed(acl.as_slice(), out)
-        }
     }
 }
 
-fn put_place(state: &[u8], place: &Location, out: &mut Bytes) -> Result<(), Memory> {
-    out.extend_from_slice(state)?;
+/// Prints a record: whether it is active or reserved, its place, and its access list in brackets if it has one.
+fn put_rec(rec: &Rec, out: &mut Bytes) -> Result<(), Memory> {
+    out.extend_from_slice(match rec {
+        Rec::Active(_, _) => b"active ",
+        Rec::Reserved(_, _) => b"reserved ",
+    })?;
+    put_place(rec.place(), out)?;
+    match rec {
+        Rec::Active(_, acl) | Rec::Reserved(_, Some(acl)) => put_bracketed(acl.as_slice(), out),
+        Rec::Reserved(_, None) => Ok(()),
+    }
+}
+
+fn put_place(place: &Location, out: &mut Bytes) -> Result<(), Memory> {
     out.extend_from_slice(place.server.as_bytes())?;
     out.push(b'!')?;
     out.extend_from_slice(place.partition.as_slice())
