@@ -205,6 +205,18 @@ def disk_case(image, call, choice, *steps):
     return answers + [bracketed(disk.seen), bracketed(disk.crashed(int(choice)))]
 
 
+def stopped_case(image, call, *steps):
+    disk, answers = Disk(bytes_of(image), int(call)), ['runs']
+    for step in steps:
+        try:
+            changed(disk, step)
+            answers.append('ok')
+        except Stopped:
+            answers.append('failed')
+        answers.append('stopped' if disk.stopped else 'runs')
+    return answers
+
+
 def format_case(call, choice):
     disk = Disk(b'', int(call))
     return [made_on(disk)] + left(disk, int(choice))
@@ -220,7 +232,7 @@ def append_case(image, call, choice, *steps):
     return [journal.append(step_of(step)) for step in steps] + left(disk, int(choice))
 
 
-KINDS = {'disk': disk_case, 'format': format_case, 'open': open_case, 'append': append_case}
+KINDS = {'disk': disk_case, 'stopped': stopped_case, 'format': format_case, 'open': open_case, 'append': append_case}
 
 
 def wanted(given):
@@ -278,6 +290,18 @@ def disk_rows():
         row('disk', b'a', 99, 2**64 - 1, *many),
         row('disk', b'a', 99, 3 << 62, *many),
         row('disk', b'', 9, 0, zeros),
+    ]
+
+
+def stopped_rows():
+    steps = ['write 0 ab', 'cut 1', 'sync', 'write 0 c']
+    return [
+        '# stopped | IMAGE | CALL | STEP | .. => whether the disk, which stops inside its call of this number, has stopped; and then the answer to each',
+        '# step, and whether it has stopped after it.',
+        *(row('stopped', b'x', call, *steps) for call in range(5)),
+        row('stopped', b'', 0),
+        row('stopped', b'', 0, 'sync', 'sync'),
+        row('stopped', b'', 2**64 - 1, 'write 0 ', 'sync'),
     ]
 
 
@@ -379,7 +403,7 @@ def run_rows():
     ]
 
 
-TABLES = {'disk': disk_rows, 'format': format_rows, 'open': open_rows, 'append': append_rows, 'append_all': append_all_rows, 'runs': run_rows}
+TABLES = {'disk': disk_rows, 'stopped': stopped_rows, 'format': format_rows, 'open': open_rows, 'append': append_rows, 'append_all': append_all_rows, 'runs': run_rows}
 
 
 def write(folder):

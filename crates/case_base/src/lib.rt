@@ -8,7 +8,9 @@
 mod cases;
 mod fault;
 mod field;
+mod steps;
 
 pub use cases::{Cases, tell_all};
 pub use fault::Fault;
 pub use field::{bytes_of, number_of, parts_of, put_field, put_value, wide_number_of};
+pub use steps::{Steps, put_steps};

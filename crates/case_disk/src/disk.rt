@@ -29,6 +29,28 @@ fn put_images(alloc: Global, disk: MemDisk, choice: u64, out: &mut Bytes) -> Res
     Ok(put_bracketed(image_of(alloc, &mut disk)?.as_slice(), out)?)
 }
 
+/// Makes calls of a disk, and puts the answers, and whether it has stopped: before the first call and after each.
+pub fn put_stops(
+    alloc: Global,
+    image: &str,
+    call: &str,
+    steps: &[&str],
+    out: &mut Bytes,
+) -> Result<(), Fault> {
+    let image = bytes_of(alloc, image)?;
+    let mut disk = stop_disk(mem_disk(alloc, image), wide_number_of(call)?);
+    put_stopped(&disk, out)?;
+    for step in steps {
+        put_step(alloc, &mut disk, step, out)?;
+        put_stopped(&disk, out)?;
+    }
+    Ok(())
+}
+
+fn put_stopped(disk: &StopDisk, out: &mut Bytes) -> Result<(), Fault> {
+    Ok(put_field(if disk.stopped() { b"stopped" } else { b"runs" }, out)?)
+}
+
 fn put_step(alloc: Global, disk: &mut StopDisk, step: &str, out: &mut Bytes) -> Result<(), Fault> {
     let (word, rest) = step.split_once(' ').unwrap_or((step, ""));
     match word {

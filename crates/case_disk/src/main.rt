@@ -1,9 +1,9 @@
 //! Worked cases of disks and journals: `case_disk FILE ..`. It prints how many cases of each file passed, or ends with status 1 at the first one
 //! that doesn't.
 //!
-//! The kinds of cases: `disk` takes calls of a disk, `format` makes a journal, `open` takes an image, `append` takes an image and appends to it.
-//! The disk stops inside one of its device calls, and a crash then leaves what a number chooses. The first lines of each file say more;
-//! `tests/journal.py` writes the files.
+//! The kinds of cases: `disk` takes calls of a disk, `stopped` tells after each whether it has stopped, `format` makes a journal, `open` takes an
+//! image, `append` takes an image and appends to it. The disk stops inside one of its device calls, and a crash then leaves what a number chooses.
+//! The first lines of each file say more; `tests/journal.py` writes the files.
 #![tactic(auto)]
 
 mod append;
@@ -23,6 +23,9 @@ impl Cases for Kinds {
         match fields {
             ["disk", image, call, choice, steps @ ..] => {
                 disk::put(alloc, image, (call, choice), steps, out)
+            }
+            ["stopped", image, call, steps @ ..] => {
+                disk::put_stops(alloc, image, call, steps, out)
             }
             ["format", call, choice] => append::put_format(alloc, call, choice, out),
             ["open", image] => image::put_open(alloc, image, out),

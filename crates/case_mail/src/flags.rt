@@ -7,7 +7,7 @@ use std::alloc::Global;
 
 /// Prints whether flags have one, what they are without it, and whether they have it then.
 pub fn put_without(alloc: Global, flags: &str, name: &str, out: &mut Bytes) -> Result<(), Fault> {
-    let flags = flags_of(alloc, flags)?;
+    let flags = flags_of(alloc, parts_of(alloc, flags, " ")?.as_slice())?;
     let Ok(name) = flag(name.as_bytes()) else {
         return Err(Fault::Unreadable("no flag"));
     };
@@ -17,10 +17,10 @@ pub fn put_without(alloc: Global, flags: &str, name: &str, out: &mut Bytes) -> R
     Ok(put_value(alloc, &left.has(&name), out)?)
 }
 
-/// The flags that stand in a text, with a space between two.
-fn flags_of(alloc: Global, text: &str) -> Result<FlagSet, Fault> {
+/// The flags with these names.
+pub fn flags_of(alloc: Global, names: &[&str]) -> Result<FlagSet, Fault> {
     let mut flags = FlagSet::new(alloc);
-    for name in parts_of(alloc, text, " ")?.iter() {
+    for name in names {
         flags = with_flag(alloc, &flags, name)?;
     }
     Ok(flags)

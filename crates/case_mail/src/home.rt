@@ -1,9 +1,8 @@
 // Steps of a home of mailboxes.
 use crate::operation::op_of;
 use crate::outs::put_outs;
-use crate::steps::{Steps, put_steps};
 use backend_core::{BackInput, Backend, Held};
-use case_base::{Fault, number_of, parts_of};
+use case_base::{Fault, Steps, number_of, parts_of, put_steps};
 use link_msg::{FrontAsk, Op, Outs};
 use mail_message::Change;
 use mur_base::{AskId, Bytes, Location, MailName, Memory, Phase, mail_name, node_name, user_name};
@@ -15,9 +14,18 @@ const ID: AskId = AskId {
     command: 2,
 };
 
+/// The home of a case.
+#[derive(Drop)]
+struct Home {
+    backend: Backend,
+}
+
 /// Takes steps of a home that begins without mailboxes, and prints what each gives.
 pub fn put(alloc: Global, steps: &[&str], out: &mut Bytes) -> Result<(), Fault> {
-    put_steps(alloc, empty(alloc), steps, out)
+    let mut home = Home {
+        backend: empty(alloc)?,
+    };
+    put_steps(alloc, &mut home, steps, out)
 }
 
 /// A home without mailboxes.
@@ -27,11 +35,16 @@ pub fn empty(alloc: Global) -> Result<Backend, Fault> {
     Ok(Backend::boot(alloc, Location { server, partition }))
 }
 
-impl Steps for Backend {
-    fn take(&mut self, alloc: Global, step: &str, out: &mut Bytes) -> Result<(), Fault> {
-        let words = parts_of(alloc, step, " ")?;
-        take_words(alloc, self, words.as_slice(), out)
+impl Steps for Home {
+    fn take_step(&mut self, alloc: Global, step: &str, out: &mut Bytes) -> Result<(), Fault> {
+        take(alloc, &mut self.backend, step, out)
     }
+}
+
+/// Takes a step of a home, and prints what comes of it.
+pub fn take(alloc: Global, home: &mut Backend, step: &str, out: &mut Bytes) -> Result<(), Fault> {
+    let words = parts_of(alloc, step, " ")?;
+    take_words(alloc, home, words.as_slice(), out)
 }
 
 fn take_words(

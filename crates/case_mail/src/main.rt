@@ -1,18 +1,20 @@
-//! Worked cases of what no client can see of names, mailboxes, homes and sessions: `case_mail FILE ..`. It prints how many cases of each
-//! file passed, or ends with status 1 at the first one that doesn't. The first lines of each file say what its cases are.
+//! Worked cases of what no client can see of names, mailboxes, their moves and changes, homes and sessions: `case_mail FILE ..`. It prints how many
+//! cases of each file passed, or ends with status 1 at the first one that doesn't. The first lines of each file say what its cases are.
 #![tactic(auto)]
 
+mod content;
 mod flags;
 mod home;
 mod line;
 mod messages;
 mod model;
+mod moving;
 mod names;
 mod operation;
 mod outs;
 mod session;
-mod steps;
 mod values;
+mod watched;
 
 use anyhow::Result;
 use case_base::{Cases, Fault, tell_all};
@@ -28,6 +30,8 @@ impl Cases for Kinds {
             ["home", steps @ ..] => home::put(alloc, steps, out),
             ["session", steps @ ..] => session::put(alloc, steps, out),
             ["model", steps @ ..] => model::put(alloc, steps, out),
+            ["move", count, steps @ ..] => moving::put(alloc, count, steps, out),
+            ["changes", count, steps @ ..] => watched::put(alloc, count, steps, out),
             ["search", key] => messages::put_found(alloc, key, out),
             ["part", from, count] => messages::put_part(alloc, from, count, out),
             ["without", flags, flag] => flags::put_without(alloc, flags, flag, out),

@@ -1,7 +1,6 @@
 // The store of the model: what its one session is told.
 use crate::line::{command_of, put_reply};
-use crate::steps::{Steps, put_steps};
-use case_base::Fault;
+use case_base::{Fault, Steps, put_steps};
 use imap_types::{Command, Reply};
 use mail_message::date;
 use mur_base::{Bytes, Items, Map, Memory, User, Users, user_name};
@@ -18,7 +17,8 @@ pub struct Model {
 
 /// Takes lines of a session in which nobody has logged in, over a store without mailboxes, and prints each reply.
 pub fn put(alloc: Global, steps: &[&str], out: &mut Bytes) -> Result<(), Fault> {
-    put_steps(alloc, empty(alloc), steps, out)
+    let mut model = empty(alloc)?;
+    put_steps(alloc, &mut model, steps, out)
 }
 
 /// A store without mailboxes, and a session in which nobody has logged in.
@@ -57,7 +57,7 @@ fn bob_alone(alloc: Global) -> Result<Items<User>, Fault> {
 }
 
 impl Steps for Model {
-    fn take(&mut self, alloc: Global, step: &str, out: &mut Bytes) -> Result<(), Fault> {
+    fn take_step(&mut self, alloc: Global, step: &str, out: &mut Bytes) -> Result<(), Fault> {
         let reply = self.reply_to(alloc, command_of(alloc, step)?)?;
         Ok(put_reply(alloc, step, &reply, out)?)
     }

@@ -44,7 +44,10 @@ fn put_outcome(alloc: Global, outcome: &Outcome, text: &mut Bytes) -> Result<(),
         Outcome::Exists => text.extend_from_slice(b" exists"),
         Outcome::Limit => text.extend_from_slice(b" limit"),
         Outcome::Gone => text.extend_from_slice(b" gone"),
-        Outcome::Uids(uids) => put_uids(alloc, uids.as_slice(), text),
+        Outcome::Uids(uids) => {
+            text.extend_from_slice(b" uids")?;
+            put_uids(alloc, uids.as_slice(), text)
+        }
         Outcome::Messages(messages) => put_messages(alloc, messages.as_slice(), text),
         Outcome::Summaries(summaries) => put_summaries(alloc, summaries.as_slice(), text),
         Outcome::Rows(rows) => {
@@ -54,8 +57,8 @@ fn put_outcome(alloc: Global, outcome: &Outcome, text: &mut Bytes) -> Result<(),
     }
 }
 
-fn put_uids(alloc: Global, uids: &[u32], text: &mut Bytes) -> Result<(), Memory> {
-    text.extend_from_slice(b" uids")?;
+/// Prints UIDs.
+pub fn put_uids(alloc: Global, uids: &[u32], text: &mut Bytes) -> Result<(), Memory> {
     for uid in uids {
         text.extend_from_slice(format!(in alloc; " {uid}")?.as_bytes())?;
     }
@@ -82,7 +85,8 @@ fn put_summaries(alloc: Global, summaries: &[Summary], text: &mut Bytes) -> Resu
     Ok(())
 }
 
-fn put_rows(alloc: Global, rows: &[Row], text: &mut Bytes) -> Result<(), Memory> {
+/// Prints rows.
+pub fn put_rows(alloc: Global, rows: &[Row], text: &mut Bytes) -> Result<(), Memory> {
     for row in rows {
         put_row(alloc, row.uid, &row.flags, text)?;
     }
@@ -97,7 +101,7 @@ fn put_snapshot(alloc: Global, seen: &Snapshot, text: &mut Bytes) -> Result<(), 
 }
 
 /// Prints a UID and its flags.
-fn put_row(alloc: Global, uid: u32, flags: &FlagSet, text: &mut Bytes) -> Result<(), Memory> {
+pub fn put_row(alloc: Global, uid: u32, flags: &FlagSet, text: &mut Bytes) -> Result<(), Memory> {
     text.extend_from_slice(format!(in alloc; " {uid} ")?.as_bytes())?;
     text.extend_from_slice(flags_part(alloc, flags)?.as_slice())
 }

@@ -2,9 +2,8 @@
 use crate::home;
 use crate::line::{command_of, put_reply};
 use crate::model::setting;
-use crate::steps::{Steps, put_steps};
 use backend_core::{BackInput, Backend};
-use case_base::Fault;
+use case_base::{Fault, Steps, put_steps};
 use imap_types::Command;
 use link_msg::{AnswerBody, LinkMsg, Out};
 use mur_base::{Bytes, MailName, What, node_name};
@@ -34,7 +33,8 @@ pub struct Stage {
 
 /// Takes steps of a session in which nobody has logged in, over a home without mailboxes, and prints what each gives.
 pub fn put(alloc: Global, steps: &[&str], out: &mut Bytes) -> Result<(), Fault> {
-    put_steps(alloc, empty(alloc), steps, out)
+    let mut stage = empty(alloc)?;
+    put_steps(alloc, &mut stage, steps, out)
 }
 
 /// A session in which nobody has logged in, over a home without mailboxes.
@@ -49,9 +49,9 @@ fn empty(alloc: Global) -> Result<Stage, Fault> {
 }
 
 impl Steps for Stage {
-    fn take(&mut self, alloc: Global, step: &str, out: &mut Bytes) -> Result<(), Fault> {
+    fn take_step(&mut self, alloc: Global, step: &str, out: &mut Bytes) -> Result<(), Fault> {
         match step.split_once(' ') {
-            Some(("home", step)) => self.home.take(alloc, step, out),
+            Some(("home", step)) => home::take(alloc, &mut self.home, step, out),
             _ if self.has_left => Ok(()),
             Some(("moved", line)) => self.put_told(alloc, line, Course::BeingMoved, out),
             Some(("unreached", line)) => self.put_told(alloc, line, Course::NotReached, out),

@@ -1,10 +1,10 @@
 // What is read of bytes, and printed of what was read.
 use crate::repeated::repeated;
-use case_base::{Fault, bytes_of, put_field};
+use case_base::{Fault, bytes_of, put_field, wide_number_of};
 use mupdate_codec::{
-    LineFault, Tag, ask_of, print_command, print_response, read_command, read_response,
+    LineFault, Tag, ask_of, print_command, print_response, read_command, read_response, tag_of,
 };
-use mur_base::{Bytes, Memory, put_number};
+use mur_base::{AskId, Bytes, Memory, put_number};
 use std::alloc::Global;
 
 /// Puts how many bytes a command has and what is printed of it, or why none is read.
@@ -66,6 +66,15 @@ fn put_fault(fault: LineFault, out: &mut Bytes) -> Result<(), Memory> {
             put_number(at as u64, out)
         }
         LineFault::Memory => Err(Memory),
+    }
+}
+
+/// Puts the tag that tells a command of a client.
+pub fn put_tag(alloc: Global, conn: &str, command: &str, out: &mut Bytes) -> Result<(), Fault> {
+    let (conn, command) = (wide_number_of(conn)?, wide_number_of(command)?);
+    match tag_of(alloc, &AskId { conn, command })? {
+        Tag::Text(text) => Ok(out.extend_from_slice(text.as_slice())?),
+        Tag::Star => Ok(out.push(b'*')?),
     }
 }
 

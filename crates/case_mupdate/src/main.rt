@@ -1,14 +1,16 @@
 //! Worked cases of lines of MUPDATE: `case_mupdate FILE ..`. It prints how many cases of each file passed, or ends with status 1 at the first one
 //! that doesn't.
 //!
-//! The kinds of cases: `command` and `response` take bytes, `ask` takes a tag, `cut` takes the bytes of a connection; `long command` and `long cut`
-//! take bytes between which a text is repeated; `master` takes entries and steps. The first lines of each file say more.
+//! The kinds of cases: `command` and `response` take bytes, `ask` takes a tag, `tag` takes a command, `cut` takes the bytes of a connection;
+//! `long command` and `long cut` take bytes between which a text is repeated; `master` takes entries and steps, `replica` takes steps. The first
+//! lines of each file say more.
 #![tactic(auto)]
 
 mod cuts;
 mod lines;
 mod master;
 mod repeated;
+mod replica;
 
 use anyhow::Result;
 use case_base::{Cases, Fault, tell_all};
@@ -24,10 +26,12 @@ impl Cases for Kinds {
             ["command", bytes] => lines::put_command(alloc, bytes, out),
             ["response", bytes] => lines::put_response(alloc, bytes, out),
             ["ask", tag] => lines::put_ask(alloc, tag, out),
+            ["tag", conn, command] => lines::put_tag(alloc, conn, command, out),
             ["cut", bytes] => cuts::put_cut(alloc, bytes, out),
             ["long command", parts @ ..] => lines::put_long_command(alloc, parts, out),
             ["long cut", parts @ ..] => cuts::put_long_cut(alloc, parts, out),
             ["master", steps @ ..] => master::put(alloc, steps, out),
+            ["replica", steps @ ..] => replica::put(alloc, steps, out),
             _ => Err(Fault::Unreadable("no such kind of case")),
         }
     }

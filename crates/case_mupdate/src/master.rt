@@ -1,11 +1,17 @@
 // Steps of the master.
-use case_base::{Fault, bytes_of, number_of, wide_number_of};
+use case_base::{Fault, Steps, bytes_of, number_of, put_steps, wide_number_of};
 use link_msg::{LinkMsg, Out, Outs};
 use master_core::{Master, Sender};
 use mur_base::{Bytes, Items, Location, MailName, Memory, mail_name, node_name};
 use node_record::{MasterRecord, RecordFault, encode_master};
 use schedule_text::put_text;
 use std::alloc::Global;
+
+/// The master of a case.
+#[derive(Drop)]
+struct Stage {
+    master: Master,
+}
 
 /// Takes steps of a master, of which the first is its boot, and prints what each gives.
 pub fn put(alloc: Global, steps: &[&str], out: &mut Bytes) -> Result<(), Fault> {
@@ -15,31 +21,12 @@ pub fn put(alloc: Global, steps: &[&str], out: &mut Bytes) -> Result<(), Fault> 
     let entries = entries_of(alloc, entries)?;
     let backends = Items::new(alloc);
     match Master::boot(alloc, node_name(alloc, b"m")?, backends, entries.as_slice()) {
-        Ok(mut master) => put_steps(alloc, &mut master, steps, out),
+        Ok(master) => put_steps(alloc, &mut Stage { master }, steps, out),
         Err(RecordFault::Bad(at)) => {
             Ok(out.extend_from_slice(format!(in alloc; "bad {at}")?.as_bytes())?)
         }
         Err(RecordFault::Memory) => Err(Fault::Memory),
     }
-}
-
-fn put_steps(
-    alloc: Global,
-    master: &mut Master,
-    steps: &[&str],
-    out: &mut Bytes,
-) -> Result<(), Fault> {
-    for step in steps {
-        if !out.is_empty() {
-            out.extend_from_slice(b" | ")?;
-        }
-        let before = out.len();
-        put_step(alloc, master, step, out)?;
-        if out.len() == before {
-            out.push(b'-')?;
-        }
-    }
-    Ok(())
 }
 
 /// The entries that a field writes: `-` for none, `full COUNT` for so many active mailboxes at b1, or the bytes of one.
@@ -80,13 +67,15 @@ fn place(alloc: Global) -> Result<Location, Fault> {
 }
 
 /// Takes a step: a connection opens, its bytes come, a sender ends, or a node sends a line.
-fn put_step(alloc: Global, master: &mut Master, step: &str, out: &mut Bytes) -> Result<(), Fault> {
-    let (word, rest) = step.split_once(' ').unwrap_or((step, ""));
-    match word {
-        "open" => put_opened(alloc, master, rest, out),
-        "data" => put_answered(alloc, master, rest, out),
-        "end" => end(alloc, master, rest),
-        kind => put_said(alloc, master, kind, rest, out),
+impl Steps for Stage {
+    fn take_step(&mut self, alloc: Global, step: &str, out: &mut Bytes) -> Result<(), Fault> {
+        let (word, rest) = step.split_once(' ').unwrap_or((step, ""));
+        match word {
+            "open" => put_opened(alloc, &mut self.master, rest, out),
+            "data" => put_answered(alloc, &mut self.master, rest, out),
+            "end" => end(alloc, &mut self.master, rest),
+            kind => put_said(alloc, &mut self.master, kind, rest, out),
+        }
     }
 }
 

@@ -1,13 +1,16 @@
-//! Worked cases of entries of disks: `case_record FILE ..`. It prints how many cases of each file passed, or ends with status 1 at the first one
-//! that doesn't.
+//! Worked cases of entries of disks, of merged logs and of printed schedules: `case_record FILE ..`. It prints how many cases of each file passed, or
+//! ends with status 1 at the first one that doesn't.
 //!
-//! The kinds of cases, `master` and `backend`, take the bytes of an entry in hexadecimal digits. The first lines of the file say more.
+//! The kinds of cases: `master` and `backend` take the bytes of an entry in hexadecimal digits, `merged` takes logs, `printed` a schedule. The first
+//! lines of each file say more.
 #![tactic(auto)]
 
 mod backend;
 mod fields;
 mod hex;
 mod master;
+mod merged;
+mod printed;
 
 use anyhow::Result;
 use case_base::{Cases, Fault, put_field, tell_all};
@@ -25,6 +28,8 @@ impl Cases for Kinds {
             ["backend", digits] => {
                 put_backend(alloc, hex::bytes_of(alloc, digits)?.as_slice(), out)
             }
+            ["merged", logs @ ..] => merged::put(alloc, logs, out),
+            ["printed", schedule] => printed::put(alloc, schedule, out),
             _ => Err(Fault::Unreadable("no such kind of case")),
         }
     }

@@ -14,6 +14,3 @@ pub use laws::{
     the_changes_left_complete_the_taker, the_taker_ends_with_the_same_mailbox, the_uids_left_rise,
 };
 pub use sweep::Sweep;
-
-#[cfg(test)]
-mod tests;

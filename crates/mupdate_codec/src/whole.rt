@@ -9,7 +9,7 @@ use crate::tag::Tag;
 use mur_base::Memory;
 use std::alloc::Global;
 
-/// The command whose line the bytes are, with its tag.
+/// The command whose line the bytes are, with its tag; `None` if they are another line, no whole line, or a line with bytes after it.
 pub fn command_in(alloc: Global, line: &[u8]) -> Result<Option<(Tag, MCommand)>, Memory>
     ensures { IfOk result (λ it. it ≡ command_in line.now) }
 {
@@ -27,7 +27,7 @@ pub fn command_in(alloc: Global, line: &[u8]) -> Result<Option<(Tag, MCommand)>,
     }
 }
 
-/// The response whose line the bytes are, with its tag.
+/// The response whose line the bytes are, with its tag; `None` if they are another line, no whole line, or a line with bytes after it.
 pub fn response_in(alloc: Global, line: &[u8]) -> Result<Option<(Tag, MResponse)>, Memory>
     ensures { IfOk result (λ it. it ≡ response_in line.now) }
 {

@@ -1,24 +1,23 @@
 // Cases whose fields are steps, taken one after another.
-use case_base::Fault;
+use crate::fault::Fault;
 use mur_base::Bytes;
 use std::alloc::Global;
 
 /// What the steps of a case change.
 pub trait Steps {
     /// Takes a step, and prints what comes of it.
-    fn take(&mut self, alloc: Global, step: &str, out: &mut Bytes) -> Result<(), Fault>;
+    fn take_step(&mut self, alloc: Global, step: &str, out: &mut Bytes) -> Result<(), Fault>;
 }
 
 /// Takes steps, and prints a field for each: `-` for one that prints nothing.
-pub fn put_steps<S: Steps + Drop>(
+pub fn put_steps<S: Steps>(
     alloc: Global,
-    start: Result<S, Fault>,
+    state: &mut S,
     steps: &[&str],
     out: &mut Bytes,
 ) -> Result<(), Fault> {
-    let mut state = start?;
     for step in steps {
-        put_step(alloc, &mut state, step, out)?;
+        put_step(alloc, state, step, out)?;
     }
     Ok(())
 }
@@ -33,7 +32,7 @@ fn put_step<S: Steps>(
         out.extend_from_slice(b" | ")?;
     }
     let before = out.len();
-    state.take(alloc, step, out)?;
+    state.take_step(alloc, step, out)?;
     if out.len() == before {
         out.push(b'-')?;
     }
