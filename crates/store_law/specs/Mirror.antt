@@ -61,8 +61,8 @@ read_line mirror line = mirror
 abbrev pub read_lines : Mirror → List ReplyLine → Mirror
 read_lines mirror lines = fold read_line mirror lines
 
--- Whether a STORE names the message of a number, among so many, if this is its UID (RFC 9051, 9: sequence-set). `*` is the last message; since UIDs
--- rise with the numbers (RFC 9051, 2.3.1.1), in a set of UIDs it is one above that of each other message.
+-- Whether a STORE names the message of a number, among so many, if this is its UID (RFC 9051, 9: sequence-set). `*` is the last message. UIDs rise with
+-- the numbers (RFC 9051, 2.3.1.1), so any other message has a lower one than that: for it `*` is as good as the next UID.
 unfoldable pub names : Bool → List SetPart → ℕ → ℕ → ℕ → Bool
 names false set count number uid = set_holds (set_at count set) number
 names true set count number uid = set_holds (set_at (if number == count then uid else uid + 1) set) uid
