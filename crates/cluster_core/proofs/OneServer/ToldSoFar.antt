@@ -51,7 +51,7 @@ use Rattle.store_law.proofs.OwnSelected.{none_own, points_own}
 use Rattle.cluster_core.proofs.Histories.Tally.{acts, conn_of, command_of}
 use Rattle.cluster_core.proofs.Histories.Marks.{Carries, counts_of, is_mark, all_points}
 use Rattle.cluster_core.proofs.Histories.Marks.Carries.{no_marks, a_mark, a_telling}
-use Rattle.store_law.proofs.NoRelocation.{have_causes}
+use Rattle.store_law.proofs.CausesTold.{have_causes}
 use Rattle.cluster_core.proofs.OneServer.GuestsServed.{others_are_silent}
 use Rattle.cluster_core.proofs.OneServer.OneStoreLaw.{SaysOf, says_of, IsLegalTo, legal_history, loses_the_next, made_by_now, steps_rise, IsToldSo}
 use Rattle.imap_talk.proofs.ReadLaw.{heard_sound, read_of_legal}
