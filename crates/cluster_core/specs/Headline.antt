@@ -1,6 +1,7 @@
 -- The headline, of a run of the cluster.
 pub mod OneStore
 pub mod Points
+pub mod Routing
 pub mod Homes
 pub mod HomeLaw
 pub mod OpenAt
