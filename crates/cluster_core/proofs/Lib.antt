@@ -6,4 +6,5 @@ pub mod Nodes
 pub mod Flows
 pub mod Guests
 pub mod Feeds
+pub mod Routing
 pub mod OneServer

@@ -1,6 +1,7 @@
 -- The headline, of a run of the cluster.
 pub mod OneStore
 pub mod Points
+pub mod Routing
 pub mod Homes
 pub mod HomeLaw
 pub mod OpenAt
@@ -18,7 +19,7 @@ use Rattle.schedule_text.specs.declared.event.Event.{Event}
 use Rattle.cluster_core.specs.Headline.Closed.{GivesNoMore}
 use Rattle.cluster_core.specs.Flow.{run_of, run_steps, steps_of_run}
 use Rattle.cluster_core.specs.Headline.FlowLaw.{AreStepsOfAll}
-use Rattle.cluster_core.specs.Headline.HomeLaw.{KeepsOneHomeEach, RefusesForCause}
+use Rattle.cluster_core.specs.Headline.HomeLaw.{KeepsOneHomeEach, RefusesForCauseEach}
 use Rattle.cluster_core.specs.Headline.OneNode.{GoesOverLinks, OneNodeWorksEach, ServesItsOwnEach}
 use Rattle.cluster_core.specs.Headline.OneStore.{IsToldByOneStore}
 use Rattle.cluster_core.specs.Headline.Outside.{ServesGuests}
@@ -42,4 +43,4 @@ pub record IsOneServer (config : Config) (events : List Event) : Type 0 where
   pub guests : ServesGuests config events
   pub replicas : FollowTheTable config events
   pub one_home : KeepsOneHomeEach config events
-  pub refusals : RefusesForCause (run_of config events)
+  pub refusals : RefusesForCauseEach config events

@@ -1,10 +1,12 @@
 -- The texts of each answer of a sound store to a sound request are sound, so a client reads what was meant; and the store stays sound.
-use Rattle.std.proofs.Common.{ℕ, ◌^◌, List, [], codes, refl}
+use Rattle.std.proofs.Common.{ℕ, true, ◌^◌, List, [], codes, refl}
 use Rattle.std.proofs.Common.{Option, None, Some}
 use Rattle.std.specs.Prelude.{IfSome, unwrap_or}
 use Rattle.std.proofs.lemmas.List.Elements.{All-nil, All-cons}
 use Rattle.mail_message.specs.Literals.{IsPlain}
 use Rattle.imap_types.specs.declared.command.Command.{Command}
+use Rattle.imap_types.specs.declared.command.Command.TheVariants as command
+use Rattle.imap_types.specs.declared.reply.NoText.{NoText}
 use Rattle.mur_model.specs.Needed.{Needed, Refusal, Turned, Mailbox, Work}
 use Rattle.imap_types.specs.declared.reply.Bye.TheVariants.{Logout as logout_bye}
 use Rattle.imap_types.specs.declared.reply.Reply.{Reply}
@@ -13,6 +15,7 @@ use Rattle.imap_types.specs.declared.reply.ReplyLine.TheVariants.{Bye, Capabilit
 use Rattle.imap_types.specs.declared.request.Request.{Request}
 use Rattle.imap_types.specs.declared.request.Request.TheVariants.{Command as a_command, Unknown as unknown, TooBig as too_big}
 use Rattle.mur_model.specs.declared.session.Sess.{Sess}
+use Rattle.mur_model.specs.declared.session.Sess.TheVariants.{Selected as selected}
 use Rattle.mur_model.specs.declared.setting.Setting.{Setting}
 use Rattle.mur_model.specs.declared.store.Store.{Store}
 use Rattle.mur_model.specs.declared.view.View.{View}
@@ -20,6 +23,7 @@ use Rattle.mur_model.specs.Act.{act_by, act_of, worked_at, need_of}
 use Rattle.mur_model.specs.Answer.{answer_of}
 use Rattle.mur_model.specs.AtOnce.{told_at_once}
 use Rattle.mur_model.specs.History.{Course}
+use Rattle.mur_model.specs.Relocation.{refused_for}
 use Rattle.mur_model.specs.Store.{box_at, is_spent}
 use Rattle.mur_model.proofs.EachNeed.{OfAnswers, OfBegun, OfViewed, each_need}
 use Rattle.mur_model.proofs.EachAnswer.{Keeps}
@@ -31,7 +35,7 @@ use Rattle.imap_reply.proofs.NoForgery.{read_as_meant}
 use Rattle.imap_talk.proofs.PlainNames.{shown_plain}
 use Rattle.imap_talk.proofs.SoundStores.{box_is}
 use Rattle.imap_talk.proofs.SoundStores.{store_is}
-use Rattle.imap_talk.proofs.SoundWorks.{SoundReply, SoundWork, SoundWorked, left_sound, unselected_sound, work_sound}
+use Rattle.imap_talk.proofs.SoundWorks.{SoundReply, SoundWork, SoundWorked, closed_sound, left_sound, unselected_sound, work_sound}
 use Rattle.imap_reply.specs.ReadAsMeant.{IsReadAsMeant}
 use Rattle.imap_types.specs.declared.command.Tag.{Tag}
 
@@ -75,7 +79,7 @@ begun_sound setting date_is = record {
   append = λ name text flags date body sound.
       record { ruled = sound.0; dated = new_dated date setting.date date_is sound.1.0; counted = sound.1.1 };
   status = λ user name items named. shown_plain user name named;
-  select = λ user name is_writable was_selected named. shown_plain user name named;
+  select = λ user name text is_writable was_selected asked named. shown_plain user name named;
 }
 
 viewed_sound : (view : View) → OfViewed IsSoundCommand SoundNeed view
@@ -137,6 +141,17 @@ answer_kept setting store session (a_command tag it) serial date_is all sound =
 answer_kept setting store session (unknown tag) serial date_is all sound = all
 answer_kept setting store session (too_big tag) serial date_is all sound = all
 
+-- a refusal for a move or for a server
+refusal_sound : (session : Sess) (it : Command) (why : NoText) → SoundReply (refused_for session it why).reply
+unfolding refused_for IsSoundVerdict
+refusal_sound (selected view) (command.Select text) why = record { lines = closed_sound true; verdict = tt }
+refusal_sound (selected view) (command.Examine text) why = record { lines = closed_sound true; verdict = tt }
+refusal_sound session it why = record { lines = All-nil IsSoundLine; verdict = tt }
+
+refusal_read : (session : Sess) (tag : Tag) (it : Command) (why : NoText) → IsSoundTag tag
+    → IsReadAsMeant tag (refused_for session it why).reply
+refusal_read session tag it why tagged = sound_by tag (refused_for session it why).reply tagged (refusal_sound session it why)
+
 abbrev pub HasSoundStore : Course → Type 0
 HasSoundStore course = IsSoundStore course.store
 
@@ -145,4 +160,6 @@ pub answers_read : (setting : Setting) → IsDate setting.date → Keeps setting
 answers_read setting date_is = record {
   kept = λ course conn request serial all sound. answer_kept setting course.store (course.sessions conn) request serial date_is all sound;
   told = λ course conn request serial all sound. answer_read setting course.store (course.sessions conn) request serial date_is all sound;
+  refused = λ course conn tag it why all sound. all;
+  refusal = λ course conn tag it why all sound. refusal_read (course.sessions conn) tag it why sound.0;
 }

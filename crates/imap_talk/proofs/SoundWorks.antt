@@ -98,7 +98,7 @@ news_sound view lines now expunges known verdict own all last = record {
   verdict = last;
 }
 
-closed_sound : (was_selected : Bool) → All IsSoundLine (closed_lines was_selected)
+pub closed_sound : (was_selected : Bool) → All IsSoundLine (closed_lines was_selected)
 unfolding IsSoundLine
 closed_sound true = All-cons IsSoundLine Closed [] tt (All-nil IsSoundLine)
 closed_sound false = All-nil IsSoundLine

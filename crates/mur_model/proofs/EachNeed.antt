@@ -59,6 +59,11 @@ pub record OfAnswers (Of : Needed → Type 0) : Type 0 where
   pub capability : Of capability
   pub logout : Of logout
 
+-- a SELECT, which selects to change, or an EXAMINE
+abbrev pub selecting : Bool → List ℕ → Command
+selecting true text = command.Select text
+selecting false text = command.Examine text
+
 -- what commands need that a session has whether a mailbox is selected or not, of which this is known
 pub record OfBegun (setting : Setting) (Asked : Command → Type 0) (Of : Needed → Type 0) : Type 0 where
   pub answers : OfAnswers Of
@@ -68,7 +73,7 @@ pub record OfBegun (setting : Setting) (Asked : Command → Type 0) (Of : Needed
   pub append : (name text : List ℕ) (flags : Flags) (date : Option (List ℕ)) (body : List ℕ) → Asked (command.Append text flags date body)
       → Of (Mailbox name (append_work (new_message setting flags date body)))
   pub status : (user name : List ℕ) (items : List StatusItem) → mail_name_fault name ≡ None → Of (Mailbox name (status_work (shown_name user name) items))
-  pub select : (user name : List ℕ) (is_writable was_selected : Bool) → mail_name_fault name ≡ None
+  pub select : (user name text : List ℕ) (is_writable was_selected : Bool) → Asked (selecting is_writable text) → mail_name_fault name ≡ None
       → Of (Mailbox name (select_work (opening user name is_writable was_selected)))
 
 -- what commands of a session that has this view need
@@ -207,14 +212,14 @@ unfolding select_by
 each_select_by of name it true is = is
 each_select_by of name it false is = of.unselected it.user it.was_selected NoPerm
 
-each_select : {setting : Setting} {Asked : Command → Type 0} {Of : Needed → Type 0} (of : OfBegun setting Asked Of) (user name : List ℕ)
-    (is_writable was_selected : Bool) (fault : Option NameFault) → mail_name_fault name ≡ fault
+each_select : {setting : Setting} {Asked : Command → Type 0} {Of : Needed → Type 0} (of : OfBegun setting Asked Of) (user name text : List ℕ)
+    (is_writable was_selected : Bool) (fault : Option NameFault) → Asked (selecting is_writable text) → mail_name_fault name ≡ fault
     → Of (select_as setting user name is_writable was_selected fault)
 unfolding select_as
-each_select of user name is_writable was_selected (Some fault) named = of.unselected user was_selected NonExistent
-each_select {setting} of user name is_writable was_selected None named =
+each_select of user name text is_writable was_selected (Some fault) asked named = of.unselected user was_selected NonExistent
+each_select {setting} of user name text is_writable was_selected None asked named =
     let it = opening user name is_writable was_selected in
-    each_select_by of name it (has_rights setting.users user name) (of.select user name is_writable was_selected named)
+    each_select_by of name it (has_rights setting.users user name) (of.select user name text is_writable was_selected asked named)
 
 each_begun : {setting : Setting} {Asked : Command → Type 0} {Of : Needed → Type 0} (of : OfBegun setting Asked Of) (user : List ℕ) (is_selected : Bool)
     (it : Command) → Asked it → Of (need_begun setting user is_selected it)
@@ -231,9 +236,9 @@ each_begun {setting} of user is_selected (command.Append text flags date body) a
 each_begun of user is_selected (command.Status text items) asked =
     each_status of user (taken_name user text) items (mail_name_fault (taken_name user text)) refl
 each_begun of user is_selected (command.Select text) asked =
-    each_select of user (taken_name user text) true is_selected (mail_name_fault (taken_name user text)) refl
+    each_select of user (taken_name user text) text true is_selected (mail_name_fault (taken_name user text)) asked refl
 each_begun of user is_selected (command.Examine text) asked =
-    each_select of user (taken_name user text) false is_selected (mail_name_fault (taken_name user text)) refl
+    each_select of user (taken_name user text) text false is_selected (mail_name_fault (taken_name user text)) asked refl
 each_begun of user is_selected (command.Delete text) asked = of.answers.refused Cannot
 each_begun of user is_selected (command.List reference pattern) asked = of.answers.refused Cannot
 each_begun of user is_selected (command.Copy by_uid set text) asked = of.answers.refused Cannot
@@ -323,7 +328,7 @@ begun_by_works setting of = record {
   make = λ name. of.work name _;
   append = λ name text flags date body asked. of.work name _;
   status = λ user name items named. of.work name _;
-  select = λ user name is_writable was_selected named. of.work name _;
+  select = λ user name text is_writable was_selected asked named. of.work name _;
 }
 
 viewed_by_works : {Of : Needed → Type 0} → OfWorks Of → (view : View) → OfViewed AnyCommand Of view

@@ -31,7 +31,7 @@ begun_own setting session = record {
   make = λ name. tt;
   append = λ name text flags date body asked. tt;
   status = λ user name items named. tt;
-  select = λ user name is_writable was_selected named. tt;
+  select = λ user name text is_writable was_selected asked named. tt;
 }
 
 viewed_own : (session : Sess) (view : View) → session ≡ Selected view → OfViewed AnyCommand (IsOfNeeded session) view

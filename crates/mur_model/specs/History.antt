@@ -5,12 +5,18 @@ use Rattle.std.specs.Prelude.{Some, All, AllPairs, slice_get}
 use Rattle.mur_base.specs.declared.point.Point.{Point}
 use Rattle.mur_base.specs.declared.point.What.{What}
 use Rattle.mur_base.specs.declared.point.What.TheVariants.{Reply as replied, Read as read, Lost as lost, Reserved as reserved, Unreached as unreached}
+use Rattle.imap_types.specs.declared.command.Command.{Command}
+use Rattle.imap_types.specs.declared.command.Tag.{Tag}
+use Rattle.imap_types.specs.declared.reply.NoText.{NoText}
 use Rattle.imap_types.specs.declared.request.Answer.{Answer}
 use Rattle.imap_types.specs.declared.request.Request.{Request}
+use Rattle.imap_types.specs.declared.request.Request.TheVariants.{Command as a_command}
 use Rattle.mur_model.specs.declared.session.Sess.{Sess}
 use Rattle.mur_model.specs.declared.setting.Setting.{Setting}
 use Rattle.mur_model.specs.declared.store.Store.{Store}
+use Rattle.mur_model.specs.Act.{need_of}
 use Rattle.mur_model.specs.Answer.{Answered, answer_of, MayTake}
+use Rattle.mur_model.specs.Relocation.{NeedsMailbox, after_refusal, cause_text}
 
 -- the one store and the sessions of all connections, between two points
 pub record Course : Type 0 where
@@ -58,11 +64,22 @@ pub record Takes (setting : Setting) (talk : Talk) (course : Course) (conn numbe
   pub given : numbered (talk.serials conn) number ≡ Some serial
   pub free : MayTake setting course.store (course.sessions conn) request serial
 
+-- a command of a connection, refused for its mailbox's move or for a server
+abbrev pub refused_out : Course → ℕ → Tag → Command → NoText → Answered
+refused_out course conn tag it why = after_refusal course.store (course.sessions conn) tag it why
+
+-- a command by its number, which needs a mailbox, and is refused for the cause that its point tells
+pub record IsRefused (setting : Setting) (talk : Talk) (course : Course) (conn number : ℕ) (tag : Tag) (it : Command) (what : What) (why : NoText) : Type 0 where
+  pub asked : numbered (talk.requests conn) number ≡ Some (a_command tag it)
+  pub needs : NeedsMailbox (need_of setting (course.sessions conn) it)
+  pub cause : cause_text what ≡ Some why
+
 abbrev pub point_of : ℕ → ℕ → ℕ → What → Point
 point_of step conn number what = record { step = step; ask = record { conn = conn; command = number }; what = what }
 
 -- the points, one after another, lead the store and the sessions from one state to another. A `reply` point carries out its
--- request, and the request's answer is this step's. A `lost` point carries it out and gives no answer.
+-- request, and the request's answer is this step's. A `lost` point carries it out and gives no answer. A `reserved` or `unreached` point refuses its
+-- command, whose answer says so.
 pub data Follows (setting : Setting) (talk : Talk) : Course → List Point → Course → Type 0 where
   no_points : (course : Course) → Follows setting talk course [] course
   a_reply : (course last : Course) (step conn number : ℕ) (request : Request) (serial : ℕ) (points : List Point)
@@ -74,6 +91,11 @@ pub data Follows (setting : Setting) (talk : Talk) : Course → List Point → C
       → Takes setting talk course conn number request serial
       → Follows setting talk (course_after course conn (carried_out setting course conn request serial)) points last
       → Follows setting talk course (point_of step conn number lost ∷ points) last
+  a_refusal : (course last : Course) (step conn number : ℕ) (tag : Tag) (it : Command) (what : What) (why : NoText) (points : List Point)
+      → IsRefused setting talk course conn number tag it what why
+      → numbered (talk.answers conn) number ≡ Some (refused_out course conn tag it why).answer
+      → Follows setting talk (course_after course conn (refused_out course conn tag it why)) points last
+      → Follows setting talk course (point_of step conn number what ∷ points) last
 
 -- `reply` and both kinds of `refused` answer their command
 unfoldable pub answers_its_command : What → Bool

@@ -11,6 +11,7 @@ pub mod Append
 pub mod Status
 pub mod Act
 pub mod Answer
+pub mod Relocation
 pub mod History
 pub mod News
 pub mod Beside

@@ -5,8 +5,10 @@ use Rattle.mur_base.specs.declared.point.What.{What}
 use Rattle.mur_base.specs.declared.point.What.TheVariants.{Reserved, Unreached}
 use Rattle.imap_types.specs.declared.reply.NoText.{NoText}
 use Rattle.imap_types.specs.declared.reply.NoText.TheVariants.{BeingMoved, NotReached}
+use Rattle.mur_model.specs.declared.need.Need.TheVariants.{Reply}
 use Rattle.mur_model.specs.declared.session.Sess.{Sess}
 use Rattle.mur_model.specs.declared.session.Turn.{Turn}
+use Rattle.mur_model.specs.Act.{session_after}
 use Rattle.mur_model.specs.Left.{replied}
 use Rattle.imap_types.specs.Reply.{refused}
 use Rattle.mur_model.specs.Select.{unselected}
@@ -32,3 +34,7 @@ abbrev pub relocated : Sess → Awaited → What → Behind
 relocated session awaited what =
     let turn = moved_turn awaited (why_moved what) in
     told_reply session turn.reply turn.session
+
+-- a reply is given, and the session goes on behind it
+abbrev pub goes_on : Sess → Turn → Behind
+goes_on session turn = record { session = session_after session turn.session; need = Reply turn.reply }

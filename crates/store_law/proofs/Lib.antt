@@ -5,6 +5,7 @@ pub mod NoneLost
 pub mod AppendedThere
 pub mod NeedsNoCause
 pub mod NoRelocation
+pub mod CausesTold
 pub mod StaysOwn
 pub mod BegunLaw
 pub mod OwnRights

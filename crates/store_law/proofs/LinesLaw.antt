@@ -165,7 +165,7 @@ begun_at_own setting = record {
   make = λ name. tt;
   append = λ name text flags date body asked. tt;
   status = λ user name items named. tt;
-  select = λ user name is_writable was_selected named. tt;
+  select = λ user name text is_writable was_selected asked named. tt;
 }
 
 viewed_at_own : (view : View) → OfViewed AnyCommand IsAtOwn view

@@ -9,7 +9,11 @@ use Rattle.std.proofs.lemmas.Option.{slice_get_within}
 use Rattle.std.proofs.Math.Seq.{drop-length}
 use Rattle.mail_message.specs.declared.message.Row.{Row}
 use Rattle.mur_base.specs.declared.point.Point.{Point}
-use Rattle.mur_base.specs.declared.point.What.TheVariants.{Reply as replied, Lost as lost}
+use Rattle.mur_base.specs.declared.point.What.{What}
+use Rattle.mur_base.specs.declared.point.What.TheVariants.{Reply as replied, Read as read, Lost as lost, Reserved as reserved, Unreached as unreached}
+use Rattle.imap_types.specs.declared.command.Command.{Command}
+use Rattle.imap_types.specs.declared.command.Command.TheVariants as command
+use Rattle.imap_types.specs.declared.reply.NoText.{NoText}
 use Rattle.imap_types.specs.declared.request.Answer.{Answer}
 use Rattle.imap_types.specs.declared.request.Request.{Request}
 use Rattle.imap_types.specs.declared.request.Request.TheVariants as request
@@ -17,10 +21,12 @@ use Rattle.mur_model.specs.declared.session.Sess.{Sess}
 use Rattle.mur_model.specs.declared.session.Sess.TheVariants.{Off, In, Selected as selected, Ended}
 use Rattle.mur_model.specs.declared.setting.Setting.{Setting}
 use Rattle.mur_model.specs.declared.store.Store.{Store}
-use Rattle.mur_model.specs.Answer.{answer_of}
-use Rattle.mur_model.specs.History.{Course, Talk, Follows, IsInCommandOrder, IsLegal, answers_its_command, carried_out, course_after, is_about, loses, numbered, point_of, with_session}
-use Rattle.mur_model.specs.History.Follows.{no_points, a_reply, a_loss}
-use Rattle.store_law.specs.Mirror.{LosesNoneOf, Mirror, OfView, ViewsAreTold, asked_by, mirror_of, read_lines}
+use Rattle.mur_model.specs.Act.{session_after}
+use Rattle.mur_model.specs.Answer.{Answered, answer_of}
+use Rattle.mur_model.specs.History.{Course, Talk, Follows, IsInCommandOrder, IsLegal, answers_its_command, carried_out, course_after, is_about, loses, numbered, point_of, refused_out, with_session}
+use Rattle.mur_model.specs.Relocation.{cause_text, refused_for}
+use Rattle.mur_model.specs.History.Follows.{no_points, a_reply, a_loss, a_refusal}
+use Rattle.store_law.specs.Mirror.{LosesNoneOf, Mirror, OfView, ViewsAreTold, asked, asked_by, may_touch, mirror_of, read_lines}
 use Rattle.store_law.proofs.MirrorLaw.{Agrees, keeps_mirror}
 use Rattle.store_law.proofs.MirrorNews.{mirrors_length}
 use Rattle.store_law.proofs.MirrorSteps.{Keeps, act_keeps}
@@ -53,6 +59,15 @@ unfolding mirror_of
 mirror_ends mirror [] = refl
 mirror_ends mirror (it ∷ requests) = refl
 
+-- a refusal for a move or for a server answers its command
+cause_answers : (what : What) (why : NoText) → cause_text what ≡ Some why → answers_its_command what ≡ true
+unfolding cause_text answers_its_command
+cause_answers reserved why e = refl
+cause_answers (unreached node) why e = refl
+cause_answers replied why e = cc
+cause_answers read why e = cc
+cause_answers lost why e = cc
+
 -- ---- one request
 
 module _ (R : Mirror → List Row → Type 0) (keeps : Keeps R) (setting : Setting) where
@@ -63,6 +78,19 @@ module _ (R : Mirror → List Row → Type 0) (keeps : Keeps R) (setting : Setti
   answer_keeps store session (request.Command tag it) serial mirror rise is = act_keeps R keeps setting store session it serial mirror rise is
   answer_keeps store session (request.Unknown tag) serial mirror rise is = is
   answer_keeps store session (request.TooBig tag) serial mirror rise is = is
+
+  -- one that is refused for a move or for a server
+  refused_keeps : (session : Sess) (it : Command) (why : NoText) (mirror : Mirror) → OfView R mirror session
+      → let turn = refused_for session it why in OfView R (read_lines (asked mirror it) turn.reply.lines) (session_after session turn.session)
+  unfolding refused_for asked OfView
+  refused_keeps (selected view) (command.Select text) why mirror is = tt
+  refused_keeps (selected view) (command.Examine text) why mirror is = tt
+  refused_keeps (selected view) (command.Store by_uid set mode true flags) why mirror is =
+      keeps.forgets (may_touch by_uid set (length mirror)) 1 mirror view.rows is
+  refused_keeps (selected view) it why mirror is = is
+  refused_keeps Off it why mirror is = tt
+  refused_keeps (In user) it why mirror is = tt
+  refused_keeps Ended it why mirror is = tt
 
   module _ (talk : Talk) (conn : ℕ) where
     -- none of the points answers one of the first commands of the connection, and one answers each further one that was answered
@@ -107,18 +135,18 @@ module _ (R : Mirror → List Row → Type 0) (keeps : Keeps R) (setting : Setti
     itself : (m : ℕ) → (m == m) ≡ true
     itself m = grind (arith, nat_tests)
 
-    module _ (step n k : ℕ) (points : List Point) (left : IsLeft k (point_of step conn n replied ∷ points)) where
+    module _ (step n k : ℕ) (what : What) (answering : answers_its_command what ≡ true) (points : List Point)
+        (left : IsLeft k (point_of step conn n what ∷ points)) where
       head_counts : (number : ℕ) (same : Bool) → (n == number) ≡ same
-          → count_by (is_about answers_its_command conn number) (point_of step conn n replied ∷ points)
+          → count_by (is_about answers_its_command conn number) (point_of step conn n what ∷ points)
           ≡ cond same 1 0 + count_by (is_about answers_its_command conn number) points
-      unfolding answers_its_command
       head_counts number same e =
-          count_cons (is_about answers_its_command conn number) (point_of step conn n replied) points
-          ∙ ap (λ b. cond b 1 0 + count_by (is_about answers_its_command conn number) points) (let is : (true && (conn == conn) && (n == number)) ≡ same
-          = rw (itself conn, e) refl in is)
+          count_cons (is_about answers_its_command conn number) (point_of step conn n what) points
+          ∙ ap (λ b. cond b 1 0 + count_by (is_about answers_its_command conn number) points)
+          (let is : (answers_its_command what && (conn == conn) && (n == number)) ≡ same = rw (answering, itself conn, e) refl in is)
 
       -- the first of the connection's points answers its next command
-      is_next : 0 < n → n ≤ length (talk.answers conn) → All (IsInCommandOrder (point_of step conn n replied)) points → n ≡ suc k
+      is_next : 0 < n → n ≤ length (talk.answers conn) → All (IsInCommandOrder (point_of step conn n what)) points → n ≡ suc k
       is_next low high order = by (nat_le n k) (nat_lt (suc k) n) refl refl
         where
           by : (lower higher : Bool) → nat_le n k ≡ lower → nat_lt (suc k) n ≡ higher → n ≡ suc k
@@ -183,36 +211,38 @@ module _ (R : Mirror → List Row → Type 0) (keeps : Keeps R) (setting : Setti
             subst (λ m. OfView R m (course.sessions conn))
             (sym (ap (mirror_of mirror (drop k (talk.requests conn))) none ∙ mirror_ends mirror (drop k (talk.requests conn)))) is
 
-    -- a point of another connection
-    passes : (course last : Course) (x : Point) (points : List Point) (other : ℕ) (it : Request) (serial : ℕ) → (conn == other) ≡ false
-        → ((number : ℕ) → is_about answers_its_command conn number x ≡ false)
-        → GoesOnFrom (course_after course other (carried_out setting course other it serial)) points last → GoesOnFrom course (x ∷ points) last
-    passes course last x points other it serial e not later k mirror order loses_none left within rise is =
+    -- a point of another connection, whose request leaves the store so
+    passes : (course last : Course) (x : Point) (points : List Point) (other : ℕ) (answered : Answered) → (AllRise course.store → AllRise answered.store)
+        → (conn == other) ≡ false → ((number : ℕ) → is_about answers_its_command conn number x ≡ false)
+        → GoesOnFrom (course_after course other answered) points last → GoesOnFrom course (x ∷ points) last
+    passes course last x points other answered rises e not later k mirror order loses_none left within rise is =
         later k mirror (pairs_tail IsInCommandOrder x points order)
         (All-tail (λ (p : Point). p.ask.conn ≡ conn → loses p.what ≡ false) x points loses_none) (other_left k x points not left) within
-        (answer_rises setting course.store (course.sessions other) it serial rise)
-        (subst (OfView R mirror) (sym (session_there course.sessions other (carried_out setting course other it serial).session e)) is)
+        (rises rise) (subst (OfView R mirror) (sym (session_there course.sessions other answered.session e)) is)
+
+    -- what is answered to a request keeps what its client knows
+    abbrev AnswerKeeps : Course → Request → Answered → Type 0
+    AnswerKeeps course it answered = (mirror : Mirror) → AllRise course.store → OfView R mirror (course.sessions conn)
+        → OfView R (read_lines (asked_by mirror it) answered.answer.reply.lines) answered.session
 
     -- a point of this one
-    answers : (course last : Course) (step n : ℕ) (points : List Point) (it : Request) (serial : ℕ) → numbered (talk.requests conn) n ≡ Some it
-        → numbered (talk.answers conn) n ≡ Some (carried_out setting course conn it serial).answer
-        → GoesOnFrom (course_after course conn (carried_out setting course conn it serial)) points last
-        → GoesOnFrom course (point_of step conn n replied ∷ points) last
+    answers : (course last : Course) (step n : ℕ) (what : What) (points : List Point) (it : Request) (answered : Answered)
+        → answers_its_command what ≡ true → (AllRise course.store → AllRise answered.store) → AnswerKeeps course it answered
+        → numbered (talk.requests conn) n ≡ Some it → numbered (talk.answers conn) n ≡ Some answered.answer
+        → GoesOnFrom (course_after course conn answered) points last → GoesOnFrom course (point_of step conn n what ∷ points) last
     unfolding numbered mirror_of
-    answers course last step zero points it serial asked told later k mirror order loses_none left within rise is = cc
-    answers course last step (suc n) points it serial asked told later k mirror order loses_none left within rise is =
-        let x : Point = point_of step conn (suc n) replied in
-        let answered = carried_out setting course conn it serial in
+    answers course last step zero what points it answered answering rises so asked told later k mirror order loses_none left within rise is = cc
+    answers course last step (suc n) what points it answered answering rises so asked told later k mirror order loses_none left within rise is =
+        let x : Point = point_of step conn (suc n) what in
         let high : suc n ≤ length (talk.answers conn) = omega (arith, slice_get_within (talk.answers conn) n answered.answer told) in
-        let next : suc n ≡ suc k = is_next step (suc n) k points left (omega arith) high (pairs_head IsInCommandOrder x points order) in
+        let next : suc n ≡ suc k = is_next step (suc n) k what answering points left (omega arith) high (pairs_head IsInCommandOrder x points order) in
         let same : n ≡ k = omega (arith, next) in
         let read : Mirror = read_lines (asked_by mirror it) answered.answer.reply.lines in
         let behind : OfView R read ((course_after course conn answered).sessions conn) =
-        subst (OfView R read) (sym (session_here course.sessions conn answered.session (itself conn)))
-        (answer_keeps course.store (course.sessions conn) it serial mirror rise is) in
+        subst (OfView R read) (sym (session_here course.sessions conn answered.session (itself conn))) (so mirror rise is) in
         let rest = later (suc n) read (pairs_tail IsInCommandOrder x points order)
-        (All-tail (λ (p : Point). p.ask.conn ≡ conn → loses p.what ≡ false) x points loses_none) (rest_left step (suc n) k points left next high) high
-        (answer_rises setting course.store (course.sessions conn) it serial rise) behind in
+        (All-tail (λ (p : Point). p.ask.conn ≡ conn → loses p.what ≡ false) x points loses_none) (rest_left step (suc n) k what answering points left next high)
+        high (rises rise) behind in
         subst (λ m. OfView R (mirror_of mirror (drop m (talk.requests conn)) (drop m (talk.answers conn))) (last.sessions conn)) same
         (one_more mirror n it answered.answer asked told last rest)
       where
@@ -224,11 +254,33 @@ module _ (R : Mirror → List Row → Type 0) (keeps : Keeps R) (setting : Setti
         one_more mirror n it answer asked told last rest =
             rw (drop_at (talk.requests conn) n it asked) (rw (drop_at (talk.answers conn) n answer told) rest)
 
+    -- a point that answers: of this connection, or of another
+    answers_by : (course last : Course) (step other n : ℕ) (what : What) (points : List Point) (it : Request) (answered : Answered)
+        → answers_its_command what ≡ true → (AllRise course.store → AllRise answered.store)
+        → ((mirror : Mirror) → AllRise course.store → OfView R mirror (course.sessions other)
+        → OfView R (read_lines (asked_by mirror it) answered.answer.reply.lines) answered.session)
+        → numbered (talk.requests other) n ≡ Some it → numbered (talk.answers other) n ≡ Some answered.answer
+        → GoesOnFrom (course_after course other answered) points last → GoesOnFrom course (point_of step other n what ∷ points) last
+    answers_by course last step other n what points it answered answering rises so asked told later = by (conn == other) refl
+      where
+        by : (same : Bool) → (conn == other) ≡ same → GoesOnFrom course (point_of step other n what ∷ points) last
+        by true e =
+            let is : conn ≡ other = grind (arith, nat_tests, e) in
+            subst (λ c. GoesOnFrom course (point_of step c n what ∷ points) last) is
+            (answers course last step n what points it answered answering rises
+            (subst (λ c. (mirror : Mirror) → AllRise course.store → OfView R mirror (course.sessions c)
+            → OfView R (read_lines (asked_by mirror it) answered.answer.reply.lines) answered.session) (sym is) so)
+            (ap (λ c. numbered (talk.requests c) n) is ∙ asked) (ap (λ c. numbered (talk.answers c) n) is ∙ told)
+            (subst (λ c. GoesOnFrom (course_after course c answered) points last) (sym is) later))
+        by false e = passes course last (point_of step other n what) points other answered rises e
+            (λ number. (let back : (other == conn) ≡ false = grind (arith, nat_tests, e) in rw (answering, back) refl)) later
+
     along : (course last : Course) (points : List Point) → Follows setting talk course points last → GoesOnFrom course points last
-    unfolding answers_its_command loses
+    unfolding answers_its_command asked_by loses
     along course last points (no_points here) = ends here
     along course last points (a_loss here end step other n it serial rest takes later) =
-        λ k mirror order loses_none. passes here end (point_of step other n lost) rest other it serial
+        λ k mirror order loses_none. passes here end (point_of step other n lost) rest other (carried_out setting here other it serial)
+        (answer_rises setting here.store (here.sessions other) it serial)
         (apart (conn == other) refl (All-head (λ (p : Point). p.ask.conn ≡ conn → loses p.what ≡ false) (point_of step other n lost) rest loses_none))
         (λ number. refl) (along _ end rest later) k mirror order loses_none
       where
@@ -236,20 +288,12 @@ module _ (R : Mirror → List Row → Type 0) (keeps : Keeps R) (setting : Setti
         apart true e stays = let here : other ≡ conn = grind (arith, nat_tests, e) in let both : true ≡ false = stays here in cc
         apart false e stays = e
     along course last points (a_reply here end step other n it serial rest takes told later) =
-        by (conn == other) refl takes.asked told (along _ end rest later)
-      where
-        by : (same : Bool) → (conn == other) ≡ same → numbered (talk.requests other) n ≡ Some it
-            → numbered (talk.answers other) n ≡ Some (carried_out setting here other it serial).answer
-            → GoesOnFrom (course_after here other (carried_out setting here other it serial)) rest end
-            → GoesOnFrom here (point_of step other n replied ∷ rest) end
-        by true e =
-            let is : conn ≡ other = grind (arith, nat_tests, e) in
-            subst (λ c. numbered (talk.requests c) n ≡ Some it → numbered (talk.answers c) n ≡ Some (carried_out setting here c it serial).answer
-            → GoesOnFrom (course_after here c (carried_out setting here c it serial)) rest end
-            → GoesOnFrom here (point_of step c n replied ∷ rest) end) is
-            (λ asked given on. answers here end step n rest it serial asked given on)
-        by false e = λ asked given on. passes here end (point_of step other n replied) rest other it serial e
-            (λ number. (let back : (other == conn) ≡ false = grind (arith, nat_tests, e) in rw back refl)) on
+        answers_by here end step other n replied rest it (carried_out setting here other it serial) refl
+        (answer_rises setting here.store (here.sessions other) it serial)
+        (λ mirror rise is. answer_keeps here.store (here.sessions other) it serial mirror rise is) takes.asked told (along _ end rest later)
+    along course last points (a_refusal here end step other n tag it what why rest refused told later) =
+        answers_by here end step other n what rest (request.Command tag it) (refused_out here other tag it why) (cause_answers what why refused.cause)
+        (λ all. all) (λ mirror rise is. refused_keeps (here.sessions other) it why mirror is) refused.asked told (along _ end rest later)
 
   pub mirrored : (first : Course) (talk : Talk) (points : List Point) (last : Course) → IsLegal setting first talk points last → AllRise first.store
       → (conn : ℕ) → first.sessions conn ≡ Off → LosesNoneOf conn points

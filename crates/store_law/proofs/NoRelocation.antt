@@ -1,14 +1,11 @@
--- The store refuses no command for a relocation, so no client whose answers are the store's was given such a refusal.
-use Rattle.std.proofs.Common.{◌≡◌, ℕ, zero, suc, ◌==◌, Bool, true, false, if◌then◌else◌, List, [], ◌∷◌, Option, None, Some, refl, subst}
-use Rattle.std.specs.Prelude.{All, ⊤}
-use Rattle.std.proofs.lemmas.Option.{get_or_from_slice_get, slice_get_within}
+-- The store refuses no command for a relocation.
+use Rattle.std.proofs.Common.{◌≡◌, ℕ, ◌==◌, Bool, true, false, if◌then◌else◌, List, [], ◌∷◌, Option, None, Some, refl}
 use Rattle.mail_message.specs.Boxes.{Content, messages_at}
 use Rattle.mail_message.specs.declared.message.Message.{Message}
 use Rattle.mail_message.specs.declared.mode.Mode.TheVariants.{Add}
 use Rattle.mail_store.specs.Append.{append_fault}
 use Rattle.mail_store.specs.Store.{stored, rows_stored, has_too_many_flags}
 use Rattle.mail_store.specs.declared.fault.StoreFault.{StoreFault}
-use Rattle.mur_base.specs.declared.point.Point.{Point}
 use Rattle.imap_types.specs.declared.command.StatusItem.{StatusItem}
 use Rattle.mur_model.specs.declared.commands.fetch.Fetching.{Fetching}
 use Rattle.mur_model.specs.Needed.{Needed, Refusal, Turned, Mailbox, Work, Make, Append as append_work, Status as status_work, Select as select_work, Viewed as viewed_work}
@@ -28,7 +25,6 @@ use Rattle.mur_model.specs.Answer.{answer_of}
 use Rattle.mur_model.specs.Append.{append_on, append_reply, append_to}
 use Rattle.mur_model.specs.Create.{create_on, make}
 use Rattle.mur_model.specs.Fetch.{fetch_at, fetch_told, seen_flags, sees}
-use Rattle.mur_model.specs.History.{Course, Talk, numbered, IsLegal}
 use Rattle.mur_model.specs.Left.{Worked, changed, kept}
 use Rattle.mur_model.specs.Select.{select_on}
 use Rattle.mur_model.specs.Selected.{rows_of}
@@ -36,8 +32,7 @@ use Rattle.mur_model.specs.Status.{status_on, status_reply}
 use Rattle.mur_model.specs.Store.{box_at, is_spent}
 use Rattle.mur_model.specs.StoreFlags.{stored_at}
 use Rattle.mur_model.specs.Viewing.{found_gone, viewed_on, work_there}
-use Rattle.mur_model.proofs.EachAnswer.{Keeps, each_answer}
-use Rattle.store_law.specs.Refusals.{wants_cause, HaveCauses}
+use Rattle.store_law.specs.Refusals.{wants_cause}
 use Rattle.store_law.proofs.NeedsNoCause.{TurnWantsNone, NeedWantsNone, need_is}
 
 abbrev WorkWantsNone : Worked → Type 0
@@ -111,7 +106,7 @@ work_is name (viewed_work view it) serial spent box = viewed_is view it box
 
 -- ---- what a request is answered
 
-abbrev AnswerWantsNone : Answer → Type 0
+abbrev pub AnswerWantsNone : Answer → Type 0
 AnswerWantsNone answer = wants_cause answer.reply.verdict ≡ false
 
 act_is : (store : Store) (session : Sess) (serial : ℕ) (need : Needed) → NeedWantsNone need
@@ -121,31 +116,9 @@ act_is store session serial (Refusal verdict) is = is
 act_is store session serial (Turned turn) is = is
 act_is store session serial (Mailbox name work) is = work_is name work serial (is_spent store.given) (box_at store name)
 
-answer_is : (setting : Setting) (store : Store) (session : Sess) (request : Request) (serial : ℕ)
+pub answer_is : (setting : Setting) (store : Store) (session : Sess) (request : Request) (serial : ℕ)
     → AnswerWantsNone (answer_of setting store session request serial).answer
 unfolding answer_of act_of wants_cause
 answer_is setting store session (a_command tag it) serial = act_is store session serial (need_of setting session it) (need_is setting session it)
 answer_is setting store session (unknown tag) serial = refl
 answer_is setting store session (too_big tag) serial = refl
-
-abbrev IsAny : {X : Type 0} → X → Type 0
-IsAny item = ⊤
-
-answers_are : (setting : Setting) → Keeps setting IsAny IsAny AnswerWantsNone
-answers_are setting = record {
-  kept = λ course conn request serial holds is. tt;
-  told = λ course conn request serial holds is. answer_is setting course.store (course.sessions conn) request serial;
-}
-
-numbered_is : (P : Answer → Type 0) (items : List Answer) (number : ℕ) (answer : Answer) → numbered items number ≡ Some answer → All P items → P answer
-unfolding numbered
-numbered_is P items zero answer e all = cc
-numbered_is P items (suc k) answer e all = subst P (get_or_from_slice_get items k answer answer e) (all k answer (slice_get_within items k answer e))
-
--- in a legal history no answer is such a refusal
-pub have_causes : (setting : Setting) (first : Course) (talk : Talk) (points : List Point) (last : Course) → IsLegal setting first talk points last
-    → HaveCauses talk points
-have_causes setting first talk points last legal = λ conn number answer at wants.
-    let all : All AnswerWantsNone (talk.answers conn) =
-    each_answer setting talk IsAny IsAny AnswerWantsNone (answers_are setting) (λ other k d within. tt) first points last legal tt conn in
-    let none : wants_cause answer.reply.verdict ≡ false = numbered_is AnswerWantsNone (talk.answers conn) number answer at all in cc

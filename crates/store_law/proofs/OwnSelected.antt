@@ -8,14 +8,16 @@ use Rattle.mail_store.specs.declared.fault.StoreFault.{StoreFault}
 use Rattle.mur_base.specs.declared.point.Point.{Point}
 use Rattle.mur_base.specs.declared.user.User.{User}
 use Rattle.imap_types.specs.declared.command.Command.{Command}
+use Rattle.imap_types.specs.declared.command.Command.TheVariants as command
 use Rattle.imap_types.specs.declared.command.StatusItem.{StatusItem}
+use Rattle.imap_types.specs.declared.reply.NoText.{NoText}
 use Rattle.imap_types.specs.declared.request.Request.{Request}
 use Rattle.imap_types.specs.declared.request.Request.TheVariants.{Command as a_command, Unknown as unknown, TooBig as too_big}
 use Rattle.mur_model.specs.declared.commands.fetch.Fetching.{Fetching}
 use Rattle.mur_model.specs.declared.commands.select.Opening.{Opening}
 use Rattle.mur_model.specs.declared.commands.store.FlagStore.{FlagStore}
 use Rattle.mur_model.specs.declared.session.Sess.{Sess}
-use Rattle.mur_model.specs.declared.session.Sess.TheVariants.{Off}
+use Rattle.mur_model.specs.declared.session.Sess.TheVariants.{Off, Selected as selected}
 use Rattle.mur_model.specs.declared.setting.Setting.{Setting}
 use Rattle.mur_model.specs.declared.store.Store.{Store}
 use Rattle.mur_model.specs.declared.view.View.{View}
@@ -27,9 +29,10 @@ use Rattle.mur_model.specs.Append.{append_on, append_to}
 use Rattle.mur_model.specs.Create.{create_on, make}
 use Rattle.mur_model.specs.Fetch.{fetch_at, sees}
 use Rattle.mur_model.specs.History.{Course, Talk, Follows, with_session}
-use Rattle.mur_model.specs.History.Follows.{no_points, a_reply, a_loss}
+use Rattle.mur_model.specs.History.Follows.{no_points, a_reply, a_loss, a_refusal}
 use Rattle.mur_model.specs.Left.{Worked}
 use Rattle.mur_model.specs.Needed.{Needed, Refusal, Turned, Mailbox, Work, Make, Append as append_work, Status as status_work, Select as select_work, Viewed as viewed_work}
+use Rattle.mur_model.specs.Relocation.{refused_for}
 use Rattle.mur_model.specs.Select.{select_on}
 use Rattle.mur_model.specs.Status.{status_on}
 use Rattle.mur_model.specs.Store.{box_at, is_spent}
@@ -137,6 +140,14 @@ answer_own setting store session (a_command tag it) serial own =
 answer_own setting store session (unknown tag) serial own = own
 answer_own setting store session (too_big tag) serial own = own
 
+-- behind a refusal for a move or for a server
+refused_own : (users : List User) (session : Sess) (it : Command) (why : NoText) → HasOwnSelected users session
+    → HasOwnSelected users (session_after session (refused_for session it why).session)
+unfolding refused_for HasOwnSelected
+refused_own users (selected view) (command.Select text) why own = tt
+refused_own users (selected view) (command.Examine text) why own = tt
+refused_own users session it why own = own
+
 -- ---- in a history
 
 -- each session has its user's own selected, or nothing
@@ -161,6 +172,9 @@ points_own setting talk first last points (a_loss course end step conn n request
 points_own setting talk first last points (a_reply course end step conn n request serial rest takes told later) all =
     points_own setting talk _ end rest later
     (with_own setting course.sessions conn _ all (answer_own setting course.store (course.sessions conn) request serial (all conn)))
+points_own setting talk first last points (a_refusal course end step conn n tag it what why rest refused told later) all =
+    points_own setting talk _ end rest later
+    (with_own setting course.sessions conn _ all (refused_own setting.users (course.sessions conn) it why (all conn)))
 
 pub none_own : (setting : Setting) → HaveOwnSelected setting (λ _. Off)
 unfolding HasOwnSelected

@@ -42,7 +42,7 @@ use Rattle.mur_model.specs.Append.{append_on, append_to}
 use Rattle.mur_model.specs.Create.{create_on, make}
 use Rattle.mur_model.specs.Fetch.{fetch_at, seen_flags, sees}
 use Rattle.mur_model.specs.History.{Course, Talk, Follows}
-use Rattle.mur_model.specs.History.Follows.{no_points, a_reply, a_loss}
+use Rattle.mur_model.specs.History.Follows.{no_points, a_reply, a_loss, a_refusal}
 use Rattle.mur_model.specs.Left.{Left, Worked, kept, made, changed, store_after}
 use Rattle.mur_model.specs.Select.{select_on}
 use Rattle.mur_model.specs.Status.{status_on}
@@ -229,6 +229,8 @@ points_rise setting talk first last points (a_loss course end step conn n reques
     points_rise setting talk _ end rest later (answer_rises setting course.store (course.sessions conn) request serial all)
 points_rise setting talk first last points (a_reply course end step conn n request serial rest takes told later) all =
     points_rise setting talk _ end rest later (answer_rises setting course.store (course.sessions conn) request serial all)
+points_rise setting talk first last points (a_refusal course end step conn n tag it what why rest refused told later) all =
+    points_rise setting talk _ end rest later all
 
 pub none_rises : AllRise empty_store
 none_rises = All-nil Rises

@@ -54,11 +54,11 @@ takes_keeps config heard world (Start node) law feeds = quiet_event config heard
 takes_keeps config heard world (Flow count) law feeds = quiet_event config heard world (Flow count) law (λ conn. refl) (λ conn bytes. refl)
 takes_keeps config heard world Heal law feeds = quiet_event config heard world Heal law (λ conn. refl) (λ conn bytes. refl)
 
-pub step_keeps : (config : Config) (heard : ℕ → Heard) (world : World) (event : Event) (law : KeepsLaw config heard world) → FeedLaw config world
-    → KeepsOn config (told_of law.story) (λ conn. hears config conn (heard conn) event) (steps_by world event)
-unfolding still_kept
-step_keeps config heard world event law feeds =
-    let begun = still_kept config heard heard world (stepped world)
+-- a step begins
+unfoldable begins_step : (config : Config) (heard : ℕ → Heard) (world : World) (law : KeepsLaw config heard world)
+    → KeepsOn config (told_of law.story) heard (stepped world)
+begins_step config heard world law =
+    still_kept config heard heard world (stepped world)
     (record {
       fronts = λ any. front_same (front_at world any) (front_at world any) refl;
       homes = λ any. refl;
@@ -69,7 +69,16 @@ step_keeps config heard world event law feeds =
           refl;
       steps = omega arith;
     })
-    (λ conn. refl) law in
+    (λ conn. refl) law
+
+pub law_stepped : (config : Config) (heard : ℕ → Heard) (world : World) → KeepsLaw config heard world → KeepsLaw config heard (stepped world)
+law_stepped config heard world law = (begins_step config heard world law).law
+
+pub step_keeps : (config : Config) (heard : ℕ → Heard) (world : World) (event : Event) (law : KeepsLaw config heard world) → FeedLaw config world
+    → KeepsOn config (told_of law.story) (λ conn. hears config conn (heard conn) event) (steps_by world event)
+unfolding begins_step still_kept
+step_keeps config heard world event law feeds =
+    let begun = begins_step config heard world law in
     let done = takes_keeps config heard (stepped world) event begun.law (feeds_counted config world feeds) in
     record {
       law = done.law;

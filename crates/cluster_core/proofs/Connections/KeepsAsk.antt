@@ -48,7 +48,7 @@ use Rattle.link_queue.specs.Links.{on_link, sent, without_first}
 use Rattle.cluster_core.specs.World.{front_at, home_at, setting_of, with_state, comes, taken_from_link, carry, carry_all}
 use Rattle.cluster_core.proofs.Connections.Comes.{with_home, ask_comes, home_here, home_other, fronts_beside}
 use Rattle.cluster_core.proofs.Connections.ConnectionLaw.{Story, told_of, session_at, session_of_other}
-use Rattle.cluster_core.proofs.Connections.FirstTells.{first_tells, command_waits}
+use Rattle.cluster_core.proofs.Connections.FirstTells.{CommandWaits, TellsPlace, first_tells, command_waits}
 use Rattle.cluster_core.proofs.Connections.KeepsLaw.{ConnectionIs, KeepsLaw, KeepsOn, connection_stays, same_front}
 use Rattle.cluster_core.proofs.Connections.KeepsStill.{nodes_alike}
 use Rattle.cluster_core.proofs.Connections.RisesLaw.{course_rises, home_rises}
@@ -69,10 +69,10 @@ use Rattle.cluster_core.proofs.Histories.Told.{still_told, IsTold, having_said, 
 use Rattle.front_core.proofs.OneConnection.Places.{About, of_connection, is_answered, in_an_ask, other_whom, IsPlaced, PlacesStay, others_sent, others_taken, sent_alone}
 use Rattle.front_core.proofs.OneConnection.Standing.{next_ask, next_id}
 use Rattle.front_core.proofs.OneConnection.Standing.Knows.{answered_so}
-use Rattle.front_core.proofs.OneConnection.Waits.{in_ask}
+use Rattle.front_core.proofs.OneConnection.Waits.{InAsk, in_ask}
 
 -- the world behind the home's answer
-abbrev answered_world : World → List ℕ → List ℕ → Backend → FrontAsk → AnswerBody → Counts → World
+abbrev pub answered_world : World → List ℕ → List ℕ → Backend → FrontAsk → AnswerBody → Counts → World
 answered_world world front home backend ask body counts = record world {
   nodes = with_value (slice_cmp nat_cmp) world.nodes home (state.Back backend);
   links = sent (without_first world.links front home) home front (Answer (record { id = ask.id; body = body }));
@@ -127,29 +127,31 @@ counts_same : {one other : Counts} → Home one ≡ Home other → one ≡ other
 counts_same h = cc
 
 -- what the home answers to the ask of a connection, and what is then told of it
-record IsAnswered (config : Config) (heard : ℕ → Heard) (world : World) (law : KeepsLaw config heard world) (conn : ℕ)
+pub record IsAnswered (config : Config) (heard : ℕ → Heard) (world : World) (law : KeepsLaw config heard world) (conn : ℕ)
     (from to : List ℕ) (tag : Tag) (name : List ℕ) (work : Work) (ask : FrontAsk) : Type 0 where
-  body : AnswerBody
-  turn : Turn
-  reply : AnswerOf
-  serial : ℕ
-  backend : Backend
-  course : Course
-  below_next : HasUidsBelowNext backend
-  counts : Counts
-  still : IsStoreOf course.store backend name
-  other_boxes : (other : List ℕ) → other ≢ name → box_at course.store other ≡ box_at law.story.course.store other
-  other_held : (other : List ℕ) → other ≢ name → held_at backend other ≡ held_at law.backend other
-  serials : AreSerialsTo course.store.given backend.last_serial
-  world_is : with_home (taken_from_link world from to) to (plan_of law.backend (FromFront from ask)) ≡ answered_world world from to backend ask body counts
-  is_told : IsTold (setting_of config) world.steps (world.marks ++ (record { step = world.steps; ask = ask.id; kind = Home counts }) ∷ [])
+  pub body : AnswerBody
+  pub turn : Turn
+  pub reply : AnswerOf
+  pub serial : ℕ
+  pub backend : Backend
+  pub course : Course
+  pub below_next : HasUidsBelowNext backend
+  pub counts : Counts
+  pub is_body : (home_step law.backend ask).body ≡ Some body
+  pub is_counts : (home_step law.backend ask).counts ≡ counts
+  pub still : IsStoreOf course.store backend name
+  pub other_boxes : (other : List ℕ) → other ≢ name → box_at course.store other ≡ box_at law.story.course.store other
+  pub other_held : (other : List ℕ) → other ≢ name → held_at backend other ≡ held_at law.backend other
+  pub serials : AreSerialsTo course.store.given backend.last_serial
+  pub world_is : with_home (taken_from_link world from to) to (plan_of law.backend (FromFront from ask)) ≡ answered_world world from to backend ask body counts
+  pub is_told : IsTold (setting_of config) world.steps (world.marks ++ (record { step = world.steps; ask = ask.id; kind = Home counts }) ∷ [])
       (having_said law.story.talk conn reply serial) law.story.told course
-  others : (other : ℕ) → other ≢ conn → course.sessions other ≡ law.story.course.sessions other
-  mine : course.sessions conn ≡ session_after (law.story.course.sessions conn) turn.session
-  shown : turn_behind (law.story.course.sessions conn) (asked_for name work).awaited body ≡ Some turn
-  ends : TurnEnds turn
-  tagged : reply.tag ≡ tag
-  replied : reply.reply ≡ turn.reply
+  pub others : (other : ℕ) → other ≢ conn → course.sessions other ≡ law.story.course.sessions other
+  pub mine : course.sessions conn ≡ session_after (law.story.course.sessions conn) turn.session
+  pub shown : turn_behind (law.story.course.sessions conn) (asked_for name work).awaited body ≡ Some turn
+  pub ends : TurnEnds turn
+  pub tagged : reply.tag ≡ tag
+  pub replied : reply.reply ≡ turn.reply
 
 answers_ask : (config : Config) (heard : ℕ → Heard) (world : World) (law : KeepsLaw config heard world) (conn : ℕ) (from to : List ℕ)
     (tag : Tag) (it : Command) (name : List ℕ) (work : Work) (ask : FrontAsk)
@@ -180,6 +182,8 @@ answers_ask config heard world law conn from to tag it name work ask is said ask
       backend = (home_step backend ask).home;
       below_next = step_stays_below backend ask (all_below world course.store law.home backend law.home_is law.names);
       counts = (home_step backend ask).counts;
+      is_body = serves.is_body;
+      is_counts = refl;
       still = subst (λ (s : Store). IsStoreOf s (home_step backend ask).home name) (sym (ap (λ (a : Answered). a.store) out)) serves.still;
       other_boxes = λ other ne. ap (λ (a : Answered). box_at a.store other) out
           ∙ other_boxes course.store name (worked_at course.store name work serial).left other ne;
@@ -300,11 +304,18 @@ said_after config heard world law conn from to tag name work ask done said =
     ∙ ap (λ t. law.story.told conn ++ (record { tag = t; reply = done.reply.reply }) ∷ []) done.tagged
     ∙ ap (λ r. law.story.told conn ++ (record { tag = tag; reply = r }) ∷ []) done.replied
 
--- the ask that comes is that of a command which waits for it, and is then in the answer
-pub ask_keeps : (config : Config) (heard after : ℕ → Heard) (world : World) (law : KeepsLaw config heard world) (from to : List ℕ) (ask : FrontAsk)
-    (rest : List LinkMsg) → on_link world.links from to ≡ Ask ask ∷ rest → ((c : ℕ) → after c ≡ heard c)
-    → KeepsOn config (told_of law.story) after (comes (taken_from_link world from to) to (From from (Ask ask)))
-ask_keeps config heard after world law from to ask rest first same =
+-- an ask that comes is that of a command which waits for it, and the home answers it
+pub record AskComes (config : Config) (heard : ℕ → Heard) (world : World) (law : KeepsLaw config heard world) (from to : List ℕ) (ask : FrontAsk) : Type 0 where
+  pub tells : TellsPlace (setting_of config) law.home (ask.id).conn world law.story (heard (ask.id).conn) from to (Ask ask)
+  pub waits : CommandWaits (setting_of config) law.home (ask.id).conn tells.node world law.story tells.place (heard (ask.id).conn)
+  pub its_front : tells.node ≡ from
+  pub knows : InAsk law.home (ask.id).conn (waits.command).was (waits.command).name (waits.command).work (law.story.told (ask.id).conn)
+      (law.story.talk.answers (ask.id).conn) (law.story.course.sessions (ask.id).conn) to ask
+  pub done : IsAnswered config heard world law (ask.id).conn from to (waits.command).tag (waits.command).name (waits.command).work ask
+
+pub ask_at_home : (config : Config) (heard : ℕ → Heard) (world : World) (law : KeepsLaw config heard world) (from to : List ℕ) (ask : FrontAsk)
+    (rest : List LinkMsg) → on_link world.links from to ≡ Ask ask ∷ rest → AskComes config heard world law from to ask
+ask_at_home config heard world law from to ask rest first =
     let conn : ℕ = (ask.id).conn in
     let home : List ℕ = law.home in
     let story = law.story in
@@ -314,21 +325,39 @@ ask_keeps config heard after world law from to ask rest first same =
     let it = waits.command in
     let knows = in_ask home conn it.was it.tag it.name it.work (story.told conn) (story.talk.answers conn) (story.course.sessions conn) tells.place to ask
     it.knows there.1 in
+    record {
+      tells = tells;
+      waits = waits;
+      its_front = there.0;
+      knows = knows;
+      done = answers_ask config heard world law conn from to it.tag it.it it.name it.work ask
+          (ap (λ s. next_ask conn (story.told conn) s it.name it.work) (sym knows.session_is) ∙ knows.ask_is) knows.said_is
+          (ap (λ r. numbered r (length (story.told conn) + 1)) (law.requests conn) ∙ it.next)
+          (ap (λ s. need_of (setting_of config) s it.it) (sym knows.session_is) ∙ it.need);
+    }
+
+-- and is then in the answer
+pub ask_keeps : (config : Config) (heard after : ℕ → Heard) (world : World) (law : KeepsLaw config heard world) (from to : List ℕ) (ask : FrontAsk)
+    (rest : List LinkMsg) → on_link world.links from to ≡ Ask ask ∷ rest → ((c : ℕ) → after c ≡ heard c)
+    → KeepsOn config (told_of law.story) after (comes (taken_from_link world from to) to (From from (Ask ask)))
+ask_keeps config heard after world law from to ask rest first same =
+    let conn : ℕ = (ask.id).conn in
+    let home : List ℕ = law.home in
+    let story = law.story in
+    let at = ask_at_home config heard world law from to ask rest first in
+    let it = at.waits.command in
+    let knows = at.knows in
+    let done = at.done in
     let its_home : to ≡ home = sym knows.home_is in
     let here : home_at world to ≡ Some law.backend = ap (home_at world) its_home ∙ law.home_is in
-    let done : IsAnswered config heard world law conn from to it.tag it.name it.work ask =
-    answers_ask config heard world law conn from to it.tag it.it it.name it.work ask
-    (ap (λ s. next_ask conn (story.told conn) s it.name it.work) (sym knows.session_is) ∙ knows.ask_is) knows.said_is
-    (ap (λ r. numbered r (length (story.told conn) + 1)) (law.requests conn) ∙ it.next)
-    (ap (λ s. need_of (setting_of config) s it.it) (sym knows.session_is) ∙ it.need) in
     let answer : BackAnswer = record { id = ask.id; body = done.body } in
     let next : World = answered_world world from to done.backend ask done.body done.counts in
     subst (λ w. KeepsOn config (told_of law.story) after w) {x = next}
     (sym {b = next} (ask_comes (taken_from_link world from to) from to ask law.backend law.whole here ∙ done.world_is))
     (ask_kept config heard after world law from to it.tag it.name it.work ask rest done its_home first same
-    (waits.moves next (having_said story.talk conn done.reply done.serial) done.course (is_answered to answer) (fronts_beside world to law.backend done.backend here) refl
-    (subst (λ n. IsPlaced (of_connection conn) next.links (Some (record { from = to; to = n; message = Answer answer }))) (sym there.0)
-    (sent_alone (without_first world.links from to) to from (Answer answer) (of_connection conn) refl tells.without))
+    (at.waits.moves next (having_said story.talk conn done.reply done.serial) done.course (is_answered to answer) (fronts_beside world to law.backend done.backend here) refl
+    (subst (λ n. IsPlaced (of_connection conn) next.links (Some (record { from = to; to = n; message = Answer answer }))) (sym at.its_front)
+    (sent_alone (without_first world.links from to) to from (Answer answer) (of_connection conn) refl at.tells.without))
     (answered_so done.body done.turn (said_after config heard world law conn from to it.tag it.name it.work ask done knows.said_is)
     (ap (λ s. turn_behind s (asked_for it.name it.work).awaited done.body) knows.session_is ∙ done.shown)
     (done.mine ∙ ap (λ s. session_after s done.turn.session) (sym knows.session_is)) done.ends

@@ -13,7 +13,7 @@ use Rattle.cluster_core.specs.declared.world.Mark.{Mark}
 use Rattle.cluster_core.specs.declared.world.MarkKind.{MarkKind}
 use Rattle.cluster_core.specs.declared.world.MarkKind.TheVariants.{Home, Told}
 use Rattle.cluster_core.specs.declared.world.World.{World}
-use Rattle.cluster_core.specs.Flow.{run_steps, run_of, steps_of_run}
+use Rattle.cluster_core.specs.Flow.{run_steps, steps_of_run}
 use Rattle.cluster_core.specs.Headline.{IsOneServer}
 use Rattle.cluster_core.specs.History.{next_of, counts_as, untold_as, points_by, points_of, history_of}
 use Rattle.cluster_core.specs.Headline.HomeLaw.{HasRelocationCause, RefusesForCause}
@@ -62,5 +62,5 @@ one_server config events are date_is = record {
   guests = serves_guests config events are;
   replicas = λ before later parts. replicas_follow config (run_steps (start config) before) (feeds_of_run config before are);
   one_home = keeps_one_home_each config events are;
-  refusals = refuses (run_of config events);
+  refusals = λ before later parts. refuses (run_steps (start config) before);
 }

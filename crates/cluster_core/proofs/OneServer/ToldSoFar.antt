@@ -52,8 +52,9 @@ use Rattle.store_law.proofs.OwnSelected.{none_own, points_own}
 use Rattle.cluster_core.proofs.Histories.Tally.{acts, conn_of, command_of}
 use Rattle.cluster_core.proofs.Histories.Marks.{Carries, counts_of, is_mark, all_points}
 use Rattle.cluster_core.proofs.Histories.Marks.Carries.{no_marks, a_mark, a_telling}
-use Rattle.store_law.proofs.NoRelocation.{have_causes}
+use Rattle.store_law.proofs.CausesTold.{have_causes}
 use Rattle.cluster_core.proofs.OneServer.GuestsServed.{others_are_silent}
+use Rattle.cluster_core.proofs.Routing.RoutedLaw.{routed_points}
 use Rattle.cluster_core.proofs.OneServer.OneStoreLaw.{SaysOf, says_of, IsLegalTo, legal_history, loses_the_next, made_by_now, steps_rise, IsToldSo}
 use Rattle.imap_talk.proofs.ReadLaw.{heard_sound, read_of_legal}
 use Rattle.imap_talk.proofs.RequestsOf.{asks_all}
@@ -230,6 +231,7 @@ told_so_far config talk before later are date_is now last =
       news_told = news_are_told (setting_of config) first_course (told_of law.story) (history_of world) legal.last legal.legal none_rises (λ conn. refl);
       lost_next = loses_the_next (setting_of config) world law.story law.is_told (λ conn. (says conn).so);
       made_by_now = made_by_now (setting_of config) world law.story law.is_told;
+      routed = routed_points config are before (setting_of config) law.story law.is_told;
       in_time = stands_in_time (setting_of config) world
           (run_steps (start config) (before ++ later)) law.story last.story law.is_told last.is_told behind (λ conn. (says conn).so);
       counted = steps_made config before;

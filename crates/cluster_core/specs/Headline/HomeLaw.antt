@@ -38,3 +38,7 @@ HasRelocationCause _ = ⊤
 -- a refusal of relocation comes only at a reserved name or an unreached node
 abbrev pub RefusesForCause : World → Type 0
 RefusesForCause world = All (λ (point : Point). HasRelocationCause point.what) (history_of world)
+
+-- after each single step of a run
+abbrev pub RefusesForCauseEach : Config → List Event → Type 0
+RefusesForCauseEach config events = (before later : List Event) → steps_of_run config events ≡ before ++ later → RefusesForCause (run_steps (start config) before)

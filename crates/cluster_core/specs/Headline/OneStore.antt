@@ -41,6 +41,7 @@ use Rattle.store_law.specs.Lines.{SpeaksByNumbers}
 use Rattle.store_law.specs.Mirror.{ViewsAreTold}
 use Rattle.store_law.specs.NewsTold.{NewsAreTold}
 use Rattle.cluster_core.specs.Headline.Points.{AreMadeBy, LosesTheNext}
+use Rattle.cluster_core.specs.Headline.Routing.{AreRouted}
 use Rattle.imap_talk.specs.Requests.{AreRequests}
 use Rattle.store_law.specs.Serials.{GivesLowSerials}
 use Rattle.cluster_core.specs.Shown.{given_to, held_at_node}
@@ -119,6 +120,8 @@ pub record IsToldSoFar (config : Config) (talk : Talk) (points : List Point) (st
   -- which points there may be
   pub lost_next : LosesTheNext so_far (history_of world)
   pub made_by_now : AreMadeBy world.steps (history_of world)
+  -- and where they stand: a command that a home is asked for has its point where the home takes the ask
+  pub routed : AreRouted config so_far steps (history_of world)
   pub in_time : StandsInTime so_far world.steps points
   -- steps count from 1: the last one has the number of the steps made
   pub counted : world.steps ≡ length steps

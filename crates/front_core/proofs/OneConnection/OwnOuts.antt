@@ -15,7 +15,7 @@ use Rattle.imap_talk.specs.declared.inputs.Input.TheVariants.{GoesOn, Asks, Faul
 use Rattle.link_msg.specs.declared.answer.BackAnswer.{BackAnswer}
 use Rattle.link_msg.specs.declared.message.LinkMsg.TheVariants.{Answer}
 use Rattle.link_msg.specs.declared.out.Out.{Out}
-use Rattle.link_msg.specs.declared.out.Out.TheVariants.{Client, Link}
+use Rattle.link_msg.specs.declared.out.Out.TheVariants.{Client, Link, Mark}
 use Rattle.imap_types.specs.declared.command.Tag.{Tag}
 use Rattle.imap_types.specs.declared.reply.Reply.{Reply}
 use Rattle.imap_types.specs.declared.request.Request.{Request}
@@ -31,9 +31,10 @@ use Rattle.session_core.specs.Results.{turn_behind}
 abbrev pub IsFor : List ℕ → ℕ → Out → Type 0
 IsFor home conn (Client other bytes) = other ≡ conn
 IsFor home conn (Link node message) = node ≡ home
+IsFor home conn (Mark ask counts) = ⊥
 IsFor home conn out = ⊤
 
--- no client but that of this connection is given bytes, and no node but the home is sent a message
+-- no client but that of this connection is given bytes, no node but the home is sent a message, and no command is marked as a home marks it
 unfoldable pub AreFor : List ℕ → ℕ → List Out → Type 0
 AreFor home conn [] = ⊤
 AreFor home conn (out ∷ outs) = IsFor home conn out × AreFor home conn outs
