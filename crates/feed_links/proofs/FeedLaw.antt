@@ -16,10 +16,14 @@ use Rattle.master_core.specs.declared.master.Master.{Master}
 use Rattle.master_core.specs.declared.sender.Sender.{Sender}
 use Rattle.master_core.specs.declared.sender.Sender.TheVariants.{Outside}
 use Rattle.master_core.specs.Linked.{sender_by, sender_of, node_says}
-use Rattle.master_core.specs.Outside.{bytes_in, connect}
+use Rattle.master_core.specs.Outside.{Stepped, bytes_in, connect}
 use Rattle.master_core.specs.Step.{line_step}
 use Rattle.master_core.specs.Streams.{without}
 use Rattle.master_core.proofs.OutsideAlone.{AreItsOwn, IsBeside, bytes_alone, connects_alone, ends_alone}
+use Rattle.mupdate_codec.specs.declared.command.MCommand.{MCommand}
+use Rattle.mupdate_codec.specs.declared.command.MCommand.TheVariants as command
+use Rattle.mupdate_codec.specs.declared.tag.Tag.{Tag}
+use Rattle.mupdate_codec.specs.Whole.{command_in}
 use Rattle.mur_base.specs.Map.{value_at}
 use Rattle.feed_links.specs.Lines.{messages_to, IsOf, IsOfAnother, HasStreams, stream_of}
 use Rattle.feed_links.specs.OneFeed.{IsNoop, AreNoops, IsFed, asks, is_told, IsFedAfter, NoopsKeepIt, HearsKeepsIt, TakesKeepsIt, OthersKeepIt, ClientsKeep, ClientsKeepIt}
@@ -30,7 +34,7 @@ use Rattle.feed_links.proofs.Following.{streams_follow}
 use Rattle.feed_links.proofs.Names.{value_at-without_key-other, order_kept}
 use Rattle.feed_links.proofs.TablesTold.{tables_can_be_told}
 
-both : {A : Type 0} (P : A → Type 0) (one two : List A) → AllByRecursion P one → AllByRecursion P two → AllByRecursion P (one ++ two)
+pub both : {A : Type 0} (P : A → Type 0) (one two : List A) → AllByRecursion P one → AllByRecursion P two → AllByRecursion P (one ++ two)
 both P [] two first second = second
 both P (x ∷ one) two first second = (first.0, both P one two first.1 second)
 
@@ -47,6 +51,16 @@ pub noops_keep_it : NoopsKeepIt
 noops_keep_it master node up down more replica noops (asks before behind is one two none empty no_stream) =
     asks before (behind ++ more) (ap (λ l. l ++ more) is ∙ append_assoc before (Line update_line ∷ behind) more) one (both IsNoop behind more two noops) none empty no_stream
 noops_keep_it master node up down more replica noops (is_told are told there) = is_told (both IsNoop up more are noops) told there
+
+-- an UPDATE is no NOOP
+pub not_update : IsNoop (Line update_line) → ⊥
+not_update noop =
+    let is : Line update_line ≡ Line noop.bytes = noop.is in
+    let same : noop.bytes ≡ update_line = cc in
+    let read : Some (noop.tag, command.Noop) ≡ Some (update_tag, command.Update) = sym noop.read ∙ ap command_in same ∙ update_read in
+    let both : (noop.tag, command.Noop) ≡ (update_tag, command.Update) = cc in
+    let no : command.Noop ≡ command.Update = ap (λ (it : Tag × MCommand). it.1) both in
+    cc
 
 -- it takes a message
 pub hears_keeps_it : HearsKeepsIt
@@ -167,7 +181,7 @@ others_keep_it master node other up down (Answer answer) replica order ne fed = 
 
 -- what a client from outside does sends no node anything
 
-no_message : (node : List ℕ) (conn : ℕ) (outs : List Out) → AreItsOwn conn outs → messages_to node outs ≡ []
+pub no_message : (node : List ℕ) (conn : ℕ) (outs : List Out) → AreItsOwn conn outs → messages_to node outs ≡ []
 unfolding AreItsOwn
 no_message node conn [] own = refl
 no_message node conn (to_client other bytes ∷ outs) own = no_message node conn outs own.1
@@ -218,3 +232,20 @@ says_order master other End order = by (list_any (pointwise nat_eq other) master
 says_order master other Up order = order
 says_order master other (Ask ask) order = order
 says_order master other (Answer answer) order = order
+
+-- a message of another node leaves a node's stream, and sends it nothing if it has none
+pub record SaysNothingTo (master : Master) (node : List ℕ) (next : Stepped) : Type 0 where
+  pub stream : stream_of next.master node ≡ stream_of master node
+  pub nothing : stream_of master node ≡ None → messages_to node next.outs ≡ []
+
+pub says_nothing_to : (master : Master) (node other : List ℕ) (message : LinkMsg) → other ≢ node → SaysNothingTo master node (node_says master other message)
+unfolding node_says
+says_nothing_to master node other (Line bytes) ne =
+    let leaves = others_leave master (sender_of master other) bytes node (other_sender node other (list_any (pointwise nat_eq other) master.backends) ne) in
+    record { stream = leaves.stream; nothing = leaves.nothing }
+says_nothing_to master node other End ne =
+    record { stream = (ended_by master node other (list_any (pointwise nat_eq other) master.backends) ne).0; nothing = λ none. refl }
+says_nothing_to master node other Up ne = record { stream = refl; nothing = λ none. refl }
+says_nothing_to master node other (Ask ask) ne = record { stream = refl; nothing = λ none. refl }
+says_nothing_to master node other (Answer answer) ne = record { stream = refl; nothing = λ none. refl }
+

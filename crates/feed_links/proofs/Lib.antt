@@ -10,3 +10,5 @@ pub mod Following
 pub mod Begun
 pub mod TablesTold
 pub mod FeedLaw
+pub mod OnlyLines
+pub mod BackendsStay

@@ -82,7 +82,7 @@ no_answers node (Outside conn) tag answers ne = none_to_client node conn tag ans
 
 -- changes
 
-none_to_watchers : (node : List ℕ) (it : MResponse) (watchers : List (ℕ × Tag)) → messages_to node (map (watcher_told it) watchers) ≡ []
+pub none_to_watchers : (node : List ℕ) (it : MResponse) (watchers : List (ℕ × Tag)) → messages_to node (map (watcher_told it) watchers) ≡ []
 none_to_watchers node it [] = refl
 none_to_watchers node it (watcher ∷ watchers) = none_to_watchers node it watchers
 

@@ -69,3 +69,13 @@ pub record ClientsKeep (master : Master) (node : List ℕ) (up down : List LinkM
 abbrev pub ClientsKeepIt : Type 0
 ClientsKeepIt = (master : Master) (node : List ℕ) (up down : List LinkMsg) (replica : Replica) → IsFed master node up down replica
     → ClientsKeep master node up down replica
+
+-- the master sends nodes nothing but lines
+abbrev pub IsLine : LinkMsg → Type 0
+IsLine message = (bytes : List ℕ) × (message ≡ Line bytes)
+
+abbrev pub AreLines : List LinkMsg → Type 0
+AreLines messages = AllByRecursion IsLine messages
+
+abbrev pub SendsLines : Type 0
+SendsLines = (master : Master) (other node : List ℕ) (message : LinkMsg) → AreLines (messages_to node (node_says master other message).outs)

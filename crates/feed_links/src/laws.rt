@@ -1,5 +1,5 @@
 // What a step of the master is to the replicas of frontends.
-ghost use Rattle.feed_links.specs.OneFeed.{NoopsKeepIt, HearsKeepsIt, TakesKeepsIt, OthersKeepIt, ClientsKeepIt};
+ghost use Rattle.feed_links.specs.OneFeed.{NoopsKeepIt, HearsKeepsIt, TakesKeepsIt, OthersKeepIt, ClientsKeepIt, SendsLines};
 ghost use Rattle.feed_links.specs.Streams.{StreamsFollow, UpdateBegins, OthersLeave, NoopTellsNothing, TablesCanBeTold, StreamsStayInOrder};
 
 /// Whatever line comes to the master, whoever sent it: what is sent to a node with a stream makes of the replica of the table that of the table after the
@@ -25,4 +25,5 @@ pub fn each_event_keeps_a_feed()
     ensures takes { TakesKeepsIt }
     ensures others { OthersKeepIt }
     ensures clients { ClientsKeepIt }
+    ensures lines { SendsLines }
 {}

@@ -1,4 +1,5 @@
 use Rattle.feed_links.proofs.FeedLaw.{noops_keep_it, hears_keeps_it, takes_keeps_it, others_keep_it, clients_keep_it}
+use Rattle.feed_links.proofs.OnlyLines.{sends_lines}
 use Rattle.feed_links.proofs.laws.each_event_keeps_a_feed.Goals as goal
 
 pub returns-clause-noops : goal.returns-clause-noops
@@ -15,3 +16,6 @@ returns-clause-others c = others_keep_it
 
 pub returns-clause-clients : goal.returns-clause-clients
 returns-clause-clients c = clients_keep_it
+
+pub returns-clause-lines : goal.returns-clause-lines
+returns-clause-lines c = sends_lines
