@@ -65,8 +65,7 @@ mailbox_has : (bytes : List ℕ) (x : List ℕ × (Location × List ℕ)) → (a
     → IsSpelledIn name_form x.0 × IsSpelledIn location_form x.1.0 × IsSpelledIn string_form x.1.1
 mailbox_has bytes x j =
     let all = behind 32 (name_form spaced (location_form spaced string_form)) bytes x j in
-    let rest = second_of name_form (location_form spaced string_form) all.0 x all.1 in
-    (
+    let rest = second_of name_form (location_form spaced string_form) all.0 x all.1 in (
       first_of name_form (location_form spaced string_form) all.0 x all.1,
       first_of location_form string_form rest.0 x.1 rest.1,
       second_of location_form string_form rest.0 x.1 rest.1,

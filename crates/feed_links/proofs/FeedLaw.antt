@@ -248,4 +248,3 @@ says_nothing_to master node other End ne =
 says_nothing_to master node other Up ne = record { stream = refl; nothing = λ none. refl }
 says_nothing_to master node other (Ask ask) ne = record { stream = refl; nothing = λ none. refl }
 says_nothing_to master node other (Answer answer) ne = record { stream = refl; nothing = λ none. refl }
-

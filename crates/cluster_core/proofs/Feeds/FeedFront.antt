@@ -89,10 +89,10 @@ is_front front = refl
 is_other : (master : List ℕ) (it : NodeState) (input : NodeInput) → ((other : Master) → it ≢ state.Master other)
     → ((front : Front) → as_front (Some it) ≡ Some front → front.master ≡ master) → IsNoMessage master input → IsOther master it input
 unfolding node_takes
-is_other master (state.Front front) input no known none =
+is_other master (state.Front front) input apart known none =
     record { knows = front_keeps master front input (known front (is_front front)) none; no_master = front_no_master front input }
-is_other master (state.Back home) input no known none = record { knows = back_keeps home input; no_master = back_no_master home input }
-is_other master (state.Master other) input no known none = absurd (no other refl)
+is_other master (state.Back home) input apart known none = record { knows = back_keeps home input; no_master = back_no_master home input }
+is_other master (state.Master other) input apart known none = absurd (apart other refl)
 
 -- the frontend that is there now is one that was
 record WasFront (was : Option Front) (now : Front) : Type 0 where
@@ -142,7 +142,7 @@ module _ (config : Config) (world : World) (law : FeedLaw config world) where
       silent = none_to name (node_takes it input).outs
           (takes_goes (λ to. to ≢ name) it input (λ front at. (law.fronts node front (ap as_front there ∙ at)).home_is)
           (λ master sender message is from. absurd (no_master_here master is)) (λ sender from. none sender from));
-      is_front = λ front at. ((was front at).front, ((was front at).is, ((was front at).known.master, (was front at).known.home)));
+      is_front = λ front at. ((was front at).front, (was front at).is, (was front at).known.master, (was front at).known.home);
       feed = λ front at. subst (λ r. IsFed law.master node (on_link world.links node name) (on_link links name node) r) (sym (was front at).known.replica)
           (moved law.master node (on_link world.links node name) (on_link world.links node name) (on_link world.links name node) (on_link links name node) (was front at).front.replica
           refl (down node) (law.fronts node (was front at).front (ap as_front there ∙ (was front at).is)).feed);
@@ -242,7 +242,7 @@ module _ (config : Config) (world : World) (law : FeedLaw config world) where
       up = λ any. taken_elsewhere world.links name to any name (λ a b. to_apart (sym b));
       down = λ any ne. taken_elsewhere world.links name to name any (λ a b. ne b);
       silent = refl;
-      is_front = λ now is. (front, (refl, (sym (ap (λ (f : Front). f.master) (same_front now is)), sym (ap (λ (f : Front). f.home) (same_front now is)))));
+      is_front = λ now is. (front, refl, sym (ap (λ (f : Front). f.master) (same_front now is)), sym (ap (λ (f : Front). f.home) (same_front now is)));
       feed = λ now is. subst (λ (f : Front). IsFed law.master to (on_link world.links to name) (on_link taken name to) f.replica) (same_front now is) heard_feed;
       lines = λ now is. subst AreLines (sym (taken_here world.links name to (Line bytes) rest first)) (rest_of_lines (law.fronts to front at).lines);
       is_none = λ none. absurd (let no : Some heard_front ≡ None = none in cc);

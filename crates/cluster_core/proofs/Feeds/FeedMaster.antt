@@ -124,7 +124,7 @@ module _ (config : Config) (world : World) (law : FeedLaw config world) where
   -- a client at the master
   module _ (conn : ℕ) (next : Master) (outs : List Out) (beside : IsBeside conn law.master next) (own : AreItsOwn conn outs)
       (keeps : (node : List ℕ) (up down : List LinkMsg) (replica : Replica) → IsFed law.master node up down replica
-          → IsFed next node up (down ++ messages_to node outs) replica) where
+      → IsFed next node up (down ++ messages_to node outs) replica) where
     none_sent : (node : List ℕ) → on_link world.links name node ++ messages_to node outs ≡ on_link world.links name node
     none_sent node = ap (λ s. on_link world.links name node ++ s) (no_message node conn outs own) ∙ append-nil (on_link world.links name node)
 

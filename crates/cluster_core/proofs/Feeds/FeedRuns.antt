@@ -1,5 +1,5 @@
 -- Each step of a run keeps the law of the replicas.
-use Rattle.std.proofs.Common.{◌≡◌, ◌≢◌, ℕ, List, [], ◌∷◌, Option, None, Some, refl, sym, ap, ◌∙◌, subst}
+use Rattle.std.proofs.Common.{◌≡◌, ◌≢◌, ℕ, ◌+◌, List, [], ◌∷◌, Option, None, Some, refl, sym, ap, ◌∙◌, subst}
 use Rattle.std.specs.Ordering.{nat_cmp}
 use Rattle.std.specs.Cmp.Lexicographic.{slice_cmp}
 use Rattle.std.proofs.Math.Logic.{⊎_elim}
@@ -20,8 +20,10 @@ use Rattle.cluster_core.proofs.Feeds.FeedFront.{client_keeps, hear_keeps, other_
 use Rattle.cluster_core.proofs.Feeds.FeedLaw.{FeedLaw}
 use Rattle.cluster_core.proofs.Feeds.FeedMaster.{guest_keeps, update_keeps}
 
-pub feeds_counted : (config : Config) (world : World) → FeedLaw config world → FeedLaw config (stepped world)
-feeds_counted config world law = record {
+-- the law is of nodes and links
+kept_by : (config : Config) (world : World) (clients : List (ℕ × Client)) (steps : ℕ) → FeedLaw config world
+    → FeedLaw config (record world { clients = clients; steps = steps })
+kept_by config world clients steps law = record {
   whole = law.whole;
   master = law.master;
   is = law.is;
@@ -33,18 +35,8 @@ feeds_counted config world law = record {
   others = law.others;
 }
 
-joined : (config : Config) (world : World) (node : List ℕ) (conn : ℕ) → FeedLaw config world → FeedLaw config (with_client world node conn)
-joined config world node conn law = record {
-  whole = law.whole;
-  master = law.master;
-  is = law.is;
-  only = law.only;
-  order = law.order;
-  told = law.told;
-  fronts = law.fronts;
-  asks_once = law.asks_once;
-  others = law.others;
-}
+pub feeds_counted : (config : Config) (world : World) → FeedLaw config world → FeedLaw config (stepped world)
+feeds_counted config world law = kept_by config world world.clients (world.steps + 1) law
 
 -- a client does something, at the master or at another node
 does_something : (config : Config) (world : World) → FeedLaw config world → (node : List ℕ) (input : NodeInput) → sender_of input ≡ None
@@ -58,7 +50,7 @@ opens_keeps : (config : Config) (world : World) (node : List ℕ) (conn : ℕ) (
     → FeedLaw config (opens world node conn found)
 unfolding opens
 opens_keeps config world node conn (Some there) law = law
-opens_keeps config world node conn None law = does_something config (with_client world node conn) (joined config world node conn law) node (Opened conn) refl
+opens_keeps config world node conn None law = does_something config (with_client world node conn) (kept_by config world (with_client world node conn).clients world.steps law) node (Opened conn) refl
 
 does_keeps : (config : Config) (world : World) (input : NodeInput) (found : Option Client) → sender_of input ≡ None → FeedLaw config world
     → FeedLaw config (client_does world input found)

@@ -9,7 +9,8 @@ use Rattle.backend_core.specs.declared.backend.Backend.{Backend}
 use Rattle.feed_core.specs.Feed.{empty_replica}
 use Rattle.feed_core.specs.Stream.{update_line}
 use Rattle.feed_links.specs.Lines.{stream_of}
-use Rattle.feed_links.specs.OneFeed.{AreLines, asks}
+use Rattle.feed_links.specs.OneFeed.{AreLines}
+use Rattle.feed_links.specs.OneFeed.IsFed.{asks as has_asked}
 use Rattle.feed_links.specs.Replicas.{AreNoNews}
 use Rattle.feed_links.specs.Spelled.{CanBeTold}
 use Rattle.feed_links.proofs.Names.{same_name}
@@ -28,6 +29,8 @@ use Rattle.mur_config.specs.declared.node.Kind.TheVariants.{Master as master_kin
 use Rattle.mur_config.specs.declared.node.Link.{Link}
 use Rattle.mur_config.specs.Nodes.{AreNodes, are_kinds_linked, links_of}
 use Rattle.mur_config.proofs.OncePairs.{pairs_once, times}
+use Rattle.mupdate_codec.specs.declared.tag.Tag.{Tag}
+use Rattle.node_record.specs.declared.table.Record.{Record}
 use Rattle.node_record.specs.Table.{empty_table}
 use Rattle.node_step.specs.declared.node.NodeState.{NodeState}
 use Rattle.node_step.specs.declared.node.NodeState.TheVariants as state
@@ -329,9 +332,9 @@ unfolding booted
 fresh_table master me backends fresh =
     (ap (λ (m : Master). m.table) fresh, ap (λ (m : Master). m.streams) fresh, ap (λ (m : Master). m.backends) fresh)
 
-none_in_order : {X : Type 0} → (let none : List (List ℕ × X) = [] in IsInOrder (slice_cmp nat_cmp) none)
+none_in_order : (X : Type 0) → (let none : List (List ℕ × X) = [] in IsInOrder (slice_cmp nat_cmp) none)
 unfolding IsStrictlySortedBy
-none_in_order = tt
+none_in_order X = tt
 
 module _ (config : Config) (are : AreNodes config.nodes) where
   abbrev master : Master
@@ -356,7 +359,7 @@ module _ (config : Config) (are : AreNodes config.nodes) where
         master_is = knows.0;
         home_is = λ e. home_apart config are (sym knows.1 ∙ e);
         lines = subst AreLines (sym (none_back node)) tt;
-        feed = asks [] [] (one_update config are node front at) tt tt (subst AreNoNews (sym (none_back node)) tt) knows.2 (no_stream node);
+        feed = has_asked [] [] (one_update config are node front at) tt tt (subst AreNoNews (sym (none_back node)) tt) knows.2 (no_stream node);
       }
 
   first_asks : (node : List ℕ) (front : Front) → front_at (start config) node ≡ Some front → AsksOnce (start config).links master (master_of config) node
@@ -373,8 +376,8 @@ module _ (config : Config) (are : AreNodes config.nodes) where
     is = (first_master config are).is;
     only = λ node other at. sym (only_master node config.nodes
         (is_name node (is_master config node) (master_at (start config) node) other (master_at_start config are node) at) (omega (arith, are.master)));
-    order = subst (λ s. IsInOrder (slice_cmp nat_cmp) s) (sym fresh.1) none_in_order;
-    told = subst CanBeTold (sym fresh.0) (record { order = none_in_order; spelled = tt });
+    order = subst (λ s. IsInOrder (slice_cmp nat_cmp) s) (sym fresh.1) (none_in_order Tag);
+    told = subst CanBeTold (sym fresh.0) (record { order = none_in_order Record; spelled = tt });
     fronts = first_feed;
     asks_once = first_asks;
     others = λ node none. record {

@@ -68,8 +68,11 @@ module _ (world : World) (node : List ℕ) (it now : NodeState) (links : Links L
       let put : World = record world { nodes = with_value (slice_cmp nat_cmp) world.nodes node now; links = links } in
       let same = ap (λ nodes. value_at (slice_cmp nat_cmp) nodes any) (carry_all_sends node put outs).nodes in
       ⊎_elim
-      (λ (e : any ≡ node). inl (e, same ∙ ap (λ n. value_at (slice_cmp nat_cmp) put.nodes n) e
-      ∙ value_at-with_value (slice_cmp nat_cmp) names_apart world.nodes node now it there))
+      (λ (e : any ≡ node). inl (
+        e,
+        same ∙ ap (λ n. value_at (slice_cmp nat_cmp) put.nodes n) e
+            ∙ value_at-with_value (slice_cmp nat_cmp) names_apart world.nodes node now it there,
+      ))
       (λ (ne : any ≢ node). inr (ne, same ∙ value_at-with_value-other (slice_cmp nat_cmp) names_apart world.nodes node any now ne))
       (same_or_other (slice_cmp nat_cmp) names_apart any node)
 
@@ -83,7 +86,7 @@ module _ (world : World) (node : List ℕ) (it now : NodeState) (links : Links L
   unbroken = carry_all_broken node (record world { nodes = with_value (slice_cmp nat_cmp) world.nodes node now; links = links }) outs
 
 -- a feed on equal queues
-moved : (master : Master) (node : List ℕ) (up now_up down now_down : List LinkMsg) (replica : Replica) → now_up ≡ up → now_down ≡ down
+pub moved : (master : Master) (node : List ℕ) (up now_up down now_down : List LinkMsg) (replica : Replica) → now_up ≡ up → now_down ≡ down
     → IsFed master node up down replica → IsFed master node now_up now_down replica
 moved master node up now_up down now_down replica same_up same_down fed =
     subst (λ u. IsFed master node u now_down replica) (sym same_up) (subst (λ d. IsFed master node up d replica) (sym same_down) fed)
@@ -196,87 +199,87 @@ pub record NodeSteps (config : Config) (world : World) (law : FeedLaw config wor
 
 module _ (config : Config) (world : World) (law : FeedLaw config world) (node : List ℕ) (it now : NodeState) (links : Links LinkMsg) (outs : List Out)
     (step : NodeSteps config world law node it now links outs) where
-  abbrev name : List ℕ
-  name = master_of config
+  abbrev master_name : List ℕ
+  master_name = master_of config
 
-  abbrev later : World
-  later = after_step world node now links outs
+  abbrev next_world : World
+  next_world = after_step world node now links outs
 
-  found : (any : List ℕ) → ((any ≡ node) × (node_at later any ≡ Some now)) ⊎ ((any ≢ node) × (node_at later any ≡ node_at world any))
-  found any = at_or_not world node it now links outs step.there any
+  found_at : (any : List ℕ) → ((any ≡ node) × (node_at next_world any ≡ Some now)) ⊎ ((any ≢ node) × (node_at next_world any ≡ node_at world any))
+  found_at any = at_or_not world node it now links outs step.there any
 
-  up_of : (any : List ℕ) → on_link later.links any name ≡ on_link world.links any name
-  up_of any = ⊎_elim
-      (λ (e : any ≡ node). subst (λ n. on_link later.links n name ≡ on_link world.links n name) (sym e)
-      (sent_on world node it now links outs step.there name ∙ ap (λ l. on_link links node name ++ l) step.silent ∙ append-nil (on_link links node name) ∙ step.up node))
-      (λ (ne : any ≢ node). sent_elsewhere world node it now links outs step.there any name ne ∙ step.up any)
+  still_up : (any : List ℕ) → on_link next_world.links any master_name ≡ on_link world.links any master_name
+  still_up any = ⊎_elim
+      (λ (e : any ≡ node). subst (λ n. on_link next_world.links n master_name ≡ on_link world.links n master_name) (sym e)
+      (sent_on world node it now links outs step.there master_name ∙ ap (λ l. on_link links node master_name ++ l) step.silent ∙ append-nil (on_link links node master_name) ∙ step.up node))
+      (λ (ne : any ≢ node). sent_elsewhere world node it now links outs step.there any master_name ne ∙ step.up any)
       (same_or_other (slice_cmp nat_cmp) names_apart any node)
 
-  down_of : (any : List ℕ) → on_link later.links name any ≡ on_link links name any
-  down_of any = sent_elsewhere world node it now links outs step.there name any (λ e. step.apart (sym e))
+  still_down : (any : List ℕ) → on_link next_world.links master_name any ≡ on_link links master_name any
+  still_down any = sent_elsewhere world node it now links outs step.there master_name any (λ e. step.apart (sym e))
 
   -- the frontend of the step, and another one
 
-  own_feed : (front : Front) → as_front (Some now) ≡ Some front → HasFeed later.links law.master name node front
+  own_feed : (front : Front) → as_front (Some now) ≡ Some front → HasFeed next_world.links law.master master_name node front
   own_feed front at =
       let was = step.is_front front at in
       let had = law.fronts node was.0 (ap as_front step.there ∙ was.1) in
       record {
         master_is = was.2 ∙ had.master_is;
         home_is = λ e. had.home_is (sym was.3 ∙ e);
-        lines = subst AreLines (sym (down_of node)) (step.lines front at);
-        feed = moved law.master node (on_link world.links node name) (on_link later.links node name) (on_link links name node) (on_link later.links name node) front.replica
-            (up_of node) (down_of node) (step.feed front at);
+        lines = subst AreLines (sym (still_down node)) (step.lines front at);
+        feed = moved law.master node (on_link world.links node master_name) (on_link next_world.links node master_name) (on_link links master_name node) (on_link next_world.links master_name node) front.replica
+            (still_up node) (still_down node) (step.feed front at);
       }
 
-  other_feed : (any : List ℕ) (front : Front) → any ≢ node → front_at world any ≡ Some front → HasFeed later.links law.master name any front
+  other_feed : (any : List ℕ) (front : Front) → any ≢ node → front_at world any ≡ Some front → HasFeed next_world.links law.master master_name any front
   other_feed any front ne at =
       let had = law.fronts any front at in
       record {
         master_is = had.master_is;
         home_is = had.home_is;
-        lines = subst AreLines (sym (down_of any ∙ step.down any ne)) had.lines;
-        feed = moved law.master any (on_link world.links any name) (on_link later.links any name) (on_link world.links name any) (on_link later.links name any) front.replica
-            (up_of any) (down_of any ∙ step.down any ne) had.feed;
+        lines = subst AreLines (sym (still_down any ∙ step.down any ne)) had.lines;
+        feed = moved law.master any (on_link world.links any master_name) (on_link next_world.links any master_name) (on_link world.links master_name any) (on_link next_world.links master_name any) front.replica
+            (still_up any) (still_down any ∙ step.down any ne) had.feed;
       }
 
-  was_front : (any : List ℕ) (front : Front) → front_at later any ≡ Some front → (was : Front) × (front_at world any ≡ Some was)
-  was_front any front at = ⊎_elim
+  had_front : (any : List ℕ) (front : Front) → front_at next_world any ≡ Some front → (was : Front) × (front_at world any ≡ Some was)
+  had_front any front at = ⊎_elim
       (λ here. (let was = step.is_front front (sym (ap as_front here.1) ∙ at) in (was.0, ap (front_at world) here.0 ∙ ap as_front step.there ∙ was.1)))
       (λ other. (front, sym (ap as_front other.1) ∙ at))
-      (found any)
+      (found_at any)
 
-  quiet_node : (any : List ℕ) → front_at later any ≡ None → IsQuiet later.links law.master name any
+  quiet_node : (any : List ℕ) → front_at next_world any ≡ None → IsQuiet next_world.links law.master master_name any
   quiet_node any none = ⊎_elim
       (λ here. (let none_now : as_front (Some now) ≡ None = sym (ap as_front here.1) ∙ none in
       let had = law.others node (ap as_front step.there ∙ step.is_none none_now) in
-      subst (IsQuiet later.links law.master name) (sym here.0)
-      (record { up = up_of node ∙ had.up; down = down_of node ∙ step.quiet none_now ∙ had.down; stream = had.stream })))
+      subst (IsQuiet next_world.links law.master master_name) (sym here.0)
+      (record { up = still_up node ∙ had.up; down = still_down node ∙ step.quiet none_now ∙ had.down; stream = had.stream })))
       (λ other. (let had = law.others any (sym (ap as_front other.1) ∙ none) in
-      record { up = up_of any ∙ had.up; down = down_of any ∙ step.down any other.0 ∙ had.down; stream = had.stream }))
-      (found any)
+      record { up = still_up any ∙ had.up; down = still_down any ∙ step.down any other.0 ∙ had.down; stream = had.stream }))
+      (found_at any)
 
-  pub node_stepped : FeedLaw config later
+  pub node_stepped : FeedLaw config next_world
   node_stepped = record {
     whole = unbroken world node it now links outs step.there ∙ law.whole;
     master = law.master;
     is = ⊎_elim
         (λ here. absurd (step.apart (sym here.0)))
         (λ other. ap as_master other.1 ∙ law.is)
-        (found name);
+        (found_at master_name);
     only = λ any other at. ⊎_elim
         (λ here. neither (as_master (Some now)) other (sym (ap as_master here.1) ∙ at) step.no_master)
         (λ elsewhere. law.only any other (sym (ap as_master elsewhere.1) ∙ at))
-        (found any);
+        (found_at any);
     order = law.order;
     told = law.told;
     fronts = λ any front at. ⊎_elim
-        (λ here. subst (λ n. HasFeed later.links law.master name n front) (sym here.0) (own_feed front (sym (ap as_front here.1) ∙ at)))
+        (λ here. subst (λ n. HasFeed next_world.links law.master master_name n front) (sym here.0) (own_feed front (sym (ap as_front here.1) ∙ at)))
         (λ other. other_feed any front other.0 (sym (ap as_front other.1) ∙ at))
-        (found any);
+        (found_at any);
     asks_once = λ any front at.
-        (let was = was_front any front at in
+        (let was = had_front any front at in
         let had = law.asks_once any was.0 was.1 in
-        record { no_backend = had.no_backend; sends = subst IsOneUpdate (sym (up_of any)) had.sends });
+        record { no_backend = had.no_backend; sends = subst IsOneUpdate (sym (still_up any)) had.sends });
     others = quiet_node;
   }
