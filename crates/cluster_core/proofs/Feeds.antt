@@ -1,8 +1,9 @@
 -- The frontends' replicas of the master's table.
-pub mod LinesOut
 pub mod FeedLaw
-pub mod ForNodes
+pub mod Carried
 pub mod FeedSteps
 pub mod FeedMaster
+pub mod FeedFront
+pub mod ForNodes
 pub mod FeedRuns
 pub mod FeedStart

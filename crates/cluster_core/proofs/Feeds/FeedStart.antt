@@ -5,12 +5,15 @@ use Rattle.std.specs.List.{list_any}
 use Rattle.std.specs.Ordering.{nat_cmp, is_eq}
 use Rattle.std.specs.Cmp.Lexicographic.{pointwise, same_text, slice_cmp}
 use Rattle.std.specs.List.Sorted.{IsStrictlySortedBy}
-use Rattle.std.proofs.lemmas.Bool.Decides.{nat_tests}
-use Rattle.std.proofs.lemmas.List.Elements.{All-cons, All-nil}
 use Rattle.backend_core.specs.declared.backend.Backend.{Backend}
 use Rattle.feed_core.specs.Feed.{empty_replica}
-use Rattle.feed_core.specs.Stream.{update_line, update_tag}
-use Rattle.feed_core.proofs.StreamLaw.{stream_line}
+use Rattle.feed_core.specs.Stream.{update_line}
+use Rattle.feed_links.specs.Lines.{stream_of}
+use Rattle.feed_links.specs.OneFeed.{AreLines}
+use Rattle.feed_links.specs.OneFeed.IsFed.{asks as has_asked}
+use Rattle.feed_links.specs.Replicas.{AreNoNews}
+use Rattle.feed_links.specs.Spelled.{CanBeTold}
+use Rattle.feed_links.proofs.Names.{same_name}
 use Rattle.front_core.specs.declared.front.Front.{Front}
 use Rattle.front_core.specs.Front.{new_front}
 use Rattle.link_msg.specs.declared.message.LinkMsg.{LinkMsg}
@@ -19,18 +22,6 @@ use Rattle.link_queue.specs.Links.{Links, on_link, same_link, sent}
 use Rattle.link_queue.proofs.Wires.{on_link-sent, same_names}
 use Rattle.master_core.specs.declared.master.Master.{Master}
 use Rattle.master_core.specs.Boot.{booted}
-use Rattle.master_core.specs.Replies.{done}
-use Rattle.master_core.proofs.UpdateLaw.{table_lines}
-use Rattle.mupdate_codec.specs.declared.command.MResponse.TheVariants as response
-use Rattle.mupdate_codec.specs.Arguments.{exact}
-use Rattle.mupdate_codec.specs.Characters.{is_mupdate_tag_byte}
-use Rattle.mupdate_codec.specs.Responses.{response_arguments, response_line, response_printed_as, response_word, IsSpelledResponse}
-use Rattle.mupdate_codec.specs.Strings.{is_plain_quotable, mupdate_quoted_char, mupdate_string, string_text}
-use Rattle.mupdate_codec.specs.Tags.{mupdate_tag_text}
-use Rattle.grammar.specs.Part.{exactly, turns}
-use Rattle.grammar.specs.Quoted.{is_quoted_plain}
-use Rattle.mupdate_codec.proofs.AnswersLaw.{line_found}
-use Rattle.mupdate_codec.proofs.LinesLaw.{law_response_line}
 use Rattle.mur_base.specs.Map.{value_at, IsInOrder}
 use Rattle.mur_base.proofs.MapLaws.{names_apart}
 use Rattle.mur_config.specs.declared.config.Config.{Config}
@@ -38,6 +29,8 @@ use Rattle.mur_config.specs.declared.node.Kind.TheVariants.{Master as master_kin
 use Rattle.mur_config.specs.declared.node.Link.{Link}
 use Rattle.mur_config.specs.Nodes.{AreNodes, are_kinds_linked, links_of}
 use Rattle.mur_config.proofs.OncePairs.{pairs_once, times}
+use Rattle.mupdate_codec.specs.declared.tag.Tag.{Tag}
+use Rattle.node_record.specs.declared.table.Record.{Record}
 use Rattle.node_record.specs.Table.{empty_table}
 use Rattle.node_step.specs.declared.node.NodeState.{NodeState}
 use Rattle.node_step.specs.declared.node.NodeState.TheVariants as state
@@ -45,13 +38,12 @@ use Rattle.node_step.specs.NodeStep.{as_back, as_front, as_master}
 use Rattle.node_step.proofs.NodeKinds.{front_is}
 use Rattle.cluster_core.specs.declared.world.World.{World}
 use Rattle.cluster_core.specs.Headline.Outside.{is_master, master_at}
-use Rattle.cluster_core.specs.Headline.Replicas.{recs_of}
 use Rattle.schedule_text.specs.declared.event.Event.{Event}
 use Rattle.cluster_core.specs.Flow.{run_steps}
-use Rattle.cluster_core.proofs.Feeds.FeedMaster.{master_is_none}
+use Rattle.cluster_core.proofs.Feeds.FeedSteps.{master_is_none}
 use Rattle.cluster_core.proofs.Feeds.FeedRuns.{feeds_step}
 use Rattle.cluster_core.specs.World.{backends_of, front_at, home_at, home_of, master_of, node_at, start, steps_by}
-use Rattle.cluster_core.proofs.Feeds.FeedLaw.{AreSpelled, FeedLaw, IsFed, asking}
+use Rattle.cluster_core.proofs.Feeds.FeedLaw.{AsksOnce, FeedLaw, HasFeed, IsOneUpdate, one_update as sends_one}
 use Rattle.cluster_core.proofs.Guests.MastersAtStart.{master_at_start}
 use Rattle.cluster_core.proofs.Guests.MastersStay.{name_by}
 use Rattle.cluster_core.proofs.Nodes.KindsOfNodes.{master_named, master_node, no_backend, only_master}
@@ -126,6 +118,10 @@ all_there nodes links (link ∷ pairs) node master =
     ∙ append_assoc (on_link links node master) (updates (one_if (sent_once link found node master))) (updates (sendings nodes pairs node master))
     ∙ ap (λ u. on_link links node master ++ u) (sym (updates_add (one_if (sent_once link found node master)) (sendings nodes pairs node master)))
 
+and_false : (b : Bool) → b && false ≡ false
+and_false true = refl
+and_false false = refl
+
 -- a node that doesn't know the other one as its master sends nothing
 none_by : (nodes : List (List ℕ × NodeState)) (link : Link) (node master : List ℕ) → asks_at nodes node master ≡ false → (same : Bool)
     → same_link node master link.to link.from ≡ same → asks_of (value_at (slice_cmp nat_cmp) nodes link.to) link.from && same ≡ false
@@ -136,10 +132,6 @@ none_by nodes link node master silent true e =
     (subst (λ n. asks_of (value_at (slice_cmp nat_cmp) nodes n) master ≡ false) is.0 silent) in
     ap (λ b. b && true) none
 none_by nodes link node master silent false e = and_false (asks_of (value_at (slice_cmp nat_cmp) nodes link.to) link.from)
-  where
-    and_false : (b : Bool) → b && false ≡ false
-    and_false true = refl
-    and_false false = refl
 
 none_sent : (nodes : List (List ℕ × NodeState)) (pairs : List Link) (node master : List ℕ) → asks_at nodes node master ≡ false
     → sendings nodes pairs node master ≡ 0
@@ -162,10 +154,6 @@ same_by nodes link node master asking_it true e =
     (subst (λ n. asks_of (value_at (slice_cmp nat_cmp) nodes n) master ≡ true) is.0 asking_it) in
     ap (λ b. b && true) asks
 same_by nodes link node master asking_it false e = and_false (asks_of (value_at (slice_cmp nat_cmp) nodes link.to) link.from)
-  where
-    and_false : (b : Bool) → b && false ≡ false
-    and_false true = refl
-    and_false false = refl
 
 turned : (one other : List ℕ) → is_eq (slice_cmp nat_cmp one other) ≡ is_eq (slice_cmp nat_cmp other one)
 turned one other = by (is_eq (slice_cmp nat_cmp one other)) refl
@@ -252,10 +240,6 @@ nothing_first : (config : Config) (node master : List ℕ) → asks_at (fresh_no
 unfolding updates
 nothing_first config node master silent =
     on_first config node master ∙ ap updates (none_sent (fresh_nodes config).nodes (links_of config.nodes) node master silent)
-
-same_name : (name : List ℕ) → pointwise nat_eq name name ≡ true
-same_name [] = refl
-same_name (c ∷ name) = grind (arith, nat_tests, same_name name)
 
 -- a frontend is linked with the master
 pub linked_with_master : (config : Config) → AreNodes config.nodes → (node : List ℕ) (front : Front) → front_at (start config) node ≡ Some front
@@ -348,59 +332,60 @@ unfolding booted
 fresh_table master me backends fresh =
     (ap (λ (m : Master). m.table) fresh, ap (λ (m : Master). m.streams) fresh, ap (λ (m : Master). m.backends) fresh)
 
-none_ordered : IsInOrder (slice_cmp nat_cmp) (recs_of empty_table)
+none_in_order : (X : Type 0) → (let none : List (List ℕ × X) = [] in IsInOrder (slice_cmp nat_cmp) none)
 unfolding IsStrictlySortedBy
-none_ordered = tt
+none_in_order X = tt
 
--- OK can be read
-ok_found : (response_line exact).part.at (stream_line (response.Ok done)) ≡ Ok ((update_tag, response.Ok done), [])
-unfolding response_line response_word response_printed_as response_arguments mupdate_tag_text is_mupdate_tag_byte mupdate_string string_text is_plain_quotable mupdate_quoted_char is_quoted_plain turns exactly
-ok_found = refl
+module _ (config : Config) (are : AreNodes config.nodes) where
+  abbrev master : Master
+  master = (first_master config are).master
 
-ok_read : IsSpelledResponse update_tag (response.Ok done)
-ok_read =
-    let found = line_found (response_line exact).part law_response_line.good (stream_line (response.Ok done)) [] (update_tag, response.Ok done) ok_found in
-    (found.0, found.2)
+  fresh : (master.table ≡ empty_table) × (master.streams ≡ []) × (master.backends ≡ backends_of config.nodes)
+  fresh = fresh_table master (master_of config) (backends_of config.nodes) (first_master config are).fresh
 
-ok_spelled : AreSpelled (table_lines empty_table)
-ok_spelled = All-cons (IsSpelledResponse update_tag) (response.Ok done) [] ok_read (All-nil (IsSpelledResponse update_tag))
+  no_stream : (node : List ℕ) → stream_of master node ≡ None
+  no_stream node = ap (λ s. value_at (slice_cmp nat_cmp) s node) fresh.1
 
-first_fed : (config : Config) (are : AreNodes config.nodes) (node : List ℕ) (front : Front) → front_at (start config) node ≡ Some front
-    → IsFed (start config).links (first_master config are).master (master_of config) node front
-first_fed config are node front at =
-    let first = first_master config are in
-    let knows = knows_master config node front (fresh_front config (start config) node front (fresh_start config) at) in
-    let fresh = fresh_table first.master (master_of config) (backends_of config.nodes) first.fresh in
-    record {
-      master_is = knows.0;
-      home_is = λ e. home_apart config are (sym knows.1 ∙ e);
-      no_backend = ap (list_any (pointwise nat_eq node)) fresh.2
-          ∙ no_backend node config.nodes are.names (sym (frontends_at_start config are node) ∙ ap is_some at);
-      feed = asking (one_update config are node front at)
-          (nothing_first config (master_of config) node (other_asks config (master_of config)
-          (master_is_none (node_at (start config) (master_of config)) first.master first.is) node))
-          knows.2 (ap (λ s. value_at (slice_cmp nat_cmp) s node) fresh.1);
-    }
+  no_front : front_at (start config) (master_of config) ≡ None
+  no_front = master_is_none (node_at (start config) (master_of config)) master (first_master config are).is
 
-pub start_feeds : (config : Config) → AreNodes config.nodes → FeedLaw config (start config)
-start_feeds config are =
-    let first = first_master config are in
-    let fresh = fresh_table first.master (master_of config) (backends_of config.nodes) first.fresh in
-    let no_front : front_at (start config) (master_of config) ≡ None = master_is_none (node_at (start config) (master_of config)) first.master first.is in
-    record {
-      whole = (fresh_start config).broken;
-      master = first.master;
-      is = first.is;
-      only = λ node other at. sym (only_master node config.nodes
-          (is_name node (is_master config node) (master_at (start config) node) other (master_at_start config are node) at) (omega (arith, are.master)));
-      ordered = subst (λ t. IsInOrder (slice_cmp nat_cmp) (recs_of t)) (sym fresh.0) none_ordered;
-      spelled = subst (λ t. AreSpelled (table_lines t)) (sym fresh.0) ok_spelled;
-      fronts = λ node front at. first_fed config are node front at;
-      others = λ node none. record {
-        up = nothing_first config node (master_of config) (other_asks config node none (master_of config));
-        down = nothing_first config (master_of config) node (other_asks config (master_of config) no_front node);
-      };
-    }
+  none_back : (node : List ℕ) → on_link (start config).links (master_of config) node ≡ []
+  none_back node = nothing_first config (master_of config) node (other_asks config (master_of config) no_front node)
+
+  first_feed : (node : List ℕ) (front : Front) → front_at (start config) node ≡ Some front → HasFeed (start config).links master (master_of config) node front
+  first_feed node front at =
+      let knows = knows_master config node front (fresh_front config (start config) node front (fresh_start config) at) in
+      record {
+        master_is = knows.0;
+        home_is = λ e. home_apart config are (sym knows.1 ∙ e);
+        lines = subst AreLines (sym (none_back node)) tt;
+        feed = has_asked [] [] (one_update config are node front at) tt tt (subst AreNoNews (sym (none_back node)) tt) knows.2 (no_stream node);
+      }
+
+  first_asks : (node : List ℕ) (front : Front) → front_at (start config) node ≡ Some front → AsksOnce (start config).links master (master_of config) node
+  first_asks node front at = record {
+    no_backend = ap (list_any (pointwise nat_eq node)) fresh.2
+        ∙ no_backend node config.nodes are.names (sym (frontends_at_start config are node) ∙ ap is_some at);
+    sends = subst IsOneUpdate (sym (one_update config are node front at)) sends_one;
+  }
+
+  pub start_feeds : FeedLaw config (start config)
+  start_feeds = record {
+    whole = (fresh_start config).broken;
+    master = master;
+    is = (first_master config are).is;
+    only = λ node other at. sym (only_master node config.nodes
+        (is_name node (is_master config node) (master_at (start config) node) other (master_at_start config are node) at) (omega (arith, are.master)));
+    order = subst (λ s. IsInOrder (slice_cmp nat_cmp) s) (sym fresh.1) (none_in_order Tag);
+    told = subst CanBeTold (sym fresh.0) (record { order = none_in_order Record; spelled = tt });
+    fronts = first_feed;
+    asks_once = first_asks;
+    others = λ node none. record {
+      up = nothing_first config node (master_of config) (other_asks config node none (master_of config));
+      down = none_back node;
+      stream = no_stream node;
+    };
+  }
 
 run_feeds : (config : Config) (world : World) (steps : List Event) → FeedLaw config world → FeedLaw config (run_steps world steps)
 unfolding run_steps

@@ -1,302 +1,285 @@
--- Each step keeps the law of the replicas.
-use Rattle.std.proofs.Common.{◌≡◌, ◌≢◌, ℕ, Bool, true, false, cond, List, [], ◌∷◌, ◌++◌, drop, Option, None, Some, refl, sym, ap, ◌∙◌, append-nil}
-use Rattle.backend_core.specs.declared.backend.Backend.{Backend}
-use Rattle.backend_core.specs.declared.input.BackInput.{BackInput}
+-- The law after the step of one node: of the master, or of another one.
+use Rattle.std.proofs.Common.{◌≡◌, ◌≢◌, ◌⊎◌, inl, inr, ℕ, false, nat_eq, List, [], ◌∷◌, ◌++◌, Option, None, Some, refl, sym, ap, ◌∙◌, subst, append-nil}
+use Rattle.std.specs.List.{list_any}
+use Rattle.std.specs.Ordering.{nat_cmp}
+use Rattle.std.specs.Cmp.Lexicographic.{pointwise, slice_cmp}
+use Rattle.std.proofs.Math.Logic.{⊎_elim}
+use Rattle.feed_core.specs.declared.replica.Replica.{Replica}
+use Rattle.feed_links.specs.Lines.{messages_to, stream_of, HasStreams}
+use Rattle.feed_links.specs.OneFeed.{AreLines, IsFed}
+use Rattle.feed_links.specs.Spelled.{CanBeTold}
 use Rattle.front_core.specs.declared.front.Front.{Front}
-use Rattle.front_core.specs.Front.{bytes_in, connect, deliver, hang}
-use Rattle.front_core.proofs.KnownStays.{bytes_known, connect_known, hang_known, others_known, same_known}
 use Rattle.link_msg.specs.declared.message.LinkMsg.{LinkMsg}
 use Rattle.link_msg.specs.declared.out.Out.{Out}
-use Rattle.link_msg.specs.declared.out.Out.TheVariants.{Client as to_client, Close, Link as to_node, Mark as mark_out, Told as tell}
-use Rattle.link_queue.specs.Links.{Links, on_link, same_link, sent, without_first}
-use Rattle.link_queue.proofs.Wires.{on_link-sent, on_link-taken, same_names}
+use Rattle.link_queue.specs.Links.{Links, on_link}
 use Rattle.master_core.specs.declared.master.Master.{Master}
-use Rattle.master_core.specs.declared.sender.Sender.TheVariants.{Outside}
-use Rattle.master_core.specs.Outside.{connect as outside_connects, bytes_in as outside_says}
-use Rattle.master_core.specs.Streams.{without}
-use Rattle.master_core.proofs.OutsideAlone.{IsBeside, bytes_alone, connects_alone, ends_alone}
+use Rattle.mur_base.specs.Map.{value_at, with_value}
+use Rattle.mur_base.proofs.MapLaws.{names_apart, same_or_other, value_at-with_value, value_at-with_value-other}
 use Rattle.mur_config.specs.declared.config.Config.{Config}
-use Rattle.node_step.specs.declared.input.NodeInput.{NodeInput}
-use Rattle.node_step.specs.declared.input.NodeInput.TheVariants.{Opened, Piece, Hung, From}
 use Rattle.node_step.specs.declared.node.NodeState.{NodeState}
 use Rattle.node_step.specs.declared.node.NodeState.TheVariants as state
-use Rattle.node_step.specs.NodeStep.{as_front, as_master, back_by, back_input, back_takes, front_takes, master_takes, takes as node_takes}
-use Rattle.node_step.proofs.OwnOuts.{AreTo, IsTo, sender_of, takes_goes}
-use Rattle.cluster_core.specs.declared.world.Client.{Client}
+use Rattle.node_step.specs.NodeStep.{as_front, as_master}
 use Rattle.cluster_core.specs.declared.world.World.{World}
-use Rattle.cluster_core.specs.Headline.Outside.{master_at}
-use Rattle.cluster_core.specs.World.{carry, carry_all, client_at, client_does, comes, comes_to, front_at, given_more, master_of, node_at, not_lost}
-use Rattle.cluster_core.specs.World.{opens, taken_from_link, with_client, with_state}
-use Rattle.cluster_core.proofs.Feeds.FeedLaw.{FeedLaw, FrontKnows, KeepsTable, KeepsWires, MasterKeeps, feeds_stay}
-use Rattle.cluster_core.proofs.Feeds.FeedLaw.FrontKnows.{no_front_knows, front_knows}
-use Rattle.cluster_core.proofs.Feeds.FeedLaw.MasterKeeps.{no_master_keeps, master_keeps}
-use Rattle.cluster_core.proofs.Guests.MastersStay.{each_node}
-use Rattle.cluster_core.proofs.Nodes.NotLost.{to_left}
+use Rattle.cluster_core.specs.World.{carry_all, front_at, master_of, node_at}
+use Rattle.cluster_core.proofs.Feeds.Carried.{carried_on, carried_elsewhere}
+use Rattle.cluster_core.proofs.Feeds.FeedLaw.{FeedLaw, HasFeed, IsOneUpdate, IsQuiet}
+use Rattle.cluster_core.proofs.Nodes.OneNodeLaw.{carry_all_sends}
 use Rattle.cluster_core.proofs.Runs.WholeLaw.{carry_all_broken}
 
--- the links of the master
+-- what nodes are
 
-pub apart_link : (a b f t : List ℕ) → (a ≡ f → b ≡ t → ⊥) → same_link a b f t ≡ false
-apart_link a b f t ne = by (same_link a b f t) refl
-  where
-    by : (same : Bool) → same_link a b f t ≡ same → same_link a b f t ≡ false
-    by true e = absurd (let is = same_names a b f t e in ne is.0 is.1)
-    by false e = e
-
-sent_elsewhere : (links : Links LinkMsg) (f t a b : List ℕ) (message : LinkMsg) → (a ≡ f → b ≡ t → ⊥)
-    → on_link (sent links f t message) a b ≡ on_link links a b
-sent_elsewhere links f t a b message ne =
-    on_link-sent links f t a b message ∙ ap (λ same. on_link links a b ++ cond same (message ∷ []) []) (apart_link a b f t ne)
-    ∙ append-nil (on_link links a b)
-
-pub taken_elsewhere : (links : Links LinkMsg) (f t a b : List ℕ) → (a ≡ f → b ≡ t → ⊥) → on_link (without_first links f t) a b ≡ on_link links a b
-taken_elsewhere links f t a b ne =
-    on_link-taken links f t a b ∙ ap (λ same. cond same (drop 1 (on_link links a b)) (on_link links a b)) (apart_link a b f t ne)
-
--- an output that goes neither to the master nor from it
-abbrev pub IsBesideMaster : List ℕ → List ℕ → List ℕ → Type 0
-IsBesideMaster master node other = (node ≢ master) × (other ≢ master)
-
-same_wires : (master : List ℕ) (links : Links LinkMsg) → KeepsWires master links links
-same_wires master links = record { up = λ node. refl; down = λ node. refl }
-
-wires_follow : (master : List ℕ) (one two three : Links LinkMsg) → KeepsWires master one two → KeepsWires master two three → KeepsWires master one three
-wires_follow master one two three first second = record {
-  up = λ node. second.up node ∙ first.up node;
-  down = λ node. second.down node ∙ first.down node;
-}
-
-given_wires : (master : List ℕ) (world : World) (conn : ℕ) (bytes : List ℕ) (found : Option Client)
-    → KeepsWires master world.links (given_more world conn bytes found).links
-unfolding given_more
-given_wires master world conn bytes None = same_wires master world.links
-given_wires master world conn bytes (Some client) = same_wires master world.links
-
-carry_wires : (master node : List ℕ) (world : World) (out : Out) → IsTo (IsBesideMaster master node) out
-    → KeepsWires master world.links (carry node world out).links
-unfolding carry
-carry_wires master node world (to_client conn bytes) may = given_wires master world conn bytes (client_at world conn)
-carry_wires master node world (Close conn) may = same_wires master world.links
-carry_wires master node world (mark_out ask counts) may = same_wires master world.links
-carry_wires master node world (tell ask how) may = same_wires master world.links
-carry_wires master node world (to_node other message) may = record {
-  up = λ any. sent_elsewhere world.links node other any master message (λ a b. may.1 (sym b));
-  down = λ any. sent_elsewhere world.links node other master any message (λ a b. may.0 (sym a));
-}
-
-carry_all_wires : (master node : List ℕ) (world : World) (outs : List Out) → AreTo (IsBesideMaster master node) outs
-    → KeepsWires master world.links (carry_all node world outs).links
-unfolding carry_all AreTo
-carry_all_wires master node world [] may = same_wires master world.links
-carry_all_wires master node world (out ∷ outs) may =
-    wires_follow master world.links (carry node world out).links (carry_all node (carry node world out) outs).links
-    (carry_wires master node world out may.0) (carry_all_wires master node (carry node world out) outs may.1)
-
--- what a step that isn't the master's message leaves of a node
-
--- not a message of the master
-abbrev IsNoMessage : List ℕ → NodeInput → Type 0
-IsNoMessage master input = (name : List ℕ) → sender_of input ≡ Some name → name ≢ master
-
-front_keeps : (master : List ℕ) (front : Front) (input : NodeInput) → front.master ≡ master → IsNoMessage master input
-    → FrontKnows (as_front (Some (state.Front front))) (as_front (Some (front_takes front input).state))
-unfolding front_takes as_front
-front_keeps master front (Opened conn) is none = front_knows front (connect front conn).front (connect_known front conn)
-front_keeps master front (Piece conn bytes) is none = front_knows front (bytes_in front conn bytes).front (bytes_known front conn bytes)
-front_keeps master front (Hung conn) is none = front_knows front (hang front conn) (hang_known front conn)
-front_keeps master front (From name message) is none =
-    front_knows front (deliver front name message).front (others_known front name message (λ e. none name refl (e ∙ is)))
-
-back_by_keeps : (home : Backend) (input : Option BackInput)
-    → FrontKnows (as_front (Some (state.Back home))) (as_front (Some (back_by home input).state))
-unfolding back_by as_front
-back_by_keeps home None = no_front_knows
-back_by_keeps home (Some input) = no_front_knows
-
-pub same_knows : (found : Option Front) → FrontKnows found found
-same_knows None = no_front_knows
-same_knows (Some front) = front_knows front front (same_known front)
-
-pub same_keeps : (found : Option Master) → MasterKeeps found found
-same_keeps None = no_master_keeps
-same_keeps (Some master) = master_keeps master master (record { table = refl; streams = refl; backends = refl })
-
-back_keeps : (home : Backend) (input : NodeInput) → FrontKnows (as_front (Some (state.Back home))) (as_front (Some (back_takes home input).state))
-unfolding back_takes
-back_keeps home (Opened conn) = same_knows (as_front (Some (state.Back home)))
-back_keeps home (Piece conn bytes) = same_knows (as_front (Some (state.Back home)))
-back_keeps home (Hung conn) = same_knows (as_front (Some (state.Back home)))
-back_keeps home (From name message) = back_by_keeps home (back_input name message)
-
-master_no_front : (master : Master) (input : NodeInput) → FrontKnows (as_front (Some (state.Master master))) (as_front (Some (master_takes master input).state))
-unfolding master_takes as_front
-master_no_front master (Opened conn) = no_front_knows
-master_no_front master (Piece conn bytes) = no_front_knows
-master_no_front master (Hung conn) = no_front_knows
-master_no_front master (From name message) = no_front_knows
-
-beside_keeps : (conn : ℕ) (was now : Master) → IsBeside conn was now → KeepsTable was now
-beside_keeps conn was now beside = record { table = beside.table; streams = beside.streams; backends = beside.backends }
-
--- the master, where a client acts
-master_acts : (master : Master) (input : NodeInput) → sender_of input ≡ None
-    → MasterKeeps (as_master (Some (state.Master master))) (as_master (Some (master_takes master input).state))
-unfolding master_takes as_master
-master_acts master (Opened conn) none = master_keeps master (outside_connects master conn).master (beside_keeps conn master _ (connects_alone master conn).beside)
-master_acts master (Piece conn bytes) none =
-    master_keeps master (outside_says master conn bytes).master (beside_keeps conn master _ (bytes_alone master conn bytes).beside)
-master_acts master (Hung conn) none = master_keeps master (without master (Outside conn)) (beside_keeps conn master _ (ends_alone master conn).beside)
-master_acts master (From name message) none = cc
-
-front_no_master : (front : Front) (input : NodeInput) → MasterKeeps (as_master (Some (state.Front front))) (as_master (Some (front_takes front input).state))
-unfolding front_takes as_master
-front_no_master front (Opened conn) = no_master_keeps
-front_no_master front (Piece conn bytes) = no_master_keeps
-front_no_master front (Hung conn) = no_master_keeps
-front_no_master front (From name message) = no_master_keeps
-
-back_by_no_master : (home : Backend) (input : Option BackInput) → MasterKeeps (as_master (Some (state.Back home))) (as_master (Some (back_by home input).state))
-unfolding back_by as_master
-back_by_no_master home None = no_master_keeps
-back_by_no_master home (Some input) = no_master_keeps
-
-back_no_master : (home : Backend) (input : NodeInput) → MasterKeeps (as_master (Some (state.Back home))) (as_master (Some (back_takes home input).state))
-unfolding back_takes back_by as_master
-back_no_master home (Opened conn) = no_master_keeps
-back_no_master home (Piece conn bytes) = no_master_keeps
-back_no_master home (Hung conn) = no_master_keeps
-back_no_master home (From name message) = back_by_no_master home (back_input name message)
-
--- what comes to a node that is no message of the master, nor one to it
-
-is_front : (front : Front) → as_front (Some (state.Front front)) ≡ Some front
-unfolding as_front
-is_front front = refl
-
-takes_knows : (master : List ℕ) (it : NodeState) (input : NodeInput)
-    → ((front : Front) → as_front (Some it) ≡ Some front → front.master ≡ master) → IsNoMessage master input
-    → FrontKnows (as_front (Some it)) (as_front (Some (node_takes it input).state))
-unfolding node_takes
-takes_knows master (state.Front front) input known none = front_keeps master front input (known front (is_front front)) none
-takes_knows master (state.Back home) input known none = back_keeps home input
-takes_knows master (state.Master it) input known none = master_no_front it input
-
--- a message goes to the master only where it is the master's
-abbrev IsNoMessageTo : NodeState → NodeInput → Type 0
-IsNoMessageTo it input = (master : Master) → it ≡ state.Master master → sender_of input ≡ None
-
-takes_table : (it : NodeState) (input : NodeInput) → IsNoMessageTo it input → MasterKeeps (as_master (Some it)) (as_master (Some (node_takes it input).state))
-unfolding node_takes
-takes_table (state.Front front) input none = front_no_master front input
-takes_table (state.Back home) input none = back_no_master home input
-takes_table (state.Master master) input none = master_acts master input (none master refl)
-
-is_master : (master : Master) → as_master (Some (state.Master master)) ≡ Some master
+pub master_there : (found : Option NodeState) (master : Master) → as_master found ≡ Some master → found ≡ Some (state.Master master)
 unfolding as_master
-is_master master = refl
+master_there None master e = cc
+master_there (Some (state.Front front)) master e = cc
+master_there (Some (state.Back home)) master e = cc
+master_there (Some (state.Master it)) master e = cc
 
-no_front_here : (found : Option NodeState) (master : Master) → as_master found ≡ Some master → as_front found ≡ None
-unfolding as_master as_front
-no_front_here None master e = cc
-no_front_here (Some (state.Front front)) master e = cc
-no_front_here (Some (state.Back home)) master e = cc
-no_front_here (Some (state.Master it)) master e = refl
+pub master_is_none : (found : Option NodeState) (master : Master) → as_master found ≡ Some master → as_front found ≡ None
+unfolding as_front as_master
+master_is_none None master e = cc
+master_is_none (Some (state.Front front)) master e = cc
+master_is_none (Some (state.Back home)) master e = cc
+master_is_none (Some (state.Master it)) master e = refl
 
--- a world whose links to and from the master are those that the law speaks of
-module _ (config : Config) (world : World) (law : FeedLaw config world) where
-  -- a frontend is another node than the master
-  front_apart : (node : List ℕ) (front : Front) → front_at world node ≡ Some front → node ≢ master_of config
-  front_apart node front at e =
-      (let none = no_front_here (node_at world (master_of config)) law.master law.is in
-      let no : Some front ≡ None = sym at ∙ ap (front_at world) e ∙ none in cc)
+just_master : (master : Master) → as_master (Some (state.Master master)) ≡ Some master
+unfolding as_master
+just_master master = refl
 
-  -- what a node sends goes beside the master
-  goes_beside : (node : List ℕ) (it : NodeState) (input : NodeInput) → node_at world node ≡ Some it → IsNoMessage (master_of config) input
-      → IsNoMessageTo it input → ((name : List ℕ) → sender_of input ≡ Some name → node ≢ master_of config)
-      → AreTo (IsBesideMaster (master_of config) node) (node_takes it input).outs
-  goes_beside node it input there none none_to to =
-      takes_goes (IsBesideMaster (master_of config) node) it input
-      (λ front is. (let at : front_at world node ≡ Some front = ap as_front there ∙ is in
-      (front_apart node front at, (law.fronts node front at).home_is)))
-      (λ master name message is from. absurd (let no : sender_of input ≡ None = none_to master is in
-      let some : sender_of input ≡ Some name = ap sender_of from in
-      (let never : None ≡ Some name = sym no ∙ some in cc)))
-      (λ name from. (to name from, none name from))
+no_front_master : (master : Master) → as_front (Some (state.Master master)) ≡ None
+unfolding as_front
+no_front_master master = refl
 
-  pub comes_keeps : (node : List ℕ) (input : NodeInput) (found : Option NodeState) → node_at world node ≡ found → IsNoMessage (master_of config) input
-      → ((it : NodeState) → found ≡ Some it → IsNoMessageTo it input) → ((name : List ℕ) → sender_of input ≡ Some name → node ≢ master_of config)
-      → FeedLaw config (comes_to world node input found)
-  unfolding comes_to
-  comes_keeps node input None there none none_to to = law
-  comes_keeps node input (Some it) there none none_to to =
-      let next : World = with_state world node (node_takes it input).state in
-      let outs : List Out = not_lost world.broken node (node_takes it input).outs in
-      feeds_stay config world (carry_all node next outs) (carry_all_broken node next outs ∙ law.whole)
-      (λ any. each_node (λ was now. MasterKeeps (as_master was) (as_master now)) world node input (Some it) there (λ o. same_keeps (as_master o))
-      (λ one is. takes_table one input (none_to one is)) any)
-      (λ any. each_node (λ was now. FrontKnows (as_front was) (as_front now)) world node input (Some it) there (λ o. same_knows (as_front o))
-      (λ one is. takes_knows (master_of config) one input
-      (λ front front_is. (law.fronts node front (ap as_front (there ∙ is) ∙ front_is)).master_is) none) any)
-      (carry_all_wires (master_of config) node next outs
-      (to_left (IsBesideMaster (master_of config) node) world.broken node (node_takes it input).outs
-      (goes_beside node it input there none (none_to it refl) to)))
-      law
+pub not_both : {A : Type 0} (found : Option Front) (front : Front) → found ≡ Some front → found ≡ None → A
+not_both found front some none = absurd (let no : Some front ≡ None = sym some ∙ none in cc)
 
--- the step of a client
+neither : {A : Type 0} (found : Option Master) (master : Master) → found ≡ Some master → found ≡ None → A
+neither found master some none = absurd (let no : Some master ≡ None = sym some ∙ none in cc)
 
-abbrev IsOfClient : NodeInput → Type 0
-IsOfClient input = sender_of input ≡ None
+-- the world after a node has another state, messages were taken, and its outputs are carried out
+abbrev pub after_step : World → List ℕ → NodeState → Links LinkMsg → List Out → World
+after_step world node now links outs = carry_all node (record world { nodes = with_value (slice_cmp nat_cmp) world.nodes node now; links = links }) outs
 
-never : {A : Type 0} (input : NodeInput) (name : List ℕ) → sender_of input ≡ None → sender_of input ≡ Some name → A
-never input name none some = absurd (let no : None ≡ Some name = sym none ∙ some in cc)
+module _ (world : World) (node : List ℕ) (it now : NodeState) (links : Links LinkMsg) (outs : List Out) (there : node_at world node ≡ Some it) where
+  -- a node in its place, or another one
+  at_or_not : (any : List ℕ) → ((any ≡ node) × (node_at (after_step world node now links outs) any ≡ Some now))
+      ⊎ ((any ≢ node) × (node_at (after_step world node now links outs) any ≡ node_at world any))
+  at_or_not any =
+      let put : World = record world { nodes = with_value (slice_cmp nat_cmp) world.nodes node now; links = links } in
+      let same = ap (λ nodes. value_at (slice_cmp nat_cmp) nodes any) (carry_all_sends node put outs).nodes in
+      ⊎_elim
+      (λ (e : any ≡ node). inl (
+        e,
+        same ∙ ap (λ n. value_at (slice_cmp nat_cmp) put.nodes n) e
+            ∙ value_at-with_value (slice_cmp nat_cmp) names_apart world.nodes node now it there,
+      ))
+      (λ (ne : any ≢ node). inr (ne, same ∙ value_at-with_value-other (slice_cmp nat_cmp) names_apart world.nodes node any now ne))
+      (same_or_other (slice_cmp nat_cmp) names_apart any node)
 
-client_keeps : (config : Config) (world : World) → FeedLaw config world → (node : List ℕ) (input : NodeInput) → sender_of input ≡ None
-    → FeedLaw config (comes world node input)
-client_keeps config world law node input none =
-    comes_keeps config world law node input (node_at world node) refl (λ name is. never input name none is) (λ it is master there. none)
-    (λ name is. never input name none is)
+  sent_on : (to : List ℕ) → on_link (after_step world node now links outs).links node to ≡ on_link links node to ++ messages_to to outs
+  sent_on to = carried_on node (record world { nodes = with_value (slice_cmp nat_cmp) world.nodes node now; links = links }) outs to
 
-joined_law : (config : Config) (world : World) (node : List ℕ) (conn : ℕ) → FeedLaw config world → FeedLaw config (with_client world node conn)
-joined_law config world node conn law = record {
-  whole = law.whole;
-  master = law.master;
-  is = law.is;
-  only = law.only;
-  ordered = law.ordered;
-  spelled = law.spelled;
-  fronts = law.fronts;
-  others = law.others;
-}
+  sent_elsewhere : (from to : List ℕ) → from ≢ node → on_link (after_step world node now links outs).links from to ≡ on_link links from to
+  sent_elsewhere from to ne = carried_elsewhere node (record world { nodes = with_value (slice_cmp nat_cmp) world.nodes node now; links = links }) outs from to ne
 
-pub opens_keeps : (config : Config) (world : World) (node : List ℕ) (conn : ℕ) (found : Option Client) → FeedLaw config world
-    → FeedLaw config (opens world node conn found)
-unfolding opens
-opens_keeps config world node conn (Some there) law = law
-opens_keeps config world node conn None law =
-    client_keeps config (with_client world node conn) (joined_law config world node conn law) node (Opened conn) refl
+  unbroken : (after_step world node now links outs).broken ≡ world.broken
+  unbroken = carry_all_broken node (record world { nodes = with_value (slice_cmp nat_cmp) world.nodes node now; links = links }) outs
 
-pub does_keeps : (config : Config) (world : World) (input : NodeInput) (found : Option Client) → sender_of input ≡ None → FeedLaw config world
-    → FeedLaw config (client_does world input found)
-unfolding client_does
-does_keeps config world input None none law = law
-does_keeps config world input (Some client) none law = client_keeps config world law client.at input none
+-- a feed on equal queues
+pub moved : (master : Master) (node : List ℕ) (up now_up down now_down : List LinkMsg) (replica : Replica) → now_up ≡ up → now_down ≡ down
+    → IsFed master node up down replica → IsFed master node now_up now_down replica
+moved master node up now_up down now_down replica same_up same_down fed =
+    subst (λ u. IsFed master node u now_down replica) (sym same_up) (subst (λ d. IsFed master node up d replica) (sym same_down) fed)
 
--- a message between two nodes that aren't the master
+-- the step of the master, with what is on the links before it lets outputs out
+pub record MasterSteps (config : Config) (world : World) (law : FeedLaw config world) (links : Links LinkMsg) (next : Master) (outs : List Out) : Type 0 where
+  pub order : HasStreams next
+  pub told : CanBeTold next.table
+  pub backends : next.backends ≡ law.master.backends
+  pub feeds : (node : List ℕ) (front : Front) → front_at world node ≡ Some front → node ≢ master_of config
+      → IsFed next node (on_link links node (master_of config)) (on_link links (master_of config) node ++ messages_to node outs) front.replica
+  pub lines : (node : List ℕ) (front : Front) → front_at world node ≡ Some front → node ≢ master_of config
+      → AreLines (on_link links (master_of config) node ++ messages_to node outs)
+  pub sends : (node : List ℕ) (front : Front) → front_at world node ≡ Some front → IsOneUpdate (on_link links node (master_of config))
+  pub up : (node : List ℕ) → front_at world node ≡ None → on_link links node (master_of config) ≡ []
+  pub down : (node : List ℕ) → front_at world node ≡ None → on_link links (master_of config) node ++ messages_to node outs ≡ []
+  pub stream : (node : List ℕ) → front_at world node ≡ None → stream_of next node ≡ None
 
-other_taken : (config : Config) (world : World) (from to : List ℕ) → from ≢ master_of config → to ≢ master_of config → FeedLaw config world
-    → FeedLaw config (taken_from_link world from to)
-other_taken config world from to no_from no_to law =
-    feeds_stay config world (taken_from_link world from to) law.whole (λ any. same_keeps (master_at world any)) (λ any. same_knows (front_at world any))
-    (record {
-      up = λ node. taken_elsewhere world.links from to node (master_of config) (λ a b. no_to (sym b));
-      down = λ node. taken_elsewhere world.links from to (master_of config) node (λ a b. no_from (sym a));
-    }) law
+module _ (config : Config) (world : World) (law : FeedLaw config world) (links : Links LinkMsg) (next : Master) (outs : List Out)
+    (step : MasterSteps config world law links next outs) where
+  abbrev name : List ℕ
+  name = master_of config
 
-pub other_keeps : (config : Config) (world : World) (from to : List ℕ) (message : LinkMsg) → from ≢ master_of config → to ≢ master_of config
-    → FeedLaw config world → FeedLaw config (comes (taken_from_link world from to) to (From from message))
-other_keeps config world from to message no_from no_to law =
-    let taken = other_taken config world from to no_from no_to law in
-    comes_keeps config (taken_from_link world from to) taken to (From from message) (node_at world to) refl
-    (λ name is. λ e. no_from ((let same : from ≡ name = cc in same) ∙ e))
-    (λ it is master there. absurd (no_to (law.only to master (ap as_master (is ∙ ap (λ i. Some i) there) ∙ is_master master))))
-    (λ name is. no_to)
+  abbrev later : World
+  later = after_step world name (state.Master next) links outs
+
+  there : node_at world name ≡ Some (state.Master law.master)
+  there = master_there (node_at world name) law.master law.is
+
+  found : (any : List ℕ) → ((any ≡ name) × (node_at later any ≡ Some (state.Master next))) ⊎ ((any ≢ name) × (node_at later any ≡ node_at world any))
+  found any = at_or_not world name (state.Master law.master) (state.Master next) links outs there any
+
+  no_front_there : front_at world name ≡ None
+  no_front_there = master_is_none (node_at world name) law.master law.is
+
+  -- a frontend was one, and another node
+  was_front : (node : List ℕ) (front : Front) → front_at later node ≡ Some front → (node ≢ name) × (front_at world node ≡ Some front)
+  was_front node front at = ⊎_elim
+      (λ here. not_both (as_front (Some (state.Master next))) front (sym (ap as_front here.1) ∙ at) (no_front_master next))
+      (λ other. (other.0, sym (ap as_front other.1) ∙ at))
+      (found node)
+
+  was_none : (node : List ℕ) → front_at later node ≡ None → front_at world node ≡ None
+  was_none node none = ⊎_elim
+      (λ here. ap (front_at world) here.0 ∙ no_front_there)
+      (λ other. sym (ap as_front other.1) ∙ none)
+      (found node)
+
+  up_of : (node : List ℕ) → node ≢ name → on_link later.links node name ≡ on_link links node name
+  up_of node ne = sent_elsewhere world name (state.Master law.master) (state.Master next) links outs there node name ne
+
+  down_of : (node : List ℕ) → on_link later.links name node ≡ on_link links name node ++ messages_to node outs
+  down_of node = sent_on world name (state.Master law.master) (state.Master next) links outs there node
+
+  quiet_up : (node : List ℕ) → front_at world node ≡ None → on_link later.links node name ≡ []
+  quiet_up node none = ⊎_elim
+      (λ (e : node ≡ name). ap (λ n. on_link later.links n name) e ∙ down_of name ∙ step.down name no_front_there)
+      (λ (ne : node ≢ name). up_of node ne ∙ step.up node none)
+      (same_or_other (slice_cmp nat_cmp) names_apart node name)
+
+  pub master_stepped : FeedLaw config later
+  master_stepped = record {
+    whole = unbroken world name (state.Master law.master) (state.Master next) links outs there ∙ law.whole;
+    master = next;
+    is = ⊎_elim
+        (λ here. ap as_master here.1 ∙ just_master next)
+        (λ other. absurd (other.0 refl))
+        (found name);
+    only = λ node it at. ⊎_elim
+        (λ here. here.0)
+        (λ other. law.only node it (sym (ap as_master other.1) ∙ at))
+        (found node);
+    order = step.order;
+    told = step.told;
+    fronts = λ node front at.
+        (let was = was_front node front at in
+        let had = law.fronts node front was.1 in
+        record {
+          master_is = had.master_is;
+          home_is = had.home_is;
+          lines = subst AreLines (sym (down_of node)) (step.lines node front was.1 was.0);
+          feed = moved next node (on_link links node name) (on_link later.links node name) (on_link links name node ++ messages_to node outs) (on_link later.links name node)
+              front.replica (up_of node was.0) (down_of node) (step.feeds node front was.1 was.0);
+        });
+    asks_once = λ node front at.
+        (let was = was_front node front at in
+        record {
+          no_backend = subst (λ b. list_any (pointwise nat_eq node) b ≡ false) (sym step.backends) (law.asks_once node front was.1).no_backend;
+          sends = subst IsOneUpdate (sym (up_of node was.0)) (step.sends node front was.1);
+        });
+    others = λ node none.
+        (let was = was_none node none in
+        record { up = quiet_up node was; down = down_of node ∙ step.down node was; stream = step.stream node was });
+  }
+
+-- the step of another node: the master's table and streams stay, and it is sent nothing
+pub record NodeSteps (config : Config) (world : World) (law : FeedLaw config world) (node : List ℕ) (it now : NodeState) (links : Links LinkMsg) (outs : List Out) : Type 0 where
+  pub apart : node ≢ master_of config
+  pub there : node_at world node ≡ Some it
+  pub no_master : as_master (Some now) ≡ None
+  pub up : (any : List ℕ) → on_link links any (master_of config) ≡ on_link world.links any (master_of config)
+  pub down : (any : List ℕ) → any ≢ node → on_link links (master_of config) any ≡ on_link world.links (master_of config) any
+  pub silent : messages_to (master_of config) outs ≡ []
+  pub is_front : (front : Front) → as_front (Some now) ≡ Some front → (was : Front) × (as_front (Some it) ≡ Some was) × (front.master ≡ was.master) × (front.home ≡ was.home)
+  pub feed : (front : Front) → as_front (Some now) ≡ Some front
+      → IsFed law.master node (on_link world.links node (master_of config)) (on_link links (master_of config) node) front.replica
+  pub lines : (front : Front) → as_front (Some now) ≡ Some front → AreLines (on_link links (master_of config) node)
+  pub is_none : as_front (Some now) ≡ None → as_front (Some it) ≡ None
+  pub quiet : as_front (Some now) ≡ None → on_link links (master_of config) node ≡ on_link world.links (master_of config) node
+
+module _ (config : Config) (world : World) (law : FeedLaw config world) (node : List ℕ) (it now : NodeState) (links : Links LinkMsg) (outs : List Out)
+    (step : NodeSteps config world law node it now links outs) where
+  abbrev master_name : List ℕ
+  master_name = master_of config
+
+  abbrev next_world : World
+  next_world = after_step world node now links outs
+
+  found_at : (any : List ℕ) → ((any ≡ node) × (node_at next_world any ≡ Some now)) ⊎ ((any ≢ node) × (node_at next_world any ≡ node_at world any))
+  found_at any = at_or_not world node it now links outs step.there any
+
+  still_up : (any : List ℕ) → on_link next_world.links any master_name ≡ on_link world.links any master_name
+  still_up any = ⊎_elim
+      (λ (e : any ≡ node). subst (λ n. on_link next_world.links n master_name ≡ on_link world.links n master_name) (sym e)
+      (sent_on world node it now links outs step.there master_name ∙ ap (λ l. on_link links node master_name ++ l) step.silent ∙ append-nil (on_link links node master_name) ∙ step.up node))
+      (λ (ne : any ≢ node). sent_elsewhere world node it now links outs step.there any master_name ne ∙ step.up any)
+      (same_or_other (slice_cmp nat_cmp) names_apart any node)
+
+  still_down : (any : List ℕ) → on_link next_world.links master_name any ≡ on_link links master_name any
+  still_down any = sent_elsewhere world node it now links outs step.there master_name any (λ e. step.apart (sym e))
+
+  -- the frontend of the step, and another one
+
+  own_feed : (front : Front) → as_front (Some now) ≡ Some front → HasFeed next_world.links law.master master_name node front
+  own_feed front at =
+      let was = step.is_front front at in
+      let had = law.fronts node was.0 (ap as_front step.there ∙ was.1) in
+      record {
+        master_is = was.2 ∙ had.master_is;
+        home_is = λ e. had.home_is (sym was.3 ∙ e);
+        lines = subst AreLines (sym (still_down node)) (step.lines front at);
+        feed = moved law.master node (on_link world.links node master_name) (on_link next_world.links node master_name) (on_link links master_name node) (on_link next_world.links master_name node) front.replica
+            (still_up node) (still_down node) (step.feed front at);
+      }
+
+  other_feed : (any : List ℕ) (front : Front) → any ≢ node → front_at world any ≡ Some front → HasFeed next_world.links law.master master_name any front
+  other_feed any front ne at =
+      let had = law.fronts any front at in
+      record {
+        master_is = had.master_is;
+        home_is = had.home_is;
+        lines = subst AreLines (sym (still_down any ∙ step.down any ne)) had.lines;
+        feed = moved law.master any (on_link world.links any master_name) (on_link next_world.links any master_name) (on_link world.links master_name any) (on_link next_world.links master_name any) front.replica
+            (still_up any) (still_down any ∙ step.down any ne) had.feed;
+      }
+
+  had_front : (any : List ℕ) (front : Front) → front_at next_world any ≡ Some front → (was : Front) × (front_at world any ≡ Some was)
+  had_front any front at = ⊎_elim
+      (λ here. (let was = step.is_front front (sym (ap as_front here.1) ∙ at) in (was.0, ap (front_at world) here.0 ∙ ap as_front step.there ∙ was.1)))
+      (λ other. (front, sym (ap as_front other.1) ∙ at))
+      (found_at any)
+
+  quiet_node : (any : List ℕ) → front_at next_world any ≡ None → IsQuiet next_world.links law.master master_name any
+  quiet_node any none = ⊎_elim
+      (λ here. (let none_now : as_front (Some now) ≡ None = sym (ap as_front here.1) ∙ none in
+      let had = law.others node (ap as_front step.there ∙ step.is_none none_now) in
+      subst (IsQuiet next_world.links law.master master_name) (sym here.0)
+      (record { up = still_up node ∙ had.up; down = still_down node ∙ step.quiet none_now ∙ had.down; stream = had.stream })))
+      (λ other. (let had = law.others any (sym (ap as_front other.1) ∙ none) in
+      record { up = still_up any ∙ had.up; down = still_down any ∙ step.down any other.0 ∙ had.down; stream = had.stream }))
+      (found_at any)
+
+  pub node_stepped : FeedLaw config next_world
+  node_stepped = record {
+    whole = unbroken world node it now links outs step.there ∙ law.whole;
+    master = law.master;
+    is = ⊎_elim
+        (λ here. absurd (step.apart (sym here.0)))
+        (λ other. ap as_master other.1 ∙ law.is)
+        (found_at master_name);
+    only = λ any other at. ⊎_elim
+        (λ here. neither (as_master (Some now)) other (sym (ap as_master here.1) ∙ at) step.no_master)
+        (λ elsewhere. law.only any other (sym (ap as_master elsewhere.1) ∙ at))
+        (found_at any);
+    order = law.order;
+    told = law.told;
+    fronts = λ any front at. ⊎_elim
+        (λ here. subst (λ n. HasFeed next_world.links law.master master_name n front) (sym here.0) (own_feed front (sym (ap as_front here.1) ∙ at)))
+        (λ other. other_feed any front other.0 (sym (ap as_front other.1) ∙ at))
+        (found_at any);
+    asks_once = λ any front at.
+        (let was = had_front any front at in
+        let had = law.asks_once any was.0 was.1 in
+        record { no_backend = had.no_backend; sends = subst IsOneUpdate (sym (still_up any)) had.sends });
+    others = quiet_node;
+  }

@@ -13,8 +13,13 @@ use Rattle.master_core.specs.Outside.{Stepped}
 use Rattle.master_core.specs.Step.{answered}
 use Rattle.master_core.specs.Streams.{streaming}
 use Rattle.master_core.proofs.UpdateLaw.{table_lines, update_begins}
+use Rattle.feed_core.specs.declared.replica.Replica.{Replica}
 use Rattle.feed_core.specs.Stream.{update_line, update_tag}
 use Rattle.feed_core.proofs.StreamLaw.{update_read}
+use Rattle.feed_links.specs.Lines.{stream_of}
+use Rattle.feed_links.specs.OneFeed.{AreNoops, IsFed, asks, is_told}
+use Rattle.feed_links.proofs.FeedLaw.{not_update}
+use Rattle.front_core.specs.declared.front.Front.{Front}
 use Rattle.mupdate_codec.specs.declared.command.MResponse.{MResponse}
 use Rattle.mupdate_codec.specs.declared.tag.Tag.{Tag}
 use Rattle.node_step.specs.declared.input.NodeInput.{NodeInput}
@@ -26,7 +31,7 @@ use Rattle.node_step.proofs.OwnOuts.{AreNotFor, AreTo, sender_of}
 use Rattle.mur_config.specs.declared.config.Config.{Config}
 use Rattle.cluster_core.specs.declared.world.World.{World}
 use Rattle.cluster_core.specs.World.{node_at, front_at, master_of}
-use Rattle.cluster_core.proofs.Feeds.FeedLaw.{FeedLaw, IsFed, IsFedBy, asking, fed}
+use Rattle.cluster_core.proofs.Feeds.FeedLaw.{FeedLaw, IsOneUpdate, one_update, none_left}
 
 -- the master serves its clients as it did
 pub record KeepsClients (was now : Master) : Type 0 where
@@ -101,37 +106,29 @@ update_for_it master node stepped e = subst (IsForNode master node) (sym e) (rec
 })
 
 -- the message at the master is the frontend's UPDATE
-pub record IsUpdate (config : Config) (world : World) (master : Master) (from : List ℕ) (message : LinkMsg) (rest : List LinkMsg) : Type 0 where
-  pub is : message ≡ Line update_line
-  pub none_behind : rest ≡ []
-  pub does : node_says master from message
+record IsUpdate (master : Master) (from : List ℕ) (message : LinkMsg) : Type 0 where
+  does : node_says master from message
       ≡ record { master = streaming master (Frontend from) update_tag; outs = map (answered (Frontend from) update_tag) (table_lines master.table) }
 
-update_by : (config : Config) (world : World) (law : FeedLaw config world) (from : List ℕ) (message : LinkMsg) (rest : List LinkMsg)
-    → on_link world.links from (master_of config) ≡ message ∷ rest → (front : _) → IsFed world.links law.master (master_of config) from front
-    → IsUpdate config world law.master from message rest
-update_by config world law from message rest first front is = by is.feed
-  where
-    by : IsFedBy world.links law.master.table law.master.streams (master_of config) from front.replica → IsUpdate config world law.master from message rest
-    by (asking up down empty none) =
-        let both : message ∷ rest ≡ Line update_line ∷ [] = sym first ∙ up in
-        let same : message ≡ Line update_line = cc in
-        record {
-          is = same;
-          none_behind = cc;
-          does = ap (node_says law.master from) same ∙ update_begins law.master from update_line update_tag is.no_backend update_read none;
-        }
-    by (fed lines up down spelled told) = absurd (let no : message ∷ rest ≡ [] = sym first ∙ up in cc)
+first_update : (queue : List LinkMsg) (message : LinkMsg) (rest : List LinkMsg) → IsOneUpdate queue → queue ≡ message ∷ rest → message ≡ Line update_line
+first_update queue message rest one_update e = cc
+first_update queue message rest none_left e = cc
 
-from_by : (config : Config) (world : World) (law : FeedLaw config world) (from : List ℕ) (message : LinkMsg) (rest : List LinkMsg) (found : Option _)
-    → front_at world from ≡ found → on_link world.links from (master_of config) ≡ message ∷ rest → IsUpdate config world law.master from message rest
-from_by config world law from message rest None at first =
-    absurd (let no : message ∷ rest ≡ [] = sym first ∙ (law.others from at).up in cc)
-from_by config world law from message rest (Some front) at first = update_by config world law from message rest first front (law.fronts from front at)
+-- UPDATE stands before no NOOP, so the frontend that sent it has no stream yet
+none_yet : (master : Master) (node : List ℕ) (up down : List LinkMsg) (replica : Replica) (rest : List LinkMsg) → up ≡ Line update_line ∷ rest
+    → IsFed master node up down replica → stream_of master node ≡ None
+none_yet master node up down replica rest e (asks before behind is one two quiet empty none) = none
+none_yet master node up down replica rest e (is_told noops told there) = absurd (not_update (subst AreNoops e noops).0)
 
-pub only_updates : (config : Config) (world : World) (law : FeedLaw config world) (from : List ℕ) (message : LinkMsg) (rest : List LinkMsg)
-    → on_link world.links from (master_of config) ≡ message ∷ rest → IsUpdate config world law.master from message rest
-only_updates config world law from message rest first = from_by config world law from message rest (front_at world from) refl first
+update_by : (config : Config) (world : World) (law : FeedLaw config world) (from : List ℕ) (message : LinkMsg) (rest : List LinkMsg) (found : Option Front)
+    → front_at world from ≡ found → on_link world.links from (master_of config) ≡ message ∷ rest → IsUpdate law.master from message
+update_by config world law from message rest None at first = absurd (let no : message ∷ rest ≡ [] = sym first ∙ (law.others from at).up in cc)
+update_by config world law from message rest (Some front) at first =
+    let once = law.asks_once from front at in
+    let is = first_update (on_link world.links from (master_of config)) message rest once.sends first in
+    let none = none_yet law.master from (on_link world.links from (master_of config)) (on_link world.links (master_of config) from) front.replica rest
+    (first ∙ ap (λ m. m ∷ rest) is) (law.fronts from front at).feed in
+    record { does = ap (node_says law.master from) is ∙ update_begins law.master from update_line update_tag once.no_backend update_read none }
 
 is_master_at : (found : Option NodeState) (master : Master) → found ≡ Some (state.Master master) → as_master found ≡ Some master
 unfolding as_master
@@ -149,7 +146,7 @@ says_for_nodes config world law from to message rest first = λ master name othe
     let same : master ≡ law.master = just (sym at ∙ ap (λ n. as_master (node_at world n)) here ∙ law.is) in
     let named : from ≡ name = (let e : From from message ≡ From name other = is in cc) in
     let sent : message ≡ other = (let e : From from message ≡ From name other = is in cc) in
-    let update = only_updates config world law from message rest (ap (on_link world.links from) (sym here) ∙ first) in
+    let update = update_by config world law from message rest (front_at world from) refl (ap (on_link world.links from) (sym here) ∙ first) in
     subst (λ m. IsForNode m name (node_says m name other)) (sym same)
     (subst (λ n. IsForNode law.master n (node_says law.master n other)) named
     (subst (λ x. IsForNode law.master from (node_says law.master from x)) sent

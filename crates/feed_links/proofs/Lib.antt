@@ -1,0 +1,14 @@
+pub mod Entries
+pub mod Names
+pub mod Changes
+pub mod Arguments
+pub mod Printed
+pub mod Messages
+pub mod Hearing
+pub mod Steps
+pub mod Following
+pub mod Begun
+pub mod TablesTold
+pub mod FeedLaw
+pub mod OnlyLines
+pub mod BackendsStay
