@@ -26,7 +26,7 @@ use Rattle.mur_model.specs.Answer.{Answered, answer_of}
 use Rattle.mur_model.specs.History.{Course, Talk, Follows, IsInCommandOrder, IsLegal, answers_its_command, carried_out, course_after, is_about, loses, numbered, point_of, refused_out, with_session}
 use Rattle.mur_model.specs.Relocation.{cause_text, refused_for}
 use Rattle.mur_model.specs.History.Follows.{no_points, a_reply, a_loss, a_refusal}
-use Rattle.store_law.specs.Mirror.{LosesNoneOf, Mirror, OfView, ViewsAreTold, asked, asked_by, may_touch, mirror_of, read_lines}
+use Rattle.store_law.specs.Mirror.{LosesNoneOf, Mirror, OfView, ViewsAreTold, asked, asked_by, mirror_of, names, read_lines}
 use Rattle.store_law.proofs.MirrorLaw.{Agrees, keeps_mirror}
 use Rattle.store_law.proofs.MirrorNews.{mirrors_length}
 use Rattle.store_law.proofs.MirrorSteps.{Keeps, act_keeps}
@@ -86,7 +86,7 @@ module _ (R : Mirror → List Row → Type 0) (keeps : Keeps R) (setting : Setti
   refused_keeps (selected view) (command.Select text) why mirror is = tt
   refused_keeps (selected view) (command.Examine text) why mirror is = tt
   refused_keeps (selected view) (command.Store by_uid set mode true flags) why mirror is =
-      keeps.forgets (may_touch by_uid set (length mirror)) 1 mirror view.rows is
+      keeps.silences (names by_uid set (length mirror)) 1 mirror view.rows is
   refused_keeps (selected view) it why mirror is = is
   refused_keeps Off it why mirror is = tt
   refused_keeps (In user) it why mirror is = tt

@@ -1,7 +1,7 @@
 -- A session that has a mailbox selected misses none of its messages but new ones, along each history.
 use Rattle.std.proofs.Common.{◌≡◌, ℕ, ◌+◌, ◌≤◌, ◌==◌, nat_lt, Bool, true, false, if◌then◌else◌, List, [], ◌∷◌, map, Option, None, Some}
 use Rattle.std.proofs.Common.{refl, sym, ◌∙◌, ap, subst, ⊎_elim, arith}
-use Rattle.std.specs.Prelude.{◌⊎◌, ⊤, IfSome}
+use Rattle.std.specs.Prelude.{⊤, IfSome}
 use Rattle.std.specs.Cmp.Lexicographic.{slice_cmp}
 use Rattle.std.specs.Ordering.{nat_cmp}
 use Rattle.std.proofs.lemmas.Bool.Decides.{nat_tests}
@@ -15,6 +15,9 @@ use Rattle.mail_store.specs.Store.{has_too_many_flags, rows_stored, stored}
 use Rattle.mail_message.specs.Boxes.{messages_at}
 use Rattle.mur_base.specs.declared.point.Point.{Point}
 use Rattle.mur_base.proofs.MapLaws.{names_apart, value_at-with_value}
+use Rattle.imap_types.specs.declared.command.Command.{Command}
+use Rattle.imap_types.specs.declared.command.Command.TheVariants as command
+use Rattle.imap_types.specs.declared.reply.NoText.{NoText}
 use Rattle.imap_types.specs.declared.reply.Reply.{Reply}
 use Rattle.imap_types.specs.declared.request.Request.{Request}
 use Rattle.imap_types.specs.declared.request.Request.TheVariants.{Command as a_command, Unknown as unknown, TooBig as too_big}
@@ -33,10 +36,11 @@ use Rattle.mur_model.specs.Answer.{answer_of}
 use Rattle.mur_model.specs.ClientView.{uids}
 use Rattle.mur_model.specs.Fetch.{fetch_at, flag_uids, seen_flags, sees}
 use Rattle.mur_model.specs.History.{Course, Talk, Follows, with_session}
-use Rattle.mur_model.specs.History.Follows.{no_points, a_reply, a_loss}
+use Rattle.mur_model.specs.History.Follows.{no_points, a_reply, a_loss, a_refusal}
 use Rattle.mur_model.specs.Left.{Left, Worked, box_after, kept, made, changed, store_after}
 use Rattle.mur_model.specs.Needed.{Needed, Refusal, Turned, Mailbox, Work, Make, Append as append_work, Status as status_work, Select as select_work, Viewed as viewed_work}
 use Rattle.mur_model.specs.News.{has_row, is_above, news}
+use Rattle.mur_model.specs.Relocation.{refused_for}
 use Rattle.mur_model.specs.Select.{select_on}
 use Rattle.mur_model.specs.Selected.{rows_of}
 use Rattle.mur_model.specs.Store.{box_at, is_spent}
@@ -258,6 +262,14 @@ answer_grows setting store session (a_command tag it) serial = act_grows store s
 answer_grows setting store session (unknown tag) serial = unchanged store
 answer_grows setting store session (too_big tag) serial = unchanged store
 
+-- behind a refusal for a move or for a server
+refused_covered : (store : Store) (session : Sess) (it : Command) (why : NoText) → IsCovered store session
+    → IsCovered store (session_after session (refused_for session it why).session)
+unfolding refused_for IsCovered
+refused_covered store (selected view) (command.Select text) why is = tt
+refused_covered store (selected view) (command.Examine text) why is = tt
+refused_covered store session it why is = is
+
 -- ---- in a history
 
 abbrev pub AllCovered : Store → (ℕ → Sess) → Type 0
@@ -283,6 +295,10 @@ points_covered setting talk first last points (a_reply course end step conn n re
     points_covered setting talk _ end rest later (answer_rises setting course.store (course.sessions conn) request serial rise)
     (with_covered course.store _ course.sessions conn _ (answer_grows setting course.store (course.sessions conn) request serial) all
     (answer_covered setting course.store (course.sessions conn) request serial rise (all conn)))
+points_covered setting talk first last points (a_refusal course end step conn n tag it what why rest refused told later) rise all =
+    points_covered setting talk _ end rest later rise
+    (with_covered course.store course.store course.sessions conn _ (unchanged course.store) all
+    (refused_covered course.store (course.sessions conn) it why (all conn)))
 
 off_covered : (store : Store) (session : Sess) → session ≡ Off → IsCovered store session
 unfolding IsCovered
