@@ -65,6 +65,7 @@ step_keeps config heard world event law feeds =
       clients = λ any. same_client refl;
       broken = refl;
       places = λ whom here placed. placed;
+      streams = λ tells. tells;
       marks =
           refl;
       steps = omega arith;

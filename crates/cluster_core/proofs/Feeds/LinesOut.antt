@@ -4,7 +4,6 @@ use Rattle.link_msg.specs.declared.message.LinkMsg.{LinkMsg}
 use Rattle.link_msg.specs.declared.message.LinkMsg.TheVariants.{Line}
 use Rattle.link_queue.specs.Links.{Links, on_link, same_link, sent}
 use Rattle.link_queue.proofs.Wires.{on_link-sent, same_itself}
-use Rattle.front_core.proofs.OneConnection.Places.{of_connection, nobody_whom, others_sent, PlacesStay}
 use Rattle.master_core.specs.declared.sender.Sender.TheVariants.{Frontend}
 use Rattle.master_core.specs.Changes.{text_of}
 use Rattle.master_core.specs.Step.{answered}
@@ -40,15 +39,6 @@ all_elsewhere links from to a b (message ∷ messages) other =
     ∙ on_link-sent links from to a b message
     ∙ ap (λ same. on_link links a b ++ cond same (message ∷ []) []) other
     ∙ append-nil (on_link links a b)
-
--- no line is about a connection
-pub lines_places : (conn : ℕ) (links : Links LinkMsg) (from to : List ℕ) (tag : Tag) (lines : List MResponse)
-    → PlacesStay (of_connection conn) links (all_on links from to (line_messages tag lines))
-unfolding all_on
-lines_places conn links from to tag [] = λ here placed. placed
-lines_places conn links from to tag (line ∷ lines) = λ here placed.
-    lines_places conn (sent links from to (Line (text_of tag line))) from to tag lines here
-    (others_sent links from to (Line (text_of tag line)) (of_connection conn) (nobody_whom conn) here placed)
 
 -- lines for a frontend are carried out
 pub lines_carried : (node to : List ℕ) (world : World) (tag : Tag) (lines : List MResponse)
