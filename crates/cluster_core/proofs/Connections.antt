@@ -2,6 +2,7 @@
 pub mod NameLaw
 pub mod ConnectionLaw
 pub mod FrameLaw
+pub mod OthersStay
 pub mod KeepsLaw
 pub mod GivenAlone
 pub mod Comes

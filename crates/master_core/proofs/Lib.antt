@@ -6,3 +6,4 @@ pub mod DialogLaw
 pub mod ServersLaw
 pub mod StepLaw
 pub mod UpdateLaw
+pub mod WhoseLaw

@@ -12,5 +12,6 @@ pub mod Step
 pub mod Servers
 pub mod Outside
 pub mod Linked
+pub mod Whose
 pub mod Dialogs
 pub mod Boot

@@ -36,6 +36,7 @@ mod sender;
 mod step;
 mod streams;
 mod update;
+mod whose;
 
 pub use laws::{
     a_line_is_its_command, a_record_is_changed_by_its_server, an_outside_line_changes_no_record,
@@ -46,3 +47,4 @@ pub use plan::MasterPlan;
 pub use refusal::Refusal;
 pub use reply::{Answers, Reply};
 pub use sender::Sender;
+pub use whose::a_line_is_answered_under_its_tag;

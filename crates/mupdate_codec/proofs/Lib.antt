@@ -10,6 +10,7 @@ pub mod ToldLaw
 pub mod ToldLines
 pub mod ReadsLaw
 pub mod AsksLaw
+pub mod LineAsks
 pub mod CutLaw
 pub mod HeadReads
 pub mod HeadLaw

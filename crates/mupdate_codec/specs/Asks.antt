@@ -1,6 +1,6 @@
 -- The tags between the nodes of a cluster: that of a client's command is the number of its connection, `-`, and its own number in it.
 use Rattle.std.specs.Prelude.{ℕ, ◌==◌, List, [], ◌∷◌, ◌++◌, Option, None, Some, if◌then◌else◌}
-use Rattle.mur_base.specs.Ascii.{dash}
+use Rattle.mur_base.specs.Ascii.{dash, space}
 use Rattle.mur_base.specs.Number.{number_of}
 use Rattle.mur_base.specs.declared.point.AskId.{AskId}
 use Rattle.grammar.specs.Numbers.{decimal_text}
@@ -31,3 +31,12 @@ ask_in (Some parts) = ask_by (number_of parts.0) (number_of parts.1)
 unfoldable pub ask_id_of : Tag → Option AskId
 ask_id_of Star = None
 ask_id_of (Text text) = ask_in (split_dash [] text)
+
+-- the bytes before the first space, or all where there is none
+unfoldable pub first_word : List ℕ → List ℕ
+first_word [] = []
+first_word (b ∷ bytes) = if b == space then [] else b ∷ first_word bytes
+
+-- the client's command whose line this is, by the tag alone: that is the first word of a command and of a response (RFC 3656, 3 and 4)
+unfoldable pub line_ask : List ℕ → Option AskId
+line_ask line = ask_id_of (Text (first_word line))

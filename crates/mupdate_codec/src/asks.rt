@@ -1,7 +1,13 @@
 // The tags between the nodes of a cluster.
-ghost use Rattle.std.specs.Prelude.{◌≡◌, ◌<◌, ◌^◌, [], IfOk, Some, codes, None};
+ghost use Rattle.std.specs.Prelude.{◌≡◌, ◌<◌, ◌^◌, ℕ, List, [], IfOk, Some, codes, None};
 ghost use Rattle.mur_base.specs.declared.point.AskId.{AskId};
-ghost use Rattle.mupdate_codec.specs.Asks.{tag_of, split_dash, ask_in, ask_id_of};
+ghost use Rattle.mupdate_codec.specs.declared.command.MCommand.{MCommand};
+ghost use Rattle.mupdate_codec.specs.declared.command.MResponse.{MResponse};
+ghost use Rattle.mupdate_codec.specs.declared.tag.Tag.{Tag};
+ghost use Rattle.mupdate_codec.specs.Arguments.{exact};
+ghost use Rattle.mupdate_codec.specs.Asks.{tag_of, split_dash, ask_in, ask_id_of, line_ask};
+ghost use Rattle.mupdate_codec.specs.Commands.{command_line, IsCommandLine};
+ghost use Rattle.mupdate_codec.specs.Responses.{response_line, IsResponseLine};
 
 use crate::tag::Tag;
 use grammar::put_decimal;
@@ -76,4 +82,13 @@ pub fn a_tag_tells_its_ask()
     ensures unasked { ask_id_of (Tag.Text (codes "r0")) ≡ None }
     ensures back { ask_id_of (Tag.Text (codes "r1")) ≡ None }
     ensures find { ask_id_of (Tag.Text (codes "r2")) ≡ None }
+{}
+
+/// A line tells its command by its tag alone, a command and a response alike; under the tag of a client's command it does so even where
+/// no line is so.
+pub fn a_line_tells_its_ask()
+    ensures command { (line : List ℕ) (it : Tag × MCommand) → IsCommandLine line it → line_ask line ≡ ask_id_of it.0 }
+    ensures response { (line : List ℕ) (it : Tag × MResponse) → IsResponseLine line it → line_ask line ≡ ask_id_of it.0 }
+    ensures own_command { (ask : AskId) (it : MCommand) → line_ask ((command_line exact).text (tag_of ask, it)) ≡ ask_id_of (tag_of ask) }
+    ensures own_response { (ask : AskId) (it : MResponse) → line_ask ((response_line exact).text (tag_of ask, it)) ≡ ask_id_of (tag_of ask) }
 {}

@@ -39,7 +39,8 @@ mod whole;
 mod word;
 
 pub use asks::{
-    BACK_TAG, FIND_TAG, RESYNC_TAG, UNASKED_TAG, UPDATE_TAG, a_tag_tells_its_ask, ask_of, tag_of,
+    BACK_TAG, FIND_TAG, RESYNC_TAG, UNASKED_TAG, UPDATE_TAG, a_line_tells_its_ask,
+    a_tag_tells_its_ask, ask_of, tag_of,
 };
 pub use command::{MCommand, MResponse};
 pub use cutter::{Cutter, cut};

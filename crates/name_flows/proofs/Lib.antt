@@ -1,3 +1,4 @@
+pub mod LinesWhose
 pub mod NameMaps
 pub mod AskedLaw
 pub mod OneStep

@@ -2,9 +2,10 @@
 use Rattle.std.proofs.Common.{◌≡◌, Option, Some, None, refl}
 use Rattle.backend_core.specs.declared.backend.Backend.{Backend}
 use Rattle.front_core.specs.declared.front.Front.{Front}
+use Rattle.master_core.specs.declared.master.Master.{Master}
 use Rattle.node_step.specs.declared.node.NodeState.{NodeState}
 use Rattle.node_step.specs.declared.node.NodeState.TheVariants as node
-use Rattle.node_step.specs.NodeStep.{as_front, as_back}
+use Rattle.node_step.specs.NodeStep.{as_front, as_back, as_master}
 
 -- what is a frontend is that one
 pub front_is : (found : Option NodeState) (front : Front) → as_front found ≡ Some front → found ≡ Some (node.Front front)
@@ -21,6 +22,14 @@ back_is (Some (node.Front front)) home e = cc
 back_is (Some (node.Back it)) home e = cc
 back_is (Some (node.Master master)) home e = cc
 back_is None home e = cc
+
+-- what is a master is that one
+pub master_is : (found : Option NodeState) (master : Master) → as_master found ≡ Some master → found ≡ Some (node.Master master)
+unfolding as_master
+master_is (Some (node.Front front)) master e = cc
+master_is (Some (node.Back home)) master e = cc
+master_is (Some (node.Master it)) master e = cc
+master_is None master e = cc
 
 -- a backend is no frontend
 pub back_no_front : (found : Option NodeState) (home : Backend) → as_back found ≡ Some home → as_front found ≡ None

@@ -18,6 +18,7 @@ use Rattle.master_core.specs.Outside.{connect as outside_connects, bytes_in as o
 use Rattle.master_core.specs.Streams.{without}
 use Rattle.master_core.proofs.OutsideAlone.{AreItsOwn, connects_alone, bytes_alone, ends_alone}
 use Rattle.master_core.proofs.DialogLaw.{bytes_of}
+use Rattle.master_core.specs.Whose.{TellNobody}
 use Rattle.mur_base.proofs.MapLaws.{names_apart, numbers_apart, same_or_other, value_at-with_value, value_at-with_value-other}
 use Rattle.node_step.specs.declared.input.NodeInput.{NodeInput}
 use Rattle.node_step.specs.declared.input.NodeInput.TheVariants.{Opened, Piece, Hung, From}
@@ -32,6 +33,7 @@ use Rattle.cluster_core.proofs.Nodes.NotLost.{own_go}
 use Rattle.cluster_core.proofs.Runs.WholeLaw.{carried_out, acts_whole}
 use Rattle.cluster_core.proofs.Connections.KeepsLaw.{ClientStays, LooksAlike, front_same, looks_same, same_put}
 use Rattle.cluster_core.proofs.Connections.KeepsLaw.ClientStays.{same_client, given_elsewhere}
+use Rattle.cluster_core.proofs.Connections.OthersStay.{StateTellsNobody, master_state, master_told, streams_put}
 
 -- the step of a frontend, of a backend, where no link is broken
 abbrev pub with_front : World → List ℕ → Stepped → World
@@ -88,6 +90,7 @@ looks_put world node it at = record {
   clients = λ any. same_client refl;
   broken = refl;
   places = λ whom here placed. placed;
+  streams = λ tells. streams_put world node it it at (subst StateTellsNobody at (tells node)) tells;
   marks = refl;
   steps = omega arith;
 }
@@ -108,10 +111,11 @@ master_beside look world node any was later same at = ⊎_elim
     (same_or_other (slice_cmp nat_cmp) names_apart any node)
 
 master_looks : (world : World) (node : List ℕ) (conn : ℕ) (given : List ℕ) (was later : Master) (outs : List Out)
+    → later.streams ≡ was.streams
     → node_at world node ≡ Some (state.Master was) → client_at world conn ≡ Some (record { at = node; given = given }) → AreItsOwn conn outs
     → LooksAlike world (carry_all node (with_state world node (state.Master later)) (not_lost world.broken node outs))
 unfolding as_front as_back
-master_looks world node conn given was later outs at there own =
+master_looks world node conn given was later outs same at there own =
     let put : World = with_state world node (state.Master later) in
     let alone = given_alone node put conn node given outs there own in
     let none : front_at world node ≡ None = ap as_front at in
@@ -126,6 +130,8 @@ master_looks world node conn given was later outs at there own =
           (same_or_other nat_cmp numbers_apart any conn);
       broken = refl;
       places = λ whom here placed. placed;
+      streams = λ tells. streams_put world node (state.Master was) (state.Master later) at
+          (master_state later (subst TellNobody (sym same) (master_told (node_at world node) was at (tells node)))) tells;
       marks = refl;
       steps = omega arith;
     })
@@ -137,7 +143,7 @@ opened_elsewhere world node conn given None at there none = looks_same world
 opened_elsewhere world node conn given (Some (state.Front front)) at there none = absurd (no_such (Some (state.Front front)) front refl none)
 opened_elsewhere world node conn given (Some (state.Back home)) at there none = looks_put world node (state.Back home) at
 opened_elsewhere world node conn given (Some (state.Master master)) at there none =
-    master_looks world node conn given master (outside_connects master conn).master (outside_connects master conn).outs at there (connects_alone master conn).own
+    master_looks world node conn given master (outside_connects master conn).master (outside_connects master conn).outs (connects_alone master conn).beside.streams at there (connects_alone master conn).own
 
 pub piece_elsewhere : (world : World) (node : List ℕ) (conn : ℕ) (bytes given : List ℕ) (found : Option NodeState) → node_at world node ≡ found
     → client_at world conn ≡ Some (record { at = node; given = given }) → as_front found ≡ None
@@ -147,7 +153,7 @@ piece_elsewhere world node conn bytes given None at there none = looks_same worl
 piece_elsewhere world node conn bytes given (Some (state.Front front)) at there none = absurd (no_such (Some (state.Front front)) front refl none)
 piece_elsewhere world node conn bytes given (Some (state.Back home)) at there none = looks_put world node (state.Back home) at
 piece_elsewhere world node conn bytes given (Some (state.Master master)) at there none =
-    master_looks world node conn given master (outside_says master conn bytes).master (outside_says master conn bytes).outs at there (bytes_alone master conn bytes).own
+    master_looks world node conn given master (outside_says master conn bytes).master (outside_says master conn bytes).outs (bytes_alone master conn bytes).beside.streams at there (bytes_alone master conn bytes).own
 
 pub hung_elsewhere : (world : World) (node : List ℕ) (conn : ℕ) (given : List ℕ) (found : Option NodeState) → node_at world node ≡ found
     → client_at world conn ≡ Some (record { at = node; given = given }) → as_front found ≡ None → LooksAlike world (comes_to world node (Hung conn) found)
@@ -156,7 +162,7 @@ hung_elsewhere world node conn given None at there none = looks_same world
 hung_elsewhere world node conn given (Some (state.Front front)) at there none = absurd (no_such (Some (state.Front front)) front refl none)
 hung_elsewhere world node conn given (Some (state.Back home)) at there none = looks_put world node (state.Back home) at
 hung_elsewhere world node conn given (Some (state.Master master)) at there none =
-    master_looks world node conn given master (without master (Outside conn)) [] at there (ends_alone master conn).own
+    master_looks world node conn given master (without master (Outside conn)) [] (ends_alone master conn).beside.streams at there (ends_alone master conn).own
 
 -- a frontend in another state
 

@@ -65,6 +65,7 @@ begins_step config heard world law =
       clients = λ any. same_client refl;
       broken = refl;
       places = λ whom here placed. placed;
+      streams = λ tells. tells;
       marks =
           refl;
       steps = omega arith;

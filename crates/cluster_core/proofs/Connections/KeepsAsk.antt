@@ -45,7 +45,9 @@ use Rattle.node_step.specs.declared.node.NodeState.TheVariants as state
 use Rattle.cluster_core.specs.declared.world.World.{World}
 use Rattle.imap_talk.specs.Heard.{Heard, frames_heard}
 use Rattle.link_queue.specs.Links.{on_link, sent, without_first}
-use Rattle.cluster_core.specs.World.{front_at, home_at, setting_of, with_state, comes, taken_from_link, carry, carry_all}
+use Rattle.cluster_core.specs.World.{front_at, home_at, node_at, setting_of, with_state, comes, taken_from_link, carry, carry_all}
+use Rattle.cluster_core.proofs.Connections.OthersStay.{back_state, streams_put}
+use Rattle.node_step.proofs.NodeKinds.{back_is}
 use Rattle.cluster_core.proofs.Connections.Comes.{with_home, ask_comes, home_here, home_other, fronts_beside}
 use Rattle.cluster_core.proofs.Connections.ConnectionLaw.{Story, told_of, session_at, session_of_other}
 use Rattle.cluster_core.proofs.Connections.FirstTells.{CommandWaits, TellsPlace, first_tells, command_waits}
@@ -261,6 +263,8 @@ ask_kept config heard later world law from to tag name work ask rest answered it
         home_is = now;
         nodes = nodes_alike config world next law.home same_fronts law.nodes;
         whole = law.whole;
+        streams = streams_put world to (state.Back law.backend) (state.Back answered.backend) (back_is (node_at world to) law.backend was)
+            (back_state answered.backend) law.streams;
         story = story;
         names = λ other. ⊎_elim
             (λ (e : other ≡ name). subst (λ n. NameIs next answered.course.store law.home n) (sym e)

@@ -354,6 +354,7 @@ heard_on config heard world law conn bytes more node front connection e at stage
         home_is = law.home_is;
         nodes = law.nodes;
         whole = law.whole;
+        streams = law.streams;
         story = told;
         names = law.names;
         serials = law.serials;

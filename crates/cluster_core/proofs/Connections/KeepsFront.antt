@@ -22,9 +22,11 @@ use Rattle.cluster_core.specs.declared.world.World.{World}
 use Rattle.imap_talk.specs.Heard.{Heard, frames_heard, has_closed}
 use Rattle.link_msg.specs.declared.message.LinkMsg.{LinkMsg}
 use Rattle.link_queue.specs.Links.{Links}
-use Rattle.cluster_core.specs.World.{front_at, setting_of, carry_all, with_state}
+use Rattle.cluster_core.specs.World.{front_at, node_at, setting_of, carry_all, with_state}
 use Rattle.cluster_core.proofs.Connections.ConnectionLaw.{Story, told_of, IsMade, IsStanding}
 use Rattle.cluster_core.proofs.Connections.Comes.{front_here, homes_beside}
+use Rattle.cluster_core.proofs.Connections.OthersStay.{front_state, streams_put}
+use Rattle.node_step.proofs.NodeKinds.{front_is}
 use Rattle.cluster_core.proofs.Connections.KeepsLaw.{ConnectionIs, IsAt, IsGone, KeepsLaw, KeepsOn, connection_stays}
 use Rattle.cluster_core.proofs.Connections.NameLaw.{name_stays}
 use Rattle.cluster_core.specs.Shown.{held_by}
@@ -73,6 +75,7 @@ front_keeps config heard after origin law links conn node front was connection o
         home_is = homes_beside origin node front later at law.home ∙ law.home_is;
         nodes = nodes_with_front config origin next law.home node front later at refl refl refl law.nodes;
         whole = carry_all_broken node world outs ∙ law.whole;
+        streams = streams_put origin node (state.Front front) (state.Front later) (front_is (node_at origin node) front at) (front_state later) law.streams;
         story = story;
         names = λ name. name_stays origin next law.story.course.store story.course.store law.home name
             (λ any. ap (λ h. value_at (slice_cmp nat_cmp) (held_by h) name) (homes_beside origin node front later at any)) (ap (λ (s : Store). box_at s name) same_store) (law.names name);

@@ -30,6 +30,7 @@ use Rattle.cluster_core.proofs.Connections.ConnectionLaw.{Story, told_of, client
 use Rattle.front_core.proofs.OneConnection.Standing.{HasBegunSo, Stands, IsLeft}
 use Rattle.imap_talk.proofs.RequestsOf.{requests_of}
 use Rattle.cluster_core.proofs.Connections.NameLaw.{NameIs}
+use Rattle.cluster_core.proofs.Connections.OthersStay.{StreamsTellNobody}
 use Rattle.cluster_core.proofs.Histories.Told.{IsTold}
 use Rattle.mur_config.specs.Nodes.{links_of}
 use Rattle.serve_law.proofs.HomeStore.{AreSerialsTo}
@@ -92,6 +93,7 @@ pub record KeepsLaw (config : Config) (heard : ℕ → Heard) (world : World) : 
   pub nodes : AreNodesOf config world home
   -- no link is broken
   pub whole : world.broken ≡ []
+  pub streams : StreamsTellNobody world
   pub story : Story
   pub names : (name : List ℕ) → NameIs world story.course.store home name
   pub serials : AreSerialsTo story.course.store.given backend.last_serial
@@ -231,6 +233,7 @@ pub record LooksAlike (world next : World) : Type 0 where
   pub clients : (conn : ℕ) → ClientStays conn world next
   pub broken : next.broken ≡ world.broken
   pub places : (conn : ℕ) → PlacesStay (of_connection conn) world.links next.links
+  pub streams : StreamsTellNobody world → StreamsTellNobody next
   pub marks : next.marks ≡ world.marks
   pub steps : world.steps ≤ next.steps
 
@@ -242,6 +245,7 @@ looks_same world = record {
   clients = λ any. same_client refl;
   broken = refl;
   places = λ whom here placed. placed;
+  streams = λ tells. tells;
   marks = refl;
   steps = omega arith;
 }

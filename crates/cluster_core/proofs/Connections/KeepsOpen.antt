@@ -37,6 +37,8 @@ use Rattle.cluster_core.specs.Shown.{held_by}
 use Rattle.cluster_core.specs.World.{client_at, node_at, front_at, setting_of, with_client, with_state, comes, opens, given_more, carry, carry_all}
 use Rattle.cluster_core.proofs.Connections.ConnectionLaw.{Story, told_of}
 use Rattle.cluster_core.proofs.Connections.Comes.{with_front, opened_comes, opened_elsewhere, front_here, homes_beside}
+use Rattle.cluster_core.proofs.Connections.OthersStay.{front_state, streams_put}
+use Rattle.node_step.proofs.NodeKinds.{front_is}
 use Rattle.front_core.proofs.OneConnection.Places.{nowhere}
 use Rattle.front_core.proofs.OneConnection.Standing.Stands.{reads}
 use Rattle.cluster_core.proofs.Connections.KeepsLaw.{ConnectionIs, IsUntold, KeepsLaw, KeepsOn, connection_stays}
@@ -127,6 +129,7 @@ joined_keeps config heard world node conn law none new =
         home_is = law.home_is;
         nodes = nodes_alike config world next law.home (λ any. refl) law.nodes;
         whole = law.whole;
+        streams = law.streams;
         story = law.story;
         names = λ name. name_stays world next law.story.course.store law.story.course.store law.home name (λ any. refl) refl (law.names name);
         serials = law.serials;
@@ -217,6 +220,7 @@ front_keeps_open config heard world node conn front law at new =
         home_is = homes_beside world node front later at law.home ∙ law.home_is;
         nodes = nodes_with_front config world next law.home node front later at refl refl refl law.nodes;
         whole = law.whole;
+        streams = streams_put world node (state.Front front) (state.Front later) (front_is (node_at world node) front at) (front_state later) law.streams;
         story = law.story;
         names = λ name. name_stays world next law.story.course.store law.story.course.store law.home name
             (λ any. ap (λ h. value_at (slice_cmp nat_cmp) (held_by h) name) (homes_beside world node front later at any)) refl (law.names name);

@@ -114,6 +114,7 @@ still_kept config heard after world next alike same law = record {
     home_is = alike.homes law.home ∙ law.home_is;
     nodes = nodes_stay config world next law.home alike.fronts law.nodes;
     whole = alike.broken ∙ law.whole;
+    streams = alike.streams law.streams;
     story = law.story;
     names = λ name. name_stays world next law.story.course.store law.story.course.store law.home name
         (λ node. ap (λ h. value_at (slice_cmp nat_cmp) (held_by h) name) (alike.homes node)) refl (law.names name);

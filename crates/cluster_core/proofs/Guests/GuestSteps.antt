@@ -25,6 +25,7 @@ use Rattle.node_step.specs.declared.input.NodeInput.{NodeInput}
 use Rattle.node_step.specs.declared.input.NodeInput.TheVariants.{Opened, Piece, Hung, From}
 use Rattle.node_step.specs.declared.node.NodeState.{NodeState}
 use Rattle.node_step.specs.declared.node.NodeState.TheVariants as state
+use Rattle.node_step.proofs.NodeKinds.{master_is}
 use Rattle.node_step.specs.NodeStep.{as_front, as_master, back_takes, master_takes, takes as node_takes}
 use Rattle.node_step.proofs.OwnOuts.{sender_of, conn_of, back_own}
 use Rattle.schedule_text.specs.declared.event.Event.{Event}
@@ -133,13 +134,6 @@ dialog_acts world node conn given master next outs dialog at there own is_given 
     subst (λ w. GuestIs w conn (guest node dialog)) (sym (ap (carry_all node put) (own_go world.broken node conn outs own) ∙ alone.next_is))
     (is_dialog node dialog next (alone.own ∙ ap (λ g. Some (record { at = node; given = g })) (sym is_given))
     (ap as_master (value_at-with_value (slice_cmp nat_cmp) names_apart world.nodes node (state.Master next) (state.Master master) there)) is)
-
-master_is : (found : Option NodeState) (master : Master) → as_master found ≡ Some master → found ≡ Some (state.Master master)
-unfolding as_master
-master_is None master e = cc
-master_is (Some (state.Front front)) master e = cc
-master_is (Some (state.Back home)) master e = cc
-master_is (Some (state.Master it)) master e = cc
 
 -- bytes come
 

@@ -30,7 +30,7 @@ use Rattle.mur_model.proofs.HistoryGrows.{one_up_to}
 use Rattle.node_step.specs.declared.node.NodeState.{NodeState}
 use Rattle.node_step.specs.declared.node.NodeState.TheVariants as state
 use Rattle.node_step.specs.NodeStep.{as_back}
-use Rattle.node_step.proofs.NodeKinds.{front_is, back_is, back_no_front, a_back}
+use Rattle.node_step.proofs.NodeKinds.{front_is, back_is, master_is, back_no_front, a_back}
 use Rattle.cluster_core.specs.declared.world.World.{World}
 use Rattle.imap_talk.specs.Heard.{nobody, frames_heard}
 use Rattle.link_queue.specs.Links.{Links, on_link, sent}
@@ -40,6 +40,7 @@ use Rattle.cluster_core.specs.World.{node_at, front_at, home_at}
 use Rattle.cluster_core.proofs.Runs.UpsLaw.{all_sent, first_links, fresh_nodes, sent_by, started}
 use Rattle.cluster_core.proofs.Runs.FrontsOfStart.{frontends_at_start}
 use Rattle.mur_config.proofs.NodesApart.{head_apart, tail_apart}
+use Rattle.cluster_core.proofs.Connections.OthersStay.{booted_tells}
 use Rattle.cluster_core.proofs.Connections.KeepsLaw.{IsHomeFor, KeepsLaw}
 use Rattle.cluster_core.proofs.Connections.KeepsLaw.ConnectionIs.{is_nobody}
 use Rattle.cluster_core.proofs.Histories.Tally.{Fit, command_of}
@@ -51,7 +52,7 @@ use Rattle.imap_talk.proofs.RequestsOf.{requests_of}
 use Rattle.serve_law.proofs.HomeStore.{AreSerialsTo}
 use Rattle.cluster_core.proofs.Connections.NameLaw.NameIs.{absent}
 use Rattle.cluster_core.specs.Shown.{held_by}
-use Rattle.front_core.proofs.OneConnection.Places.{About, of_connection, IsPlaced, nobody_whom, others_sent}
+use Rattle.front_core.proofs.OneConnection.Places.{About, of_connection, IsPlaced, nobody_whom, others_sent, update_nobodys}
 
 -- a frontend that has done nothing
 abbrev pub first_front : Config → List ℕ → Front
@@ -282,7 +283,7 @@ no_place whom a b = refl
 one_sent : (conn : ℕ) (links : Links LinkMsg) (link : Link) (front : Front) (is_master : Bool) → IsPlaced (of_connection conn) links None
     → IsPlaced (of_connection conn) (cond is_master (sent links link.to front.master (Line update_line)) links) None
 one_sent conn links link front true none =
-    others_sent links link.to front.master (Line update_line) (of_connection conn) (nobody_whom conn) None none
+    others_sent links link.to front.master (Line update_line) (of_connection conn) (λ e. nobody_whom conn (sym update_nobodys ∙ e)) None none
 one_sent conn links link front false none = none
 
 sent_places : (conn : ℕ) (links : Links LinkMsg) (link : Link) (found : Option NodeState) → IsPlaced (of_connection conn) links None
@@ -345,6 +346,8 @@ start_keeps_for config are home_for =
         home_for = home_for;
       };
       whole = fresh.broken;
+      streams = λ node master at. booted_tells node (backends_of config.nodes) empty_table master
+          (fresh.nodes node (state.Master master) (master_is (node_at (start config) node) master at));
       story = record { talk = record { requests = λ conn. []; answers = λ conn. []; serials = λ conn. [] }; told = λ conn. []; course = first_course };
       names = λ name. absent refl (λ node. nothing_at config (start config) node name (home_at (start config) node) fresh refl);
       serials = none_given has.backend.last_serial free.1;

@@ -1,10 +1,19 @@
 -- Where a command of a connection is: nowhere, or in one message on one link.
-use Rattle.std.proofs.Common.{◌≡◌, ◌≢◌, ℕ, Bool, true, false, nat_eq, List, [], ◌∷◌, Option, None, Some, refl, sym, ◌∙◌, ap, arith}
+use Rattle.std.proofs.Common.{◌≡◌, ◌≢◌, ◌⊎◌, inl, inr, ℕ, Bool, true, false, nat_eq, List, [], ◌∷◌, Option, None, Some, refl, sym, ◌∙◌, ap, arith}
+use Rattle.std.specs.Prelude.{⊤}
 use Rattle.std.proofs.lemmas.Bool.Decides.{nat_tests}
 use Rattle.link_msg.specs.declared.answer.BackAnswer.{BackAnswer}
 use Rattle.link_msg.specs.declared.ask.FrontAsk.{FrontAsk}
 use Rattle.link_msg.specs.declared.message.LinkMsg.{LinkMsg}
 use Rattle.link_msg.specs.declared.message.LinkMsg.TheVariants.{Up, End, Line, Ask, Answer}
+use Rattle.link_msg.specs.declared.out.Out.{Out}
+use Rattle.link_msg.specs.declared.out.Out.TheVariants.{Link}
+use Rattle.feed_core.specs.Stream.{update_line, update_tag}
+use Rattle.mupdate_codec.specs.declared.command.MCommand.TheVariants as command
+use Rattle.mupdate_codec.specs.Asks.{ask_id_of, first_word, line_ask, split_dash}
+use Rattle.mupdate_codec.specs.Tags.{mupdate_tag_text}
+use Rattle.mupdate_codec.proofs.LineAsks.{command_under}
+use Rattle.mur_base.specs.declared.point.AskId.{AskId}
 use Rattle.link_queue.specs.Links.{Links, on_link, sent, without_first}
 use Rattle.link_queue.proofs.Placed.{Carried, IsFound, another_sent, own_sent, another_taken, own_first, none_on_empty}
 
@@ -13,12 +22,18 @@ pub data About : Type 0 where
   of_connection : ℕ → About
   of_nobody : About
 
+-- a client's command is about its connection
+abbrev pub about_command : Option AskId → About
+about_command None = of_nobody
+about_command (Some ask) = of_connection ask.conn
+
+-- a line is about the command that its tag tells
 abbrev pub about : LinkMsg → About
 about (Ask ask) = of_connection (ask.id).conn
 about (Answer answer) = of_connection (answer.id).conn
 about Up = of_nobody
 about End = of_nobody
-about (Line bytes) = of_nobody
+about (Line bytes) = about_command (line_ask bytes)
 
 unfoldable pub same_about : About → About → Bool
 same_about (of_connection one) (of_connection other) = nat_eq one other
@@ -71,6 +86,32 @@ other_whom one other ne e = ne (let same : one ≡ other = cc in same)
 -- and nobody is no connection
 pub nobody_whom : (conn : ℕ) → of_nobody ≢ of_connection conn
 nobody_whom conn e = cc
+
+-- a frontend's UPDATE is about nobody, and so is each line under its tag
+
+pub update_tag_nobodys : line_ask (mupdate_tag_text update_tag) ≡ None
+unfolding line_ask mupdate_tag_text first_word ask_id_of split_dash
+update_tag_nobodys = refl
+
+pub update_nobodys : about (Line update_line) ≡ of_nobody
+unfolding update_line
+update_nobodys = ap about_command (command_under update_tag command.Update ∙ update_tag_nobodys)
+
+-- what is about nobody is no command's
+pub of_no_command : (ask : Option AskId) → about_command ask ≡ of_nobody → ask ≡ None
+of_no_command None e = refl
+of_no_command (Some ask) e = cc
+
+-- a message that a node lets out is about them, or about nobody
+abbrev pub IsAboutThem : About → Out → Type 0
+IsAboutThem whom (Link node message) = (about message ≡ whom) ⊎ (about message ≡ of_nobody)
+IsAboutThem whom out = ⊤
+
+-- so it is about no other connection
+pub not_about : (whom : About) (conn : ℕ) (message : LinkMsg) → (about message ≡ whom) ⊎ (about message ≡ of_nobody) → whom ≢ of_connection conn
+    → about message ≢ of_connection conn
+not_about whom conn message (inl same) ne = λ e. ne (sym same ∙ e)
+not_about whom conn message (inr none) ne = λ e. nobody_whom conn (sym none ∙ e)
 
 own_about : (whom : About) (message : LinkMsg) → about message ≡ whom → is_about whom message ≡ true
 own_about whom message e = ap (λ a. same_about a whom) e ∙ about_itself whom
@@ -126,6 +167,12 @@ in_an_answer front f t answer (is_answered home own) e =
     let same : Answer own ≡ Answer answer = ap (λ (c : Carried LinkMsg). c.message) (just e) in
     let own_is : own ≡ answer = cc in
     (ap (λ (c : Carried LinkMsg). c.to) (just e), ap (λ h. is_answered h own) (ap (λ (c : Carried LinkMsg). c.from) (just e)) ∙ ap (is_answered f) own_is)
+
+-- no command is in a line
+pub in_a_line : (front f t bytes : List ℕ) (place : Place) → its_message front place ≡ Some (record { from = f; to = t; message = Line bytes }) → ⊥
+in_a_line front f t bytes nowhere e = cc
+in_a_line front f t bytes (is_asked home ask) e = (let no : Ask ask ≡ Line bytes = ap (λ (c : Carried LinkMsg). c.message) (just e) in cc)
+in_a_line front f t bytes (is_answered home answer) e = (let no : Answer answer ≡ Line bytes = ap (λ (c : Carried LinkMsg). c.message) (just e) in cc)
 
 -- one that is in a message is not nowhere
 pub somewhere : (front : List ℕ) (place : Place) (it : Carried LinkMsg) → its_message front place ≡ Some it → place ≡ nowhere → ⊥
