@@ -26,7 +26,7 @@ use Rattle.mupdate_codec.specs.declared.tag.Tag.{Tag}
 use Rattle.mupdate_codec.specs.Whole.{command_in}
 use Rattle.mur_base.specs.Map.{value_at}
 use Rattle.feed_links.specs.Lines.{messages_to, IsOf, IsOfAnother, HasStreams, stream_of}
-use Rattle.feed_links.specs.OneFeed.{IsNoop, AreNoops, IsFed, asks, is_told, IsFedAfter, NoopsKeepIt, HearsKeepsIt, TakesKeepsIt, OthersKeepIt, ClientsKeep, ClientsKeepIt}
+use Rattle.feed_links.specs.OneFeed.{IsNoop, AreNoops, IsFed, asks, is_told, IsFedAfter, NoopsKeepIt, HearsKeepsIt, TakesKeepsIt, OthersKeepIt, ClientsKeepIt}
 use Rattle.feed_links.specs.Replicas.{hears, hears_all, replica_of, IsNoNews, AreNoNews}
 use Rattle.feed_links.specs.Spelled.{CanBeTold}
 use Rattle.feed_links.proofs.Begun.{update_begins, noop_tells_nothing, others_leave, streams_stay_in_order}
