@@ -19,10 +19,10 @@ use Rattle.node_record.specs.declared.master.MasterRecord.TheVariants as entry
 use Rattle.node_record.specs.declared.table.Record.{Record}
 use Rattle.node_record.specs.declared.table.State.{State}
 use Rattle.node_record.specs.declared.table.State.TheVariants.{Bare, Kept, Active}
-use Rattle.node_record.specs.Table.{MailboxTable, Records, record_at, moved, kept_state, reserved_again, table_after}
+use Rattle.node_record.specs.Table.{MailboxTable, record_at, moved, kept_state, reserved_again, table_after}
 use Rattle.std.specs.Ordering.{nat_cmp}
 use Rattle.std.specs.Cmp.Lexicographic.{slice_cmp}
-use Rattle.feed_links.specs.Replicas.{rec_of, rec_by, recs_of, replica_of}
+use Rattle.feed_links.specs.Replicas.{rec_by, recs_of, replica_of}
 use Rattle.feed_links.proofs.Entries.{recs, none_there, one_there, entry_put, value_put, entry_gone}
 
 -- a command changes the record of its name: RESERVE only where there is none, DEACTIVATE only where there is one

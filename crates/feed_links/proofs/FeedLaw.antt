@@ -26,7 +26,7 @@ use Rattle.mupdate_codec.specs.declared.tag.Tag.{Tag}
 use Rattle.mupdate_codec.specs.Whole.{command_in}
 use Rattle.mur_base.specs.Map.{value_at}
 use Rattle.feed_links.specs.Lines.{messages_to, IsOf, IsOfAnother, HasStreams, stream_of}
-use Rattle.feed_links.specs.OneFeed.{IsNoop, AreNoops, IsFed, asks, is_told, IsFedAfter, NoopsKeepIt, HearsKeepsIt, TakesKeepsIt, OthersKeepIt, ClientsKeep, ClientsKeepIt}
+use Rattle.feed_links.specs.OneFeed.{IsNoop, AreNoops, IsFed, asks, is_told, IsFedAfter, NoopsKeepIt, HearsKeepsIt, TakesKeepsIt, OthersKeepIt, ClientsKeepIt}
 use Rattle.feed_links.specs.Replicas.{hears, hears_all, replica_of, IsNoNews, AreNoNews}
 use Rattle.feed_links.specs.Spelled.{CanBeTold}
 use Rattle.feed_links.proofs.Begun.{update_begins, noop_tells_nothing, others_leave, streams_stay_in_order}
@@ -82,15 +82,15 @@ module _ (master : Master) (node : List ℕ) where
   abbrev from : Sender
   from = sender_of master node
 
-  own : IsOf node from
-  own = own_sender node (list_any (pointwise nat_eq node) master.backends)
+  of_it : IsOf node from
+  of_it = own_sender node (list_any (pointwise nat_eq node) master.backends)
 
   -- its UPDATE
   update_taken : (up down : List LinkMsg) (replica : Replica) → CanBeTold master.table → AreNoops up → AreNoNews down → replica ≡ empty_replica
       → stream_of master node ≡ None → IsFedAfter (node_says master node (Line update_line)) node up down replica
   unfolding node_says
   update_taken up down replica can noops none empty no_stream =
-      let begins = update_begins master from update_line node can own update_read no_stream in
+      let begins = update_begins master from update_line node can of_it update_read no_stream in
       let sent : List LinkMsg = messages_to node (line_step master from update_line).outs in
       is_told noops
       (then_heard replica down sent ∙ ap (λ r. hears_all r sent) (no_news replica down none ∙ empty) ∙ begins.told ∙ ap replica_of (sym begins.table))
@@ -102,7 +102,7 @@ module _ (master : Master) (node : List ℕ) where
       → IsFedAfter (node_says master node message) node (before ++ Line update_line ∷ behind) down replica
   unfolding node_says
   noop_first before behind down message replica noop one two none empty no_stream =
-      let tells = noop_tells_nothing master from noop.bytes node noop.tag own noop.read noop.other in
+      let tells = noop_tells_nothing master from noop.bytes node noop.tag of_it noop.read noop.other in
       subst (λ m. IsFedAfter (node_says master node m) node (before ++ Line update_line ∷ behind) down replica) (sym noop.is)
       (asks before behind refl one two
       (both IsNoNews down (messages_to node (line_step master from noop.bytes).outs) none tells.nothing) empty (tells.stream ∙ no_stream))
@@ -111,7 +111,7 @@ module _ (master : Master) (node : List ℕ) where
       → hears_all replica down ≡ replica_of master.table → stream_of master node ≡ Some update_tag → IsFedAfter (node_says master node message) node up down replica
   unfolding node_says
   noop_later up down message replica order noop noops told there =
-      let tells = noop_tells_nothing master from noop.bytes node noop.tag own noop.read noop.other in
+      let tells = noop_tells_nothing master from noop.bytes node noop.tag of_it noop.read noop.other in
       let sent : List LinkMsg = messages_to node (line_step master from noop.bytes).outs in
       subst (λ m. IsFedAfter (node_says master node m) node up down replica) (sym noop.is)
       (is_told noops

@@ -1,9 +1,9 @@
 -- What a replica makes of one line of the master.
-use Rattle.std.proofs.Common.{◌≡◌, ℕ, ◌≤◌, Bool, true, false, List, length, Some, refl, ap, ◌∙◌, arith}
+use Rattle.std.proofs.Common.{◌≡◌, ℕ, ◌≤◌, Bool, true, false, List, length, Some, refl, ap, ◌∙◌}
 use Rattle.std.specs.Prelude.{if◌then◌else◌}
 use Rattle.feed_core.specs.declared.replica.Replica.{Replica}
 use Rattle.feed_core.specs.Feed.{replica_after}
-use Rattle.feed_core.specs.Stream.{heard, heard_by, is_update_tag, update_tag}
+use Rattle.feed_core.specs.Stream.{heard, heard_by, is_update_tag}
 use Rattle.master_core.specs.Changes.{text_of}
 use Rattle.mupdate_codec.specs.declared.command.MResponse.{MResponse}
 use Rattle.mupdate_codec.specs.declared.command.MResponse.TheVariants as response
