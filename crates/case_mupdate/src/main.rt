@@ -2,10 +2,12 @@
 //! that doesn't.
 //!
 //! The kinds of cases: `command` and `response` take bytes, `ask` takes a tag, `tag` takes a command, `cut` takes the bytes of a connection;
-//! `long command` and `long cut` take bytes between which a text is repeated; `master` takes entries and steps, `replica` takes steps. The first
-//! lines of each file say more.
+//! `long command` and `long cut` take bytes between which a text is repeated; `master` takes entries and steps, `replica` and `backend` take steps.
+//! The first lines of each file say more.
 #![tactic(auto)]
 
+mod answers;
+mod backends;
 mod cuts;
 mod lines;
 mod master;
@@ -30,6 +32,7 @@ impl Cases for Kinds {
             ["cut", bytes] => cuts::put_cut(alloc, bytes, out),
             ["long command", parts @ ..] => lines::put_long_command(alloc, parts, out),
             ["long cut", parts @ ..] => cuts::put_long_cut(alloc, parts, out),
+            ["backend", steps @ ..] => backends::put(alloc, steps, out),
             ["master", steps @ ..] => master::put(alloc, steps, out),
             ["replica", steps @ ..] => replica::put(alloc, steps, out),
             _ => Err(Fault::Unreadable("no such kind of case")),

@@ -1,0 +1,9 @@
+mod Rows
+mod OnlyEntry
+mod AtHome
+mod OpenHere
+mod NameAsks
+mod Courses
+mod Owed
+mod Said
+mod OneName

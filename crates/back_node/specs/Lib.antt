@@ -1,0 +1,4 @@
+pub mod Node
+pub mod Acted
+pub mod Takes
+pub mod NodeLaws
