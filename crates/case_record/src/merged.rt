@@ -7,8 +7,10 @@ use std::alloc::Global;
 /// Puts the steps of some logs in their one order.
 pub fn put(alloc: Global, logs: &[&str], out: &mut Bytes) -> Result<(), Fault> {
     let mut merged = merge(alloc, logs_of(alloc, logs)?)?;
-    while let Some(step) = merged.pop() {
-        put_step(&step, out)?;
+    for _ in 0..merged.len() {
+        if let Some(step) = merged.pop() {
+            put_step(&step, out)?;
+        }
     }
     Ok(())
 }
