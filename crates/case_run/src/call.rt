@@ -45,7 +45,7 @@ fn put_called(
     put_status(alloc, words, host, out)?;
     put_field(host.error_output(), out)?;
     put_field(host.output(), out)?;
-    Ok(put_value(alloc, &host.held, out)?)
+    Ok(put_value(alloc, &host.asks.held(), out)?)
 }
 
 fn put_status(

@@ -8,8 +8,8 @@ use Rattle.mur_edge.specs.declared.memory.host.MemHost.{MemHost}
 abbrev pub host_facts : MemHost → HostFacts
 host_facts host = record {
   faults = host.faults;
-  asked = host.asked;
+  asked = host.asks.asked;
   returned = map memory_came host.returned;
-  held = host.held;
+  held = host.asks.held;
   content = content_named host.sources;
 }

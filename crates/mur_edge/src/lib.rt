@@ -6,6 +6,7 @@
 //! and which of their calls fail is given by number.
 #![tactic(auto)]
 
+mod asks;
 mod fault;
 mod host;
 mod memory;
@@ -13,6 +14,7 @@ mod returned;
 mod sink;
 mod source;
 
+pub use asks::Asks;
 pub use fault::{Failed, Faults, HostFault};
 pub use host::{Asked, Host, Used};
 pub use memory::{

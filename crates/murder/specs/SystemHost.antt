@@ -7,8 +7,8 @@ use Rattle.murder.specs.declared.host.SystemHost.{SystemHost}
 abbrev pub system_facts : {R O E : Type 0} → SystemHost R O E → HostFacts
 system_facts host = record {
   faults = host.faults;
-  asked = host.asked;
+  asked = host.asks.asked;
   returned = map entry_came host.returned;
-  held = host.held;
+  held = host.asks.held;
   content = λ _. None;
 }

@@ -1,12 +1,12 @@
 // The host of a process: its files, its standard output and its standard error.
-ghost use Rattle.std.specs.Prelude.{◌≡◌, ◌+◌, [], IfOk};
+ghost use Rattle.std.specs.Prelude.{◌≡◌, []};
 ghost use Rattle.mur_edge.specs.Host.{TakesBack};
 ghost use Rattle.murder.specs.Host.{stream_came};
 
 use crate::stream::{ReadStream, StreamUsed, WriteStream};
 use either::Either;
-use mur_base::{Bytes, Items, Memory};
-use mur_edge::{Asked, Faults, Host, HostFault, Returned, Used};
+use mur_base::{Bytes, Memory};
+use mur_edge::{Asked, Asks, Faults, Host, HostFault, Returned, Used};
 use std::alloc::Global;
 use std::io::{ErrorKind, Print, Printer, writer};
 use std::rt::Files;
@@ -23,10 +23,8 @@ pub struct SystemHost<'a, R, O, E> {
     output: &'a O,
     error_output: &'a E,
     pub faults: Faults,
-    /// How many objects are out.
-    pub held: u64,
-    /// The calls that asked for an object and weren't refused for memory, in order.
-    pub asked: Items<Asked>,
+    /// The calls that asked for an object, and how many objects are out.
+    pub asks: Asks,
     /// What is kept of the objects that came back, in order.
     pub returned: Returned<StreamUsed>,
 }
@@ -39,9 +37,8 @@ impl<'a, R: Files, O: Print, E: Print> SystemHost<'a, R, O, E> {
         output: &'a O,
         error_output: &'a E,
     ) -> SystemHost<'a, R, O, E>
-        ensures asked { result.asked ≡ [] }
+        ensures asks { result.asks ≡ record { asked = []; held = 0 } }
         ensures returned { result.returned ≡ [] }
-        ensures held { result.held ≡ 0 }
         ensures faults { result.faults ≡ record { sources = 0; outputs = 0; errors = 0 } }
     {
         SystemHost {
@@ -50,8 +47,7 @@ impl<'a, R: Files, O: Print, E: Print> SystemHost<'a, R, O, E> {
             output,
             error_output,
             faults: Faults::NONE,
-            held: 0,
-            asked: Items::new(alloc),
+            asks: Asks::new(alloc),
             returned: Returned::new(),
         }
     }
@@ -67,13 +63,6 @@ impl<'a, R: Files, O: Print, E: Print> SystemHost<'a, R, O, E> {
             Err(_) => Ok(None),
         }
     }
-
-    // One more object that is out. So many that they can't be counted find no memory.
-    fn one_more_held(&self) -> Result<u64, Memory>
-        ensures { IfOk result (λ held. held ≡ self.now.held + 1) }
-    {
-        self.held.checked_add(1).ok_or(Memory)
-    }
 }
 
 impl<'a, R: Files, O: Print, E: Print> Host for SystemHost<'a, R, O, E> {
@@ -86,19 +75,18 @@ impl<'a, R: Files, O: Print, E: Print> Host for SystemHost<'a, R, O, E> {
     ghost facts = { system_facts };
 
     fn source(&mut self, name: &[u8]) -> Result<ReadStream<R::File>, HostFault> {
-        let held = self.one_more_held()?;
         let source = match self.open(name)? {
             Some(file) => Some(ReadStream::new(self.alloc, file)?),
             None => None,
         };
-        self.asked
-            .push(Asked::Source(Bytes::from_slice(self.alloc, name)?))?;
+        let call = Asked::Source(Bytes::from_slice(self.alloc, name)?);
         match source {
             Some(source) => {
-                self.held = held;
+                self.asks.note_given(call)?;
                 Ok(source)
             }
             None => {
+                self.asks.note_failed(call)?;
                 self.faults.count_source();
                 Err(HostFault::Failed)
             }
@@ -106,25 +94,21 @@ impl<'a, R: Files, O: Print, E: Print> Host for SystemHost<'a, R, O, E> {
     }
 
     fn out(&mut self) -> Result<StandardStream<'a, O, E>, HostFault> {
-        let held = self.one_more_held()?;
         let sink = WriteStream::new(self.alloc, Either::Left(writer(self.output)))?;
-        self.asked.push(Asked::Out)?;
-        self.held = held;
+        self.asks.note_given(Asked::Out)?;
         Ok(sink)
     }
 
     fn errors(&mut self) -> Result<StandardStream<'a, O, E>, HostFault> {
-        let held = self.one_more_held()?;
         let sink = WriteStream::new(self.alloc, Either::Right(writer(self.error_output)))?;
-        self.asked.push(Asked::Errors)?;
-        self.held = held;
+        self.asks.note_given(Asked::Errors)?;
         Ok(sink)
     }
 
     fn back(&mut self, used: Used<ReadStream<R::File>, StandardStream<'a, O, E>>)
         ensures { TakesBack (stream_came used.entry) (system_facts self.old) (system_facts self.new) }
     {
-        self.held = self.held.saturating_sub(1);
+        self.asks.note_back();
         match used {
             Used::Source(name, source) => {
                 let ReadStream {

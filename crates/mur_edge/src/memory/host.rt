@@ -1,5 +1,5 @@
 // A host in memory. It keeps the objects that it was made with and hands out fresh copies of them.
-ghost use Rattle.std.specs.Prelude.{◌≡◌, ◌<◌, ◌+◌, ◌∷◌, ◌++◌, ◌||◌, [], true, false, None, Some, Err, map, replicate, length, IfOk};
+ghost use Rattle.std.specs.Prelude.{◌≡◌, ◌<◌, ◌∷◌, ◌++◌, ◌||◌, [], true, false, None, Some, Err, map, replicate, length, IfOk};
 ghost use Rattle.std.specs.Prelude.{OnOk, IfSome, IsSomeAnd, slice_set};
 ghost use Rattle.mur_base.specs.Counts.{one_more};
 ghost use Rattle.mur_edge.specs.Counts.{SourceFault};
@@ -15,6 +15,7 @@ ghost use Rattle.mur_edge.specs.declared.host.Used.TheVariants.{Source as source
 
 use super::sink::{MemSink, SinkState, mem_sink};
 use super::source::{Calls, MemSource, SourceState, is_failing, mem_source};
+use crate::asks::Asks;
 use crate::fault::{Faults, HostFault};
 use crate::host::{Asked, Host, Used};
 use crate::returned::{Chain, Returned};
@@ -38,8 +39,7 @@ pub struct MemHost {
     pub calls: u64,
     pub failing: Calls,
     pub faults: Faults,
-    pub held: u64,
-    pub asked: Items<Asked>,
+    pub asks: Asks,
     pub returned: Returned<MemUsed>,
 }
 
@@ -64,7 +64,7 @@ pub fn mem_host(
     ensures errors { IfOk result (λ host. host.errors ≡ record { failing = errors.state.failing; is_out = false }) }
     ensures failing { IfOk result (λ host. (host.failing ≡ failing) × (host.calls ≡ 0)) }
     ensures fresh { IfOk result (λ host. (host.faults ≡ record { sources = 0; outputs = 0; errors = 0 })
-        × (host.held ≡ 0) × (host.asked ≡ []) × (host.returned ≡ [])) }
+        × (host.asks ≡ record { asked = []; held = 0 }) × (host.returned ≡ [])) }
 {
     let sources_out = vec![in alloc; false; sources.len()]?;
     Ok(MemHost {
@@ -82,8 +82,7 @@ pub fn mem_host(
         calls: 0,
         failing,
         faults: Faults::NONE,
-        held: 0,
-        asked: Items::new(alloc),
+        asks: Asks::new(alloc),
         returned: Returned::new(),
     })
 }
@@ -150,13 +149,6 @@ impl MemHost {
     {
         mem_sink(self.alloc, copy_of(self.alloc, &sink.failing)?)
     }
-
-    // One more object that is out. So many that they can't be counted find no memory.
-    fn one_more_held(&self) -> Result<u64, Memory>
-        ensures { IfOk result (λ held. held ≡ self.now.held + 1) }
-    {
-        self.held.checked_add(1).ok_or(Memory)
-    }
 }
 
 impl Host for MemHost {
@@ -187,20 +179,19 @@ impl Host for MemHost {
             self.sources_out.as_slice(),
             place_of(self.sources.as_slice(), name),
         );
-        let held = self.one_more_held()?;
         let copy = match place {
             Some(place) => Some((place, self.fresh_source(place)?)),
             None => None,
         };
-        self.asked
-            .push(Asked::Source(Bytes::from_slice(self.alloc, name)?))?;
+        let call = Asked::Source(Bytes::from_slice(self.alloc, name)?);
         match copy {
             Some((place, source)) => {
+                self.asks.note_given(call)?;
                 mark(self.sources_out.as_mut_slice(), place, true);
-                self.held = held;
                 Ok(source)
             }
             None => {
+                self.asks.note_failed(call)?;
                 self.faults.count_source();
                 Err(HostFault::Failed)
             }
@@ -216,20 +207,19 @@ impl Host for MemHost {
         ensures free { OnOk result ((fails_at self.old.failing self.old.calls || self.old.out.is_out) ≡ false) }
     {
         let fails = self.count_call();
-        let held = self.one_more_held()?;
         let copy = if fails || self.out.is_out {
             None
         } else {
             Some(self.fresh_sink(&self.out)?)
         };
-        self.asked.push(Asked::Out)?;
         match copy {
             Some(sink) => {
+                self.asks.note_given(Asked::Out)?;
                 self.out.is_out = true;
-                self.held = held;
                 Ok(sink)
             }
             None => {
+                self.asks.note_failed(Asked::Out)?;
                 self.faults.count_output();
                 Err(HostFault::Failed)
             }
@@ -245,20 +235,19 @@ impl Host for MemHost {
         ensures free { OnOk result ((fails_at self.old.failing self.old.calls || self.old.errors.is_out) ≡ false) }
     {
         let fails = self.count_call();
-        let held = self.one_more_held()?;
         let copy = if fails || self.errors.is_out {
             None
         } else {
             Some(self.fresh_sink(&self.errors)?)
         };
-        self.asked.push(Asked::Errors)?;
         match copy {
             Some(sink) => {
+                self.asks.note_given(Asked::Errors)?;
                 self.errors.is_out = true;
-                self.held = held;
                 Ok(sink)
             }
             None => {
+                self.asks.note_failed(Asked::Errors)?;
                 self.faults.count_error();
                 Err(HostFault::Failed)
             }
@@ -273,7 +262,7 @@ impl Host for MemHost {
         ensures output_out { self.new.out.is_out ≡ output_out_after used self.old.out.is_out }
         ensures errors_out { self.new.errors.is_out ≡ errors_out_after used self.old.errors.is_out }
     {
-        self.held = self.held.saturating_sub(1);
+        self.asks.note_back();
         match used {
             Used::Source(name, source) => self.take_source(name, source),
             Used::Out(sink) => {
