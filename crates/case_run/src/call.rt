@@ -6,8 +6,7 @@ use std::alloc::Global;
 use top_call::murder;
 
 /// The configuration that a host holds.
-pub const CONFIG: &[u8] =
-    br#"{"nodes":[{"name":"m","kind":"master"},{"name":"f1","kind":"frontend"},
+const CONFIG: &[u8] = br#"{"nodes":[{"name":"m","kind":"master"},{"name":"f1","kind":"frontend"},
     {"name":"b1","kind":"backend","partition":"p"}],
     "users":[{"name":"adm","password":"x","admin":true},{"name":"bob","password":"y"}],
     "date":"17-Jul-1996 02:44:25 -0700"}"#;

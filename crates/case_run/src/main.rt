@@ -2,13 +2,12 @@
 //! the first one that doesn't.
 //!
 //! The kinds of cases: `configuration` takes a text; `nodes` and `users` take lists of a configuration; `call` takes the words of the
-//! program, a schedule, and what a host in memory refuses; `sent` takes a schedule and a connection. The first lines of each file say more.
+//! program, a schedule, and what a host in memory refuses. The first lines of each file say more.
 #![tactic(auto)]
 
 mod call;
 mod configuration;
 mod lists;
-mod sent;
 
 use anyhow::Result;
 use case_base::{Cases, Fault, tell_all};
@@ -27,7 +26,6 @@ impl Cases for Kinds {
             ["call", words, schedule, refused] => call::put_ended(
                 alloc, words, schedule, refused, out,
             ),
-            ["sent", schedule, conn] => sent::put(alloc, schedule, conn, out),
             _ => Err(Fault::Unreadable("no such kind of case")),
         }
     }
