@@ -135,7 +135,8 @@ impl Copied for OrderedRows {
 
 /// Room for so many rows. Here alone it is looked at whether 32 bits number them.
 fn has_room(count: usize) -> Result<(), Memory>
-    ensures { OnOk result (count < 2 ^ 32) }
+    ensures ok { OnOk result (count < 2 ^ 32) }
+    ensures err { OnErr result (2 ^ 32 ≤ count) }
 {
     if count > u32::MAX as usize {
         return Err(Memory);
