@@ -1,5 +1,5 @@
 // Steps of a backend.
-use crate::answers::put_outs;
+use crate::outs::put_outs;
 use back_node::{BackNode, Rest};
 use case_base::{Fault, bytes_of, wide_number_of};
 use link_msg::{FrontAsk, LinkMsg, Op};

@@ -6,11 +6,11 @@
 //! The first lines of each file say more.
 #![tactic(auto)]
 
-mod answers;
 mod backends;
 mod cuts;
 mod lines;
 mod master;
+mod outs;
 mod repeated;
 mod replica;
 

@@ -1,6 +1,7 @@
 // Steps of the master.
+use crate::outs::put_outs;
 use case_base::{Fault, Steps, bytes_of, number_of, put_steps, wide_number_of};
-use link_msg::{LinkMsg, Out, Outs};
+use link_msg::Outs;
 use master_core::{Master, Sender};
 use mur_base::{Bytes, Items, Location, MailName, Memory, mail_name, node_name};
 use node_record::{MasterRecord, RecordFault, encode_master};
@@ -151,40 +152,4 @@ fn put_entry(alloc: Global, entry: &MasterRecord, out: &mut Bytes) -> Result<(),
     out.push(b'[')?;
     put_text(bytes.as_slice(), out)?;
     out.extend_from_slice(b"] ")
-}
-
-fn put_outs(alloc: Global, outs: &[Out], text: &mut Bytes) -> Result<(), Memory> {
-    for (at, out) in outs.iter().enumerate() {
-        if at > 0 {
-            text.extend_from_slice(b"; ")?;
-        }
-        put_out(alloc, out, text)?;
-    }
-    Ok(())
-}
-
-fn put_out(alloc: Global, out: &Out, text: &mut Bytes) -> Result<(), Memory> {
-    match out {
-        Out::Client(conn, bytes) => {
-            text.extend_from_slice(format!(in alloc; "{conn}: ")?.as_bytes())?;
-            put_text(bytes.as_slice(), text)
-        }
-        Out::Close(conn) => {
-            text.extend_from_slice(format!(in alloc; "close {conn}")?.as_bytes())
-        }
-        Out::Link(node, LinkMsg::Line(line)) => {
-            text.extend_from_slice(node.as_bytes())?;
-            text.extend_from_slice(b": ")?;
-            put_text(line.as_slice(), text)
-        }
-        Out::Link(_, _) => text.extend_from_slice(b"another message"),
-        Out::Mark(ask, counts) => {
-            let mark = format!(in alloc; "{}.{} {counts:?}", ask.conn, ask.command)?;
-            text.extend_from_slice(mark.as_bytes())
-        }
-        Out::Told(ask, how) => {
-            let told = format!(in alloc; "{}.{} told {how:?}", ask.conn, ask.command)?;
-            text.extend_from_slice(told.as_bytes())
-        }
-    }
 }

@@ -1,4 +1,4 @@
-// What goes out to other nodes, in words.
+// What goes out, in words.
 use link_msg::{AnswerBody, BackAnswer, LinkMsg, Out, Outcome};
 use mail_message::Snapshot;
 use mur_base::{Bytes, Memory, NodeName};
@@ -18,6 +18,13 @@ pub fn put_outs(alloc: Global, outs: &[Out], text: &mut Bytes) -> Result<(), Mem
 
 fn put_out(alloc: Global, out: &Out, text: &mut Bytes) -> Result<(), Memory> {
     match out {
+        Out::Client(conn, bytes) => {
+            text.extend_from_slice(format!(in alloc; "{conn}: ")?.as_bytes())?;
+            put_text(bytes.as_slice(), text)
+        }
+        Out::Close(conn) => {
+            text.extend_from_slice(format!(in alloc; "close {conn}")?.as_bytes())
+        }
         Out::Link(node, LinkMsg::Line(line)) => {
             put_node(node, text)?;
             put_text(line.as_slice(), text)
@@ -30,7 +37,11 @@ fn put_out(alloc: Global, out: &Out, text: &mut Bytes) -> Result<(), Memory> {
             let mark = format!(in alloc; "{}.{} {counts:?}", ask.conn, ask.command)?;
             text.extend_from_slice(mark.as_bytes())
         }
-        _ => text.extend_from_slice(b"another output"),
+        Out::Link(_, _) => text.extend_from_slice(b"another message"),
+        Out::Told(ask, how) => {
+            let told = format!(in alloc; "{}.{} told {how:?}", ask.conn, ask.command)?;
+            text.extend_from_slice(told.as_bytes())
+        }
     }
 }
 
