@@ -6,3 +6,4 @@ mod FoundLaw
 mod LinesRead
 mod ReadBackLaw
 mod KindsGiven
+mod GivenLaw

@@ -12,7 +12,7 @@ use Rattle.cluster_core.specs.declared.cluster.HomeRow.{HomeRow}
 use Rattle.cluster_core.specs.declared.world.Client.{Client}
 use Rattle.schedule_text.specs.Cuts.{cuts_of}
 use Rattle.schedule_text.specs.Text.{text_of, name_text_of}
-use Rattle.top_call.specs.Output.{to_line, client_lines, point_line, what_text, unreached_text, row_counts_text, pointer_text, phase_text, row_text, line_by_phase}
+use Rattle.top_call.specs.Output.{to_line, client_lines, given_lines, point_line, what_text, unreached_text, row_counts_text, pointer_text, phase_text, row_text, line_by_phase}
 use Rattle.top_call.specs.Output.{box_line, end_line}
 use Rattle.top_call.specs.ReadBack.{TellsEach, no_line, a_line, IsToLine, TellsClient, IsPointLine, SaysWhat, SaysCounts, IsRowLine, IsLineAt, IsBoxLine}
 use Rattle.top_call.specs.ReadBack.{IsEndLine}
@@ -38,7 +38,7 @@ to_line_read conn piece = record {
 }
 
 pub client_read : (client : ℕ × Client) → TellsClient client (client_lines client)
-unfolding client_lines
+unfolding given_lines
 client_read client = record {
   pieces = cuts_of (client.1).given;
   lines = tells_each (IsToLine client.0) (to_line client.0) (to_line_read client.0) (cuts_of (client.1).given);

@@ -20,9 +20,12 @@ use Rattle.schedule_text.specs.Text.{text_of, name_text_of}
 unfoldable pub to_line : ℕ → List ℕ → List ℕ
 to_line conn piece = codes "to " ++ decimal conn ++ codes " " ++ text_of piece ++ codes "\n"
 
--- what a client was given, cut after each LF
-unfoldable pub client_lines : ℕ × Client → List ℕ
-client_lines client = flat_map (to_line client.0) (cuts_of (client.1).given)
+-- what the client of a connection was given, cut after each LF
+unfoldable pub given_lines : ℕ → List ℕ → List ℕ
+given_lines conn given = flat_map (to_line conn) (cuts_of given)
+
+abbrev pub client_lines : ℕ × Client → List ℕ
+client_lines client = given_lines client.0 (client.1).given
 
 unfoldable pub unreached_text : List ℕ → List ℕ
 unreached_text node = codes "refused unreached " ++ node

@@ -3,54 +3,54 @@ ghost use Rattle.std.specs.Prelude.{OnOk};
 ghost use Rattle.std.specs.List.{flat_map};
 ghost use Rattle.mur_edge.specs.Counts.{HasHostCause};
 ghost use Rattle.mur_edge.specs.Sink.{Took, TookFront};
-ghost use Rattle.top_call.specs.Output.{client_lines, lines_of};
+ghost use Rattle.top_call.specs.Output.{client_lines, given_lines, lines_of};
 ghost use Rattle.top_call.specs.Writing.{DidPut};
 
 mod lines;
 
-use cluster_core::{Client, HomeRows, Points, World};
+use cluster_core::{Cluster, HomeRows, Points};
 use lines::{End, Given, Line};
+use mur_base::Bytes;
 use mur_base::limits::PIECE_LIMIT;
-use mur_base::{Bytes, Map};
 use mur_edge::{HostFault, Sink, write_all};
 use schedule_text::LineCuts;
 use std::alloc::Global;
 
-/// Writes the output of a run, whose history and mailboxes are these, a part of about `PIECE_LIMIT` bytes at a time. Where it
+/// Writes the output of a cluster, whose history and mailboxes are these, a part of about `PIECE_LIMIT` bytes at a time. Where it
 /// fails a front of the output is taken.
 pub fn write_output<S: Sink>(
     alloc: Global,
-    world: &World,
+    cluster: &Cluster,
     points: &Points,
     rows: &HomeRows,
     sink: &mut S,
 ) -> Result<(), HostFault>
-    ensures all { OnOk result (Took (S.facts sink.old).taken (S.facts sink.new).taken (lines_of world.now points.now rows.now)) }
-    ensures front { TookFront (S.facts sink.old).taken (S.facts sink.new).taken (lines_of world.now points.now rows.now) }
+    ensures all { OnOk result (Took (S.facts sink.old).taken (S.facts sink.new).taken (lines_of cluster.now.world points.now rows.now)) }
+    ensures front { TookFront (S.facts sink.old).taken (S.facts sink.new).taken (lines_of cluster.now.world points.now rows.now) }
     ensures cause { HasHostCause (S.facts sink.old).faults (S.facts sink.new).faults result }
 {
     let mut part = Bytes::new(alloc);
-    write_lines(world, points, rows, &mut part, sink)?;
+    write_lines(cluster, points, rows, &mut part, sink)?;
     write_all(sink, part.as_slice())?;
     Ok(())
 }
 
 /// All lines but what is kept back in `part`.
 fn write_lines<S: Sink>(
-    world: &World,
+    cluster: &Cluster,
     points: &Points,
     rows: &HomeRows,
     part: &mut Bytes,
     sink: &mut S,
 ) -> Result<(), HostFault>
-    ensures did { DidPut (S.facts sink.old).taken (S.facts sink.new).taken part.old part.new (lines_of world.now points.now rows.now) result }
+    ensures did { DidPut (S.facts sink.old).taken (S.facts sink.new).taken part.old part.new (lines_of cluster.now.world points.now rows.now) result }
     ensures cause { HasHostCause (S.facts sink.old).faults (S.facts sink.new).faults result }
 {
-    write_clients(&world.clients, part, sink)?;
+    write_clients(cluster, part, sink)?;
     write_each(points.as_slice(), part, sink)?;
     write_each(rows.as_slice(), part, sink)?;
     let end = End {
-        steps: world.steps,
+        steps: cluster.steps(),
         points: points.len() as u64,
     };
     write_line(&end, part, sink)?;
@@ -58,15 +58,15 @@ fn write_lines<S: Sink>(
 }
 
 fn write_clients<S: Sink>(
-    clients: &Map<u64, Client>,
+    cluster: &Cluster,
     part: &mut Bytes,
     sink: &mut S,
 ) -> Result<(), HostFault>
-    ensures did { DidPut (S.facts sink.old).taken (S.facts sink.new).taken part.old part.new (flat_map client_lines clients.now) result }
+    ensures did { DidPut (S.facts sink.old).taken (S.facts sink.new).taken part.old part.new (flat_map client_lines cluster.now.world.clients) result }
     ensures cause { HasHostCause (S.facts sink.old).faults (S.facts sink.new).faults result }
 {
-    for (conn, client) in clients.iter() {
-        write_client(*conn, client, part, sink)?;
+    for (conn, _) in cluster.world().clients.iter() {
+        write_given(*conn, cluster.sent(*conn), part, sink)?;
     }
     Ok(())
 }
@@ -100,16 +100,16 @@ fn write_line<L: Line, S: Sink>(line: &L, part: &mut Bytes, sink: &mut S) -> Res
     Ok(())
 }
 
-fn write_client<S: Sink>(
+fn write_given<S: Sink>(
     conn: u64,
-    client: &Client,
+    given: &[u8],
     part: &mut Bytes,
     sink: &mut S,
 ) -> Result<(), HostFault>
-    ensures did { DidPut (S.facts sink.old).taken (S.facts sink.new).taken part.old part.new (client_lines (conn, client.now)) result }
+    ensures did { DidPut (S.facts sink.old).taken (S.facts sink.new).taken part.old part.new (given_lines conn given.now) result }
     ensures cause { HasHostCause (S.facts sink.old).faults (S.facts sink.new).faults result }
 {
-    for piece in LineCuts::new(client.given.as_slice()) {
+    for piece in LineCuts::new(given) {
         write_line(&Given { conn, piece }, part, sink)?;
     }
     Ok(())

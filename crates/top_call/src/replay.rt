@@ -15,7 +15,7 @@ ghost use Rattle.schedule_text.specs.ScheduleRules.{schedule_rule_number};
 use crate::file::read_file;
 use crate::output::write_output;
 use crate::status::Status;
-use cluster_core::{Cluster, HomeRows, Points, World, run};
+use cluster_core::{Cluster, HomeRows, Points, run};
 use mur_base::limits::SCHEDULE_LIMIT;
 use mur_config::{CONFIG_LIMIT, Config, ConfigError, ConfigFault, read_config};
 use mur_edge::{Host, HostFault, Used};
@@ -132,18 +132,18 @@ fn write_cluster<H: Host>(alloc: Global, host: &mut H, cluster: &Cluster) -> Sta
     let Ok(rows) = cluster.homes(alloc) else {
         return Status::Memory;
     };
-    write_text(alloc, host, cluster.world(), &points, &rows)
+    write_text(alloc, host, cluster, &points, &rows)
 }
 
 // Writes the text of a run whose history and mailboxes are these.
 fn write_text<H: Host>(
     alloc: Global,
     host: &mut H,
-    world: &World,
+    cluster: &Cluster,
     points: &Points,
     rows: &HomeRows,
 ) -> Status
-    ensures did { EndsWriting (lines_of world.now points.now rows.now) (H.facts host.old) (H.facts host.new) result }
+    ensures did { EndsWriting (lines_of cluster.now.world points.now rows.now) (H.facts host.old) (H.facts host.new) result }
     ensures counts { CountsStatus result (H.facts host.old).faults (H.facts host.new).faults }
 {
     let mut out = match host.out() {
@@ -151,7 +151,7 @@ fn write_text<H: Host>(
         Err(HostFault::Failed) => return Status::Write,
         Err(HostFault::Memory) => return Status::Memory,
     };
-    let written = write_output(alloc, world, points, rows, &mut out);
+    let written = write_output(alloc, cluster, points, rows, &mut out);
     host.back(Used::Out(out));
     match written {
         Ok(()) => Status::Done,

@@ -1,7 +1,7 @@
 use Rattle.std.proofs.Common.{rules}
-use Rattle.top_call.specs.Output.{client_lines}
+use Rattle.top_call.specs.Output.{given_lines}
 use Rattle.top_call.proofs.WritingLaws.{goes_on, breaks, fails, ends}
-use Rattle.top_call.proofs.output.write_client.Goals as goal
+use Rattle.top_call.proofs.output.write_given.Goals as goal
 
 pub loop-piece-preserved : goal.loop-piece-preserved
 loop-piece-preserved g c = record {
@@ -10,10 +10,10 @@ loop-piece-preserved g c = record {
 }
 
 pub returns-in_err-write_line-clause-did : goal.returns-in_err-write_line-clause-did
-unfolding client_lines
+unfolding given_lines
 returns-in_err-write_line-clause-did g c =
     fails _ _ _ _ _ _ c.from_residual.ensures.0 (breaks _ _ _ _ _ _ _ _ _ _ c.in-Some.ensures.steps c.loop-piece.invariant.way c.in_err-write_line.ensures.did)
 
 pub returns-clause-did : goal.returns-clause-did
-unfolding client_lines
+unfolding given_lines
 returns-clause-did g c = ends _ _ _ _ _ _ _ c.in-None.ensures.steps.0 c.loop-piece.invariant.way
