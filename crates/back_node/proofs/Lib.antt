@@ -7,3 +7,5 @@ mod Courses
 mod Owed
 mod Said
 mod OneName
+mod FlowNext
+mod RestNext

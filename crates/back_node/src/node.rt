@@ -1,6 +1,9 @@
 // A backend and its step.
 ghost use Rattle.std.specs.Prelude.{◌≡◌, nat_eq, IfOk, OnOk};
 ghost use Rattle.std.specs.Cmp.Lexicographic.{pointwise};
+ghost use Rattle.std.specs.List.{AllByRecursion};
+ghost use Rattle.std.specs.Option.{IfSome};
+ghost use Rattle.node_record.specs.Held.{EntryLeavesNext};
 ghost use Rattle.back_node.specs.Acted.{acted, listed_entry};
 ghost use Rattle.back_node.specs.Node.{is_my_master, new_node};
 ghost use Rattle.back_node.specs.Takes.{node_takes, taken_up};
@@ -23,8 +26,11 @@ pub struct BackNode {
 }
 
 /// The entry of a step as a list.
+#[tactic(auto, using(crate::proofs::RestNext::next_as_list))]
 fn listed_entry(alloc: Global, entry: Option<BackendRecord>) -> Result<Entries, Memory>
-    ensures { IfOk result (λ entries. entries ≡ listed_entry entry) }
+    requires { IfSome entry EntryLeavesNext }
+    ensures list { IfOk result (λ entries. entries ≡ listed_entry entry) }
+    ensures next { IfOk result (λ entries. AllByRecursion EntryLeavesNext entries) }
 {
     let mut entries = Entries::new(alloc);
     if let Some(entry) = entry {
@@ -55,7 +61,8 @@ impl BackNode {
     /// Takes a message of a node, up to the entry of the step, which isn't carried out yet. For want of memory the backend is spent.
     #[tactic(auto, unfolding(crate::specs::Takes::taken_up))]
     pub fn plan(&mut self, alloc: Global, from: NodeName, message: LinkMsg) -> Result<Rest, Memory>
-        ensures { IfOk result (λ rest. record { node = self.new; rest = rest } ≡ taken_up self.old from message) }
+        ensures step { IfOk result (λ rest. record { node = self.new; rest = rest } ≡ taken_up self.old from message) }
+        ensures next { IfOk result (λ rest. IfSome rest.entry EntryLeavesNext) }
     {
         match message {
             LinkMsg::Up if self.is_my_master(&from) => self.link_up(alloc),
@@ -68,6 +75,7 @@ impl BackNode {
 
     /// Carries the entry of a step out, and gives what goes out. For want of memory the backend is spent.
     pub fn settle(&mut self, alloc: Global, it: Rest) -> Result<Outs, Memory>
+        requires { IfSome it.entry EntryLeavesNext }
         ensures { IfOk result (λ outs. record { state = self.new; entry = it.entry; outs = outs } ≡ acted self.old it) }
     {
         let Rest { entry, says } = it;

@@ -47,11 +47,13 @@ fits_by box messages true spent e none = cc
 fits_by box messages false true e none = cc
 fits_by box messages false false e none = grind (arith, nat_tests, e)
 
+pub fits : (box : Content) (messages : List Message) → append_fault box messages ≡ None → box.next + length messages ≤ 2 ^ 32 - 1
+fits box messages none =
+    let many = nat_lt MAILBOX_MESSAGE_LIMIT (length box.messages + length messages) in
+    fits_by box messages many (nat_lt (2 ^ 32 - 1) (box.next + length messages)) refl none
+
 -- within the limits
 pub added_makes : (box : Content) (messages : List Message) → append_fault box messages ≡ None
     → content_after_all box (puts (with_uids box.next messages)) ≡ appended box messages
 added_makes box [] none = refl
-added_makes box (message ∷ messages) none =
-    let many = nat_lt MAILBOX_MESSAGE_LIMIT (length box.messages + length (message ∷ messages)) in
-    let spent = nat_lt (2 ^ 32 - 1) (box.next + length (message ∷ messages)) in
-    added_by box message messages (fits_by box (message ∷ messages) many spent refl none)
+added_makes box (message ∷ messages) none = added_by box message messages (fits box (message ∷ messages) none)

@@ -18,6 +18,7 @@ pub mod StepLaw
 pub mod PlanKeeps
 pub mod OnlyOpen
 pub mod PlanLaw
+pub mod PlanNext
 pub mod RelabelsBy
 pub mod RisesOn
 pub mod RisingHome

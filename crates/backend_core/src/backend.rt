@@ -1,7 +1,9 @@
 // A backend: a home of mailboxes.
 ghost use Rattle.std.specs.Prelude.{◌≡◌, IfOk, OnOk};
+ghost use Rattle.std.specs.List.{AllByRecursion};
 ghost use Rattle.std.specs.Option.{option_copied, option_map};
 ghost use Rattle.node_record.specs.declared.held.Held.{Held};
+ghost use Rattle.node_record.specs.Held.{EntryLeavesNext};
 ghost use Rattle.backend_core.specs.AskPlan.{ask_plan};
 ghost use Rattle.backend_core.specs.HomeStep.{held_at};
 ghost use Rattle.backend_core.specs.OpPlan.{home_after, given_after};
@@ -42,7 +44,8 @@ impl Backend {
 
     /// What a step writes, and the answer that it owes. Nothing is changed, and no body is copied but one that is read.
     pub fn plan(&self, alloc: Global, input: BackInput) -> Result<BackPlan, Memory>
-        ensures { IfOk result (λ plan. plan ≡ back_plan self.now input) }
+        ensures plan { IfOk result (λ plan. plan ≡ back_plan self.now input) }
+        ensures next { IfOk result (λ plan. AllByRecursion EntryLeavesNext plan.entries) }
     {
         match input {
             BackInput::FromFront(from, ask) => owes(alloc, self, from, ask),
@@ -55,6 +58,7 @@ impl Backend {
 
     /// Carries the entries of a step out, and hands its outputs out. For want of memory the backend is spent.
     pub fn settle(&mut self, alloc: Global, plan: BackPlan) -> Result<Outs, Memory>
+        requires { AllByRecursion EntryLeavesNext plan.entries }
         ensures home { OnOk result (self.new ≡ (settles self.old plan).home) }
         ensures outs { IfOk result (λ outs. outs ≡ (settles self.old plan).outs) }
     {
@@ -94,6 +98,7 @@ fn owes(alloc: Global, home: &Backend, from: NodeName, ask: FrontAsk) -> Result<
 }
 
 fn carry_out(alloc: Global, home: &mut Backend, entries: Entries) -> Result<(), Memory>
+    requires { AllByRecursion EntryLeavesNext entries }
     ensures { OnOk result (home.new ≡ home_after home.old entries) }
 {
     for entry in entries.into_vec() {

@@ -1,4 +1,7 @@
 // Mailboxes that are changed, and their changes in words.
+ghost use Rattle.std.specs.Prelude.{IfOk};
+ghost use Rattle.mail_message.specs.Boxes.{LeavesNext};
+
 use crate::flags::flags_of;
 use crate::messages::message;
 use case_base::{Fault, number_of};
@@ -17,7 +20,9 @@ pub fn filled(alloc: Global, count: u32) -> Result<MailBox, Fault> {
 }
 
 /// The change that words write: `put UID SIZE`, `flags UID FLAG ..`, `gone UID` or `next UID`.
-pub fn change_of(alloc: Global, words: &[&str]) -> Result<Change, Fault> {
+pub fn change_of(alloc: Global, words: &[&str]) -> Result<Change, Fault>
+    ensures { IfOk result LeavesNext }
+{
     match words {
         ["put", uid, size] => put(alloc, number_of(uid)?, number_of(size)?),
         ["flags", uid, names @ ..] => {
@@ -31,7 +36,12 @@ pub fn change_of(alloc: Global, words: &[&str]) -> Result<Change, Fault> {
 }
 
 /// A message without flags comes, whose body has this size.
-fn put(alloc: Global, uid: u32, size: u32) -> Result<Change, Fault> {
+fn put(alloc: Global, uid: u32, size: u32) -> Result<Change, Fault>
+    ensures { IfOk result LeavesNext }
+{
+    if uid == u32::MAX {
+        return Err(Fault::Unreadable("no UIDNEXT is above this UID"));
+    }
     let body = Bytes::from_vec(vec![in alloc; b'x'; size as usize]?);
     Ok(Change::Put(message(alloc, uid, body)?))
 }

@@ -1,4 +1,6 @@
 // Searches and parts of messages, for keys and numbers that no client can spell.
+ghost use Rattle.std.specs.Prelude.{◌≡◌, IfOk};
+
 use case_base::{Fault, put_field, put_value, wide_number_of};
 use mail_fetch::part;
 use mail_message::{FlagSet, Item, Key, Keys, Message, Partial, Summaries, Uids, date};
@@ -7,7 +9,9 @@ use mur_base::{Boxed, Bytes, Memory};
 use std::alloc::Global;
 
 /// A message without flags.
-pub fn message(alloc: Global, uid: u32, body: Bytes) -> Result<Message, Fault> {
+pub fn message(alloc: Global, uid: u32, body: Bytes) -> Result<Message, Fault>
+    ensures { IfOk result (λ message. message.uid ≡ uid) }
+{
     match date(b"17-Jul-1996 02:44:25 -0700") {
         Some(date) => Ok(Message {
             uid,

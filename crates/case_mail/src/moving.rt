@@ -1,4 +1,6 @@
 // A mailbox on its way from its giver to its taker.
+ghost use Rattle.mail_message.specs.Boxes.{LeavesNext};
+
 use crate::content::{change_of, filled, uid_of};
 use crate::outs::put_row;
 use case_base::{Fault, Steps, number_of, parts_of, put_field, put_steps};
@@ -57,7 +59,9 @@ impl Steps for Moving {
 
 impl Moving {
     /// The giver notes the message that changes, and changes it.
-    fn change(&mut self, change: Change) -> Result<(), Fault> {
+    fn change(&mut self, change: Change) -> Result<(), Fault>
+        requires { LeavesNext change }
+    {
         if let Some(uid) = uid_of(&change) {
             self.sweep.note(uid)?;
         }

@@ -1,4 +1,6 @@
 // A mailbox whose changes a home tells in place of all rows.
+ghost use Rattle.mail_message.specs.Boxes.{LeavesNext};
+
 use crate::content::{change_of, filled, uid_of};
 use crate::outs::{put_rows, put_uids};
 use case_base::{Fault, Steps, number_of, parts_of, put_steps, wide_number_of};
@@ -68,7 +70,9 @@ impl Watched {
     }
 
     /// The home notes the message that changes, and changes it.
-    fn change(&mut self, alloc: Global, change: Change) -> Result<(), Fault> {
+    fn change(&mut self, alloc: Global, change: Change) -> Result<(), Fault>
+        requires { LeavesNext change }
+    {
         if let Some(uid) = uid_of(&change) {
             self.log.note(alloc, &self.content, uid)?;
         }

@@ -1,4 +1,7 @@
 // Steps of a backend.
+ghost use Rattle.std.specs.Option.{IfSome};
+ghost use Rattle.node_record.specs.Held.{EntryLeavesNext};
+
 use crate::outs::put_outs;
 use back_node::{BackNode, Rest};
 use case_base::{Fault, bytes_of, wide_number_of};
@@ -72,7 +75,9 @@ fn put_taken(
     Ok(put_rest(alloc, node, rest, out)?)
 }
 
-fn put_rest(alloc: Global, node: &mut BackNode, rest: Rest, out: &mut Bytes) -> Result<(), Memory> {
+fn put_rest(alloc: Global, node: &mut BackNode, rest: Rest, out: &mut Bytes) -> Result<(), Memory>
+    requires { IfSome rest.entry EntryLeavesNext }
+{
     let writes = rest.entry.is_some();
     if let Some(entry) = &rest.entry {
         put_entry(alloc, entry, out)?;

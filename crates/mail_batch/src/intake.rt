@@ -1,6 +1,7 @@
 // A mailbox as far as its taker has it.
 ghost use Rattle.std.specs.Prelude.{◌≡◌, IfOk, OnOk, OnErr};
-ghost use Rattle.mail_message.specs.Boxes.{empty_box, content_after_all};
+ghost use Rattle.std.specs.List.{AllByRecursion};
+ghost use Rattle.mail_message.specs.Boxes.{empty_box, content_after_all, LeavesNext};
 
 use mail_message::{Change, Changes, MailBox};
 use mur_base::{Bytes, Memory};
@@ -34,6 +35,7 @@ impl Intake {
     /// Carries a batch out. Its bodies are moved and not copied, and each change takes time logarithmic in the messages. For
     /// want of memory the intake stays as it was.
     pub fn take(&mut self, alloc: Global, batch: Changes) -> Result<(), Memory>
+        requires { AllByRecursion LeavesNext batch }
         ensures ok { OnOk result (self.new ≡ content_after_all self.old batch) }
         ensures err { OnErr result (self.new ≡ self.old) }
     {

@@ -1,9 +1,9 @@
 // The changes of a mailbox that its giver has still to send.
 ghost use Rattle.std.specs.Prelude.{◌≡◌, length, IfOk, OnOk, OnErr};
-ghost use Rattle.std.specs.List.{fold};
+ghost use Rattle.std.specs.List.{AllByRecursion, fold};
 ghost use Rattle.std.specs.Ordering.{nat_cmp};
 ghost use Rattle.mur_base.specs.Map.{with_entry, with_value, without_key};
-ghost use Rattle.mail_message.specs.Boxes.{IsRising};
+ghost use Rattle.mail_message.specs.Boxes.{IsRising, LeavesNext};
 ghost use Rattle.mail_batch.specs.Weights.{weight_of};
 ghost use Rattle.mail_batch.specs.Sweeps.{is_sent, with_place, noted, noted_row, all_left, change_at, batch_of, fits_one_batch};
 ghost use Rattle.mail_batch.specs.Sweeps.{settled, after_sending, after_sending_all, IsSameSweep};
@@ -63,6 +63,7 @@ impl Sweep {
     /// copied once, since the giver's mailbox keeps it. For want of memory the sweep stays as it was.
     pub fn next_batch(&mut self, alloc: Global, content: &MailBox) -> Result<Changes, Memory>
         ensures batch { IfOk result (λ changes. changes ≡ batch_of self.old content.now.messages) }
+        ensures leaves { IfOk result (λ changes. AllByRecursion LeavesNext changes) }
         ensures after { OnOk result (self.new ≡ after_sending_all self.old (batch_of self.old content.now.messages)) }
         ensures err { OnErr result (self.new ≡ self.old) }
     {
@@ -105,7 +106,8 @@ impl Sweep {
     }
 
     fn batch(&self, alloc: Global, content: &MailBox) -> Result<Changes, Memory>
-        ensures { IfOk result (λ changes. changes ≡ batch_of self.now content.now.messages) }
+        ensures batch { IfOk result (λ changes. changes ≡ batch_of self.now content.now.messages) }
+        ensures leaves { IfOk result (λ changes. AllByRecursion LeavesNext changes) }
     {
         let mut changes = Changes::new(alloc);
         let mut room = BATCH_WEIGHT_LIMIT;
@@ -131,7 +133,8 @@ impl Sweep {
     }
 
     fn change(&self, alloc: Global, content: &MailBox, uid: u32) -> Result<Change, Memory>
-        ensures { IfOk result (λ change. change ≡ change_at self.now content.now.messages uid) }
+        ensures change { IfOk result (λ change. change ≡ change_at self.now content.now.messages uid) }
+        ensures leaves { IfOk result LeavesNext }
     {
         match content.find(uid) {
             None => Ok(Change::Gone(uid)),

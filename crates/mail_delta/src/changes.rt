@@ -3,7 +3,7 @@ ghost use Rattle.std.specs.Prelude.{◌≡◌, [], IfOk};
 ghost use Rattle.std.specs.List.{filter};
 ghost use Rattle.std.specs.Option.{option_copied};
 ghost use Rattle.mail_message.specs.Boxes.{snapshot_of};
-ghost use Rattle.mail_message.specs.RowOrder.{AreRising};
+ghost use Rattle.mail_message.specs.RowOrder.{AreOrdered};
 ghost use Rattle.mail_delta.specs.Deltas.{is_same_row, is_changed, gone_of, delta_of, applied};
 
 use crate::delta::Delta;
@@ -44,7 +44,7 @@ pub fn all_changes(alloc: Global, now: &MailBox) -> Result<Delta, Memory>
 }
 
 fn changed_rows(alloc: Global, old: &OrderedRows, now: &[Row]) -> Result<OrderedRows, Memory>
-    requires { AreRising now.now }
+    requires { AreOrdered now.now }
     ensures { IfOk result (λ rows. rows ≡ filter (is_changed old.now) now.now) }
 {
     let mut near = 0;
@@ -54,7 +54,7 @@ fn changed_rows(alloc: Global, old: &OrderedRows, now: &[Row]) -> Result<Ordered
             changed.push(row.copy(alloc)?)?;
         }
     }
-    OrderedRows::from_rising(changed)
+    Ok(OrderedRows::from_rising(changed))
 }
 
 /// Whether there was a row, with the flags of this one.

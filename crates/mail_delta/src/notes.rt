@@ -63,7 +63,7 @@ pub fn changed_in(alloc: Global, notes: &Notes, content: &MailBox) -> Result<Ord
             }
         }
     }
-    OrderedRows::from_rising(changed)
+    Ok(OrderedRows::from_rising(changed))
 }
 
 /// The noted UIDs at which messages were that are gone.

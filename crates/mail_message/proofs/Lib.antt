@@ -5,6 +5,8 @@ mod KeywordTexts
 mod PutFlags
 pub mod FlagLaw
 pub mod PlainTexts
+mod NextLaws
+pub mod NextRows
 mod RowLaws
 pub mod OtherLaws
 pub mod FoundUids

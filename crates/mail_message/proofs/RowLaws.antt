@@ -14,8 +14,9 @@ use Rattle.std.proofs.lemmas.Map.Keys.{non_decreasing_from_sorted}
 use Rattle.mail_message.specs.declared.message.Row.{Row}
 use Rattle.mail_message.specs.declared.message.Message.{Message}
 use Rattle.mail_message.specs.Boxes.{row_of, uids_of, IsRising}
-use Rattle.mail_message.specs.RowOrder.{AreOrdered, AreRising, IsAbove, IsPlace, is_row_of, row_at, if_row_of, place_if_row_of}
+use Rattle.mail_message.specs.RowOrder.{AreOrdered, AreRising, HasNext, IsAbove, IsPlace, is_row_of, row_at, if_row_of, place_if_row_of}
 use Rattle.mail_message.proofs.SlotLaws.{less, below}
+use Rattle.mail_message.proofs.NextRows.{next-more}
 
 -- ---- the rows of messages
 
@@ -53,7 +54,7 @@ unfolding IsStrictlySortedBy
 rising-none = tt
 
 pub ordered-none : AreOrdered []
-ordered-none = record { rising = rising-none; numbers = omega arith }
+ordered-none = record { rising = rising-none; next = tt }
 
 -- a row that was put at the end, or for which there was no memory
 pub rising-pushed : {A E : Type 0} (result : Result A E) (old new : List Row) (row : Row) → OnOk result (new ≡ old ++ row ∷ []) → OnErr result (new ≡ old)
@@ -61,16 +62,12 @@ pub rising-pushed : {A E : Type 0} (result : Result A E) (old new : List Row) (r
 rising-pushed (Ok done) old new row ok err rising above = subst AreRising (sym ok) (rising-more old row rising above)
 rising-pushed (Err fault) old new row ok err rising above = subst AreRising (sym err) rising
 
-more_rows : (rows : List Row) (row : Row) → length (rows ++ row ∷ []) ≡ length rows + 1
-more_rows [] row = refl
-more_rows (other ∷ rows) row = omega (arith, more_rows rows row)
-
--- the same, with room for the row
+-- the same, below a UIDNEXT
 pub ordered-pushed : {A E : Type 0} (result : Result A E) (old new : List Row) (row : Row) → OnOk result (new ≡ old ++ row ∷ []) → OnErr result (new ≡ old)
-    → AreOrdered old → IsAbove old row.uid → length old + 1 < 2 ^ 32 → AreOrdered new
-ordered-pushed (Ok done) old new row ok err ordered above room =
-    subst AreOrdered (sym ok) (record { rising = rising-more old row ordered.rising above; numbers = rw (more_rows old row) room })
-ordered-pushed (Err fault) old new row ok err ordered above room = subst AreOrdered (sym err) ordered
+    → AreOrdered old → IsAbove old row.uid → HasNext row.uid → AreOrdered new
+ordered-pushed (Ok done) old new row ok err ordered above has =
+    subst AreOrdered (sym ok) (record { rising = rising-more old row ordered.rising above; next = next-more old row ordered.next has })
+ordered-pushed (Err fault) old new row ok err ordered above has = subst AreOrdered (sym err) ordered
 
 -- a place of one of the rows
 pub place-within : (test : Row → Bool) (from : ℕ) (rows : List Row) → IfSome (position_from test from rows) (λ place. place < from + length rows)

@@ -20,6 +20,7 @@ use Rattle.mail_message.specs.declared.message.Message.{Message}
 use Rattle.mail_message.specs.FlagSets.{Flags}
 use Rattle.mail_message.specs.Boxes.{with_message, without_uid, with_flags, relabelled}
 use Rattle.mail_message.specs.Slots.{Places, filled, flat, IsKeyed, IsStanding, HasPlace, KeepsPlaces, flags_written}
+use Rattle.mail_message.proofs.NextLaws.{next-with_value}
 use Rattle.mail_message.proofs.SlotLaws.{Above, same_key, other_key, greater, below, behind, rest_sorted, filter_above, map_above, put_above}
 
 -- ---- places are kept
@@ -306,12 +307,17 @@ pub standing-flags : (places : Places) (k : ℕ) (flags : Flags) (found : Option
     → IsStanding (flags_written places k flags found)
 standing-flags places k flags None there standing = standing
 standing-flags places k flags (Some None) there standing =
-    record { ordered = ordered-with_value places k None standing.ordered; keyed = keyed-with_value places k None tt standing.keyed }
+    record {
+      ordered = ordered-with_value places k None standing.ordered;
+      keyed = keyed-with_value places k None tt standing.keyed;
+      next = next-with_value places k None standing.next;
+    }
 standing-flags places k flags (Some (Some message)) there standing =
     let at : message.uid ≡ k = uid_at places k message standing.keyed there in
     record {
       ordered = ordered-with_value places k (Some (relabelled message flags)) standing.ordered;
       keyed = keyed-with_value places k (Some (relabelled message flags)) at standing.keyed;
+      next = next-with_value places k (Some (relabelled message flags)) standing.next;
     }
 
 pub filled-flags_written : (places : Places) (k : ℕ) (flags : Flags) (found : Option (Option Message)) → value_at nat_cmp places k ≡ found → IsStanding places

@@ -11,6 +11,7 @@ use Rattle.mail_message.specs.declared.message.Summary.{Summary}
 use Rattle.mail_message.specs.declared.change.Change.{Change}
 use Rattle.mail_message.specs.declared.change.Change.TheVariants.{Put, SetFlags, Gone, NextUid}
 use Rattle.mail_message.specs.FlagSets.{Flags}
+use Rattle.mail_message.specs.RowOrder.{HasNext}
 
 -- UIDVALIDITY, UIDNEXT, the access list, and the messages in rising order of UID
 pub record Content : Type 0 where
@@ -76,6 +77,13 @@ next_after next (NextUid later) = later
 -- the content after a change
 abbrev pub content_after : Content → Change → Content
 content_after box change = record box { next = next_after box.next change; messages = messages_after box.messages change }
+
+-- above what a change puts there is a UIDNEXT
+abbrev pub LeavesNext : Change → Type 0
+LeavesNext (Put message) = HasNext message.uid
+LeavesNext (SetFlags uid flags) = Unit {0}
+LeavesNext (Gone uid) = Unit {0}
+LeavesNext (NextUid next) = Unit {0}
 
 -- the change names the UID
 abbrev pub is_touched : ℕ → Change → Bool

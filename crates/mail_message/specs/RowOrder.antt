@@ -1,5 +1,5 @@
 -- Rows of a mailbox in rising order of UID (RFC 9051, 2.3.1.1).
-use Rattle.std.specs.Prelude.{ℕ, Bool, ◌<◌, ◌≤◌, ◌^◌, ◌==◌, if◌then◌else◌, List, map, length, Option, None, Some}
+use Rattle.std.specs.Prelude.{ℕ, Bool, ◌+◌, ◌^◌, ◌<◌, ◌≤◌, ◌==◌, if◌then◌else◌, List, map, Option, None, Some}
 use Rattle.std.specs.List.{AllByRecursion, find}
 use Rattle.std.specs.List.Sorted.{IsStrictlySortedBy, IsPartitionPoint}
 use Rattle.std.specs.Ordering.{nat_cmp}
@@ -9,10 +9,18 @@ use Rattle.mail_message.specs.declared.message.Row.{Row}
 abbrev pub AreRising : List Row → Type 0
 AreRising rows = IsStrictlySortedBy nat_cmp (map (λ row. row.uid) rows)
 
--- rows that rise, each of which has a number of 32 bits (RFC 9051, 2.3.1.2 and 9: nz-number)
+-- UIDNEXT above a UID has 32 bits too (RFC 9051, 2.3.1.1)
+abbrev pub HasNext : ℕ → Type 0
+HasNext uid = uid + 1 < 2 ^ 32
+
+-- above the UID of each row there is a UIDNEXT
+abbrev pub HaveNext : List Row → Type 0
+HaveNext rows = AllByRecursion (λ row. HasNext row.uid) rows
+
+-- rows that rise below a UIDNEXT, so that each has a number of 32 bits (RFC 9051, 2.3.1.2 and 9: nz-number)
 pub record AreOrdered (rows : List Row) : Type 0 where
   pub rising : AreRising rows
-  pub numbers : length rows < 2 ^ 32
+  pub next : HaveNext rows
 
 -- a UID is higher than that of each row
 abbrev pub IsAbove : List Row → ℕ → Type 0

@@ -1,14 +1,10 @@
 -- Sets of message numbers (RFC 9051, 9: sequence-set): the one meaning of a set, whether of sequence numbers or of UIDs.
-use Rattle.std.specs.Prelude.{ℕ, Bool, false, ◌&&◌, ◌==◌, nat_le, min, max, if◌then◌else◌, List, map, Option, Some, None}
+use Rattle.std.specs.Prelude.{ℕ, Bool, false, ◌&&◌, nat_le, min, max, List, map, Option, Some, None}
 use Rattle.std.specs.List.{list_any}
 use Rattle.mail_message.specs.declared.set.SetEnd.{SetEnd}
 use Rattle.mail_message.specs.declared.set.SetEnd.TheVariants.{Number, Last}
 use Rattle.mail_message.specs.declared.set.SetPart.{SetPart}
 use Rattle.mail_message.specs.declared.set.SetPart.TheVariants.{One, Range}
-
--- nz-number: numbers of messages are those from 1 on
-abbrev pub numbered_end : ℕ → Option SetEnd
-numbered_end number = if number == 0 then None else Some (Number number)
 
 -- `*` stands for the largest number in use
 abbrev pub end_at : ℕ → SetEnd → SetEnd

@@ -2,11 +2,13 @@
 use Rattle.std.specs.Prelude.{◌≡◌, ℕ, true, List, [], ◌∷◌, ◌++◌, Option, Some, None, is_some}
 use Rattle.std.specs.Option.{option_to_list, option_map, IfSome}
 use Rattle.std.specs.List.{AllByRecursion}
+use Rattle.std.specs.Map.{keys_of}
 use Rattle.std.specs.Ordering.{nat_cmp}
 use Rattle.mur_base.specs.Map.{value_at, with_value, IsInOrder}
 use Rattle.mail_message.specs.declared.message.Message.{Message}
 use Rattle.mail_message.specs.FlagSets.{Flags}
 use Rattle.mail_message.specs.Boxes.{relabelled}
+use Rattle.mail_message.specs.RowOrder.{HasNext}
 use Rattle.mail_message.specs.declared.change.Change.{Change}
 use Rattle.mail_message.specs.declared.change.Change.TheVariants.{Put, SetFlags, Gone, NextUid}
 
@@ -22,10 +24,11 @@ filled (place ∷ places) = option_to_list place.1 ++ filled places
 abbrev pub IsKeyed : Places → Type 0
 IsKeyed places = AllByRecursion (λ place. IfSome place.1 (λ message. message.uid ≡ place.0)) places
 
--- the places stand in rising order of UID, each message at its own
+-- the places stand in rising order of UID, each message at its own, and above each there is a UIDNEXT
 pub record IsStanding (places : Places) : Type 0 where
   pub ordered : IsInOrder nat_cmp places
   pub keyed : IsKeyed places
+  pub next : AllByRecursion HasNext (keys_of places)
 
 -- the message in a place, where there is a place and a message in it
 abbrev pub flat : Option (Option Message) → Option Message

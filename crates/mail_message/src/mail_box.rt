@@ -1,9 +1,11 @@
 // A mailbox's content.
 ghost use Rattle.std.specs.Prelude.{◌≡◌, ℕ, false, ◌+◌, ◌≤◌, ◌↔◌, length, map, IsTrue, IfOk, OnOk, OnErr};
-ghost use Rattle.std.specs.List.{filter, fold, list_any};
-ghost use Rattle.std.specs.Option.{option_copied};
+ghost use Rattle.std.specs.List.{AllByRecursion, filter, fold, list_any};
+ghost use Rattle.std.specs.Option.{option_copied, IfSome};
 ghost use Rattle.mail_message.specs.Boxes.{empty_box, message_at, messages_after, next_after, content_after, content_after_all};
-ghost use Rattle.mail_message.specs.Boxes.{messages_at, snapshot_of, summary_of, uids_of, without_uid, is_deleted, is_touched, IsRising};
+ghost use Rattle.mail_message.specs.Boxes.{messages_at, snapshot_of, summary_of, uids_of, without_uid, is_deleted, is_touched};
+ghost use Rattle.mail_message.specs.Boxes.{IsRising, LeavesNext};
+ghost use Rattle.mail_message.specs.RowOrder.{HasNext};
 ghost use Rattle.mail_message.specs.Slots.{filled, HasPlaceFor, HasPlaces, KeepsPlaces};
 
 use crate::change::{Change, Changes};
@@ -76,7 +78,8 @@ impl MailBox {
 
     /// The message with a UID, if it is there. Logarithmic in the messages.
     pub fn find(&self, uid: u32) -> Option<&Message>
-        ensures { option_copied result ≡ message_at self.now.messages uid }
+        ensures message { option_copied result ≡ message_at self.now.messages uid }
+        ensures next { IfSome result (λ message. HasNext message.now.uid) }
     {
         self.slots.find(uid)
     }
@@ -148,6 +151,7 @@ impl MailBox {
 
     /// Carries a change out; for want of memory the box stays as it was. Logarithmic in the messages.
     pub fn apply(&mut self, change: Change) -> Result<(), Memory>
+        requires { LeavesNext change }
         ensures ok { OnOk result (self.new ≡ content_after self.old change) }
         ensures err { OnErr result (self.new ≡ self.old) }
     {
@@ -163,6 +167,7 @@ impl MailBox {
     /// Carries changes out in their order; for want of memory the box stays as it was. Each takes time logarithmic
     /// in the messages, and no body is copied.
     pub fn apply_all(&mut self, alloc: Global, changes: Changes) -> Result<(), Memory>
+        requires { AllByRecursion LeavesNext changes }
         ensures ok { OnOk result (self.new ≡ content_after_all self.old changes) }
         ensures others { OnOk result ((uid : ℕ) → list_any (is_touched uid) changes ≡ false
             → message_at self.new.messages uid ≡ message_at self.old.messages uid) }

@@ -2,15 +2,15 @@
 ghost use Rattle.std.specs.Prelude.{◌≡◌, ◌+◌, ◌<◌, ◌≤◌, ◌^◌, ◌↔◌, [], ◌∷◌, ◌++◌, length, OnOk, OnErr, IsTrue, IfOk};
 ghost use Rattle.std.specs.List.{AllWithin, position_from};
 ghost use Rattle.std.specs.Option.{option_copied, IfSome};
-ghost use Rattle.mail_message.specs.RowOrder.{AreRising, IsAbove, IsPlace, is_row_of, row_at, if_row_of, place_if_row_of};
+ghost use Rattle.mail_message.specs.RowOrder.{AreOrdered, AreRising, HasNext, HaveNext, IsAbove, IsPlace, is_row_of, row_at, if_row_of, place_if_row_of};
 
 use crate::message::{Row, Rows};
 use mur_base::{Copied, Memory};
 use std::alloc::Global;
 use std::marker::Model;
 
-/// Rows of a mailbox in strictly rising order of UID, with room for 4,294,967,295 of them, so that the number of each has 32 bits
-/// (RFC 9051, 2.3.1.2). Contracts see them as a list.
+/// Rows of a mailbox in strictly rising order of UID, below a UIDNEXT (RFC 9051, 2.3.1.1), so that the number of each has 32 bits
+/// (2.3.1.2). Contracts see them as a list.
 #[derive(Drop)]
 pub struct OrderedRows {
     rows: Rows,
@@ -47,13 +47,12 @@ impl OrderedRows {
         })
     }
 
-    /// Rows that rise, which aren't copied. `Memory` too where there is no room for so many.
-    pub fn from_rising(rows: Rows) -> Result<OrderedRows, Memory>
-        requires { AreRising rows }
-        ensures { IfOk result (λ list. list ≡ rows) }
+    /// Rows that rise below a UIDNEXT, which aren't copied.
+    pub fn from_rising(rows: Rows) -> OrderedRows
+        requires { AreOrdered rows }
+        ensures { result ≡ rows }
     {
-        has_room(rows.len())?;
-        Ok(OrderedRows { rows })
+        OrderedRows { rows }
     }
 
     pub fn len(&self) -> usize
@@ -73,6 +72,7 @@ impl OrderedRows {
     pub fn as_slice(&self) -> &[Row]
         ensures rows { result.now ≡ self.now }
         ensures rising { AreRising self.now }
+        ensures next { HaveNext self.now }
         ensures numbers { length self.now < 2 ^ 32 }
     {
         self.rows.as_slice()
@@ -88,22 +88,14 @@ impl OrderedRows {
         }
     }
 
-    /// Puts a row at the end; for want of memory, or of room for one more, the list stays as it was.
+    /// Puts a row at the end; for want of memory the list stays as it was.
     pub fn push(&mut self, row: Row) -> Result<(), Memory>
-        requires { IsAbove self.old row.uid }
+        requires above { IsAbove self.old row.uid }
+        requires next { HasNext row.uid }
         ensures ok { OnOk result (self.new ≡ self.old ++ row ∷ []) }
         ensures err { OnErr result (self.new ≡ self.old) }
     {
-        has_room(self.rows.len().saturating_add(1))?;
         self.rows.push(row)
-    }
-
-    /// The row with a UID, if it is there. Logarithmic in the rows.
-    pub fn get(&self, uid: u32) -> Option<&Row>
-        ensures { option_copied result ≡ row_at self.now uid }
-    {
-        let mut near = 0;
-        self.find(uid, &mut near)
     }
 
     /// How many rows stand before the one with a UID, if that is there; looked for near a place first, as `find` does.
@@ -131,17 +123,6 @@ impl Copied for OrderedRows {
             rows: self.rows.copy(alloc)?,
         })
     }
-}
-
-/// Room for so many rows. Here alone it is looked at whether 32 bits number them.
-fn has_room(count: usize) -> Result<(), Memory>
-    ensures ok { OnOk result (count < 2 ^ 32) }
-    ensures err { OnErr result (2 ^ 32 ≤ count) }
-{
-    if count > u32::MAX as usize {
-        return Err(Memory);
-    }
-    Ok(())
 }
 
 fn if_row_of(row: Option<&Row>, uid: u32) -> Option<&Row>

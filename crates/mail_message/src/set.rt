@@ -1,6 +1,6 @@
 // Sets of message numbers as clients write them.
 ghost use Rattle.std.specs.Prelude.{◌≡◌};
-ghost use Rattle.mail_message.specs.Sets.{numbered_end, end_at, part_at, part_bounds, part_holds};
+ghost use Rattle.mail_message.specs.Sets.{end_at, part_at, part_bounds, part_holds};
 
 use mur_base::Items;
 
@@ -25,16 +25,6 @@ pub enum SetPart {
 pub type SetParts = Items<SetPart>;
 
 impl SetEnd {
-    /// The end at a number. `None` exactly for 0, which no message has.
-    pub fn new(number: u32) -> Option<SetEnd>
-        ensures { result ≡ numbered_end number }
-    {
-        if number == 0 {
-            return None;
-        }
-        Some(SetEnd::Number(number))
-    }
-
     /// The end with a number in the place of `*`.
     pub fn at(self, last: u32) -> SetEnd
         ensures { result ≡ end_at last self }

@@ -1,10 +1,13 @@
 // Messages by UID, with empty places, so that a list of changes that wants memory takes it before it changes anything.
 ghost use Rattle.std.specs.Prelude.{◌≡◌, ◌≤◌, [], IfOk, OnOk, OnErr, length, map, None, Some, IsTrue};
 ghost use Rattle.std.specs.List.{filter, fold};
-ghost use Rattle.std.specs.Option.{option_copied, option_map};
+ghost use Rattle.std.specs.List.{AllByRecursion};
+ghost use Rattle.std.specs.Option.{option_copied, option_map, IfSome};
 ghost use Rattle.std.specs.Ordering.{nat_cmp};
 ghost use Rattle.mur_base.specs.Map.{with_value, with_entry, without_key, value_at, IsInOrder};
-ghost use Rattle.mail_message.specs.Boxes.{message_at, with_message, without_uid, with_flags, relabelled, row_of, size_of, uids_of, is_deleted, IsRising};
+ghost use Rattle.mail_message.specs.Boxes.{message_at, with_message, without_uid, with_flags, relabelled, row_of, size_of, uids_of, is_deleted};
+ghost use Rattle.mail_message.specs.Boxes.{IsRising, LeavesNext};
+ghost use Rattle.mail_message.specs.RowOrder.{HasNext};
 ghost use Rattle.mail_message.specs.Slots.{filled, flat, HasPlace, HasPlaceFor, HasPlaces, KeepsPlaces, flags_written};
 
 use crate::change::Change;
@@ -42,7 +45,8 @@ impl Slots {
 
     /// The message with a UID, if it is there.
     pub fn find(&self, uid: u32) -> Option<&Message>
-        ensures { option_copied result ≡ message_at (filled self.now) uid }
+        ensures message { option_copied result ≡ message_at (filled self.now) uid }
+        ensures next { IfSome result (λ message. HasNext message.now.uid) }
     {
         message_in(self.map.get(&uid))
     }
@@ -103,6 +107,7 @@ impl Slots {
 
     /// Makes a place for a UID, if there is none.
     pub fn reserve(&mut self, uid: u32) -> Result<(), Memory>
+        requires { HasNext uid }
         ensures same { filled self.new ≡ filled self.old }
         ensures place { OnOk result (HasPlace self.new uid) }
         ensures kept { KeepsPlaces self.old self.new }
@@ -115,6 +120,7 @@ impl Slots {
 
     /// Makes a place for what a change puts.
     pub fn reserve_for(&mut self, change: &Change) -> Result<(), Memory>
+        requires { LeavesNext change.now }
         ensures same { filled self.new ≡ filled self.old }
         ensures place { OnOk result (HasPlaceFor self.new change.now) }
         ensures kept { KeepsPlaces self.old self.new }
@@ -127,6 +133,7 @@ impl Slots {
 
     /// Makes places for all that changes put.
     pub fn reserve_all(&mut self, changes: &[Change]) -> Result<(), Memory>
+        requires { AllByRecursion LeavesNext changes.now }
         ensures same { filled self.new ≡ filled self.old }
         ensures places { OnOk result (HasPlaces self.new changes.now) }
     {

@@ -1,4 +1,5 @@
 pub mod AppendLaws
+mod LeavesLaws
 mod RisingLaw
 pub mod TouchedLaws
 pub mod FollowsLaws

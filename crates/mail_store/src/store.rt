@@ -71,7 +71,7 @@ fn rows_after(
             rows.push(row_after(alloc, message, mode, flags)?)?;
         }
     }
-    Ok(OrderedRows::from_rising(rows)?)
+    Ok(OrderedRows::from_rising(rows))
 }
 
 /// The row that a message gets.

@@ -9,7 +9,8 @@ use Rattle.std.proofs.lemmas.Bool.{ltb-true}
 use Rattle.std.proofs.lemmas.Bool.Decides.{nat_tests}
 use Rattle.std.proofs.lemmas.List.{map-append}
 use Rattle.mail_message.specs.declared.message.Row.{Row}
-use Rattle.mail_message.specs.RowOrder.{AreRising, IsAbove}
+use Rattle.mail_message.specs.RowOrder.{AreRising, HasNext, HaveNext, IsAbove}
+use Rattle.mail_message.proofs.NextRows.{next-both, next-some}
 use Rattle.mur_model.specs.ClientView.{uids}
 use Rattle.mur_model.specs.News.{rows_behind, fresh_rows, is_above}
 use Rattle.mur_model.proofs.ClientLaw.{fresh_uids}
@@ -80,12 +81,30 @@ rising_both [] more rising rises above = rises
 rising_both (row ∷ rows) more rising rises above =
     (less_more row.uid rows more rising.0 (firsts row rows more above), rising_both rows more rising.1 rises (others row rows more above))
 
+-- the news changes no UID of a view
+view_uids : (rows now : List Row) → uids (fresh_rows now rows ++ rows_behind rows now) ≡ uids (rows ++ rows_behind rows now)
+view_uids rows now =
+    let uid_of = λ (row : Row). row.uid in
+    map-append uid_of (fresh_rows now rows) (rows_behind rows now) ∙ ap (λ list. list ++ uids (rows_behind rows now)) (fresh_uids now rows)
+    ∙ sym (map-append uid_of rows (rows_behind rows now))
+
 -- the rows of a view behind its news
 pub rising-view : (rows now : List Row) → AreRising rows → AreRising now → AreRising (fresh_rows now rows ++ rows_behind rows now)
 rising-view rows now rising rises =
     let both = rising_both rows (rows_behind rows now) rising (rising-some (λ row. is_above rows row.uid) now rises) (behind_above rows now) in
-    let uid_of = λ (row : Row). row.uid in
-    let same : uids (fresh_rows now rows ++ rows_behind rows now) ≡ uids (rows ++ rows_behind rows now) =
-    map-append uid_of (fresh_rows now rows) (rows_behind rows now) ∙ ap (λ list. list ++ uids (rows_behind rows now)) (fresh_uids now rows)
-    ∙ sym (map-append uid_of rows (rows_behind rows now)) in
-    subst (IsStrictlySortedBy nat_cmp) (sym same) both
+    subst (IsStrictlySortedBy nat_cmp) (sym (view_uids rows now)) both
+
+next_uids : (rows : List Row) → HaveNext rows → AllByRecursion HasNext (uids rows)
+next_uids [] next = tt
+next_uids (row ∷ rows) next = (next.0, next_uids rows next.1)
+
+uids_next : (rows : List Row) → AllByRecursion HasNext (uids rows) → HaveNext rows
+uids_next [] next = tt
+uids_next (row ∷ rows) next = (next.0, uids_next rows next.1)
+
+-- they stand below a UIDNEXT
+pub next-view : (rows now : List Row) → HaveNext rows → HaveNext now → HaveNext (fresh_rows now rows ++ rows_behind rows now)
+next-view rows now next nexts =
+    let behind = rows_behind rows now in
+    let both = next-both rows behind next (next-some (λ row. is_above rows row.uid) now nexts) in
+    uids_next (fresh_rows now rows ++ behind) (subst (AllByRecursion HasNext) (sym (view_uids rows now)) (next_uids (rows ++ behind) both))

@@ -1,6 +1,6 @@
 // What a client is told of its view (RFC 9051, 7.4 and 7.5).
 ghost use Rattle.std.specs.Prelude.{◌≡◌, ◌+◌, ◌<◌, ◌≤◌, ◌^◌, ◌++◌, length, IfOk, OnOk};
-ghost use Rattle.mail_message.specs.RowOrder.{AreRising};
+ghost use Rattle.mail_message.specs.RowOrder.{AreRising, HaveNext};
 ghost use Rattle.mail_store.specs.Named.{set_of};
 ghost use Rattle.mur_model.specs.ClientView.{Known, Agrees, known_after_all, uids};
 ghost use Rattle.mur_model.specs.News.{is_among, news, told_of, expunge_lines, rows_there, rows_behind, is_above};
@@ -134,7 +134,7 @@ fn rows_there(alloc: Global, rows: &OrderedRows, now: &OrderedRows) -> Result<Or
             there.push(row.copy(alloc)?)?;
         }
     }
-    OrderedRows::from_rising(there)
+    Ok(OrderedRows::from_rising(there))
 }
 
 fn told_of(
@@ -159,13 +159,14 @@ fn view_of(alloc: Global, rows: &OrderedRows, now: &OrderedRows) -> Result<Order
 {
     let mut view = fresh_rows(alloc, rows, now)?;
     put_behind(alloc, &mut view, rows, now)?;
-    OrderedRows::from_rising(view)
+    Ok(OrderedRows::from_rising(view))
 }
 
 /// The rows of a view as the mailbox has them.
 fn fresh_rows(alloc: Global, rows: &OrderedRows, now: &OrderedRows) -> Result<Rows, Memory>
     ensures view { IfOk result (λ view. view ≡ fresh_rows now.now rows.now) }
     ensures rising { OnOk result (AreRising rows.now) }
+    ensures next { OnOk result (HaveNext rows.now) }
 {
     let mut view = Rows::new(alloc);
     let mut near = 0;
@@ -185,6 +186,7 @@ fn put_behind(
 ) -> Result<(), Memory>
     ensures view { OnOk result (view.new ≡ view.old ++ rows_behind rows.now now.now) }
     ensures rising { OnOk result (AreRising now.now) }
+    ensures next { OnOk result (HaveNext now.now) }
 {
     for row in now.as_slice() {
         if is_behind(rows, row.uid) {

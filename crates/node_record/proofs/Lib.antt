@@ -15,3 +15,4 @@ pub mod NumberSteps
 pub mod FlagSteps
 pub mod TableLaw
 pub mod HeldLaw
+pub mod LeavesLaw

@@ -1,6 +1,6 @@
 -- What a backend has of each name, folded from the entries of its disk.
 use Rattle.std.specs.Prelude.{◌≡◌, ℕ, ◌+◌, ◌-◌, ◌^◌, min, Bool, true, false, if◌then◌else◌, List, [], ◌∷◌, ◌++◌, map, Option, None, Some}
-use Rattle.std.specs.List.{fold}
+use Rattle.std.specs.List.{AllByRecursion, fold}
 use Rattle.std.specs.Ordering.{nat_cmp}
 use Rattle.std.specs.Cmp.Lexicographic.{slice_cmp}
 use Rattle.mur_base.specs.declared.home.Phase.{Phase}
@@ -10,7 +10,8 @@ use Rattle.mail_message.specs.declared.message.Message.{Message}
 use Rattle.mail_message.specs.declared.message.Row.{Row}
 use Rattle.mail_message.specs.declared.change.Change.{Change}
 use Rattle.mail_message.specs.declared.change.Change.TheVariants.{Put, SetFlags, Gone, NextUid}
-use Rattle.mail_message.specs.Boxes.{empty_box, content_after, content_after_all}
+use Rattle.mail_message.specs.Boxes.{empty_box, content_after, content_after_all, LeavesNext}
+use Rattle.mail_message.specs.RowOrder.{HasNext}
 use Rattle.node_record.specs.declared.held.Held.{Held}
 use Rattle.node_record.specs.declared.backend.BackendRecord.{BackendRecord}
 use Rattle.node_record.specs.declared.backend.BackendRecord.TheVariants as entry
@@ -20,6 +21,20 @@ Names = List (List ℕ × Held)
 
 abbrev pub held_at : Names → List ℕ → Option Held
 held_at names name = value_at (slice_cmp nat_cmp) names name
+
+-- above each UID that an entry puts there is a UIDNEXT (RFC 9051, 2.3.1.1)
+abbrev pub EntryLeavesNext : BackendRecord → Type 0
+EntryLeavesNext (entry.Make name serial acl) = Unit {0}
+EntryLeavesNext (entry.Opened name) = Unit {0}
+EntryLeavesNext (entry.Added name messages) = AllByRecursion (λ message. HasNext message.uid) messages
+EntryLeavesNext (entry.Flagged name rows) = Unit {0}
+EntryLeavesNext (entry.Gone name uids) = Unit {0}
+EntryLeavesNext (entry.Closing name) = Unit {0}
+EntryLeavesNext (entry.Begun name giver serial acl) = Unit {0}
+EntryLeavesNext (entry.Took name changes) = AllByRecursion LeavesNext changes
+EntryLeavesNext (entry.Ready name next) = Unit {0}
+EntryLeavesNext (entry.Pointer name server) = Unit {0}
+EntryLeavesNext (entry.Forget mailboxes) = Unit {0}
 
 -- a home that may be written to: the name is open here
 abbrev pub IsOpen : Option Held → Type 0

@@ -1,7 +1,8 @@
 // What a backend has of its names, and the fold of its entries.
 ghost use Rattle.std.specs.Prelude.{◌≡◌, OnOk, IfOk};
-ghost use Rattle.std.specs.List.{fold};
-ghost use Rattle.node_record.specs.Held.{puts, relabels, removals, with_changes, with_phase, took_in, ready_in, has_content, is_receiving, changed, placed, forgotten, pointer, held_after};
+ghost use Rattle.std.specs.List.{AllByRecursion, fold};
+ghost use Rattle.mail_message.specs.Boxes.{LeavesNext};
+ghost use Rattle.node_record.specs.Held.{puts, relabels, removals, with_changes, with_phase, took_in, ready_in, has_content, is_receiving, changed, placed, forgotten, pointer, held_after, EntryLeavesNext};
 
 use crate::backend::{BackendRecord, MailNames};
 use mail_message::{Change, Changes, MailBox, Messages, Rows, Uids};
@@ -102,6 +103,7 @@ fn change(
     name: &MailName,
     changes: Changes,
 ) -> Result<(), Memory>
+    requires { AllByRecursion LeavesNext changes }
     ensures { OnOk result (held.new ≡ changed held.old name.now (with_changes changes)) }
 {
     if let Some(it) = held.get_mut(name) {
@@ -119,6 +121,7 @@ fn take_in(
     name: &MailName,
     changes: Changes,
 ) -> Result<(), Memory>
+    requires { AllByRecursion LeavesNext changes }
     ensures { OnOk result (held.new ≡ changed held.old name.now (took_in changes)) }
 {
     if let Some(it) = held.get_mut(name) {
@@ -169,6 +172,7 @@ pub fn apply_backend(
     held: &mut HeldNames,
     entry: BackendRecord,
 ) -> Result<(), Memory>
+    requires { EntryLeavesNext entry }
     ensures { OnOk result (held.new ≡ held_after held.old entry) }
 {
     match entry {

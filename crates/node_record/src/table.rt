@@ -4,7 +4,7 @@ ghost use Rattle.std.specs.Ordering.{nat_cmp};
 ghost use Rattle.std.specs.Cmp.Lexicographic.{slice_cmp};
 ghost use Rattle.mur_base.specs.Map.{value_at, without_key};
 ghost use Rattle.std.specs.Option.{option_copied};
-ghost use Rattle.node_record.specs.Table.{empty_table, record_at, is_mailbox, is_mailbox_if, moved, with_record, reserved_again, table_after, counted};
+ghost use Rattle.node_record.specs.Table.{empty_table, record_at, is_mailbox, moved, with_record, reserved_again, table_after, counted};
 
 use crate::master::MasterRecord;
 use mur_base::{Bytes, Location, MailName, Map, Memory};
@@ -108,16 +108,6 @@ impl Table {
         ensures { option_copied result ≡ record_at self.now name.now }
     {
         self.records.get(name)
-    }
-
-    /// Whether a name is a mailbox. Logarithmic in the records.
-    pub fn is_mailbox(&self, name: &MailName) -> bool
-        ensures { result ≡ is_mailbox_if (record_at self.now name.now) }
-    {
-        match self.records.get(name) {
-            Some(record) => record.is_mailbox(),
-            None => false,
-        }
     }
 
     /// Puts a record in the place of the one that a name has. For want of memory the table stays as it was.

@@ -19,6 +19,9 @@ pub fn put_all(to: &mut MailBox, lists: Items<Messages>) -> Result<usize, StoreF
 }
 
 fn put(to: &mut MailBox, uid: u32, message: Message) -> Result<(), StoreFault> {
+    if uid == u32::MAX {
+        return Err(StoreFault::UidsSpent);
+    }
     let mut message = message;
     message.uid = uid;
     Ok(to.apply(Change::Put(message))?)

@@ -1,4 +1,8 @@
 // What the entries of a disk make: a table of names, and a mailbox.
+ghost use Rattle.std.specs.Prelude.{IfOk};
+ghost use Rattle.std.specs.List.{AllByRecursion};
+ghost use Rattle.mail_message.specs.RowOrder.{HasNext};
+
 use crate::fault::Fault;
 use crate::making::read_date;
 use crate::times::Work;
@@ -69,7 +73,12 @@ fn reserved(alloc: Global, count: u32) -> Result<u64, Fault> {
     Ok(table.records().len() as u64)
 }
 
-fn message(alloc: Global, uid: u32) -> Result<Messages, Fault> {
+fn message(alloc: Global, uid: u32) -> Result<Messages, Fault>
+    ensures { IfOk result (λ messages. AllByRecursion (λ message. HasNext message.uid) messages) }
+{
+    if uid == u32::MAX {
+        return Err(Fault::Missing);
+    }
     let mut messages = Messages::new(alloc);
     messages.push(Message {
         uid,

@@ -10,5 +10,8 @@ from_rising-requires c =
     let none : c.loop-uid.uid-iterator ≡ [] = c.in-None.ensures.steps.0 in
     let is : c.loop-uid.rows ≡ stored_rows c.args.from.now.messages c.args.mode c.args.flags.now c.args.named.now.keys =
     grind (arith, common_steps, none, c.loop-uid.invariant.rows) in
-    subst AreRising (sym is)
-    (rising-stored c.args.from.now.messages c.args.mode c.args.flags.now c.args.named.now.keys c.iter-uid-items.ensures.ordered)
+    record {
+      rising = subst AreRising (sym is)
+          (rising-stored c.args.from.now.messages c.args.mode c.args.flags.now c.args.named.now.keys c.iter-uid-items.ensures.ordered);
+      next = c.loop-uid.invariant.next;
+    }

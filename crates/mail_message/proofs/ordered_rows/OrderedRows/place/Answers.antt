@@ -2,6 +2,7 @@ use Rattle.std.proofs.Common.{◌∙◌, ◌+◌, ◌<◌, ◌^◌, ap, sym, sub
 use Rattle.std.specs.List.{position_from}
 use Rattle.std.specs.Option.{IfSome}
 use Rattle.mail_message.specs.RowOrder.{is_row_of, place_if_row_of}
+use Rattle.mail_message.proofs.NextRows.{numbered}
 use Rattle.mail_message.proofs.RowLaws.{place-placed, place-numbered}
 use Rattle.mail_message.proofs.ordered_rows.OrderedRows.place.Goals as goal
 
@@ -14,5 +15,5 @@ returns-clause-place c =
 
 pub returns-clause-numbers : goal.returns-clause-numbers
 returns-clause-numbers c =
-    let room = rw c.self.view_is at c.self.invariant.numbers in
+    let room = rw c.self.view_is at (numbered c.self.inside.rows c.self.invariant.rising c.self.invariant.next) in
     subst (λ found. IfSome found (λ place. place + 1 < 2 ^ 32)) (sym (returns-clause-place c)) (place-numbered (is_row_of c.args.uid) c.args.self.now room)

@@ -4,7 +4,9 @@ use Rattle.std.specs.Map.Iter.{deref_pair}
 use Rattle.std.proofs.lemmas.Map.Iter.{rest_all, rest_more}
 use Rattle.mail_message.specs.Boxes.{row_of, IsRising}
 use Rattle.mail_message.specs.Slots.{filled}
-use Rattle.mail_message.specs.RowOrder.{AreRising}
+use Rattle.mail_message.specs.RowOrder.{AreRising, HaveNext}
+use Rattle.mail_message.proofs.NextLaws.{next-rows}
+use Rattle.mail_message.proofs.NextRows.{next-middle}
 use Rattle.mail_message.proofs.RowLaws.{rising-rows, above-next}
 use Rattle.mail_message.proofs.SlotLaws.{rising-filled}
 use Rattle.mail_message.proofs.slots.Slots.look.Goals as goal
@@ -21,8 +23,8 @@ returns-clause-size c =
 pub returns-clause-rising : goal.returns-clause-rising
 returns-clause-rising c = rw (← c.self.view_is) (rising-filled c.self.inside.map c.self.invariant.ordered c.self.invariant.keyed)
 
-pub push-requires : goal.push-requires
-push-requires c =
+pub push-requires-clause-above : goal.push-requires-clause-above
+push-requires-clause-above c =
     let rest : c.loop-uid._uid-iterator ≡ (c.in-Some._uid.now, Some c.in-Some-slot.message) ∷ c.next.new.self =
     rw c.in-Some-slot.is at (rest_more deref_pair _ _ _ (c.in-Some._uid, c.in-Some.slot) c.in-Some.is c.next.ensures.steps) in
     let all : c.loop-uid.rows ++ row_of c.in-Some-slot.message ∷ map row_of (filled c.next.new.self) ≡ map row_of (filled c.args.self.now) =
@@ -32,3 +34,13 @@ push-requires c =
     let rising = rising-rows (filled c.args.self.now) messages in
     rw c.in_ok-row.ensures
     (above-next c.loop-uid.rows (map row_of (filled c.next.new.self)) (row_of c.in-Some-slot.message) (subst AreRising (sym all) rising))
+
+pub push-requires-clause-next : goal.push-requires-clause-next
+push-requires-clause-next c =
+    let rest : c.loop-uid._uid-iterator ≡ (c.in-Some._uid.now, Some c.in-Some-slot.message) ∷ c.next.new.self =
+    rw c.in-Some-slot.is at (rest_more deref_pair _ _ _ (c.in-Some._uid, c.in-Some.slot) c.in-Some.is c.next.ensures.steps) in
+    let all : c.loop-uid.rows ++ row_of c.in-Some-slot.message ∷ map row_of (filled c.next.new.self) ≡ map row_of (filled c.args.self.now) =
+    rw rest at c.loop-uid.invariant.rows in
+    let next : HaveNext (map row_of (filled c.args.self.now)) = rw (← c.self.view_is) (next-rows c.self.inside.map c.self.invariant.keyed c.self.invariant.next) in
+    rw c.in_ok-row.ensures
+    (next-middle c.loop-uid.rows (map row_of (filled c.next.new.self)) (row_of c.in-Some-slot.message) (subst HaveNext (sym all) next))

@@ -1,5 +1,6 @@
 use Rattle.std.proofs.Common.{Some, sym, subst, refl}
 use Rattle.mail_message.specs.Slots.{HasPlace}
+use Rattle.mail_message.proofs.NextLaws.{next-with_value}
 use Rattle.mail_message.proofs.SlotChanges.{ordered-with_value, keyed-with_value, kept-with_value, filled-put}
 use Rattle.mail_message.proofs.slots.Slots.put.Goals as goal
 
@@ -9,6 +10,7 @@ invariant_of-self c =
     rw c.write.ensures (record {
       ordered = ordered-with_value c.self.inside.map m.uid (Some m) c.self.invariant.ordered;
       keyed = keyed-with_value c.self.inside.map m.uid (Some m) refl c.self.invariant.keyed;
+      next = next-with_value c.self.inside.map m.uid (Some m) c.self.invariant.next;
     })
 
 pub returns-clause-messages : goal.returns-clause-messages

@@ -1,7 +1,11 @@
 use Rattle.std.proofs.Common.{◌≡◌, ◌∙◌, None, refl, sym, subst}
+use Rattle.std.specs.List.{AllByRecursion}
+use Rattle.std.specs.Map.{keys_of}
 use Rattle.std.specs.Ordering.{nat_cmp}
 use Rattle.mur_base.specs.Map.{with_entry}
+use Rattle.mail_message.specs.RowOrder.{HasNext}
 use Rattle.mail_message.specs.Slots.{filled, HasPlace, IsKeyed}
+use Rattle.mail_message.proofs.NextLaws.{next-with_entry}
 use Rattle.mail_message.proofs.SlotChanges.{either, placed, keyed-with_entry, kept-with_entry, placed-with_entry, filled-reserved}
 use Rattle.mail_message.proofs.slots.Slots.reserve.Goals as goal
 
@@ -13,6 +17,8 @@ invariant_of-self c =
       ordered = done.ensures.ordered;
       keyed = either IsKeyed done.result old (with_entry nat_cmp old c.args.uid None) done.new.map done.ensures.ok done.ensures.err
           (keyed-with_entry old c.args.uid None tt c.self.invariant.keyed) c.self.invariant.keyed;
+      next = either (λ places. AllByRecursion HasNext (keys_of places)) done.result old (with_entry nat_cmp old c.args.uid None) done.new.map done.ensures.ok done.ensures.err
+          (next-with_entry old c.args.uid None c.requires c.self.invariant.next) c.self.invariant.next;
     }
 
 pub returns-clause-same : goal.returns-clause-same
