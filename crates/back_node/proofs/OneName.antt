@@ -46,19 +46,20 @@ talked_to node step name linked =
 abbrev by_master : BackNode → FlowStep → Bool → BackActed
 by_master node step test = done_by (cond test (talks node step) (passed_over node))
 
+by_test : (node : BackNode) (from : List ℕ) (step : FlowStep) (name : List ℕ) (linked : Bool) → is_my_master node from ≡ true
+    → seen_by name linked node.home.held step ≡ step_to name linked (by_master node step (is_my_master node from)) step.sends
+by_test node from step name linked master =
+    talked_to node step name linked ∙ ap (λ test. step_to name linked (by_master node step test) step.sends) (sym master)
+
 pub up_to_name : (node : BackNode) (from name : List ℕ) (linked : Bool) → is_my_master node from ≡ true
     → hear (ctl_of linked node.home.held node.flows name) backend_up ≡ step_to name linked (node_takes node from Up) (up_step node.flows).sends
 unfolding taken_up hear
-up_to_name node from name linked master =
-    talked_to node (up_step node.flows) name linked
-    ∙ ap (λ test. step_to name linked (by_master node (up_step node.flows) test) (up_step node.flows).sends) (sym master)
+up_to_name node from name linked master = by_test node from (up_step node.flows) name linked master
 
 pub end_to_name : (node : BackNode) (from name : List ℕ) (linked : Bool) → is_my_master node from ≡ true
     → hear (ctl_of linked node.home.held node.flows name) backend_end ≡ step_to name linked (node_takes node from End) (end_step node.flows).sends
 unfolding taken_up hear
-end_to_name node from name linked master =
-    talked_to node (end_step node.flows) name linked
-    ∙ ap (λ test. step_to name linked (by_master node (end_step node.flows) test) (end_step node.flows).sends) (sym master)
+end_to_name node from name linked master = by_test node from (end_step node.flows) name linked master
 
 pub ask_to_name : (node : BackNode) (from : List ℕ) (ask : FrontAsk) (kind : AskKind) (name : List ℕ) (linked : Bool) → name_kind ask.op ≡ Some kind
     → asked_as name (name_ask from ask kind) (ctl_of linked node.home.held node.flows name)

@@ -7,7 +7,7 @@ use Rattle.node_record.specs.declared.table.State.{State}
 use Rattle.node_record.specs.declared.table.State.TheVariants.{Bare, Kept, Active}
 use Rattle.node_record.specs.declared.table.Record.{Record}
 use Rattle.node_record.specs.Held.{with_phase, has_content, pointer}
-use Rattle.home_law.specs.Items.{bare, kept, active, Mine, mine, HomeFlow, making, Ctl, Server, is_same_server, reserve_ok, reserve, make, again}
+use Rattle.home_law.specs.Items.{bare, kept, active, Mine, mine, HomePhase, HomeFlow, making, Ctl, Server, is_same_server, reserve_ok, reserve, make, again, no_phase, pointer as pointer_phase}
 use Rattle.home_law.specs.Link.{see}
 use Rattle.home_law.specs.Rows.{mine_of, is_bare, is_kept, is_closing, is_serving, is_idle, is_making, is_reserving, is_synced, is_creating as is_creating_name, home_ok, flow_ok, control_ok, answer_ok, line_ok}
 use Rattle.name_flows.specs.OneName.{phase_of, phase_in}
@@ -79,10 +79,10 @@ pub record IsThere (h : Option Held) : Type 0 where
 there_by : (it : Held) (p : Phase) → it.phase ≡ p → has_content p ≡ true → IsThere (Some it)
 there_by it p e f = record { it = it; there = refl; content = ap (λ (q : Phase). has_content q) e ∙ f }
 
-kept_there : (h : Option Held) → home_ok (mine kept) (phase_in h) ≡ true → IsThere h
-unfolding home_ok
-kept_there None e = cc
-kept_there (Some it) e = by_phase it.phase refl
+-- where neither a name that isn't here nor a pointer passes a test of the phase
+there_by_test : (h : Option Held) (test : HomePhase → Bool) → test no_phase ≡ false → test pointer_phase ≡ false → test (phase_in h) ≡ true → IsThere h
+there_by_test None test at_none at_pointer e = cc
+there_by_test (Some it) test at_none at_pointer e = by_phase it.phase refl
   where
     by_phase : (p : Phase) → it.phase ≡ p → IsThere (Some it)
     by_phase Creating f = there_by it Creating f refl
@@ -90,38 +90,17 @@ kept_there (Some it) e = by_phase it.phase refl
     by_phase Closing f = there_by it Closing f refl
     by_phase Receiving f = there_by it Receiving f refl
     by_phase Ready f = there_by it Ready f refl
-    by_phase (Pointer server) f = let no : home_ok (mine kept) (phase_in (Some it)) ≡ false = rw f refl in cc
-
-active_there : (h : Option Held) → home_ok (mine active) (phase_in h) ≡ true → IsThere h
-unfolding home_ok
-active_there None e = cc
-active_there (Some it) e = by_phase it.phase refl
-  where
-    by_phase : (p : Phase) → it.phase ≡ p → IsThere (Some it)
-    by_phase Creating f = there_by it Creating f refl
-    by_phase Open f = there_by it Open f refl
-    by_phase Closing f = there_by it Closing f refl
-    by_phase Receiving f = there_by it Receiving f refl
-    by_phase Ready f = there_by it Ready f refl
-    by_phase (Pointer server) f = let no : home_ok (mine active) (phase_in (Some it)) ≡ false = rw f refl in cc
+    by_phase (Pointer server) f = let no : test (phase_in (Some it)) ≡ false = rw f at_pointer in cc
 
 pub mailbox_there : (h : Option Held) (m : Mine) → (m ≡ mine kept) ⊎ (m ≡ mine active) → home_ok m (phase_in h) ≡ true → IsThere h
-mailbox_there h m (inl e) f = kept_there h (subst (λ (k : Mine). home_ok k (phase_in h) ≡ true) e f)
-mailbox_there h m (inr e) f = active_there h (subst (λ (k : Mine). home_ok k (phase_in h) ≡ true) e f)
+unfolding home_ok
+mailbox_there h m (inl e) f = there_by_test h (home_ok (mine kept)) refl refl (subst (λ (k : Mine). home_ok k (phase_in h) ≡ true) e f)
+mailbox_there h m (inr e) f = there_by_test h (home_ok (mine active)) refl refl (subst (λ (k : Mine). home_ok k (phase_in h) ≡ true) e f)
 
 -- open or closed
 either_there : (h : Option Held) (t : Bool) → is_serving (phase_in h) || is_closing (phase_in h) && t ≡ true → IsThere h
 unfolding is_serving is_closing
-either_there None t e = cc
-either_there (Some it) t e = by_phase it.phase refl
-  where
-    by_phase : (p : Phase) → it.phase ≡ p → IsThere (Some it)
-    by_phase Creating f = there_by it Creating f refl
-    by_phase Open f = there_by it Open f refl
-    by_phase Closing f = there_by it Closing f refl
-    by_phase Receiving f = there_by it Receiving f refl
-    by_phase Ready f = there_by it Ready f refl
-    by_phase (Pointer server) f = let no : is_serving (phase_in (Some it)) || is_closing (phase_in (Some it)) && t ≡ false = rw f refl in cc
+either_there h t e = there_by_test h (λ phase. is_serving phase || is_closing phase && t) refl refl e
 
 pub open_acl : (h : Option Held) → is_open h || is_closed h ≡ true → HasAcl h (acl_of h)
 open_acl None e = cc
