@@ -9,13 +9,13 @@ use Rattle.imap_types.specs.declared.request.Request.{Request}
 use Rattle.imap_types.specs.declared.request.Request.TheVariants.{Command as a_command, Unknown as unknown, TooBig as too_big}
 use Rattle.mur_model.specs.declared.setting.Setting.{Setting}
 use Rattle.front_core.specs.declared.connection.Connection.{Connection}
+use Rattle.front_core.specs.declared.connection.OpenAsk.{OpenAsk}
 use Rattle.front_core.specs.declared.connection.Stage.{Stage}
 use Rattle.front_core.specs.declared.connection.Stage.TheVariants.{Reading, Asked, Ended}
 use Rattle.front_core.specs.Answered.{answer_comes, answer_by, need_behind, reading_again}
 use Rattle.front_core.specs.Front.{is_asked}
 use Rattle.front_core.specs.Room.{commands_of}
 use Rattle.front_core.specs.Taken.{answers_now, answers_last, turned_by_need, request_in, input_in, comes_at, input_comes, inputs_come}
-use Rattle.mur_model.specs.declared.need.Awaited.{Awaited}
 use Rattle.mur_model.specs.declared.need.Need.{Need}
 use Rattle.mur_model.specs.declared.need.Need.TheVariants.{Reply, Leave, Home}
 use Rattle.session_core.specs.Begin.{begin}
@@ -46,7 +46,7 @@ module _ (setting : Setting) (home : List ℕ) (conn : ℕ) where
   comes_counts : (c : Connection) (input : Input) (stage : Stage) → commands_of (comes_at setting home conn c input stage).connection ≤ commands_of c + 1
   unfolding comes_at
   comes_counts c input Reading = input_in_counts c input
-  comes_counts c input (Asked tag awaited) = omega (arith, length-append c.waiting (input ∷ []))
+  comes_counts c input (Asked tag ask) = omega (arith, length-append c.waiting (input ∷ []))
   comes_counts c input Ended = omega arith
 
   -- an input is at most one command more
@@ -60,19 +60,19 @@ module _ (setting : Setting) (home : List ℕ) (conn : ℕ) where
   inputs_count c (input ∷ inputs) =
       omega (arith, input_counts c input, inputs_count (input_comes setting home conn c input).connection inputs)
 
-  behind_counts : (c : Connection) (tag : Tag) (awaited : Awaited) (need : Option Need) → c.stage ≡ Asked tag awaited
+  behind_counts : (c : Connection) (tag : Tag) (ask : OpenAsk) (need : Option Need) → c.stage ≡ Asked tag ask
       → commands_of (need_behind setting home conn c tag need).connection ≤ commands_of c
-  behind_counts c tag awaited None is = omega arith
-  behind_counts c tag awaited (Some (Reply reply)) is = omega (arith, inputs_count (reading_again c) c.waiting, ap is_asked is)
-  behind_counts c tag awaited (Some (Leave reply)) is = omega (arith, ap is_asked is)
-  behind_counts c tag awaited (Some (Home name asking)) is = omega (arith, ap is_asked is)
+  behind_counts c tag ask None is = omega arith
+  behind_counts c tag ask (Some (Reply reply)) is = omega (arith, inputs_count (reading_again c) c.waiting, ap is_asked is)
+  behind_counts c tag ask (Some (Leave reply)) is = omega (arith, ap is_asked is)
+  behind_counts c tag ask (Some (Home name asking)) is = omega (arith, ap is_asked is)
 
   answer_counts_by : (c : Connection) (answer : BackAnswer) (fits : Bool) (stage : Stage) → c.stage ≡ stage
       → commands_of (answer_by setting home conn c answer fits stage).connection ≤ commands_of c
   unfolding answer_by
-  answer_counts_by c answer true (Asked tag awaited) is =
-      let behind = finished_by c.session (turn_behind c.session awaited answer.body) in
-      behind_counts (record c { session = behind.session }) tag awaited behind.need is
+  answer_counts_by c answer true (Asked tag ask) is =
+      let behind = finished_by c.session (turn_behind c.session ask.awaited answer.body) in
+      behind_counts (record c { session = behind.session }) tag ask behind.need is
   answer_counts_by c answer true Reading is = omega arith
   answer_counts_by c answer true Ended is = omega arith
   answer_counts_by c answer false stage is = omega arith

@@ -60,7 +60,7 @@ reader_by : (setting : Setting) (home : List ℕ) (conn : ℕ) (c : Connection) 
     → (comes_at setting home conn c input stage).connection.reader ≡ c.reader
 unfolding comes_at
 reader_by setting home conn c input Reading = ap (λ (t : Turned). t.connection.reader) (input_keeps setting home conn c input)
-reader_by setting home conn c input (Asked tag awaited) = refl
+reader_by setting home conn c input (Asked tag ask) = refl
 reader_by setting home conn c input Ended = refl
 
 -- an input that comes keeps the reader
@@ -75,7 +75,7 @@ unfolding comes_at
 comes_by setting home conn reader c input Reading =
     input_apart setting home conn reader c.waiting c input
     ∙ ap (λ w. holding reader w (input_in setting home conn c input)) (sym (waiting_kept setting home conn c input))
-comes_by setting home conn reader c input (Asked tag awaited) = refl
+comes_by setting home conn reader c input (Asked tag ask) = refl
 comes_by setting home conn reader c input Ended = refl
 
 pub comes_apart : (setting : Setting) (home : List ℕ) (conn : ℕ) (reader : Read) (c : Connection) (input : Input)

@@ -6,11 +6,11 @@ use Rattle.link_msg.specs.declared.out.Out.{Out}
 use Rattle.imap_types.specs.declared.command.Tag.{Tag}
 use Rattle.mur_model.specs.declared.setting.Setting.{Setting}
 use Rattle.front_core.specs.declared.connection.Connection.{Connection}
+use Rattle.front_core.specs.declared.connection.OpenAsk.{OpenAsk}
 use Rattle.front_core.specs.declared.connection.Stage.TheVariants.{Reading, Asked, Ended}
 use Rattle.front_core.specs.Reading.{Reading as Read}
 use Rattle.front_core.specs.Taken.{Turned, input_in, comes_at, input_comes, inputs_come, behind_outs}
 use Rattle.front_core.proofs.FrameLaws.{reading, comes_apart}
-use Rattle.mur_model.specs.declared.need.Awaited.{Awaited}
 
 pub behind_behind : (first second : List Out) (turned : Turned) → behind_outs first (behind_outs second turned) ≡ behind_outs (first ++ second) turned
 behind_behind first second turned = ap (λ outs. record turned { outs = outs }) (sym (append_assoc first second turned.outs))
@@ -38,19 +38,19 @@ module _ (setting : Setting) (home : List ℕ) (conn : ℕ) where
       ap (behind_outs turned.outs) (come_append turned.connection first rest)
       ∙ behind_behind turned.outs behind.outs (inputs_come setting home conn behind.connection rest)
 
-  waits : (c : Connection) (input : Input) (tag : Tag) (awaited : Awaited) → c.stage ≡ Asked tag awaited
+  waits : (c : Connection) (input : Input) (tag : Tag) (ask : OpenAsk) → c.stage ≡ Asked tag ask
       → input_comes setting home conn c input ≡ record { connection = record c { waiting = c.waiting ++ input ∷ [] }; outs = [] }
   unfolding input_comes comes_at
-  waits c input tag awaited is = ap (comes_at setting home conn c input) is
+  waits c input tag ask is = ap (comes_at setting home conn c input) is
 
   -- behind a command that waits all of them wait
-  pub asked_waits : (c : Connection) (inputs : List Input) (tag : Tag) (awaited : Awaited) → c.stage ≡ Asked tag awaited
+  pub asked_waits : (c : Connection) (inputs : List Input) (tag : Tag) (ask : OpenAsk) → c.stage ≡ Asked tag ask
       → inputs_come setting home conn c inputs ≡ record { connection = record c { waiting = c.waiting ++ inputs }; outs = [] }
   unfolding inputs_come
-  asked_waits c [] tag awaited is = ap (λ w. record { connection = record c { waiting = w }; outs = [] }) (sym (append-nil c.waiting))
-  asked_waits c (input ∷ inputs) tag awaited is =
-      ap (λ (t : Turned). behind_outs t.outs (inputs_come setting home conn t.connection inputs)) (waits c input tag awaited is)
-      ∙ asked_waits (record c { waiting = c.waiting ++ input ∷ [] }) inputs tag awaited is
+  asked_waits c [] tag ask is = ap (λ w. record { connection = record c { waiting = w }; outs = [] }) (sym (append-nil c.waiting))
+  asked_waits c (input ∷ inputs) tag ask is =
+      ap (λ (t : Turned). behind_outs t.outs (inputs_come setting home conn t.connection inputs)) (waits c input tag ask is)
+      ∙ asked_waits (record c { waiting = c.waiting ++ input ∷ [] }) inputs tag ask is
       ∙ ap (λ w. record { connection = record c { waiting = w }; outs = [] }) (append_assoc c.waiting (input ∷ []) inputs)
 
   drops : (c : Connection) (input : Input) → c.stage ≡ Ended → input_comes setting home conn c input ≡ record { connection = c; outs = [] }

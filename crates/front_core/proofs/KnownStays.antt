@@ -1,6 +1,5 @@
 -- Only the master changes what a frontend knows of its table, and nothing changes whom the frontend asks.
-use Rattle.std.proofs.Common.{◌≡◌, ◌≢◌, ℕ, Bool, true, false, nat_eq, List, Option, None, Some, refl, ap, subst, sym}
-use Rattle.std.specs.Cmp.Lexicographic.{pointwise}
+use Rattle.std.proofs.Common.{◌≡◌, ◌≢◌, ℕ, Bool, true, false, List, Option, None, Some, refl, ap, subst, sym}
 use Rattle.link_msg.specs.declared.answer.BackAnswer.{BackAnswer}
 use Rattle.link_msg.specs.declared.message.LinkMsg.{LinkMsg}
 use Rattle.link_msg.specs.declared.message.LinkMsg.TheVariants.{Up, End, Line, Ask, Answer}
@@ -9,6 +8,7 @@ use Rattle.front_core.specs.declared.connection.Stage.{Stage}
 use Rattle.front_core.specs.declared.connection.Stage.TheVariants.{Reading, Asked, Ended}
 use Rattle.front_core.specs.declared.front.Front.{Front}
 use Rattle.front_core.specs.Front.{Stepped, connect, connect_at, connection_at, bytes_in, front_bytes_at, bytes_by, hang, front_hang_at, deliver, answer_at, answer_from}
+use Rattle.front_core.specs.Stages.{has_asked}
 use Rattle.front_core.proofs.StrangerLaw.{line_stranger, up_stranger}
 
 -- a frontend that asks whom it asked, and knows of the table what it knew
@@ -34,7 +34,7 @@ bytes_by_known : (front : Front) (conn : ℕ) (bytes : List ℕ) (connection : C
 unfolding bytes_by
 bytes_by_known front conn bytes connection Ended = same_known front
 bytes_by_known front conn bytes connection Reading = record { home = refl; master = refl; setting = refl; replica = refl }
-bytes_by_known front conn bytes connection (Asked tag awaited) = record { home = refl; master = refl; setting = refl; replica = refl }
+bytes_by_known front conn bytes connection (Asked tag ask) = record { home = refl; master = refl; setting = refl; replica = refl }
 
 pub bytes_known : (front : Front) (conn : ℕ) (bytes : List ℕ) → KeepsKnown front (bytes_in front conn bytes).front
 unfolding bytes_in front_bytes_at
@@ -52,20 +52,21 @@ hang_known front conn = by (connection_at front conn)
     by None = same_known front
     by (Some connection) = record { home = refl; master = refl; setting = refl; replica = refl }
 
-answer_at_known : (front : Front) (answer : BackAnswer) (found : Option Connection) → KeepsKnown front (answer_at front answer found).front
-unfolding answer_at
-answer_at_known front answer None = same_known front
-answer_at_known front answer (Some connection) = record { home = refl; master = refl; setting = refl; replica = refl }
-
-answer_known : (front : Front) (answer : BackAnswer) (is_asked : Bool) → KeepsKnown front (answer_from is_asked front answer).front
+answer_known : (front : Front) (answer : BackAnswer) (connection : Connection) (is_asked : Bool)
+    → KeepsKnown front (answer_from is_asked front answer connection).front
 unfolding answer_from
-answer_known front answer true = answer_at_known front answer (connection_at front (answer.id).conn)
-answer_known front answer false = same_known front
+answer_known front answer connection true = record { home = refl; master = refl; setting = refl; replica = refl }
+answer_known front answer connection false = same_known front
+
+answer_at_known : (front : Front) (from : List ℕ) (answer : BackAnswer) (found : Option Connection) → KeepsKnown front (answer_at front from answer found).front
+unfolding answer_at
+answer_at_known front from answer None = same_known front
+answer_at_known front from answer (Some connection) = answer_known front answer connection (has_asked connection.stage from)
 
 -- what another node than the master says
 pub others_known : (front : Front) (from : List ℕ) (message : LinkMsg) → from ≢ front.master → KeepsKnown front (deliver front from message).front
 unfolding deliver
-others_known front from (Answer answer) ne = answer_known front answer (pointwise nat_eq from front.home)
+others_known front from (Answer answer) ne = answer_at_known front from answer (connection_at front (answer.id).conn)
 others_known front from Up ne = subst (λ (step : Stepped). KeepsKnown front step.front) (sym (up_stranger front from ne)) (same_known front)
 others_known front from End ne = same_known front
 others_known front from (Line bytes) ne = subst (λ (step : Stepped). KeepsKnown front step.front) (sym (line_stranger front from bytes ne)) (same_known front)

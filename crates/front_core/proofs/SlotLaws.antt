@@ -29,7 +29,7 @@ by_stage : (front : Front) (conn : ℕ) (bytes : List ℕ) (connection : Connect
     → with_kept front conn (bytes_at front.setting front.home conn connection bytes (stage_has_ended stage)) ≡ bytes_by front conn bytes connection stage
 unfolding bytes_at bytes_by stage_has_ended
 by_stage front conn bytes connection Reading there = refl
-by_stage front conn bytes connection (Asked tag awaited) there = refl
+by_stage front conn bytes connection (Asked tag ask) there = refl
 by_stage front conn bytes connection Ended there =
     ap (λ connections. record { front = record front { connections = connections }; outs = [] })
     (set_value_same (is_at (nat_cmp conn)) front.connections connection there)

@@ -17,13 +17,13 @@ use Rattle.front_core.proofs.FramesLaws.{behind_behind, asked_waits, ended_drops
 stage_read : (stage : Stage) → is_reading stage ≡ true → stage ≡ Reading
 unfolding is_reading
 stage_read Reading h = refl
-stage_read (Asked tag awaited) h = cc
+stage_read (Asked tag ask) h = cc
 stage_read Ended h = cc
 
 pub stage_ended : (stage : Stage) → stage_has_ended stage ≡ true → stage ≡ Ended
 unfolding stage_has_ended
 stage_ended Reading h = cc
-stage_ended (Asked tag awaited) h = cc
+stage_ended (Asked tag ask) h = cc
 stage_ended Ended h = refl
 
 module _ (setting : Setting) (home : List ℕ) (conn : ℕ) where
@@ -63,8 +63,8 @@ module _ (setting : Setting) (home : List ℕ) (conn : ℕ) where
   unfolding is_reading stage_has_ended
   stays_by outs c Reading is reads ends = cc
   stays_by outs c Ended is reads ends = cc
-  stays_by outs c (Asked tag awaited) is reads ends = sym (
-      ap (behind_outs outs) (asked_waits setting home conn (record c { waiting = [] }) c.waiting tag awaited is)
+  stays_by outs c (Asked tag ask) is reads ends = sym (
+      ap (behind_outs outs) (asked_waits setting home conn (record c { waiting = [] }) c.waiting tag ask is)
       ∙ ap (λ all. record { connection = c; outs = all }) (append-nil outs))
 
   -- the inputs stay where they are behind a command that waits

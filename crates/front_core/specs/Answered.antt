@@ -52,8 +52,8 @@ finished_in setting home conn connection tag behind =
 
 -- an answer to another command than the one that waits changes nothing
 unfoldable pub answer_by : Setting → List ℕ → ℕ → Connection → BackAnswer → Bool → Stage → Turned
-answer_by setting home conn connection answer true (Asked tag awaited) =
-    finished_in setting home conn connection tag (finished_by connection.session (turn_behind connection.session awaited answer.body))
+answer_by setting home conn connection answer true (Asked tag ask) =
+    finished_in setting home conn connection tag (finished_by connection.session (turn_behind connection.session ask.awaited answer.body))
 answer_by setting home conn connection answer fits stage = unchanged connection
 
 unfoldable pub answer_comes : Setting → List ℕ → ℕ → Connection → BackAnswer → Turned

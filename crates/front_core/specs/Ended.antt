@@ -12,7 +12,7 @@ ended answered = record { reader = first_reading; waiting = []; session = sessio
 
 unfoldable pub released_at : Connection → Stage → Connection
 released_at connection Reading = connection
-released_at connection (Asked tag awaited) = connection
+released_at connection (Asked tag ask) = connection
 released_at connection Ended = ended connection.answered
 
 -- what is kept of a connection behind what came to it, whatever ended it

@@ -1,5 +1,5 @@
 -- A frontend: what it does with what comes from clients and on links. Calls on a connection that isn't there change nothing.
-use Rattle.std.specs.Prelude.{ℕ, nat_eq, Bool, true, false, List, [], ◌∷◌, Option, None, Some}
+use Rattle.std.specs.Prelude.{◌≡◌, ℕ, nat_eq, Bool, true, false, List, [], ◌∷◌, Option, None, Some}
 use Rattle.std.specs.Ordering.{nat_cmp}
 use Rattle.std.specs.Cmp.Lexicographic.{pointwise}
 use Rattle.feed_core.specs.Feed.{empty_replica}
@@ -20,6 +20,7 @@ use Rattle.front_core.specs.Answered.{answer_comes}
 use Rattle.front_core.specs.Ended.{ended, released, with_released}
 use Rattle.front_core.specs.Reading.{inputs_of_more, read_more}
 use Rattle.front_core.specs.Slots.{new_connection}
+use Rattle.front_core.specs.Stages.{has_asked}
 use Rattle.front_core.specs.Taken.{Turned, inputs_come}
 
 -- a frontend without a connection
@@ -75,7 +76,7 @@ unfoldable pub bytes_by : Front → ℕ → List ℕ → Connection → Stage �
 bytes_by front conn bytes connection Ended = still front
 bytes_by front conn bytes connection Reading = with_turned front conn
     (inputs_come front.setting front.home conn (having_read front.setting connection bytes) (inputs_of_more front.setting connection.reader bytes))
-bytes_by front conn bytes connection (Asked tag awaited) = with_turned front conn
+bytes_by front conn bytes connection (Asked tag ask) = with_turned front conn
     (inputs_come front.setting front.home conn (having_read front.setting connection bytes) (inputs_of_more front.setting connection.reader bytes))
 
 unfoldable pub front_bytes_at : Front → ℕ → List ℕ → Option Connection → Stepped
@@ -96,15 +97,15 @@ front_hang_at front conn (Some connection) = record front { connections = with_v
 unfoldable pub hang : Front → ℕ → Front
 hang front conn = front_hang_at front conn (connection_at front conn)
 
-unfoldable pub answer_at : Front → BackAnswer → Option Connection → Stepped
-answer_at front answer None = still front
-answer_at front answer (Some connection) =
-    with_turned front (answer.id).conn (answer_comes front.setting front.home (answer.id).conn connection answer)
-
 -- an answer counts only from the node that was asked
-unfoldable pub answer_from : Bool → Front → BackAnswer → Stepped
-answer_from true front answer = answer_at front answer (connection_at front (answer.id).conn)
-answer_from false front answer = still front
+unfoldable pub answer_from : Bool → Front → BackAnswer → Connection → Stepped
+answer_from true front answer connection =
+    with_turned front (answer.id).conn (answer_comes front.setting front.home (answer.id).conn connection answer)
+answer_from false front answer connection = still front
+
+unfoldable pub answer_at : Front → List ℕ → BackAnswer → Option Connection → Stepped
+answer_at front from answer None = still front
+answer_at front from answer (Some connection) = answer_from (has_asked connection.stage from) front answer connection
 
 -- the link to the master comes up: of its table nothing is known yet, and the frontend asks for it (RFC 3656, 4.11)
 abbrev pub asks_for_table : Front → Stepped
@@ -127,7 +128,7 @@ line_from false front bytes = still front
 
 -- a message on a link
 unfoldable pub deliver : Front → List ℕ → LinkMsg → Stepped
-deliver front from (Answer answer) = answer_from (pointwise nat_eq from front.home) front answer
+deliver front from (Answer answer) = answer_at front from answer (connection_at front (answer.id).conn)
 deliver front from (Line bytes) = line_from (pointwise nat_eq from front.master) front bytes
 deliver front from Up = up_from (pointwise nat_eq from front.master) front
 deliver front from message = still front
@@ -135,5 +136,9 @@ deliver front from message = still front
 -- how many commands of a connection wait for the answer of a home
 abbrev pub is_asked : Stage → ℕ
 is_asked Reading = 0
-is_asked (Asked tag awaited) = 1
+is_asked (Asked tag ask) = 1
 is_asked Ended = 0
+
+-- no connection waits for the answer of this node
+abbrev pub WaitsForNone : Front → List ℕ → Type 0
+WaitsForNone front node = (conn : ℕ) (connection : Connection) → connection_at front conn ≡ Some connection → has_asked connection.stage node ≡ false

@@ -24,9 +24,11 @@ use Rattle.mur_model.specs.declared.session.Sess.{Sess}
 use Rattle.mur_model.specs.declared.setting.Setting.{Setting}
 use Rattle.imap_types.specs.Reply.{reply_of, refused}
 use Rattle.front_core.specs.declared.connection.Connection.{Connection}
+use Rattle.front_core.specs.declared.connection.OpenAsk.{OpenAsk}
 use Rattle.front_core.specs.declared.connection.Stage.{Stage}
 use Rattle.front_core.specs.declared.connection.Stage.TheVariants.{Reading, Asked, Ended}
 use Rattle.mur_model.specs.declared.need.Asking.{Asking}
+use Rattle.mur_model.specs.declared.need.Awaited.{Awaited}
 use Rattle.mur_model.specs.declared.need.Need.{Need}
 use Rattle.mur_model.specs.declared.need.Need.TheVariants as needs
 use Rattle.session_core.specs.Begin.{begin, user_of}
@@ -64,10 +66,14 @@ ask_of conn connection name selected op = record {
 abbrev pub ask_with : ℕ → Connection → List ℕ → Asking → FrontAsk
 ask_with conn connection name asking = ask_of conn connection name asking.selected asking.op
 
+-- what a command waits for that was asked of this home
+abbrev pub open_ask : List ℕ → Awaited → OpenAsk
+open_ask home awaited = record { home = home; awaited = awaited }
+
 -- a command that waits for the home of its mailbox
 abbrev pub asks : List ℕ → ℕ → Connection → Tag → List ℕ → Asking → Turned
 asks home conn connection tag name asking = record {
-  connection = record connection { stage = Asked tag asking.awaited };
+  connection = record connection { stage = Asked tag (open_ask home asking.awaited) };
   outs = Link home (Ask (ask_with conn connection name asking)) ∷ [];
 }
 
@@ -95,7 +101,7 @@ input_in setting home conn connection (Faults fault) =
 -- an input that comes, by what the connection is at
 unfoldable pub comes_at : Setting → List ℕ → ℕ → Connection → Input → Stage → Turned
 comes_at setting home conn connection input Reading = input_in setting home conn connection input
-comes_at setting home conn connection input (Asked tag awaited) =
+comes_at setting home conn connection input (Asked tag ask) =
     record { connection = record connection { waiting = connection.waiting ++ input ∷ [] }; outs = [] }
 comes_at setting home conn connection input Ended = record { connection = connection; outs = [] }
 

@@ -25,7 +25,8 @@ impl Connection {
             ≡ answer_comes desk.entry.setting.now desk.entry.home.now desk.entry.conn self.old answer) }
     {
         match &self.stage {
-            Stage::Asked(tag, awaited) if answer.id.command == self.answered + 1 => {
+            Stage::Asked(tag, ask) if answer.id.command == self.answered + 1 => {
+                let awaited = &ask.get().awaited;
                 match finished(desk.alloc, &mut self.session, awaited, answer.body)? {
                     None => Ok(Outs::new(desk.alloc)),
                     Some(Need::Reply(reply)) => {

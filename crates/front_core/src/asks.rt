@@ -3,10 +3,10 @@ ghost use Rattle.std.specs.Prelude.{◌≡◌, ◌+◌, ◌<◌, ◌^◌, IfOk, 
 ghost use Rattle.session_core.specs.Begin.{HasBegun};
 ghost use Rattle.front_core.specs.Taken.{ask_of, asks, behind_outs};
 
-use crate::connection::{Connection, Stage};
+use crate::connection::{Connection, OpenAsk, Stage};
 use crate::desk::Desk;
 use link_msg::{FrontAsk, LinkMsg, Op, Out, Outs};
-use mur_base::{AskId, Copied, MailName, Memory};
+use mur_base::{AskId, Boxed, Copied, MailName, Memory};
 use mur_model::Tag;
 use session_core::Asking;
 
@@ -31,7 +31,9 @@ impl Connection {
             awaited,
         } = asking;
         let ask = self.ask_of(desk, name, selected, op)?;
-        self.stage = Stage::Asked(tag, awaited);
+        let home = desk.home.copy(desk.alloc)?;
+        let open = Boxed::new(desk.alloc, OpenAsk { home, awaited })?;
+        self.stage = Stage::Asked(tag, open);
         let home = desk.home.copy(desk.alloc)?;
         outs.push(Out::Link(home, LinkMsg::Ask(ask)))
     }

@@ -1,22 +1,31 @@
 // A connection of a mail client at a frontend.
 ghost use Rattle.std.specs.Prelude.{◌≡◌};
 ghost use Rattle.front_core.specs.Slots.{new_connection};
-ghost use Rattle.front_core.specs.Stages.{is_reading, stage_has_ended};
+ghost use Rattle.front_core.specs.Stages.{has_asked, is_reading, stage_has_ended};
 
 use crate::reader::Reader;
 use imap_talk::Input;
-use mur_base::Queue;
+use mur_base::{Boxed, NodeName, Queue};
 use mur_model::Tag;
 use session_core::{Awaited, Session};
 use std::alloc::Global;
+
+/// An ask whose answer hasn't come.
+#[derive(Drop)]
+pub struct OpenAsk {
+    /// The node that was asked, from which alone an answer counts.
+    pub home: NodeName,
+    /// What the reply is made of besides the answer and the session.
+    pub awaited: Awaited,
+}
 
 /// What a connection is at.
 #[derive(Drop)]
 pub enum Stage {
     /// Its next input is taken as it comes.
     Reading,
-    /// A command under this tag waits for the answer of a home.
-    Asked(Tag, Awaited),
+    /// A command under this tag waits for the answer of a home. What it waits for is on the heap, since most connections wait for nothing.
+    Asked(Tag, Boxed<OpenAsk>),
     /// Nothing more is taken or given.
     Ended,
 }
@@ -54,6 +63,17 @@ impl Connection {
         ensures { result ≡ is_reading self.now.stage }
     {
         matches!(self.stage, Stage::Reading)
+    }
+
+    /// Whether a command waits for the answer of this node.
+    #[tactic(auto, unfolding(crate::specs::Stages::has_asked))]
+    pub fn has_asked(&self, node: &NodeName) -> bool
+        ensures { result ≡ has_asked self.now.stage node.now }
+    {
+        match &self.stage {
+            Stage::Asked(_, ask) => ask.get().home == *node,
+            Stage::Reading | Stage::Ended => false,
+        }
     }
 
     /// Whether nothing more is taken or given.

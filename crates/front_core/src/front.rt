@@ -2,7 +2,7 @@
 ghost use Rattle.std.specs.Prelude.{◌≡◌, ◌≢◌, nat_eq, length, IfOk};
 ghost use Rattle.std.specs.Cmp.Lexicographic.{pointwise};
 ghost use Rattle.imap_reply.specs.Greeting.{greeting};
-ghost use Rattle.front_core.specs.Front.{new_front, connect, connection_at, bytes_in, hang, deliver, still, answer_at, answer_from, line_from, up_from};
+ghost use Rattle.front_core.specs.Front.{new_front, connect, connection_at, bytes_in, hang, deliver, still, answer_at, line_from, up_from, WaitsForNone};
 ghost use Rattle.front_core.specs.Room.{HasRoomAt, HasRoomFor};
 
 use crate::answered::given;
@@ -105,10 +105,11 @@ impl Front {
     ) -> Result<Outs, Memory>
         requires room { HasRoomFor self.old message }
         ensures step { IfOk result (λ outs. record { front = self.new; outs = outs } ≡ deliver self.old from.now message) }
-        ensures stranger { from.now ≢ self.old.home → from.now ≢ self.old.master → IfOk result (λ outs. record { front = self.new; outs = outs } ≡ still self.old) }
+        ensures stranger { WaitsForNone self.old from.now → from.now ≢ self.old.master
+            → IfOk result (λ outs. record { front = self.new; outs = outs } ≡ still self.old) }
     {
         match message {
-            LinkMsg::Answer(answer) => self.answer_from(alloc, from, answer),
+            LinkMsg::Answer(answer) => self.answer(alloc, from, answer),
             LinkMsg::Up => self.up_from(alloc, from),
             LinkMsg::Line(line) => self.line_from(alloc, from, line),
             LinkMsg::End | LinkMsg::Ask(_) => Ok(Outs::new(alloc)),
@@ -140,8 +141,8 @@ impl Front {
         Ok(Outs::new(alloc))
     }
 
-    #[tactic(auto, unfolding(crate::specs::Front::answer_from))]
-    fn answer_from(
+    #[tactic(auto, unfolding(crate::specs::Front::answer_at, crate::specs::Front::answer_from))]
+    fn answer(
         &mut self,
         alloc: Global,
         from: &NodeName,
@@ -149,24 +150,11 @@ impl Front {
     ) -> Result<Outs, Memory>
         requires room { HasRoomAt self.old (answer.id).conn 0 }
         ensures { IfOk result (λ outs. record { front = self.new; outs = outs }
-            ≡ answer_from (pointwise nat_eq from.now self.old.home) self.old answer) }
-    {
-        if *from == self.home {
-            self.answer(alloc, answer)
-        } else {
-            Ok(Outs::new(alloc))
-        }
-    }
-
-    #[tactic(auto, unfolding(crate::specs::Front::answer_at))]
-    fn answer(&mut self, alloc: Global, answer: BackAnswer) -> Result<Outs, Memory>
-        requires room { HasRoomAt self.old (answer.id).conn 0 }
-        ensures { IfOk result (λ outs. record { front = self.new; outs = outs }
-            ≡ answer_at self.old answer (connection_at self.old (answer.id).conn)) }
+            ≡ answer_at self.old from.now answer (connection_at self.old (answer.id).conn)) }
     {
         let conn = answer.id.conn;
         match self.connections.get_mut(&conn) {
-            Some(slot) => {
+            Some(slot) if slot.has_asked(from) => {
                 let desk = Desk {
                     alloc,
                     setting: &self.setting,
@@ -176,7 +164,7 @@ impl Front {
                 let outs = slot.answer_comes(desk, answer)?;
                 Ok(outs)
             }
-            None => Ok(Outs::new(alloc)),
+            _ => Ok(Outs::new(alloc)),
         }
     }
 }

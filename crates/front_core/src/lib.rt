@@ -13,7 +13,7 @@ mod slot;
 mod taken;
 mod waiting;
 
-pub use connection::{Connection, Stage};
+pub use connection::{Connection, OpenAsk, Stage};
 pub use front::Front;
 pub use reader::Reader;
 pub use slot::Slot;

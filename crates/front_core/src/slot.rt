@@ -5,12 +5,12 @@ ghost use Rattle.front_core.specs.Ended.{ended, released, with_released};
 ghost use Rattle.front_core.specs.Front.{bytes_at, bytes_taken};
 ghost use Rattle.front_core.specs.Room.{commands_of};
 ghost use Rattle.front_core.specs.Slots.{new_connection};
-ghost use Rattle.front_core.specs.Stages.{stage_has_ended};
+ghost use Rattle.front_core.specs.Stages.{has_asked, stage_has_ended};
 
 use crate::connection::{Connection, Stage};
 use crate::desk::Desk;
 use link_msg::{BackAnswer, Outs};
-use mur_base::Memory;
+use mur_base::{Memory, NodeName};
 use std::marker::Model;
 use std::mem;
 
@@ -108,6 +108,17 @@ impl Slot {
         connection.inputs_come(desk, piece, &mut outs)?;
         *self = Slot::of(connection);
         Ok(outs)
+    }
+
+    /// Whether a command waits for the answer of this node.
+    #[tactic(auto, unfolding(crate::specs::Slots::new_connection, crate::specs::Stages::has_asked))]
+    pub fn has_asked(&self, node: &NodeName) -> bool
+        ensures { result ≡ has_asked self.now.stage node.now }
+    {
+        match &self.held {
+            Held::Live(connection) => connection.has_asked(node),
+            Held::Fresh | Held::Over(_) => false,
+        }
     }
 
     /// Takes an answer, where it is one to the command that waits. For want of memory the connection is spent.

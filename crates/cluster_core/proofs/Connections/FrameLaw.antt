@@ -5,8 +5,9 @@ use Rattle.std.proofs.Common.{true, false}
 use Rattle.std.specs.Ordering.{nat_cmp}
 use Rattle.std.proofs.lemmas.List.{append-nil}
 use Rattle.front_core.specs.declared.connection.Connection.{Connection}
+use Rattle.front_core.specs.declared.connection.OpenAsk.{OpenAsk}
 use Rattle.front_core.specs.declared.connection.Stage.TheVariants.{Reading, Asked, Ended}
-use Rattle.front_core.specs.Taken.{Turned, answers_now, answers_last, asks, ask_with, input_in, comes_at, input_comes, inputs_come, behind_outs}
+use Rattle.front_core.specs.Taken.{Turned, answers_now, answers_last, asks, ask_with, input_in, comes_at, input_comes, inputs_come, behind_outs, open_ask}
 use Rattle.imap_reply.specs.ByeLine.{bye_line}
 use Rattle.imap_talk.specs.FaultBye.{bye_of}
 use Rattle.imap_reply.specs.Continuation.{continuation_line}
@@ -360,7 +361,7 @@ asked_here : (setting : Setting) (front home : List ℕ) (conn : ℕ) (inputs wa
     (was : ReadsOn setting front home conn inputs connection before told world)
     → request ≡ a_command tag it → need_of setting (was.story.course.sessions conn) it ≡ Mailbox name work → FaultsLast waiting held
     → StandsOn setting front home conn (inputs ++ Asks request ∷ waiting) held
-    (record connection { waiting = waiting; stage = Asked tag (asked_for name work).awaited }) before told
+    (record connection { waiting = waiting; stage = Asked tag (open_ask home (asked_for name work).awaited) }) before told
     (carry_all front world (to_node home (Ask (ask_with conn connection name (asked_for name work))) ∷ []))
 unfolding carry_all carry
 asked_here setting front home conn inputs waiting held connection before told world request tag it name work was is need last =
@@ -407,23 +408,23 @@ asked_here setting front home conn inputs waiting held connection before told wo
     }
 
 -- behind a command that waits every input waits
-pub asked_waits : (setting : Setting) (home : List ℕ) (conn : ℕ) (connection : Connection) (inputs : List Input) (tag : Tag) (awaited : _)
-    → connection.stage ≡ Asked tag awaited
+pub asked_waits : (setting : Setting) (home : List ℕ) (conn : ℕ) (connection : Connection) (inputs : List Input) (tag : Tag) (ask : OpenAsk)
+    → connection.stage ≡ Asked tag ask
     → inputs_come setting home conn connection inputs ≡ record { connection = record connection { waiting = connection.waiting ++ inputs }; outs = [] }
 unfolding inputs_come input_comes comes_at
-asked_waits setting home conn connection [] tag awaited e =
+asked_waits setting home conn connection [] tag ask e =
     ap (λ w. record { connection = record connection { waiting = w }; outs = [] }) (sym (append-nil connection.waiting))
-asked_waits setting home conn connection (input ∷ inputs) tag awaited e =
+asked_waits setting home conn connection (input ∷ inputs) tag ask e =
     ap (λ s. behind_outs (comes_at setting home conn connection input s).outs
     (inputs_come setting home conn (comes_at setting home conn connection input s).connection inputs)) e
-    ∙ asked_waits setting home conn (record connection { waiting = connection.waiting ++ input ∷ [] }) inputs tag awaited e
+    ∙ asked_waits setting home conn (record connection { waiting = connection.waiting ++ input ∷ [] }) inputs tag ask e
     ∙ ap (λ w. record { connection = record connection { waiting = w }; outs = [] }) (append_assoc connection.waiting (input ∷ []) inputs)
 
 asked_turned : (setting : Setting) (home : List ℕ) (conn : ℕ) (connection : Connection) (tag : Tag) (name : List ℕ) (work : Work) (inputs : List Input)
     → inputs_come setting home conn (asks home conn connection tag name (asked_for name work)).connection inputs
-    ≡ record { connection = record connection { waiting = connection.waiting ++ inputs; stage = Asked tag (asked_for name work).awaited }; outs = [] }
+    ≡ record { connection = record connection { waiting = connection.waiting ++ inputs; stage = Asked tag (open_ask home (asked_for name work).awaited) }; outs = [] }
 asked_turned setting home conn connection tag name work inputs =
-    asked_waits setting home conn (record connection { stage = Asked tag (asked_for name work).awaited }) inputs tag (asked_for name work).awaited refl
+    asked_waits setting home conn (record connection { stage = Asked tag (open_ask home (asked_for name work).awaited) }) inputs tag (open_ask home (asked_for name work).awaited) refl
 
 asked_kept : (setting : Setting) (front home : List ℕ) (conn : ℕ) (inputs waiting : List Input) (held : Option (List ℕ))
     (connection : Connection) (before : World) (told : Story) (world : World)
@@ -431,7 +432,7 @@ asked_kept : (setting : Setting) (front home : List ℕ) (conn : ℕ) (inputs wa
     (was : ReadsOn setting front home conn inputs connection before told world)
     → request ≡ a_command tag it → need_of setting (was.story.course.sessions conn) it ≡ Mailbox name work → FaultsLast waiting held
     → StandsOn setting front home conn (inputs ++ Asks request ∷ waiting) held
-    (record connection { waiting = waiting; stage = Asked tag (asked_for name work).awaited }) before told
+    (record connection { waiting = waiting; stage = Asked tag (open_ask home (asked_for name work).awaited) }) before told
     (carry_all front (carry_all front world (asks home conn connection tag name (asked_for name work)).outs) [])
 unfolding carry_all
 asked_kept setting front home conn inputs waiting held connection before told world request tag it name work was is need last =
@@ -571,9 +572,9 @@ request_kept setting front home conn inputs new request held connection before t
     (asked tag it name work is need form) =
     let turned : Turned = asks home conn connection tag name (asked_for name work) in
     let waits_all : inputs_come setting home conn turned.connection new ≡
-    record { connection = record connection { waiting = new; stage = Asked tag (asked_for name work).awaited }; outs = [] } =
+    record { connection = record connection { waiting = new; stage = Asked tag (open_ask home (asked_for name work).awaited) }; outs = [] } =
     asked_turned setting home conn connection tag name work new
-    ∙ ap (λ w. record { connection = record connection { waiting = w ++ new; stage = Asked tag (asked_for name work).awaited }; outs = [] })
+    ∙ ap (λ w. record { connection = record connection { waiting = w ++ new; stage = Asked tag (open_ask home (asked_for name work).awaited) }; outs = [] })
     was.reading.waiting_is in
     came_on setting front home conn (inputs ++ Asks request ∷ new) held connection before told world (Asks request) new turned
     (reads_input setting home conn connection (Asks request) was.reading.stage_is ∙ form connection was.reading.session_is)

@@ -4,9 +4,9 @@ use Rattle.std.proofs.Common.{arith, append_assoc, length-append}
 use Rattle.std.specs.Ordering.{nat_cmp}
 use Rattle.std.proofs.lemmas.Bool.Decides.{nat_tests}
 use Rattle.front_core.specs.declared.connection.Connection.{Connection}
-use Rattle.front_core.specs.declared.connection.Stage.TheVariants.{Asked, Ended}
-use Rattle.front_core.specs.Answered.{answer_by, answer_comes, ends_with, finished_in, reading_again, reads_on, told_behind, unchanged}
-use Rattle.front_core.specs.Taken.{Turned, inputs_come}
+use Rattle.front_core.specs.declared.connection.Stage.TheVariants.{Asked}
+use Rattle.front_core.specs.Answered.{answer_by, answer_comes, ends_with, finished_in, reading_again, reads_on, told_behind}
+use Rattle.front_core.specs.Taken.{Turned, inputs_come, open_ask}
 use Rattle.imap_reply.specs.Greeting.{greeting}
 use Rattle.imap_reply.specs.ReplyText.{reply_text}
 use Rattle.imap_talk.specs.SessionEnds.{has_ended, ends_session, TurnEnds}
@@ -279,7 +279,7 @@ replied_stands setting front home conn all passed held request connection tag tu
 
 -- the answer that fits is replied to
 pub fits : (setting : Setting) (home : List ℕ) (conn : ℕ) (connection : Connection) (tag : Tag) (name : List ℕ) (work : Work) (answer : BackAnswer) (turn : Turn)
-    → (answer.id).command ≡ connection.answered + 1 → connection.stage ≡ Asked tag (asked_for name work).awaited
+    → (answer.id).command ≡ connection.answered + 1 → connection.stage ≡ Asked tag (open_ask home (asked_for name work).awaited)
     → turn_behind connection.session (asked_for name work).awaited answer.body ≡ Some turn
     → answer_comes setting home conn connection answer ≡ replied_turn setting home conn connection tag turn
 unfolding answer_comes answer_by
@@ -288,17 +288,3 @@ fits setting home conn connection tag name work answer turn number stage shown =
     ap (λ b. answer_by setting home conn connection answer b connection.stage) same
     ∙ ap (answer_by setting home conn connection answer true) stage
     ∙ ap (λ t. finished_in setting home conn connection tag (finished_by connection.session t)) shown
-
-stage_ended_by : (setting : Setting) (home : List ℕ) (conn : ℕ) (connection : Connection) (answer : BackAnswer) (fits : Bool)
-    → answer_by setting home conn connection answer fits Ended ≡ unchanged connection
-unfolding answer_by
-stage_ended_by setting home conn connection answer true = refl
-stage_ended_by setting home conn connection answer false = refl
-
--- nothing is made of an answer to a connection that has ended
-pub ended_drops_answer : (setting : Setting) (home : List ℕ) (conn : ℕ) (connection : Connection) (answer : BackAnswer) → connection.stage ≡ Ended
-    → answer_comes setting home conn connection answer ≡ unchanged connection
-unfolding answer_comes
-ended_drops_answer setting home conn connection answer stage =
-    ap (answer_by setting home conn connection answer (nat_eq (answer.id).command (connection.answered + 1))) stage
-    ∙ stage_ended_by setting home conn connection answer _

@@ -8,11 +8,12 @@ use Rattle.std.proofs.lemmas.Bool.{cases_eq}
 use Rattle.std.proofs.lemmas.Bool.Decides.{nat_tests}
 use Rattle.std.proofs.lemmas.List.{append-nil}
 use Rattle.front_core.specs.declared.connection.Connection.{Connection}
+use Rattle.front_core.specs.declared.connection.OpenAsk.{OpenAsk}
 use Rattle.front_core.specs.declared.connection.Stage.TheVariants.{Reading, Asked, Ended}
 use Rattle.front_core.specs.declared.front.Front.{Front}
 use Rattle.front_core.specs.Ended.{released}
 use Rattle.front_core.specs.Front.{connection_at, having_read, bytes_in, front_bytes_at, bytes_by, still, with_turned}
-use Rattle.front_core.specs.Taken.{Turned, input_comes, inputs_come}
+use Rattle.front_core.specs.Taken.{Turned, input_comes, inputs_come, open_ask}
 use Rattle.front_core.proofs.FrameLaws.{reader_kept}
 use Rattle.imap_talk.specs.Transcript.{ends, replies_to}
 use Rattle.imap_talk.specs.Transcript.Stop.{silent}
@@ -30,7 +31,6 @@ use Rattle.mur_model.specs.declared.setting.Setting.{Setting}
 use Rattle.mur_model.specs.History.{GoesOn}
 use Rattle.mur_model.proofs.HistoryGrows.{same_lists, talks_follow}
 use Rattle.mur_model.specs.Asking.{asked_for}
-use Rattle.mur_model.specs.declared.need.Awaited.{Awaited}
 use Rattle.schedule_text.specs.declared.event.Event.TheVariants.{Data}
 use Rattle.front_core.specs.Reading.{Reading as Read, inputs_of_more, read_more}
 use Rattle.front_core.proofs.ReadingLaws.{ended_inputs, ended_reader}
@@ -246,7 +246,7 @@ waiting_behind config heard world law conn bytes more node connection e reader s
       outs = [];
     } =
     asked_waits (setting_of config) law.home conn (having_read (setting_of config) connection more) new waiting.tag
-    (asked_for waiting.name waiting.work).awaited waiting.stage in
+    (open_ask law.home (asked_for waiting.name waiting.work).awaited) waiting.stage in
     let now : inputs_in (setting_of config) (bytes ++ more) ≡ passed ++ Asks waiting.request ∷ (connection.waiting ++ new) =
     inputs_with_more (setting_of config) bytes more connection.reader held ∙ ap (λ f. f ++ new) waiting.parts
     ∙ append_assoc passed (Asks waiting.request ∷ connection.waiting) new in
@@ -443,12 +443,12 @@ at_reading : (front : Front) (conn : ℕ) (bytes : List ℕ) (connection : Conne
 unfolding bytes_in front_bytes_at bytes_by
 at_reading front conn bytes connection has stage = ap (front_bytes_at front conn bytes) has ∙ ap (bytes_by front conn bytes connection) stage
 
-at_asked : (front : Front) (conn : ℕ) (bytes : List ℕ) (connection : Connection) (tag : Tag) (awaited : _) → connection_at front conn ≡ Some connection
-    → connection.stage ≡ Asked tag awaited
+at_asked : (front : Front) (conn : ℕ) (bytes : List ℕ) (connection : Connection) (tag : Tag) (ask : OpenAsk) → connection_at front conn ≡ Some connection
+    → connection.stage ≡ Asked tag ask
     → bytes_in front conn bytes ≡ with_turned front conn
     (inputs_come front.setting front.home conn (having_read front.setting connection bytes) (inputs_of_more front.setting connection.reader bytes))
 unfolding bytes_in front_bytes_at bytes_by
-at_asked front conn bytes connection tag awaited has stage = ap (front_bytes_at front conn bytes) has ∙ ap (bytes_by front conn bytes connection) stage
+at_asked front conn bytes connection tag ask has stage = ap (front_bytes_at front conn bytes) has ∙ ap (bytes_by front conn bytes connection) stage
 
 -- the reader of a connection that hasn't ended
 reader_of : (connection : Connection) (held : Read) → (connection.stage ≡ Ended → ⊥) → HasBegunSo connection held → connection.reader ≡ held
@@ -457,9 +457,9 @@ reader_of connection held lasts is = ⊎_elim (λ ended. absurd (lasts ended)) (
 pub reading_reader : (connection : Connection) (held : Read) → connection.stage ≡ Reading → HasBegunSo connection held → connection.reader ≡ held
 reading_reader connection held stage is = reader_of connection held (λ ended. (let both : Reading ≡ Ended = sym stage ∙ ended in cc)) is
 
-pub asked_reader : (connection : Connection) (held : Read) (tag : Tag) (awaited : Awaited) → connection.stage ≡ Asked tag awaited
+pub asked_reader : (connection : Connection) (held : Read) (tag : Tag) (ask : OpenAsk) → connection.stage ≡ Asked tag ask
     → HasBegunSo connection held → connection.reader ≡ held
-asked_reader connection held tag awaited stage is = reader_of connection held (λ ended. (let both : Asked tag awaited ≡ Ended = sym stage ∙ ended in cc)) is
+asked_reader connection held tag ask stage is = reader_of connection held (λ ended. (let both : Asked tag ask ≡ Ended = sym stage ∙ ended in cc)) is
 
 -- one that has ended, in whatever way
 ended_more : (config : Config) (heard : ℕ → Heard) (world : World) (law : KeepsLaw config heard world) (conn : ℕ) (bytes more node : List ℕ) (front : Front)
@@ -504,10 +504,10 @@ stands_more config heard world law conn bytes more node front connection e at re
       nothing = subst (λ p. IsPlaced (of_connection conn) world.links (its_message node p)) none standing.placed;
     })))
 stands_more config heard world law conn bytes more node front connection e at reader standing (waits waiting) =
-    let has_reader = asked_reader connection (reading_of (setting_of config) bytes) waiting.tag (asked_for waiting.name waiting.work).awaited waiting.stage
-    reader in
+    let has_reader = asked_reader connection (reading_of (setting_of config) bytes) waiting.tag
+    (open_ask law.home (asked_for waiting.name waiting.work).awaited) waiting.stage reader in
     subst (λ s. KeepsOn config (told_of law.story) (after_data config heard conn more) (with_front world node s))
-    (sym (at_asked front conn more connection waiting.tag (asked_for waiting.name waiting.work).awaited at.has waiting.stage))
+    (sym (at_asked front conn more connection waiting.tag (open_ask law.home (asked_for waiting.name waiting.work).awaited) at.has waiting.stage))
     (taken_more config heard world law conn bytes more node front connection e at has_reader
     (waiting_behind config heard world law conn bytes more node connection e has_reader standing waiting))
 stands_more config heard world law conn bytes more node front connection e at reader standing (faulted stage none lengths said lasts at_none) =

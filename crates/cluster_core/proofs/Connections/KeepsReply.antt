@@ -1,15 +1,21 @@
 -- An answer that comes keeps the law: the frontend replies to its command, or drops it where its client closed the connection.
 use Rattle.std.proofs.Common.{◌≡◌, ◌≢◌, ℕ, ◌+◌, ◌≤◌, Bool, true, false, List, [], ◌∷◌, ◌++◌, length, None, Some, inl, arith}
 use Rattle.std.proofs.Common.{inr, refl, sym, ◌∙◌, ap, subst, nat_eq}
+use Rattle.std.specs.BTreeMap.{is_at}
 use Rattle.std.specs.Cmp.Lexicographic.{pointwise}
+use Rattle.std.specs.Ordering.{nat_cmp}
 use Rattle.std.proofs.lemmas.Cmp.{nat_list_eq_equiv}
+use Rattle.std.proofs.lemmas.Map.Steps.{set_value_same}
 use Rattle.front_core.specs.declared.connection.Connection.{Connection}
-use Rattle.front_core.specs.declared.connection.Stage.TheVariants.{Asked}
+use Rattle.front_core.specs.declared.connection.OpenAsk.{OpenAsk}
+use Rattle.front_core.specs.declared.connection.Stage.{Stage}
+use Rattle.front_core.specs.declared.connection.Stage.TheVariants.{Asked, Ended}
 use Rattle.front_core.specs.declared.front.Front.{Front}
-use Rattle.front_core.specs.Answered.{answer_comes, reading_again, unchanged}
+use Rattle.front_core.specs.Answered.{answer_comes, reading_again}
 use Rattle.front_core.specs.Ended.{released}
 use Rattle.front_core.specs.Front.{connection_at, deliver as take_message, answer_from, answer_at, with_turned}
-use Rattle.front_core.specs.Taken.{Turned}
+use Rattle.front_core.specs.Stages.{has_asked}
+use Rattle.front_core.specs.Taken.{Turned, open_ask}
 use Rattle.imap_talk.specs.SessionEnds.{ends_session}
 use Rattle.imap_wire.specs.Frames.{begun}
 use Rattle.link_msg.specs.declared.answer.BackAnswer.{BackAnswer}
@@ -35,14 +41,14 @@ use Rattle.cluster_core.specs.World.{front_at, setting_of, taken_from_link, carr
 use Rattle.cluster_core.proofs.Connections.Comes.{with_front, answer_comes_to}
 use Rattle.cluster_core.proofs.Connections.ConnectionLaw.{told_of, keeps_all, same_story, IsStanding}
 use Rattle.cluster_core.proofs.Connections.ConnectionLaw.{StandsOn}
-use Rattle.cluster_core.proofs.Connections.KeepsAnswer.{replied_turn, replied_stands, ended_turned, read_turned, fits, ended_drops_answer}
+use Rattle.cluster_core.proofs.Connections.KeepsAnswer.{replied_turn, replied_stands, ended_turned, read_turned, fits}
 use Rattle.cluster_core.proofs.Connections.KeepsData.{asked_reader, inputs_keep_reader}
 use Rattle.cluster_core.proofs.Connections.KeepsFront.{world_after, with_connection, front_keeps, is_at_after, standing_after, gone_after}
 use Rattle.cluster_core.proofs.Connections.FirstTells.{WhoWaits, first_tells}
 use Rattle.cluster_core.proofs.Connections.FirstTells.WhoWaits.{open_waits, closed_waits}
 use Rattle.cluster_core.proofs.Connections.KeepsLaw.{ConnectionIs, IsAt, IsGone, KeepsLaw, KeepsOn, is_not_closed}
 use Rattle.cluster_core.proofs.Connections.KeepsLaw.ConnectionIs.{is_open, is_closed}
-use Rattle.front_core.proofs.OneConnection.Released.{released_count, released_ended, begun_released}
+use Rattle.front_core.proofs.OneConnection.Released.{begun_released}
 use Rattle.cluster_core.proofs.Connections.ConnectionLaw.{standing_released}
 use Rattle.imap_talk.proofs.RequestsOf.{requests_of}
 use Rattle.front_core.proofs.OneConnection.Places.{About, of_connection, nowhere, is_answered, in_an_answer, IsPlaced, PlacesStay, others_taken, Place}
@@ -50,19 +56,43 @@ use Rattle.front_core.proofs.OneConnection.Standing.{HasBegunSo, Waiting}
 use Rattle.front_core.proofs.OneConnection.Standing.IsLeft.{nothing}
 use Rattle.front_core.proofs.OneConnection.Waits.{in_answer}
 
--- an answer comes to its frontend
-to_front : (world : World) (from node : List ℕ) (answer : BackAnswer) (front : Front) (connection : Connection) (turned : Turned) → world.broken ≡ [] → from ≡ front.home
-    → front_at world node ≡ Some front → connection_at front (answer.id).conn ≡ Some connection
+-- an answer comes to its frontend from the node that was asked
+to_front : (world : World) (from node : List ℕ) (answer : BackAnswer) (front : Front) (connection : Connection) (turned : Turned) → world.broken ≡ []
+    → has_asked connection.stage from ≡ true → front_at world node ≡ Some front → connection_at front (answer.id).conn ≡ Some connection
     → answer_comes front.setting front.home (answer.id).conn connection answer ≡ turned
     → comes (taken_from_link world from node) node (From from (Answer answer)) ≡ world_after (taken_from_link world from node) node front
     (answer.id).conn (released turned.connection) turned.outs
 unfolding take_message answer_from answer_at
 to_front world from node answer front connection turned whole asked at has comes =
     answer_comes_to (taken_from_link world from node) from node answer front whole at
-    ∙ ap (λ s. with_front (taken_from_link world from node) node (answer_from s front answer))
-    (ap (λ n. pointwise nat_eq n front.home) asked ∙ nat_list_eq_equiv.refl front.home)
-    ∙ ap (λ f. with_front (taken_from_link world from node) node (answer_at front answer f)) has
+    ∙ ap (λ f. with_front (taken_from_link world from node) node (answer_at front from answer f)) has
+    ∙ ap (λ a. with_front (taken_from_link world from node) node (answer_from a front answer connection)) asked
     ∙ ap (λ t. with_front (taken_from_link world from node) node (with_turned front (answer.id).conn t)) comes
+
+-- the connection is that node's which it has asked
+asked_it : (connection : Connection) (from home : List ℕ) (tag : Tag) (awaited : Awaited) → connection.stage ≡ Asked tag (open_ask home awaited) → home ≡ from
+    → has_asked connection.stage from ≡ true
+unfolding has_asked
+asked_it connection from home tag awaited stage same =
+    ap (λ s. has_asked s from) stage ∙ ap (λ h. pointwise nat_eq h from) same ∙ nat_list_eq_equiv.refl from
+
+-- a connection that has ended has asked nobody
+asked_none : (stage : Stage) (from : List ℕ) → stage ≡ Ended → has_asked stage from ≡ false
+unfolding has_asked
+asked_none stage from e = ap (λ s. has_asked s from) e
+
+-- an answer from a node that wasn't asked leaves the connection as it was
+to_another : (world : World) (from node : List ℕ) (answer : BackAnswer) (front : Front) (connection : Connection) → world.broken ≡ []
+    → has_asked connection.stage from ≡ false → front_at world node ≡ Some front → connection_at front (answer.id).conn ≡ Some connection
+    → comes (taken_from_link world from node) node (From from (Answer answer)) ≡ world_after (taken_from_link world from node) node front
+    (answer.id).conn connection []
+unfolding take_message answer_from answer_at
+to_another world from node answer front connection whole asked at has =
+    answer_comes_to (taken_from_link world from node) from node answer front whole at
+    ∙ ap (λ f. with_front (taken_from_link world from node) node (answer_at front from answer f)) has
+    ∙ ap (λ a. with_front (taken_from_link world from node) node (answer_from a front answer connection)) asked
+    ∙ ap (λ c. with_front (taken_from_link world from node) node (record { front = record front { connections = c }; outs = [] }))
+    (sym (set_value_same (is_at (nat_cmp (answer.id).conn)) front.connections connection has))
 
 -- what was on its way for others when the answer of a connection is taken
 others_on : (world : World) (from to : List ℕ) (answer : BackAnswer) (rest : List LinkMsg) (conn : ℕ) → on_link world.links from to ≡ Answer answer ∷ rest
@@ -83,19 +113,19 @@ reader_by setting home conn connection tag turn held reader false ended =
     (inr (inputs_keep_reader setting home conn (reading_again (record connection { session = session_after connection.session turn.session }))
     connection.waiting ∙ reader))
 
-replied_reader : (setting : Setting) (home : List ℕ) (conn : ℕ) (connection : Connection) (tag : Tag) (awaited : Awaited) (turn : Turn) (held : Read)
-    → connection.stage ≡ Asked tag awaited → HasBegunSo connection held
+replied_reader : (setting : Setting) (home : List ℕ) (conn : ℕ) (connection : Connection) (tag : Tag) (ask : OpenAsk) (turn : Turn) (held : Read)
+    → connection.stage ≡ Asked tag ask → HasBegunSo connection held
     → HasBegunSo (replied_turn setting home conn connection tag turn).connection held
-replied_reader setting home conn connection tag awaited turn held stage reader =
-    reader_by setting home conn connection tag turn held (asked_reader connection held tag awaited stage reader) (ends_session turn.session) refl
+replied_reader setting home conn connection tag ask turn held stage reader =
+    reader_by setting home conn connection tag turn held (asked_reader connection held tag ask stage reader) (ends_session turn.session) refl
 
 -- what the frontend makes of the answer
 replied_kept : (config : Config) (heard after : ℕ → Heard) (world : World) (law : KeepsLaw config heard world) (from : List ℕ) (answer : BackAnswer)
     (rest : List LinkMsg) (conn : ℕ) (bytes node : List ℕ) (front : Front) (connection : Connection)
-    (tag : Tag) (awaited : Awaited) (turn : Turn) → from ≡ front.home → on_link world.links from node ≡ Answer answer ∷ rest
+    (tag : Tag) (awaited : Awaited) (turn : Turn) → law.home ≡ from → on_link world.links from node ≡ Answer answer ∷ rest
     → ((c : ℕ) → after c ≡ heard c) → (answer.id).conn ≡ conn
     → heard conn ≡ client bytes false → IsAt world conn node front connection → HasBegunSo connection (reading_of (setting_of config) bytes)
-    → connection.stage ≡ Asked tag awaited
+    → connection.stage ≡ Asked tag (open_ask law.home awaited)
     → answer_comes front.setting front.home (answer.id).conn connection answer ≡ replied_turn (setting_of config) law.home conn connection tag turn
     → StandsOn (setting_of config) node law.home conn (inputs_in (setting_of config) bytes) (begun bytes)
     (replied_turn (setting_of config) law.home conn connection tag turn).connection
@@ -106,7 +136,8 @@ replied_kept config heard after world law from answer rest conn bytes node front
     let turned : Turned = replied_turn (setting_of config) law.home conn connection tag turn in
     let kept : Connection = released turned.connection in
     subst (λ w. KeepsOn config (told_of law.story) after w)
-    (sym (to_front world from node answer front connection turned law.whole asked at.at (ap (connection_at front) own ∙ at.has) comes
+    (sym (to_front world from node answer front connection turned law.whole
+    (asked_it connection from law.home tag awaited stage asked) at.at (ap (connection_at front) own ∙ at.has) comes
     ∙ ap (λ c. world_after (taken_from_link world from node) node front c kept turned.outs) own))
     (front_keeps config heard after world law
     (without_first world.links from node) conn node front connection kept turned.outs law.story stands.story
@@ -118,7 +149,7 @@ replied_kept config heard after world law from answer rest conn bytes node front
     (is_open bytes node (with_connection front conn kept) kept
     (is_at_after (taken_from_link world from node) node front conn connection kept turned.outs at.at at.has)
     (begun_released turned.connection (reading_of (setting_of config) bytes)
-    (replied_reader (setting_of config) law.home conn connection tag awaited turn (reading_of (setting_of config) bytes) stage reader))
+    (replied_reader (setting_of config) law.home conn connection tag (open_ask law.home awaited) turn (reading_of (setting_of config) bytes) stage reader))
     (standing_after (taken_from_link world from node) node front conn kept turned.outs (setting_of config) law.home (inputs_in
     (setting_of config) bytes)
     (begun bytes) stands.story
@@ -128,31 +159,30 @@ replied_kept config heard after world law from answer rest conn bytes node front
 -- an answer to a connection that was closed is dropped
 dropped : (config : Config) (heard after : ℕ → Heard) (world : World) (law : KeepsLaw config heard world) (from : List ℕ) (answer : BackAnswer)
     (rest : List LinkMsg) (conn : ℕ) (bytes node : List ℕ) (front : Front) (connection : Connection)
-    (more : List AnswerOf) → from ≡ front.home → on_link world.links from node ≡ Answer answer ∷ rest → ((c : ℕ) → after c ≡ heard c) → (answer.id).conn ≡ conn
+    (more : List AnswerOf) → on_link world.links from node ≡ Answer answer ∷ rest → ((c : ℕ) → after c ≡ heard c) → (answer.id).conn ≡ conn
     → heard conn ≡ client bytes true → IsAt world conn node front connection
     → IsGone (setting_of config) node law.home conn (inputs_in (setting_of config) bytes) connection world law.story
     → law.story.talk.answers conn ≡ law.story.told conn ++ more → length more ≤ 1
     → IsPlaced (of_connection conn) (without_first world.links from node) None
     → KeepsOn config (told_of law.story) after (comes (taken_from_link world from node) node (From from (Answer answer)))
 unfolding carry_all
-dropped config heard after world law from answer rest conn bytes node front connection more asked first same own e at gone said few without =
-    let kept : Connection = released connection in
+dropped config heard after world law from answer rest conn bytes node front connection more first same own e at gone said few without =
     subst (λ w. KeepsOn config (told_of law.story) after w)
-    (sym (to_front world from node answer front connection (unchanged connection) law.whole asked at.at (ap (connection_at front) own ∙ at.has)
-    (ended_drops_answer front.setting front.home (answer.id).conn connection answer gone.stage_is)
-    ∙ ap (λ c. world_after (taken_from_link world from node) node front c kept []) own))
-    (front_keeps config heard after world law (without_first world.links from node) conn node front connection kept [] law.story law.story
+    (sym (to_another world from node answer front connection law.whole (asked_none connection.stage from gone.stage_is) at.at
+    (ap (connection_at front) own ∙ at.has)
+    ∙ ap (λ c. world_after (taken_from_link world from node) node front c connection []) own))
+    (front_keeps config heard after world law (without_first world.links from node) conn node front connection connection [] law.story law.story
     (others_on world from node answer rest conn first own) at.at at.has (same_talk (told_of law.story)) refl refl refl
     (λ other. law.requests other ∙ ap (λ h. requests_of (setting_of config) (frames_heard h)) (sym (same other))) (λ other ne. same other) (λ shut. refl)
     (record { others = keeps_all conn (taken_from_link world from node); goes_on = same_story conn law.story; store = refl; is_told = law.is_told })
-    (subst (λ h. ConnectionIs (setting_of config) law.home conn (world_after (taken_from_link world from node) node front conn kept []) law.story h)
+    (subst (λ h. ConnectionIs (setting_of config) law.home conn (world_after (taken_from_link world from node) node front conn connection []) law.story h)
     (sym (same conn ∙ e))
-    (is_closed bytes node (with_connection front conn kept) kept
-    (is_at_after (taken_from_link world from node) node front conn connection kept [] at.at at.has)
-    (gone_after (taken_from_link world from node) node front conn kept (setting_of config) law.home (inputs_in (setting_of config) bytes) law.story
+    (is_closed bytes node (with_connection front conn connection) connection
+    (is_at_after (taken_from_link world from node) node front conn connection connection [] at.at at.has)
+    (gone_after (taken_from_link world from node) node front conn connection (setting_of config) law.home (inputs_in (setting_of config) bytes) law.story
     (record {
-      stage_is = released_ended connection gone.stage_is;
-      count = released_count connection ∙ gone.count;
+      stage_is = gone.stage_is;
+      count = gone.count;
       lasts = gone.lasts;
       client = gone.client;
       place = nowhere;
@@ -183,7 +213,7 @@ waiting_replied config heard after world law from answer rest conn bytes node fr
     ∙ fits (setting_of config) law.home conn connection waiting.tag waiting.name waiting.work answer knows.turn
     (sym (ap (λ (i : AskId). i.command) knows.id_is) ∙ ap (λ n. n + 1) (sym standing.count)) waiting.stage knows.shown in
     replied_kept config heard after world law from answer rest conn bytes node front connection waiting.tag (asked_for waiting.name waiting.work).awaited
-    knows.turn (sym knows.home_is ∙ sym was.0) first same own e at reader waiting.stage comes
+    knows.turn knows.home_is first same own e at reader waiting.stage comes
     (replied_stands (setting_of config) node law.home conn (inputs_in (setting_of config) bytes) waiting.passed
     (begun bytes) waiting.request connection waiting.tag knows.turn (taken_from_link world from node) law.story waiting.parts standing.count
     standing.client waiting.lasts knows.later knows.turned waiting.answered knows.said_is without law.is_told waiting.last
@@ -207,8 +237,7 @@ who_is_told config heard after world law from answer rest conn node front connec
     let knows = in_answer law.home conn waiting.was waiting.tag waiting.name waiting.work (law.story.told conn) (law.story.talk.answers conn)
     (law.story.course.sessions conn) place from answer waiting.knows is in
     let reply : AnswerOf = record { tag = waiting.tag; reply = (knows.turn).reply } in
-    dropped config heard after world law from answer rest conn bytes node front connection (reply ∷ [])
-    (sym knows.home_is ∙ sym (law.nodes.fronts node front at.at).0) first same own e at gone knows.said_is (few_more reply) without
+    dropped config heard after world law from answer rest conn bytes node front connection (reply ∷ []) first same own e at gone knows.said_is (few_more reply) without
 
 -- the answer that comes is to a command which waits for it
 pub answer_keeps : (config : Config) (heard after : ℕ → Heard) (world : World) (law : KeepsLaw config heard world) (from to : List ℕ) (answer : BackAnswer)

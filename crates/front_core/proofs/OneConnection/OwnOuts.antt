@@ -1,7 +1,6 @@
 -- What a frontend lets out for what comes to a connection: bytes for the client of that connection alone, messages for the home alone.
-use Rattle.std.proofs.Common.{◌≡◌, ℕ, Bool, true, false, nat_eq, List, [], ◌∷◌, ◌++◌, Option, None, Some, refl}
+use Rattle.std.proofs.Common.{◌≡◌, ℕ, Bool, true, false, List, [], ◌∷◌, ◌++◌, Option, None, Some, refl}
 use Rattle.std.specs.Prelude.{⊤}
-use Rattle.std.specs.Cmp.Lexicographic.{pointwise}
 use Rattle.front_core.specs.declared.connection.Connection.{Connection}
 use Rattle.front_core.specs.declared.connection.Stage.{Stage}
 use Rattle.front_core.specs.declared.connection.Stage.TheVariants.{Reading, Asked, Ended}
@@ -9,6 +8,7 @@ use Rattle.front_core.specs.declared.front.Front.{Front}
 use Rattle.front_core.specs.Answered.{answer_comes, answer_by, need_behind, reading_again}
 use Rattle.front_core.specs.Front.{connect, connect_at, connection_at, bytes_in, front_bytes_at, bytes_by, having_read, answer_at, answer_from, deliver}
 use Rattle.front_core.specs.Reading.{inputs_of_more}
+use Rattle.front_core.specs.Stages.{has_asked}
 use Rattle.front_core.specs.Taken.{answers_now, answers_last, turned_by_need, request_in, input_in, comes_at, input_comes, inputs_come}
 use Rattle.imap_talk.specs.declared.inputs.Input.{Input}
 use Rattle.imap_talk.specs.declared.inputs.Input.TheVariants.{GoesOn, Asks, Faults}
@@ -77,7 +77,7 @@ comes_for : (setting : Setting) (home : List ℕ) (conn : ℕ) (connection : Con
     → AreFor home conn (comes_at setting home conn connection input stage).outs
 unfolding AreFor comes_at
 comes_for setting home conn connection input Reading = input_for setting home conn connection input
-comes_for setting home conn connection input (Asked tag awaited) = tt
+comes_for setting home conn connection input (Asked tag ask) = tt
 comes_for setting home conn connection input Ended = tt
 
 inputs_for : (setting : Setting) (home : List ℕ) (conn : ℕ) (connection : Connection) (inputs : List Input)
@@ -101,8 +101,8 @@ behind_for setting home conn connection tag (Some (needs.Home name asking)) = (r
 answer_by_for : (setting : Setting) (home : List ℕ) (conn : ℕ) (connection : Connection) (answer : BackAnswer) (fits : Bool) (stage : Stage)
     → AreFor home conn (answer_by setting home conn connection answer fits stage).outs
 unfolding AreFor answer_by
-answer_by_for setting home conn connection answer true (Asked tag awaited) =
-    let behind = finished_by connection.session (turn_behind connection.session awaited answer.body) in
+answer_by_for setting home conn connection answer true (Asked tag ask) =
+    let behind = finished_by connection.session (turn_behind connection.session ask.awaited answer.body) in
     behind_for setting home conn (record connection { session = behind.session }) tag behind.need
 answer_by_for setting home conn connection answer fits stage = tt
 
@@ -112,19 +112,21 @@ unfolding answer_comes
 answer_for setting home conn connection answer = answer_by_for setting home conn connection answer _ connection.stage
 
 -- an answer that comes
-answered_for : (front : Front) (answer : BackAnswer) (found : Option Connection) → AreFor front.home (answer.id).conn (answer_at front answer found).outs
-unfolding AreFor answer_at
-answered_for front answer None = tt
-answered_for front answer (Some connection) = answer_for front.setting front.home (answer.id).conn connection answer
-
-answered_from : (front : Front) (answer : BackAnswer) (is_asked : Bool) → AreFor front.home (answer.id).conn (answer_from is_asked front answer).outs
+answered_from : (front : Front) (answer : BackAnswer) (connection : Connection) (is_asked : Bool)
+    → AreFor front.home (answer.id).conn (answer_from is_asked front answer connection).outs
 unfolding AreFor answer_from
-answered_from front answer true = answered_for front answer (connection_at front (answer.id).conn)
-answered_from front answer false = tt
+answered_from front answer connection true = answer_for front.setting front.home (answer.id).conn connection answer
+answered_from front answer connection false = tt
+
+answered_for : (front : Front) (from : List ℕ) (answer : BackAnswer) (found : Option Connection)
+    → AreFor front.home (answer.id).conn (answer_at front from answer found).outs
+unfolding AreFor answer_at
+answered_for front from answer None = tt
+answered_for front from answer (Some connection) = answered_from front answer connection (has_asked connection.stage from)
 
 pub answer_for_it : (front : Front) (from : List ℕ) (answer : BackAnswer) → AreFor front.home (answer.id).conn (deliver front from (Answer answer)).outs
 unfolding deliver
-answer_for_it front from answer = answered_from front answer (pointwise nat_eq from front.home)
+answer_for_it front from answer = answered_for front from answer (connection_at front (answer.id).conn)
 
 connect_for_by : (front : Front) (conn : ℕ) (found : Option Connection) → AreFor front.home conn (connect_at front conn found).outs
 unfolding AreFor connect_at
@@ -142,7 +144,7 @@ unfolding AreFor bytes_by
 bytes_for_by front conn bytes connection Ended = tt
 bytes_for_by front conn bytes connection Reading =
     inputs_for front.setting front.home conn (having_read front.setting connection bytes) (inputs_of_more front.setting connection.reader bytes)
-bytes_for_by front conn bytes connection (Asked tag awaited) =
+bytes_for_by front conn bytes connection (Asked tag ask) =
     inputs_for front.setting front.home conn (having_read front.setting connection bytes) (inputs_of_more front.setting connection.reader bytes)
 
 bytes_for_at : (front : Front) (conn : ℕ) (bytes : List ℕ) (found : Option Connection) → AreFor front.home conn (front_bytes_at front conn bytes found).outs

@@ -16,20 +16,16 @@ use Rattle.front_core.proofs.OneConnection.Standing.Stands.{reads, waits, faulte
 count_by : (connection : Connection) (stage : Stage) → (released_at connection stage).answered ≡ connection.answered
 unfolding released_at
 count_by connection Reading = refl
-count_by connection (Asked tag awaited) = refl
+count_by connection (Asked tag ask) = refl
 count_by connection Ended = refl
 
 pub released_count : (connection : Connection) → (released connection).answered ≡ connection.answered
 released_count connection = count_by connection connection.stage
 
-pub released_ended : (connection : Connection) → connection.stage ≡ Ended → (released connection).stage ≡ Ended
-unfolding released_at
-released_ended connection stage = ap (λ s. (released_at connection s).stage) stage
-
 begun_by : (connection : Connection) (reading : Read) (stage : Stage) → HasBegunSo connection reading → HasBegunSo (released_at connection stage) reading
 unfolding released_at
 begun_by connection reading Reading is = is
-begun_by connection reading (Asked tag awaited) is = is
+begun_by connection reading (Asked tag ask) is = is
 begun_by connection reading Ended is = inl refl
 
 pub begun_released : (connection : Connection) (reading : Read) → HasBegunSo connection reading → HasBegunSo (released connection) reading

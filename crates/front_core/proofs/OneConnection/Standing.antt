@@ -8,6 +8,7 @@ use Rattle.imap_talk.proofs.TranscriptGrows.{AreAnswered}
 use Rattle.imap_talk.specs.declared.inputs.Input.{Input}
 use Rattle.imap_talk.specs.declared.inputs.Input.TheVariants.{Asks}
 use Rattle.front_core.specs.Reading.{Reading as Read}
+use Rattle.front_core.specs.Taken.{open_ask}
 use Rattle.imap_talk.specs.Inputs.{requests_in}
 use Rattle.front_core.proofs.OneConnection.Readings.{FaultsLast}
 use Rattle.link_msg.specs.declared.answer.AnswerBody.{AnswerBody}
@@ -68,7 +69,7 @@ pub record Waiting (setting : Setting) (home : List ℕ) (conn : ℕ) (inputs : 
   pub it : Command
   pub name : List ℕ
   pub work : Work
-  pub stage : connection.stage ≡ Asked tag (asked_for name work).awaited
+  pub stage : connection.stage ≡ Asked tag (open_ask home (asked_for name work).awaited)
   pub parts : inputs ≡ passed ++ Asks request ∷ connection.waiting
   pub lasts : has_ended connection.session ≡ false
   pub answered : AreAnswered passed told
