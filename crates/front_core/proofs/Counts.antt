@@ -19,10 +19,9 @@ use Rattle.front_core.specs.declared.front.Front.{Front}
 use Rattle.front_core.specs.Answered.{answer_comes}
 use Rattle.front_core.specs.Ended.{released, released_at}
 use Rattle.front_core.specs.Front.{connection_at, connect, connect_at, bytes_in, front_bytes_at, bytes_by, having_read}
-use Rattle.front_core.specs.Front.{hang, front_hang_at, hung_up, deliver, answer_at, answer_from, line_from, up_from}
+use Rattle.front_core.specs.Front.{hang, front_hang_at, hung_up, deliver, answer_at, answer_from, line_from, up_from, waits_for}
 use Rattle.front_core.specs.Room.{commands_of, HasCommands, HasRoomAt, HasRoomFor}
 use Rattle.front_core.specs.Slots.{new_connection}
-use Rattle.front_core.specs.Stages.{has_asked}
 use Rattle.front_core.specs.Taken.{inputs_come}
 use Rattle.front_core.proofs.ReadingLaws.{inputs_of_more-length}
 use Rattle.front_core.proofs.CommandLaws.{inputs_count, answer_counts}
@@ -105,24 +104,23 @@ unchanged_counts : (front : Front) (conn : ℕ) (old new : Connection) (most : �
 unchanged_counts front conn old new most there has fits =
     none_more (changed front conn new) most (changed_counts front conn old new most 0 there has (omega (arith, has conn old there, fits)))
 
-answer_from_counts : (front : Front) (answer : BackAnswer) (most : ℕ) (connection : Connection) (is_asked : Bool)
-    → connection_at front (answer.id).conn ≡ Some connection → HasCommands front most → HasCommands (answer_from is_asked front answer connection).front most
-unfolding answer_from
-answer_from_counts front answer most connection true there has =
+answer_at_counts : (front : Front) (answer : BackAnswer) (most : ℕ) (found : Option Connection) → connection_at front (answer.id).conn ≡ found
+    → HasCommands front most → HasCommands (answer_at front answer found).front most
+unfolding answer_at
+answer_at_counts front answer most None there has = has
+answer_at_counts front answer most (Some connection) there has =
     unchanged_counts front (answer.id).conn connection _ most there has
     (omega (
       arith,
       released_counts (answer_comes front.setting front.home (answer.id).conn connection answer).connection,
       answer_counts front.setting front.home (answer.id).conn connection answer,
     ))
-answer_from_counts front answer most connection false there has = has
 
-answer_at_counts : (front : Front) (from : List ℕ) (answer : BackAnswer) (most : ℕ) (found : Option Connection) → connection_at front (answer.id).conn ≡ found
-    → HasCommands front most → HasCommands (answer_at front from answer found).front most
-unfolding answer_at
-answer_at_counts front from answer most None there has = has
-answer_at_counts front from answer most (Some connection) there has =
-    answer_from_counts front answer most connection (has_asked connection.stage from) there has
+answer_from_counts : (front : Front) (answer : BackAnswer) (most : ℕ) (is_asked : Bool) → HasCommands front most
+    → HasCommands (answer_from is_asked front answer).front most
+unfolding answer_from
+answer_from_counts front answer most true has = answer_at_counts front answer most (connection_at front (answer.id).conn) refl has
+answer_from_counts front answer most false has = has
 
 up_counts : (front : Front) (most : ℕ) (is_master : Bool) → HasCommands front most → HasCommands (up_from is_master front).front most
 unfolding up_from
@@ -138,7 +136,7 @@ line_counts front bytes most false has = has
 pub deliver_counts : (front : Front) (from : List ℕ) (message : LinkMsg) (most : ℕ) → HasCommands front most
     → HasCommands (deliver front from message).front most
 unfolding deliver
-deliver_counts front from (Answer answer) most has = answer_at_counts front from answer most (connection_at front (answer.id).conn) refl has
+deliver_counts front from (Answer answer) most has = answer_from_counts front answer most (waits_for (connection_at front (answer.id).conn) from) has
 deliver_counts front from Up most has = up_counts front most (pointwise nat_eq from front.master) has
 deliver_counts front from End most has = has
 deliver_counts front from (Line line) most has = line_counts front line most (pointwise nat_eq from front.master) has

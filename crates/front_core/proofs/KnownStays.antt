@@ -7,8 +7,7 @@ use Rattle.front_core.specs.declared.connection.Connection.{Connection}
 use Rattle.front_core.specs.declared.connection.Stage.{Stage}
 use Rattle.front_core.specs.declared.connection.Stage.TheVariants.{Reading, Asked, Ended}
 use Rattle.front_core.specs.declared.front.Front.{Front}
-use Rattle.front_core.specs.Front.{Stepped, connect, connect_at, connection_at, bytes_in, front_bytes_at, bytes_by, hang, front_hang_at, deliver, answer_at, answer_from}
-use Rattle.front_core.specs.Stages.{has_asked}
+use Rattle.front_core.specs.Front.{Stepped, connect, connect_at, connection_at, bytes_in, front_bytes_at, bytes_by, hang, front_hang_at, deliver, answer_at, answer_from, waits_for}
 use Rattle.front_core.proofs.StrangerLaw.{line_stranger, up_stranger}
 
 -- a frontend that asks whom it asked, and knows of the table what it knew
@@ -52,21 +51,20 @@ hang_known front conn = by (connection_at front conn)
     by None = same_known front
     by (Some connection) = record { home = refl; master = refl; setting = refl; replica = refl }
 
-answer_known : (front : Front) (answer : BackAnswer) (connection : Connection) (is_asked : Bool)
-    → KeepsKnown front (answer_from is_asked front answer connection).front
-unfolding answer_from
-answer_known front answer connection true = record { home = refl; master = refl; setting = refl; replica = refl }
-answer_known front answer connection false = same_known front
-
-answer_at_known : (front : Front) (from : List ℕ) (answer : BackAnswer) (found : Option Connection) → KeepsKnown front (answer_at front from answer found).front
+answer_at_known : (front : Front) (answer : BackAnswer) (found : Option Connection) → KeepsKnown front (answer_at front answer found).front
 unfolding answer_at
-answer_at_known front from answer None = same_known front
-answer_at_known front from answer (Some connection) = answer_known front answer connection (has_asked connection.stage from)
+answer_at_known front answer None = same_known front
+answer_at_known front answer (Some connection) = record { home = refl; master = refl; setting = refl; replica = refl }
+
+answer_known : (front : Front) (answer : BackAnswer) (is_asked : Bool) → KeepsKnown front (answer_from is_asked front answer).front
+unfolding answer_from
+answer_known front answer true = answer_at_known front answer (connection_at front (answer.id).conn)
+answer_known front answer false = same_known front
 
 -- what another node than the master says
 pub others_known : (front : Front) (from : List ℕ) (message : LinkMsg) → from ≢ front.master → KeepsKnown front (deliver front from message).front
 unfolding deliver
-others_known front from (Answer answer) ne = answer_at_known front from answer (connection_at front (answer.id).conn)
+others_known front from (Answer answer) ne = answer_known front answer (waits_for (connection_at front (answer.id).conn) from)
 others_known front from Up ne = subst (λ (step : Stepped). KeepsKnown front step.front) (sym (up_stranger front from ne)) (same_known front)
 others_known front from End ne = same_known front
 others_known front from (Line bytes) ne = subst (λ (step : Stepped). KeepsKnown front step.front) (sym (line_stranger front from bytes ne)) (same_known front)

@@ -1,10 +1,8 @@
 -- What another node than the one that was asked says changes nothing.
-use Rattle.std.proofs.Common.{◌≡◌, ◌≢◌, Bool, true, false, nat_eq, List, ℕ, Option, None, Some, refl, sym, ap, ◌∙◌}
+use Rattle.std.proofs.Common.{◌≡◌, ◌≢◌, Bool, true, false, nat_eq, List, ℕ, refl, sym, ap, ◌∙◌}
 use Rattle.std.specs.Cmp.Lexicographic.{pointwise, same_text}
-use Rattle.front_core.specs.declared.connection.Connection.{Connection}
 use Rattle.front_core.specs.declared.front.Front.{Front}
-use Rattle.front_core.specs.Front.{WaitsForNone, answer_at, answer_from, connection_at, deliver, line_from, still, up_from}
-use Rattle.front_core.specs.Stages.{has_asked}
+use Rattle.front_core.specs.Front.{WaitsForNone, answer_from, connection_at, deliver, line_from, still, up_from, waits_for}
 use Rattle.link_msg.specs.declared.answer.BackAnswer.{BackAnswer}
 use Rattle.link_msg.specs.declared.message.LinkMsg.{LinkMsg}
 use Rattle.link_msg.specs.declared.message.LinkMsg.TheVariants.{Up, End, Line, Ask, Answer}
@@ -13,20 +11,13 @@ another : (one other : List ℕ) (same : Bool) → pointwise nat_eq one other �
 another one other true e ne = absurd (ne (same_text one other (sym e)))
 another one other false e ne = refl
 
-not_asked : (front : Front) (answer : BackAnswer) (connection : Connection) → answer_from false front answer connection ≡ still front
+not_asked : (front : Front) (answer : BackAnswer) → answer_from false front answer ≡ still front
 unfolding answer_from
-not_asked front answer connection = refl
-
-no_answer_at : (front : Front) (from : List ℕ) (answer : BackAnswer) (found : Option Connection)
-    → ((connection : Connection) → found ≡ Some connection → has_asked connection.stage from ≡ false) → answer_at front from answer found ≡ still front
-unfolding answer_at
-no_answer_at front from answer None none = refl
-no_answer_at front from answer (Some connection) none =
-    ap (λ asked. answer_from asked front answer connection) (none connection refl) ∙ not_asked front answer connection
+not_asked front answer = refl
 
 pub no_answer : (front : Front) (from : List ℕ) (answer : BackAnswer) → WaitsForNone front from
-    → answer_at front from answer (connection_at front (answer.id).conn) ≡ still front
-no_answer front from answer none = no_answer_at front from answer (connection_at front (answer.id).conn) (none (answer.id).conn)
+    → answer_from (waits_for (connection_at front (answer.id).conn) from) front answer ≡ still front
+no_answer front from answer none = ap (λ asked. answer_from asked front answer) (none (answer.id).conn) ∙ not_asked front answer
 
 no_up : (front : Front) → up_from false front ≡ still front
 unfolding up_from

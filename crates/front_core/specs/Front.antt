@@ -97,15 +97,20 @@ front_hang_at front conn (Some connection) = record front { connections = with_v
 unfoldable pub hang : Front → ℕ → Front
 hang front conn = front_hang_at front conn (connection_at front conn)
 
--- an answer counts only from the node that was asked
-unfoldable pub answer_from : Bool → Front → BackAnswer → Connection → Stepped
-answer_from true front answer connection =
+unfoldable pub answer_at : Front → BackAnswer → Option Connection → Stepped
+answer_at front answer None = still front
+answer_at front answer (Some connection) =
     with_turned front (answer.id).conn (answer_comes front.setting front.home (answer.id).conn connection answer)
-answer_from false front answer connection = still front
 
-unfoldable pub answer_at : Front → List ℕ → BackAnswer → Option Connection → Stepped
-answer_at front from answer None = still front
-answer_at front from answer (Some connection) = answer_from (has_asked connection.stage from) front answer connection
+-- a connection waits for the answer of this node
+unfoldable pub waits_for : Option Connection → List ℕ → Bool
+waits_for None node = false
+waits_for (Some connection) node = has_asked connection.stage node
+
+-- an answer counts only from the node that was asked
+unfoldable pub answer_from : Bool → Front → BackAnswer → Stepped
+answer_from true front answer = answer_at front answer (connection_at front (answer.id).conn)
+answer_from false front answer = still front
 
 -- the link to the master comes up: of its table nothing is known yet, and the frontend asks for it (RFC 3656, 4.11)
 abbrev pub asks_for_table : Front → Stepped
@@ -128,7 +133,7 @@ line_from false front bytes = still front
 
 -- a message on a link
 unfoldable pub deliver : Front → List ℕ → LinkMsg → Stepped
-deliver front from (Answer answer) = answer_at front from answer (connection_at front (answer.id).conn)
+deliver front from (Answer answer) = answer_from (waits_for (connection_at front (answer.id).conn) from) front answer
 deliver front from (Line bytes) = line_from (pointwise nat_eq from front.master) front bytes
 deliver front from Up = up_from (pointwise nat_eq from front.master) front
 deliver front from message = still front
@@ -141,4 +146,4 @@ is_asked Ended = 0
 
 -- no connection waits for the answer of this node
 abbrev pub WaitsForNone : Front → List ℕ → Type 0
-WaitsForNone front node = (conn : ℕ) (connection : Connection) → connection_at front conn ≡ Some connection → has_asked connection.stage node ≡ false
+WaitsForNone front node = (conn : ℕ) → waits_for (connection_at front conn) node ≡ false

@@ -2,7 +2,7 @@
 ghost use Rattle.std.specs.Prelude.{◌≡◌, ◌≢◌, nat_eq, length, IfOk};
 ghost use Rattle.std.specs.Cmp.Lexicographic.{pointwise};
 ghost use Rattle.imap_reply.specs.Greeting.{greeting};
-ghost use Rattle.front_core.specs.Front.{new_front, connect, connection_at, bytes_in, hang, deliver, still, answer_at, line_from, up_from, WaitsForNone};
+ghost use Rattle.front_core.specs.Front.{new_front, connect, connection_at, bytes_in, hang, deliver, still, answer_at, answer_from, line_from, up_from, waits_for, WaitsForNone};
 ghost use Rattle.front_core.specs.Room.{HasRoomAt, HasRoomFor};
 
 use crate::answered::given;
@@ -109,7 +109,7 @@ impl Front {
             → IfOk result (λ outs. record { front = self.new; outs = outs } ≡ still self.old) }
     {
         match message {
-            LinkMsg::Answer(answer) => self.answer(alloc, from, answer),
+            LinkMsg::Answer(answer) => self.answer_from(alloc, from, answer),
             LinkMsg::Up => self.up_from(alloc, from),
             LinkMsg::Line(line) => self.line_from(alloc, from, line),
             LinkMsg::End | LinkMsg::Ask(_) => Ok(Outs::new(alloc)),
@@ -141,8 +141,19 @@ impl Front {
         Ok(Outs::new(alloc))
     }
 
-    #[tactic(auto, unfolding(crate::specs::Front::answer_at, crate::specs::Front::answer_from))]
-    fn answer(
+    /// Whether a command of a connection waits for the answer of this node.
+    #[tactic(auto, unfolding(crate::specs::Front::waits_for))]
+    fn waits_for(&self, conn: u64, node: &NodeName) -> bool
+        ensures { result ≡ waits_for (connection_at self.now conn) node.now }
+    {
+        match self.connections.get(&conn) {
+            Some(slot) => slot.has_asked(node),
+            None => false,
+        }
+    }
+
+    #[tactic(auto, unfolding(crate::specs::Front::answer_from))]
+    fn answer_from(
         &mut self,
         alloc: Global,
         from: &NodeName,
@@ -150,11 +161,24 @@ impl Front {
     ) -> Result<Outs, Memory>
         requires room { HasRoomAt self.old (answer.id).conn 0 }
         ensures { IfOk result (λ outs. record { front = self.new; outs = outs }
-            ≡ answer_at self.old from.now answer (connection_at self.old (answer.id).conn)) }
+            ≡ answer_from (waits_for (connection_at self.old (answer.id).conn) from.now) self.old answer) }
+    {
+        if self.waits_for(answer.id.conn, from) {
+            self.answer(alloc, answer)
+        } else {
+            Ok(Outs::new(alloc))
+        }
+    }
+
+    #[tactic(auto, unfolding(crate::specs::Front::answer_at))]
+    fn answer(&mut self, alloc: Global, answer: BackAnswer) -> Result<Outs, Memory>
+        requires room { HasRoomAt self.old (answer.id).conn 0 }
+        ensures { IfOk result (λ outs. record { front = self.new; outs = outs }
+            ≡ answer_at self.old answer (connection_at self.old (answer.id).conn)) }
     {
         let conn = answer.id.conn;
         match self.connections.get_mut(&conn) {
-            Some(slot) if slot.has_asked(from) => {
+            Some(slot) => {
                 let desk = Desk {
                     alloc,
                     setting: &self.setting,
@@ -164,7 +188,7 @@ impl Front {
                 let outs = slot.answer_comes(desk, answer)?;
                 Ok(outs)
             }
-            _ => Ok(Outs::new(alloc)),
+            None => Ok(Outs::new(alloc)),
         }
     }
 }

@@ -13,7 +13,7 @@ use Rattle.front_core.specs.declared.connection.Stage.TheVariants.{Asked, Ended}
 use Rattle.front_core.specs.declared.front.Front.{Front}
 use Rattle.front_core.specs.Answered.{answer_comes, reading_again}
 use Rattle.front_core.specs.Ended.{released}
-use Rattle.front_core.specs.Front.{connection_at, deliver as take_message, answer_from, answer_at, with_turned}
+use Rattle.front_core.specs.Front.{connection_at, deliver as take_message, answer_from, answer_at, waits_for, with_turned}
 use Rattle.front_core.specs.Stages.{has_asked}
 use Rattle.front_core.specs.Taken.{Turned, open_ask}
 use Rattle.imap_talk.specs.SessionEnds.{ends_session}
@@ -56,6 +56,12 @@ use Rattle.front_core.proofs.OneConnection.Standing.{HasBegunSo, Waiting}
 use Rattle.front_core.proofs.OneConnection.Standing.IsLeft.{nothing}
 use Rattle.front_core.proofs.OneConnection.Waits.{in_answer}
 
+-- whether a connection waits for the answer of a node
+waiting_for : (front : Front) (conn : ℕ) (connection : Connection) (from : List ℕ) (asked : Bool) → connection_at front conn ≡ Some connection
+    → has_asked connection.stage from ≡ asked → waits_for (connection_at front conn) from ≡ asked
+unfolding waits_for
+waiting_for front conn connection from asked has is = ap (λ c. waits_for c from) has ∙ is
+
 -- an answer comes to its frontend from the node that was asked
 to_front : (world : World) (from node : List ℕ) (answer : BackAnswer) (front : Front) (connection : Connection) (turned : Turned) → world.broken ≡ []
     → has_asked connection.stage from ≡ true → front_at world node ≡ Some front → connection_at front (answer.id).conn ≡ Some connection
@@ -65,8 +71,8 @@ to_front : (world : World) (from node : List ℕ) (answer : BackAnswer) (front :
 unfolding take_message answer_from answer_at
 to_front world from node answer front connection turned whole asked at has comes =
     answer_comes_to (taken_from_link world from node) from node answer front whole at
-    ∙ ap (λ f. with_front (taken_from_link world from node) node (answer_at front from answer f)) has
-    ∙ ap (λ a. with_front (taken_from_link world from node) node (answer_from a front answer connection)) asked
+    ∙ ap (λ a. with_front (taken_from_link world from node) node (answer_from a front answer)) (waiting_for front (answer.id).conn connection from true has asked)
+    ∙ ap (λ f. with_front (taken_from_link world from node) node (answer_at front answer f)) has
     ∙ ap (λ t. with_front (taken_from_link world from node) node (with_turned front (answer.id).conn t)) comes
 
 -- the connection is that node's which it has asked
@@ -86,11 +92,10 @@ to_another : (world : World) (from node : List ℕ) (answer : BackAnswer) (front
     → has_asked connection.stage from ≡ false → front_at world node ≡ Some front → connection_at front (answer.id).conn ≡ Some connection
     → comes (taken_from_link world from node) node (From from (Answer answer)) ≡ world_after (taken_from_link world from node) node front
     (answer.id).conn connection []
-unfolding take_message answer_from answer_at
+unfolding take_message answer_from
 to_another world from node answer front connection whole asked at has =
     answer_comes_to (taken_from_link world from node) from node answer front whole at
-    ∙ ap (λ f. with_front (taken_from_link world from node) node (answer_at front from answer f)) has
-    ∙ ap (λ a. with_front (taken_from_link world from node) node (answer_from a front answer connection)) asked
+    ∙ ap (λ a. with_front (taken_from_link world from node) node (answer_from a front answer)) (waiting_for front (answer.id).conn connection from false has asked)
     ∙ ap (λ c. with_front (taken_from_link world from node) node (record { front = record front { connections = c }; outs = [] }))
     (sym (set_value_same (is_at (nat_cmp (answer.id).conn)) front.connections connection has))
 

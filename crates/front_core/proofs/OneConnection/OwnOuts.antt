@@ -6,9 +6,8 @@ use Rattle.front_core.specs.declared.connection.Stage.{Stage}
 use Rattle.front_core.specs.declared.connection.Stage.TheVariants.{Reading, Asked, Ended}
 use Rattle.front_core.specs.declared.front.Front.{Front}
 use Rattle.front_core.specs.Answered.{answer_comes, answer_by, need_behind, reading_again}
-use Rattle.front_core.specs.Front.{connect, connect_at, connection_at, bytes_in, front_bytes_at, bytes_by, having_read, answer_at, answer_from, deliver}
+use Rattle.front_core.specs.Front.{connect, connect_at, connection_at, bytes_in, front_bytes_at, bytes_by, having_read, answer_at, answer_from, deliver, waits_for}
 use Rattle.front_core.specs.Reading.{inputs_of_more}
-use Rattle.front_core.specs.Stages.{has_asked}
 use Rattle.front_core.specs.Taken.{answers_now, answers_last, turned_by_need, request_in, input_in, comes_at, input_comes, inputs_come}
 use Rattle.imap_talk.specs.declared.inputs.Input.{Input}
 use Rattle.imap_talk.specs.declared.inputs.Input.TheVariants.{GoesOn, Asks, Faults}
@@ -112,21 +111,19 @@ unfolding answer_comes
 answer_for setting home conn connection answer = answer_by_for setting home conn connection answer _ connection.stage
 
 -- an answer that comes
-answered_from : (front : Front) (answer : BackAnswer) (connection : Connection) (is_asked : Bool)
-    → AreFor front.home (answer.id).conn (answer_from is_asked front answer connection).outs
-unfolding AreFor answer_from
-answered_from front answer connection true = answer_for front.setting front.home (answer.id).conn connection answer
-answered_from front answer connection false = tt
-
-answered_for : (front : Front) (from : List ℕ) (answer : BackAnswer) (found : Option Connection)
-    → AreFor front.home (answer.id).conn (answer_at front from answer found).outs
+answered_for : (front : Front) (answer : BackAnswer) (found : Option Connection) → AreFor front.home (answer.id).conn (answer_at front answer found).outs
 unfolding AreFor answer_at
-answered_for front from answer None = tt
-answered_for front from answer (Some connection) = answered_from front answer connection (has_asked connection.stage from)
+answered_for front answer None = tt
+answered_for front answer (Some connection) = answer_for front.setting front.home (answer.id).conn connection answer
+
+answered_from : (front : Front) (answer : BackAnswer) (is_asked : Bool) → AreFor front.home (answer.id).conn (answer_from is_asked front answer).outs
+unfolding AreFor answer_from
+answered_from front answer true = answered_for front answer (connection_at front (answer.id).conn)
+answered_from front answer false = tt
 
 pub answer_for_it : (front : Front) (from : List ℕ) (answer : BackAnswer) → AreFor front.home (answer.id).conn (deliver front from (Answer answer)).outs
 unfolding deliver
-answer_for_it front from answer = answered_for front from answer (connection_at front (answer.id).conn)
+answer_for_it front from answer = answered_from front answer (waits_for (connection_at front (answer.id).conn) from)
 
 connect_for_by : (front : Front) (conn : ℕ) (found : Option Connection) → AreFor front.home conn (connect_at front conn found).outs
 unfolding AreFor connect_at
