@@ -30,8 +30,8 @@ use Rattle.node_step.specs.NodeStep.{Acted, as_front, as_back, takes as node_tak
 use Rattle.schedule_text.specs.declared.event.Event.{Event}
 use Rattle.schedule_text.specs.declared.event.Event.TheVariants.{Open, Data, Hang, Deliver}
 use Rattle.cluster_core.specs.declared.world.Client.{Client}
-use Rattle.cluster_core.specs.declared.world.MarkKind.{MarkKind}
-use Rattle.cluster_core.specs.declared.world.MarkKind.TheVariants.{Home, Told}
+use Rattle.mark_history.specs.declared.mark.MarkKind.{MarkKind}
+use Rattle.mark_history.specs.declared.mark.MarkKind.TheVariants.{Home, Told}
 use Rattle.cluster_core.specs.declared.layout.Layout.{Layout}
 use Rattle.cluster_core.specs.declared.world.World.{World}
 use Rattle.link_queue.specs.Broken.{Broken, is_broken}

@@ -2,9 +2,10 @@
 ghost use Rattle.std.specs.Prelude.{◌≡◌, OnOk};
 ghost use Rattle.cluster_core.specs.World.{carry, carry_all, carry_or_lose, given_more, marked, client_at, is_lost, not_lost};
 
-use crate::world::{Mark, MarkKind, World};
+use crate::world::World;
 use link_msg::{Out, Outs};
 use link_queue::{is_broken, send};
+use mark_history::{Mark, MarkKind};
 use mur_base::{AskId, Bytes, Memory, NodeName};
 use std::alloc::Global;
 

@@ -21,14 +21,12 @@ use crate::homes::home_rows;
 use crate::layout::Layout;
 use crate::start::{dated, start};
 use crate::world::World;
-use mur_base::{Items, MailName, Memory, NodeName, Phase, Point};
+use mark_history::Points;
+use mur_base::{Items, MailName, Memory, NodeName, Phase};
 use mur_config::Config;
 use schedule_text::{Event, Events};
 use std::alloc::Global;
 use std::marker::Model;
-
-/// The points of a history, in order.
-pub type Points = Items<Point>;
 
 /// A mailbox as one node has it.
 #[derive(Drop)]

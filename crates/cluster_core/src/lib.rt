@@ -15,7 +15,8 @@ mod shared_name;
 mod start;
 mod world;
 
-pub use cluster::{Cluster, HomeRow, HomeRows, Points, headline, run};
+pub use cluster::{Cluster, HomeRow, HomeRows, headline, run};
 pub use layout::Layout;
+pub use mark_history::{Mark, Points};
 pub use shared_name::SharedName;
-pub use world::{Client, Mark, World};
+pub use world::{Client, World};

@@ -5,9 +5,10 @@ ghost use Rattle.cluster_core.specs.World.{home_at};
 
 use crate::shared_name::SharedName;
 use backend_core::Backend;
-use link_msg::{Counts, How, LinkMsg};
+use link_msg::LinkMsg;
 use link_queue::{Broken, Links};
-use mur_base::{AskId, Bytes, Items, Map, NodeName};
+use mark_history::Mark;
+use mur_base::{Bytes, Items, Map, NodeName};
 use node_step::NodeState;
 
 /// A client: the node that it connected to, and all bytes that it was given.
@@ -15,24 +16,6 @@ use node_step::NodeState;
 pub struct Client {
     pub at: SharedName,
     pub given: Bytes,
-}
-
-/// What a step says of a command.
-#[derive(Clone, Copy)]
-pub struct Mark {
-    /// The number of the step, from 1.
-    pub step: u64,
-    pub ask: AskId,
-    pub kind: MarkKind,
-}
-
-/// What a mark says of its command. It counts by the next mark of the same command.
-#[derive(Clone, Copy)]
-pub enum MarkKind {
-    /// A home answered the command.
-    Home(Counts),
-    /// The client was told of the command.
-    Told(How),
 }
 
 /// The cluster: its nodes, what is on its way between them, its clients, and what its steps did.

@@ -21,7 +21,7 @@ use Rattle.front_core.proofs.OneConnection.Standing.{Stands}
 use Rattle.cluster_core.specs.declared.world.Client.{Client}
 use Rattle.cluster_core.specs.declared.world.World.{World}
 use Rattle.cluster_core.specs.World.{client_at}
-use Rattle.cluster_core.proofs.Histories.Told.{IsTold}
+use Rattle.mark_history.proofs.Told.{IsTold}
 use Rattle.front_core.proofs.OneConnection.Places.{About, of_connection, IsPlaced, PlacesStay, Place, its_message}
 
 -- what was asked, what the one store replied, how much of it the clients were told, and the store with its sessions

@@ -62,10 +62,10 @@ use Rattle.front_core.proofs.OneConnection.FrontAnswers.{IsTaken, request_taken}
 use Rattle.front_core.proofs.OneConnection.FrontAnswers.IsTaken.{here, finishes, asked}
 use Rattle.imap_talk.proofs.RequestsOf.{answered_lengths, next_request, replies_stop}
 use Rattle.front_core.proofs.OneConnection.LastAnswer.{all_go_on}
-use Rattle.cluster_core.specs.declared.world.MarkKind.TheVariants.{Home, Told}
+use Rattle.mark_history.specs.declared.mark.MarkKind.TheVariants.{Home, Told}
 use Rattle.link_msg.specs.declared.counts.Counts.{Counts}
-use Rattle.cluster_core.proofs.Histories.Tally.{acts}
-use Rattle.cluster_core.proofs.Histories.Told.{IsTold, having_said, next_course, told_push, tells_here}
+use Rattle.mark_history.proofs.Tally.{acts}
+use Rattle.mark_history.proofs.Told.{IsTold, having_said, next_course, told_push, tells_here}
 use Rattle.front_core.proofs.OneConnection.Places.{of_connection, nowhere, is_asked, others_sent, sent_alone}
 
 pub carry_all-append : (node : List ℕ) (world : World) (one two : List Out) → carry_all node world (one ++ two) ≡ carry_all node (carry_all node world one) two

@@ -21,7 +21,7 @@ use Rattle.imap_talk.specs.Inputs.{requests_in}
 use Rattle.front_core.proofs.OneConnection.Readings.{FaultsLast}
 use Rattle.link_msg.specs.declared.answer.BackAnswer.{BackAnswer}
 use Rattle.link_msg.specs.declared.how.How.TheVariants.{Behind}
-use Rattle.cluster_core.specs.declared.world.MarkKind.TheVariants.{Told}
+use Rattle.mark_history.specs.declared.mark.MarkKind.TheVariants.{Told}
 use Rattle.mur_base.specs.declared.point.AskId.{AskId}
 use Rattle.mur_base.proofs.MapLaws.{numbers_apart, value_at-with_value}
 use Rattle.imap_types.specs.declared.command.Tag.{Tag}
@@ -46,7 +46,7 @@ use Rattle.cluster_core.proofs.Connections.ConnectionLaw.{Story, KeepsOthers, ke
 use Rattle.front_core.proofs.OneConnection.Standing.Stands.{finished}
 use Rattle.cluster_core.proofs.Connections.FrameLaw.{carry_all-append, answer_carried, last_carried, given_world, given_keeps, marked_world, marked_keeps, inputs_kept}
 use Rattle.imap_talk.proofs.RequestsOf.{replies_stop}
-use Rattle.cluster_core.proofs.Histories.Told.{IsTold, told_behind_push}
+use Rattle.mark_history.proofs.Told.{IsTold, told_behind_push}
 use Rattle.front_core.proofs.OneConnection.Places.{of_connection, nowhere, IsPlaced}
 
 abbrev told_more : Story → ℕ → AnswerOf → Story

@@ -54,7 +54,7 @@ use Rattle.cluster_core.proofs.Connections.FirstTells.{CommandWaits, TellsPlace,
 use Rattle.cluster_core.proofs.Connections.KeepsLaw.{ConnectionIs, KeepsLaw, KeepsOn, connection_stays, same_front}
 use Rattle.cluster_core.proofs.Connections.KeepsStill.{nodes_alike}
 use Rattle.cluster_core.proofs.Connections.RisesLaw.{course_rises, home_rises}
-use Rattle.cluster_core.specs.Headline.OneStore.{first_course}
+use Rattle.mark_history.specs.FirstCourse.{first_course}
 use Rattle.cluster_core.proofs.Connections.NameLaw.{NameIs, all_below, has_at, lacks_elsewhere, name_at, name_stays, node_has, store_at}
 use Rattle.imap_talk.proofs.RequestsOf.{requests_of}
 use Rattle.serve_law.proofs.HomeStore.{AreSerialsTo, IsStoreOf, other_boxes}
@@ -65,9 +65,9 @@ use Rattle.mur_model.specs.Store.{box_at}
 use Rattle.mur_model.specs.declared.store.Store.{Store}
 use Rattle.serve_law.proofs.ServedAlike.{ServesAlike}
 use Rattle.serve_law.proofs.ServeLaw.{serves_alike}
-use Rattle.cluster_core.specs.declared.world.MarkKind.TheVariants.{Home}
-use Rattle.cluster_core.proofs.Histories.Tally.{acts}
-use Rattle.cluster_core.proofs.Histories.Told.{still_told, IsTold, having_said, next_course, told_push}
+use Rattle.mark_history.specs.declared.mark.MarkKind.TheVariants.{Home}
+use Rattle.mark_history.proofs.Tally.{acts}
+use Rattle.mark_history.proofs.Told.{still_told, IsTold, having_said, next_course, told_push}
 use Rattle.front_core.proofs.OneConnection.Places.{About, of_connection, is_answered, in_an_ask, other_whom, IsPlaced, PlacesStay, others_sent, others_taken, sent_alone}
 use Rattle.front_core.proofs.OneConnection.Standing.{next_ask, next_id}
 use Rattle.front_core.proofs.OneConnection.Standing.Knows.{answered_so}

@@ -57,7 +57,7 @@ use Rattle.cluster_core.proofs.Connections.KeepsStill.{still_kept}
 use Rattle.front_core.proofs.OneConnection.Released.{begun_released}
 use Rattle.cluster_core.proofs.Connections.ConnectionLaw.{standing_released}
 use Rattle.imap_talk.proofs.RequestsOf.{requests_of, replies_stop}
-use Rattle.cluster_core.proofs.Histories.Told.{IsTold, told_asked}
+use Rattle.mark_history.proofs.Told.{IsTold, told_asked}
 use Rattle.front_core.proofs.OneConnection.Places.{of_connection, nowhere, IsPlaced, its_message}
 
 -- a frontend put in its own place

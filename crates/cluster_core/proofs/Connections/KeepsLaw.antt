@@ -31,7 +31,7 @@ use Rattle.front_core.proofs.OneConnection.Standing.{HasBegunSo, Stands, IsLeft}
 use Rattle.imap_talk.proofs.RequestsOf.{requests_of}
 use Rattle.cluster_core.proofs.Connections.NameLaw.{NameIs}
 use Rattle.cluster_core.proofs.Connections.OthersStay.{StreamsTellNobody}
-use Rattle.cluster_core.proofs.Histories.Told.{IsTold}
+use Rattle.mark_history.proofs.Told.{IsTold}
 use Rattle.mur_config.specs.Nodes.{links_of}
 use Rattle.serve_law.proofs.HomeStore.{AreSerialsTo}
 use Rattle.front_core.proofs.OneConnection.Places.{of_connection, IsPlaced, PlacesStay, Place, its_message}

@@ -32,7 +32,7 @@ use Rattle.cluster_core.proofs.Connections.KeepsLaw.SameFront.{both, both_none}
 use Rattle.cluster_core.proofs.Connections.KeepsLaw.{FrontStays}
 use Rattle.cluster_core.proofs.Connections.KeepsLaw.FrontStays.{no_front_there, front_there}
 use Rattle.imap_talk.proofs.RequestsOf.{requests_of}
-use Rattle.cluster_core.proofs.Histories.Told.{IsTold, told_later}
+use Rattle.mark_history.proofs.Told.{IsTold, told_later}
 
 pub nodes_alike : (config : Config) (world next : World) (home : List ℕ) → ((node : List ℕ) → front_at next node ≡ front_at world node)
     → AreNodesOf config world home → AreNodesOf config next home

@@ -12,9 +12,9 @@ use Rattle.node_record.specs.declared.held.Held.{Held}
 use Rattle.serve_law.proofs.HomeStore.{IsStoreOf}
 use Rattle.serve_law.proofs.HomeStore.IsStoreOf.{is_missing, is_there}
 use Rattle.store_law.proofs.RisingStores.{AllRise, answer_rises, box_rises, some_rising}
-use Rattle.cluster_core.specs.declared.world.Mark.{Mark}
-use Rattle.cluster_core.proofs.Histories.Marks.{Carries, no_marks, a_mark, a_telling}
-use Rattle.cluster_core.proofs.Histories.Tally.{conn_of}
+use Rattle.mark_history.specs.declared.mark.Mark.{Mark}
+use Rattle.mark_history.proofs.Marks.{Carries, no_marks, a_mark, a_telling}
+use Rattle.mark_history.proofs.Tally.{conn_of}
 
 pub course_rises : (setting : Setting) (talk : Talk) (first last : Course) (marks : List Mark) → Carries setting talk first marks last
     → AllRise first.store → AllRise last.store

@@ -14,10 +14,10 @@ use Rattle.node_step.specs.NodeStep.{Acted, takes as node_takes}
 use Rattle.schedule_text.specs.declared.event.Event.{Event}
 use Rattle.schedule_text.specs.declared.event.Event.TheVariants.{Open, Data, Hang, Deliver}
 use Rattle.cluster_core.specs.declared.world.Client.{Client}
-use Rattle.cluster_core.specs.declared.world.Mark.{Mark}
+use Rattle.mark_history.specs.declared.mark.Mark.{Mark}
 use Rattle.mur_base.specs.declared.point.AskId.{AskId}
-use Rattle.cluster_core.specs.declared.world.MarkKind.{MarkKind}
-use Rattle.cluster_core.specs.declared.world.MarkKind.TheVariants.{Home, Told}
+use Rattle.mark_history.specs.declared.mark.MarkKind.{MarkKind}
+use Rattle.mark_history.specs.declared.mark.MarkKind.TheVariants.{Home, Told}
 use Rattle.cluster_core.specs.declared.world.World.{World}
 use Rattle.cluster_core.specs.Flow.{run_steps}
 use Rattle.link_queue.specs.Links.{on_link}

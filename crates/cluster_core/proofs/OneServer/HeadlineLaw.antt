@@ -9,13 +9,14 @@ use Rattle.mur_base.specs.declared.point.Point.{Point}
 use Rattle.mur_config.specs.declared.config.Config.{Config}
 use Rattle.mur_config.specs.Nodes.{AreNodes}
 use Rattle.schedule_text.specs.declared.event.Event.{Event}
-use Rattle.cluster_core.specs.declared.world.Mark.{Mark}
-use Rattle.cluster_core.specs.declared.world.MarkKind.{MarkKind}
-use Rattle.cluster_core.specs.declared.world.MarkKind.TheVariants.{Home, Told}
+use Rattle.mark_history.specs.declared.mark.Mark.{Mark}
+use Rattle.mark_history.specs.declared.mark.MarkKind.{MarkKind}
+use Rattle.mark_history.specs.declared.mark.MarkKind.TheVariants.{Home, Told}
 use Rattle.cluster_core.specs.declared.world.World.{World}
 use Rattle.cluster_core.specs.Flow.{run_steps, steps_of_run}
 use Rattle.cluster_core.specs.Headline.{IsOneServer}
-use Rattle.cluster_core.specs.History.{next_of, counts_as, untold_as, points_by, points_of, history_of}
+use Rattle.mark_history.specs.History.{next_of, counts_as, untold_as, points_by, points_of}
+use Rattle.cluster_core.specs.History.{history_of}
 use Rattle.cluster_core.specs.Headline.HomeLaw.{HasRelocationCause, RefusesForCause}
 use Rattle.cluster_core.specs.World.{start, layout_of}
 use Rattle.cluster_core.proofs.Flows.FlowRests.{are_steps_of_all}

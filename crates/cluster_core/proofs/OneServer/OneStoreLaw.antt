@@ -21,12 +21,13 @@ use Rattle.mur_model.proofs.HistoryGrows.{one_up_to}
 use Rattle.imap_talk.specs.Inputs.{inputs_of, requests_in}
 use Rattle.front_core.proofs.OneConnection.Readings.{inputs_in}
 use Rattle.cluster_core.specs.declared.world.Client.{Client}
-use Rattle.cluster_core.specs.declared.world.Mark.{Mark}
+use Rattle.mark_history.specs.declared.mark.Mark.{Mark}
 use Rattle.cluster_core.specs.declared.world.World.{World}
 use Rattle.front_core.specs.Ending.{EndsOnlyLast}
 use Rattle.imap_talk.specs.Heard.{Heard, bytes_heard, frames_heard, has_closed, elsewhere}
 use Rattle.cluster_core.specs.History.{history_of}
-use Rattle.cluster_core.specs.Headline.OneStore.{AreEmpty, IsAnsweredThrough, first_course}
+use Rattle.mark_history.specs.FirstCourse.{first_course}
+use Rattle.cluster_core.specs.Headline.OneStore.{AreEmpty, IsAnsweredThrough}
 use Rattle.cluster_core.specs.Headline.Points.{AreMadeBy, LosesTheNext}
 use Rattle.cluster_core.specs.Shown.{given_by, given_to}
 use Rattle.cluster_core.specs.Headline.OneNode.{node_of}
@@ -38,11 +39,11 @@ use Rattle.front_core.proofs.OneConnection.Standing.Stands.{reads as it_reads, w
 use Rattle.front_core.proofs.OneConnection.Standing.IsLeft.{nothing, left_waiting}
 use Rattle.cluster_core.proofs.Connections.KeepsLaw.{ConnectionIs}
 use Rattle.cluster_core.proofs.Connections.KeepsLaw.ConnectionIs.{is_nobody, is_elsewhere, is_open, is_closed}
-use Rattle.cluster_core.proofs.Histories.Tally.{conn_of, command_of}
-use Rattle.cluster_core.proofs.Histories.Marks.{IsOf, Later, NoMore, Replied, all_points, counts_of, none_behind, pairs_of_points, marks_follow, answering_points, losing_points}
+use Rattle.mark_history.proofs.Tally.{conn_of, command_of}
+use Rattle.mark_history.proofs.Marks.{IsOf, Later, NoMore, Replied, all_points, counts_of, none_behind, pairs_of_points, marks_follow, answering_points, losing_points}
 use Rattle.front_core.proofs.OneConnection.LastAnswer.{none_given, stands_last}
 use Rattle.imap_talk.proofs.RequestsOf.{requests_of, answered_lengths}
-use Rattle.cluster_core.proofs.Histories.Told.{IsTold}
+use Rattle.mark_history.proofs.Told.{IsTold}
 use Rattle.front_core.proofs.OneConnection.Places.{of_connection, Place, is_asked, is_answered, its_message, nowhere_on_empty}
 
 -- what was replied is what was told and at most one more

@@ -20,14 +20,15 @@ use Rattle.mur_model.specs.History.{Course, Talk, numbered}
 use Rattle.mur_model.specs.Store.{box_at}
 use Rattle.mur_model.proofs.HistoryGrows.{one_up_to}
 use Rattle.schedule_text.specs.declared.event.Event.{Event}
-use Rattle.cluster_core.specs.declared.world.Mark.{Mark}
+use Rattle.mark_history.specs.declared.mark.Mark.{Mark}
 use Rattle.cluster_core.specs.declared.world.World.{World}
 use Rattle.cluster_core.specs.Flow.{run_steps, steps_of_run}
 use Rattle.imap_talk.specs.Heard.{Heard, nobody, bytes_heard, frames_heard}
 use Rattle.cluster_core.specs.Heard.{heard_from}
 use Rattle.cluster_core.specs.History.{history_of}
 use Rattle.cluster_core.specs.Headline.Homes.{ShowsBoxesOf}
-use Rattle.cluster_core.specs.Headline.OneStore.{first_course, HasBoxesOf, IsAnsweredThrough, StandsInTime, IsToldSoFar, IsToldByOneStore}
+use Rattle.mark_history.specs.FirstCourse.{first_course}
+use Rattle.cluster_core.specs.Headline.OneStore.{HasBoxesOf, IsAnsweredThrough, StandsInTime, IsToldSoFar, IsToldByOneStore}
 use Rattle.imap_talk.specs.Requests.{AreRequests}
 use Rattle.store_law.specs.Serials.{GivesLowSerials}
 use Rattle.cluster_core.specs.Shown.{given_to}
@@ -49,9 +50,9 @@ use Rattle.cluster_core.proofs.Connections.KeepsLaw.{KeepsLaw}
 use Rattle.store_law.proofs.NoneLost.{both_hold, loses_none}
 use Rattle.store_law.proofs.OthersUnseen.{keeps_to_its_own}
 use Rattle.store_law.proofs.OwnSelected.{none_own, points_own}
-use Rattle.cluster_core.proofs.Histories.Tally.{acts, conn_of, command_of}
-use Rattle.cluster_core.proofs.Histories.Marks.{Carries, counts_of, is_mark, all_points}
-use Rattle.cluster_core.proofs.Histories.Marks.Carries.{no_marks, a_mark, a_telling}
+use Rattle.mark_history.proofs.Tally.{acts, conn_of, command_of}
+use Rattle.mark_history.proofs.Marks.{Carries, counts_of, is_mark, all_points}
+use Rattle.mark_history.proofs.Marks.Carries.{no_marks, a_mark, a_telling}
 use Rattle.store_law.proofs.CausesTold.{have_causes}
 use Rattle.cluster_core.proofs.OneServer.GuestsServed.{others_are_silent}
 use Rattle.cluster_core.proofs.Routing.RoutedLaw.{routed_points}
@@ -64,7 +65,7 @@ use Rattle.cluster_core.proofs.Names.ShownHomes.{shows_boxes}
 use Rattle.cluster_core.proofs.Feeds.FeedStart.{start_feeds}
 use Rattle.cluster_core.proofs.Nodes.LinkedNodes.{start_keeps}
 use Rattle.cluster_core.proofs.Runs.StepsMade.{steps_made}
-use Rattle.cluster_core.proofs.Histories.Told.{IsTold}
+use Rattle.mark_history.proofs.Told.{IsTold}
 use Rattle.cluster_core.proofs.Runs.Unrolled.{run_steps-append}
 
 numbered_within : {T : Type 0} (items : List T) (number : ℕ) (item : T) → numbered items number ≡ Some item → number ≤ length items

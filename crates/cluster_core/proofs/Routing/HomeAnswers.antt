@@ -29,7 +29,7 @@ use Rattle.schedule_text.specs.declared.event.Event.TheVariants.{Deliver}
 use Rattle.imap_talk.specs.Heard.{Heard}
 use Rattle.serve_law.specs.DoneHere.{IsDone}
 use Rattle.serve_law.proofs.DoneHere.{done_where_open}
-use Rattle.cluster_core.specs.declared.world.MarkKind.TheVariants.{Home}
+use Rattle.mark_history.specs.declared.mark.MarkKind.TheVariants.{Home}
 use Rattle.cluster_core.specs.declared.world.World.{World}
 use Rattle.cluster_core.specs.Headline.Backends.{IsBackend}
 use Rattle.cluster_core.specs.Headline.OpenAt.{IsOpenAt}

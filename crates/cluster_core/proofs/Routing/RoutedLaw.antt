@@ -20,27 +20,28 @@ use Rattle.mur_model.specs.History.{is_about}
 use Rattle.mur_model.proofs.HistoryGrows.{one_up_to}
 use Rattle.schedule_text.specs.declared.event.Event.{Event}
 use Rattle.schedule_text.specs.declared.event.Event.TheVariants.{Deliver}
-use Rattle.cluster_core.specs.declared.world.Mark.{Mark}
-use Rattle.cluster_core.specs.declared.world.MarkKind.{MarkKind}
-use Rattle.cluster_core.specs.declared.world.MarkKind.TheVariants.{Home, Told}
+use Rattle.mark_history.specs.declared.mark.Mark.{Mark}
+use Rattle.mark_history.specs.declared.mark.MarkKind.{MarkKind}
+use Rattle.mark_history.specs.declared.mark.MarkKind.TheVariants.{Home, Told}
 use Rattle.cluster_core.specs.declared.world.World.{World}
 use Rattle.cluster_core.specs.Flow.{run_steps}
 use Rattle.cluster_core.specs.Headline.Routing.{AnswersAsk, AreRouted, StandsAt, TakenAsk}
 use Rattle.cluster_core.specs.Headline.Routing.StandsAt.{at_home, at_frontend}
-use Rattle.cluster_core.specs.History.{history_of, point_as, points_of}
+use Rattle.mark_history.specs.History.{point_as, points_of}
+use Rattle.cluster_core.specs.History.{history_of}
 use Rattle.cluster_core.specs.World.{start, steps_by}
 use Rattle.cluster_core.proofs.Connections.ConnectionLaw.{Story, told_of}
 use Rattle.cluster_core.proofs.Connections.Keeps.{KeepsAll, run_keeps}
 use Rattle.cluster_core.proofs.Feeds.FeedStart.{start_feeds}
-use Rattle.cluster_core.proofs.Histories.EachPoint.{CountsAs, each_point, loss_there, none_count, only_one, reply_there}
-use Rattle.cluster_core.proofs.Histories.EachPoint.CountsAs.{as_reply, as_loss}
+use Rattle.mark_history.proofs.EachPoint.{CountsAs, each_point, loss_there, none_count, only_one, reply_there}
+use Rattle.mark_history.proofs.EachPoint.CountsAs.{as_reply, as_loss}
 use Rattle.cluster_core.proofs.Routing.HomeAnswers.{IsServed, ask_is_served}
 use Rattle.cluster_core.proofs.Histories.InTime.{run_behind}
-use Rattle.cluster_core.proofs.Histories.Marks.{counts_of, is_mark}
+use Rattle.mark_history.proofs.Marks.{counts_of, is_mark}
 use Rattle.cluster_core.proofs.Routing.StepMarks.{StepMarks, is_home_mark, step_marks}
 use Rattle.cluster_core.proofs.Routing.StepMarks.StepMarks.{takes_ask, tells}
-use Rattle.cluster_core.proofs.Histories.Tally.{acts, command_of, conn_of}
-use Rattle.cluster_core.proofs.Histories.Told.{IsTold}
+use Rattle.mark_history.proofs.Tally.{acts, command_of, conn_of}
+use Rattle.mark_history.proofs.Told.{IsTold}
 use Rattle.cluster_core.proofs.Nodes.LinkedNodes.{start_keeps}
 use Rattle.cluster_core.proofs.Nodes.OneNodeLaw.{one_more_step}
 use Rattle.cluster_core.proofs.Runs.StartLaw.{fresh_start}

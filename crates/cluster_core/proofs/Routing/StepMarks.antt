@@ -20,9 +20,9 @@ use Rattle.node_step.proofs.Unmarked.{AreUnmarked, IsNoAsk, IsUnmarked, SaysUnma
 use Rattle.schedule_text.specs.declared.event.Event.{Event}
 use Rattle.schedule_text.specs.declared.event.Event.TheVariants.{Open, Data, Hang, Deliver}
 use Rattle.cluster_core.specs.declared.world.Client.{Client}
-use Rattle.cluster_core.specs.declared.world.Mark.{Mark}
-use Rattle.cluster_core.specs.declared.world.MarkKind.{MarkKind}
-use Rattle.cluster_core.specs.declared.world.MarkKind.TheVariants.{Home, Told}
+use Rattle.mark_history.specs.declared.mark.Mark.{Mark}
+use Rattle.mark_history.specs.declared.mark.MarkKind.{MarkKind}
+use Rattle.mark_history.specs.declared.mark.MarkKind.TheVariants.{Home, Told}
 use Rattle.cluster_core.specs.declared.world.World.{World}
 use Rattle.cluster_core.specs.World.{acts, carry, carry_all, client_at, client_does, comes_to, deliver_first, given_more, is_lost, node_at, not_lost, opens, steps_by}
 use Rattle.cluster_core.specs.World.{stepped, taken_from_link, takes, with_client, with_state}

@@ -34,7 +34,7 @@ use Rattle.node_step.proofs.NodeKinds.{front_is, back_is, master_is, back_no_fro
 use Rattle.cluster_core.specs.declared.world.World.{World}
 use Rattle.imap_talk.specs.Heard.{nobody, frames_heard}
 use Rattle.link_queue.specs.Links.{Links, on_link, sent}
-use Rattle.cluster_core.specs.Headline.OneStore.{first_course}
+use Rattle.mark_history.specs.FirstCourse.{first_course}
 use Rattle.cluster_core.specs.World.{no_world, first_name, or_backend, backends_of, home_of, master_of, setting_of, first_state, with_node, with_nodes, start}
 use Rattle.cluster_core.specs.World.{node_at, front_at, home_at}
 use Rattle.cluster_core.proofs.Runs.UpsLaw.{all_sent, first_links, fresh_nodes, sent_by, started}
@@ -43,10 +43,10 @@ use Rattle.mur_config.proofs.NodesApart.{head_apart, tail_apart}
 use Rattle.cluster_core.proofs.Connections.OthersStay.{booted_tells}
 use Rattle.cluster_core.proofs.Connections.KeepsLaw.{IsHomeFor, KeepsLaw}
 use Rattle.cluster_core.proofs.Connections.KeepsLaw.ConnectionIs.{is_nobody}
-use Rattle.cluster_core.proofs.Histories.Tally.{Fit, command_of}
-use Rattle.cluster_core.proofs.Histories.Marks.{Carries, Later, MarkedOnce}
-use Rattle.cluster_core.proofs.Histories.Marks.Carries.{no_marks}
-use Rattle.cluster_core.specs.declared.world.Mark.{Mark}
+use Rattle.mark_history.proofs.Tally.{Fit, command_of}
+use Rattle.mark_history.proofs.Marks.{Carries, Later, MarkedOnce}
+use Rattle.mark_history.proofs.Marks.Carries.{no_marks}
+use Rattle.mark_history.specs.declared.mark.Mark.{Mark}
 use Rattle.imap_talk.specs.Inputs.{inputs_of, requests_in}
 use Rattle.imap_talk.proofs.RequestsOf.{requests_of}
 use Rattle.serve_law.proofs.HomeStore.{AreSerialsTo}

@@ -8,15 +8,15 @@ use Rattle.mail_store.specs.Kept.{AreUidsBelowNext}
 use Rattle.imap_talk.specs.Transcript.{transcript_of, ends}
 use Rattle.imap_talk.specs.TranscriptRead.{IsAllReadAsMeant}
 use Rattle.mail_message.specs.Boxes.{Content, IsRising}
+use Rattle.mark_history.specs.FirstCourse.{first_course}
 use Rattle.mur_base.specs.Map.{value_at}
 use Rattle.mur_base.specs.declared.point.Point.{Point}
 use Rattle.mur_config.specs.declared.config.Config.{Config}
 use Rattle.imap_types.specs.declared.request.Answer.{Answer}
 use Rattle.imap_types.specs.declared.request.Request.{Request}
-use Rattle.mur_model.specs.declared.session.Sess.TheVariants.{Off}
 use Rattle.mur_model.specs.declared.store.Store.{Store}
 use Rattle.mur_model.specs.History.{Course, Talk, TalkGoesOn, IsLegal}
-use Rattle.mur_model.specs.Store.{empty_store, box_at}
+use Rattle.mur_model.specs.Store.{box_at}
 use Rattle.schedule_text.specs.declared.event.Event.{Event}
 use Rattle.cluster_core.specs.declared.layout.Layout.{Layout}
 use Rattle.cluster_core.specs.declared.world.World.{World}
@@ -46,10 +46,6 @@ use Rattle.imap_talk.specs.Requests.{AreRequests}
 use Rattle.store_law.specs.Serials.{GivesLowSerials}
 use Rattle.cluster_core.specs.Shown.{given_to, held_at_node}
 use Rattle.cluster_core.specs.World.{start, layout_of}
-
--- the empty store, and no session begun
-abbrev pub first_course : Course
-first_course = record { store = empty_store; sessions = λ _. Off }
 
 abbrev pub or_else : Option Content → Option Content → Option Content
 or_else None other = other

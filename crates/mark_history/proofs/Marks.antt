@@ -20,12 +20,12 @@ use Rattle.mur_model.specs.Answer.{Answered, answer_of, MayTake}
 use Rattle.mur_model.specs.History.{Course, Talk, TalkGoesOn, Takes, numbered, with_session, carried_out, course_after, Follows, answers_its_command, loses, is_about}
 use Rattle.mur_model.specs.History.Follows.{no_points, a_reply, a_loss}
 use Rattle.mur_model.proofs.HistoryGrows.{one_up_to, takes_on, numbered_on}
-use Rattle.cluster_core.specs.declared.world.Mark.{Mark}
-use Rattle.cluster_core.specs.declared.world.MarkKind.{MarkKind}
-use Rattle.cluster_core.specs.declared.world.MarkKind.TheVariants.{Home}
-use Rattle.cluster_core.specs.History.{is_of, next_of, counts_as, point_as, points_by, points_of}
-use Rattle.cluster_core.proofs.Histories.Tally.{acts, conn_of, command_of, Fit, Verdict, verdict, none_next, of_both}
-use Rattle.cluster_core.proofs.Histories.Tally.Verdict.{replies, is_lost, is_open, tells}
+use Rattle.mark_history.specs.declared.mark.Mark.{Mark}
+use Rattle.mark_history.specs.declared.mark.MarkKind.{MarkKind}
+use Rattle.mark_history.specs.declared.mark.MarkKind.TheVariants.{Home}
+use Rattle.mark_history.specs.History.{is_of, next_of, counts_as, point_as, points_by, points_of}
+use Rattle.mark_history.proofs.Tally.{acts, conn_of, command_of, Fit, Verdict, verdict, none_next, of_both}
+use Rattle.mark_history.proofs.Tally.Verdict.{replies, is_lost, is_open, tells}
 
 -- each mark of a step that acts carries out its request, whose answer is this step's; one that counts only for an answered command
 -- leaves the store as it was. A mark behind a home's answer carries out nothing.

@@ -8,10 +8,10 @@ use Rattle.link_msg.specs.declared.counts.Counts.TheVariants.{Always, IfAnswered
 use Rattle.link_msg.specs.declared.how.How.TheVariants.{Here, Behind}
 use Rattle.mur_base.specs.declared.point.AskId.{AskId}
 use Rattle.mur_base.specs.declared.point.What.TheVariants.{Reply as replied, Lost as lost}
-use Rattle.cluster_core.specs.declared.world.Mark.{Mark}
-use Rattle.cluster_core.specs.declared.world.MarkKind.{MarkKind}
-use Rattle.cluster_core.specs.declared.world.MarkKind.TheVariants.{Home, Told}
-use Rattle.cluster_core.specs.History.{is_of, next_of, counts_as, untold_as}
+use Rattle.mark_history.specs.declared.mark.Mark.{Mark}
+use Rattle.mark_history.specs.declared.mark.MarkKind.{MarkKind}
+use Rattle.mark_history.specs.declared.mark.MarkKind.TheVariants.{Home, Told}
+use Rattle.mark_history.specs.History.{is_of, next_of, counts_as, untold_as}
 
 abbrev pub conn_of : Mark → ℕ
 conn_of mark = (mark.ask).conn

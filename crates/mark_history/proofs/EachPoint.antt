@@ -9,12 +9,12 @@ use Rattle.link_msg.specs.declared.counts.Counts.TheVariants.{Always, IfAnswered
 use Rattle.mur_base.specs.declared.point.Point.{Point}
 use Rattle.mur_base.specs.declared.point.What.{What}
 use Rattle.mur_base.specs.declared.point.What.TheVariants.{Reply as replied, Lost as lost}
-use Rattle.cluster_core.specs.declared.world.Mark.{Mark}
-use Rattle.cluster_core.specs.declared.world.MarkKind.{MarkKind}
-use Rattle.cluster_core.specs.declared.world.MarkKind.TheVariants.{Home}
-use Rattle.cluster_core.specs.History.{counts_as, next_of, point_as, points_by, points_of}
-use Rattle.cluster_core.proofs.Histories.Tally.{acts, command_of, conn_of, Fit, Verdict, verdict}
-use Rattle.cluster_core.proofs.Histories.Tally.Verdict.{replies, is_lost, is_open, tells}
+use Rattle.mark_history.specs.declared.mark.Mark.{Mark}
+use Rattle.mark_history.specs.declared.mark.MarkKind.{MarkKind}
+use Rattle.mark_history.specs.declared.mark.MarkKind.TheVariants.{Home}
+use Rattle.mark_history.specs.History.{counts_as, next_of, point_as, points_by, points_of}
+use Rattle.mark_history.proofs.Tally.{acts, command_of, conn_of, Fit, Verdict, verdict}
+use Rattle.mark_history.proofs.Tally.Verdict.{replies, is_lost, is_open, tells}
 
 -- ---- lists
 

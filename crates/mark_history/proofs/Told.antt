@@ -15,14 +15,14 @@ use Rattle.mur_model.specs.Answer.{MayTake}
 use Rattle.mur_model.specs.History.{Course, Talk, GoesOn, TalkGoesOn, numbered, carried_out, course_after}
 use Rattle.mur_model.proofs.HistoryGrows.{same_lists, item_more}
 use Rattle.mur_model.proofs.Numbered.{with_item, with_item-other, length_with_item, numbered_new, with_item-lengths, with_item-longer}
-use Rattle.cluster_core.specs.declared.world.Mark.{Mark}
-use Rattle.cluster_core.specs.declared.world.MarkKind.{MarkKind}
-use Rattle.cluster_core.specs.declared.world.MarkKind.TheVariants.{Home, Told}
-use Rattle.cluster_core.specs.Headline.OneStore.{first_course}
-use Rattle.cluster_core.specs.History.{is_of}
-use Rattle.cluster_core.proofs.Histories.Marks.{Carries, carries_on, carries_push, carries_telling, MarkedOnce, marked_once_push, marked_once_telling, marks_push}
-use Rattle.cluster_core.proofs.Histories.Marks.{Later, counts_of}
-use Rattle.cluster_core.proofs.Histories.Tally.{acts, conn_of, command_of, Fit, fits, fit_push, fits_apart, fits_told, StillFits, of_another, of_both}
+use Rattle.mark_history.specs.declared.mark.Mark.{Mark}
+use Rattle.mark_history.specs.declared.mark.MarkKind.{MarkKind}
+use Rattle.mark_history.specs.declared.mark.MarkKind.TheVariants.{Home, Told}
+use Rattle.mark_history.specs.FirstCourse.{first_course}
+use Rattle.mark_history.specs.History.{is_of}
+use Rattle.mark_history.proofs.Marks.{Carries, carries_on, carries_push, carries_telling, MarkedOnce, marked_once_push, marked_once_telling, marks_push}
+use Rattle.mark_history.proofs.Marks.{Later, counts_of}
+use Rattle.mark_history.proofs.Tally.{acts, conn_of, command_of, Fit, fits, fit_push, fits_apart, fits_told, StillFits, of_another, of_both}
 
 pub record IsTold (setting : Setting) (now : ℕ) (marks : List Mark) (talk : Talk) (told : ℕ → List Answer) (course : Course) : Type 0 where
   pub carries : Carries setting talk first_course marks course

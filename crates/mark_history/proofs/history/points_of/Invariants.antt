@@ -1,7 +1,7 @@
 use Rattle.std.proofs.Common.{◌≡◌, ◌≤◌, length, drop, reverse}
-use Rattle.cluster_core.specs.History.{points_of}
-use Rattle.cluster_core.proofs.Histories.NextMarks.{HasNext}
-use Rattle.cluster_core.proofs.history.points_of.Given as goal
+use Rattle.mark_history.specs.History.{points_of}
+use Rattle.mark_history.proofs.NextMarks.{HasNext}
+use Rattle.mark_history.proofs.history.points_of.Given as goal
 
 abbrev pub invariant-loop-left : goal.invariant-loop-left
 invariant-loop-left l = record {

@@ -1,5 +1,5 @@
 -- The next mark of each command, kept while the marks are walked from the last to the first, and the points found so far.
-use Rattle.std.proofs.Common.{◌≡◌, ◌≢◌, ◌⊎◌, ℕ, Bool, true, false, ◌&&◌, nat_eq, List, [], ◌∷◌, ◌++◌, length, drop, get_or, if◌then◌else◌, Option, None, Some, reverse, refl, sym, ◌∙◌, ap, subst, arith}
+use Rattle.std.proofs.Common.{◌≡◌, ◌≢◌, ℕ, Bool, true, false, ◌&&◌, nat_eq, List, [], ◌∷◌, ◌++◌, length, drop, get_or, if◌then◌else◌, Option, None, Some, reverse, refl, sym, ◌∙◌, ap, subst, arith}
 use Rattle.std.proofs.Common.{◌<◌, ◌≤◌, ◌+◌, ◌-◌}
 use Rattle.std.proofs.Math.Logic.{⊎_elim}
 use Rattle.std.proofs.lemmas.Bool.Decides.{nat_tests}
@@ -14,10 +14,10 @@ use Rattle.mur_base.specs.declared.point.AskId.{AskId}
 use Rattle.mur_base.specs.declared.point.Point.{Point}
 use Rattle.mur_base.specs.declared.point.What.{What}
 use Rattle.mur_base.proofs.MapLaws.{TellsApart, same_or_other, value_at-with_entry, value_at-with_entry-other}
-use Rattle.cluster_core.specs.declared.world.Mark.{Mark}
-use Rattle.cluster_core.specs.declared.world.MarkKind.{MarkKind}
-use Rattle.cluster_core.specs.History.{is_of, next_of, counts_as, points_by, points_of}
-use Rattle.cluster_core.proofs.Histories.Tally.{conn_of, command_of}
+use Rattle.mark_history.specs.declared.mark.Mark.{Mark}
+use Rattle.mark_history.specs.declared.mark.MarkKind.{MarkKind}
+use Rattle.mark_history.specs.History.{is_of, next_of, counts_as, points_by, points_of}
+use Rattle.mark_history.proofs.Tally.{conn_of, command_of}
 
 -- commands in the order of their connections, and then of their numbers
 abbrev pub ask_cmp : ℕ × ℕ → ℕ × ℕ → Ordering

@@ -1,6 +1,6 @@
 use Rattle.std.proofs.Common.{◌∙◌, arith}
-use Rattle.cluster_core.proofs.Histories.NextMarks.{walked, walked_none}
-use Rattle.cluster_core.proofs.history.points_of.Goals as goal
+use Rattle.mark_history.proofs.NextMarks.{walked, walked_none}
+use Rattle.mark_history.proofs.history.points_of.Goals as goal
 
 pub loop-left-init : goal.loop-left-init
 loop-left-init c =
