@@ -1,0 +1,9 @@
+pub mod Maps
+pub mod ShownLaw
+pub mod GivenLaw
+pub mod TableLaw
+pub mod CreateLaw
+pub mod HeldLaw
+pub mod SameKeys
+pub mod BoxesLaw
+pub mod OpenLaw

@@ -1,0 +1,8 @@
+use Rattle.store_links.proofs.OpenLaw.{open_is_alike, none_is_missing}
+use Rattle.store_links.proofs.laws.an_open_mailbox_is_the_stores.Goals as goal
+
+pub returns-clause-alike : goal.returns-clause-alike
+returns-clause-alike c = open_is_alike
+
+pub returns-clause-none : goal.returns-clause-none
+returns-clause-none c = none_is_missing

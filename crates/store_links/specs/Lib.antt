@@ -1,0 +1,6 @@
+pub mod Shown
+pub mod Given
+pub mod TableEntries
+pub mod HeldEntries
+pub mod Boxes
+pub mod OpenHome
