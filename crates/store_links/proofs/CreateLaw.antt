@@ -40,7 +40,7 @@ use Rattle.store_links.proofs.TableLaw.{by_name}
 -- ---- what the line is
 
 -- a name with a serial is no mailbox
-no_mailbox : (r : Option Record) (serial : ℕ) → serial_in r ≡ Some serial → is_mailbox_if r ≡ false
+pub no_mailbox : (r : Option Record) (serial : ℕ) → serial_in r ≡ Some serial → is_mailbox_if r ≡ false
 no_mailbox None serial e = cc
 no_mailbox (Some it) serial e = by_state it.state refl
   where

@@ -3,6 +3,7 @@ pub mod ShownLaw
 pub mod GivenLaw
 pub mod TableLaw
 pub mod CreateLaw
+pub mod LineLaw
 pub mod HeldLaw
 pub mod SameKeys
 pub mod BoxesLaw

@@ -2,5 +2,6 @@ pub mod Shown
 pub mod Given
 pub mod TableEntries
 pub mod HeldEntries
+pub mod Lines
 pub mod Boxes
 pub mod OpenHome

@@ -2,6 +2,7 @@
 ghost use Rattle.store_links.specs.Shown.{ShowsFirst};
 ghost use Rattle.store_links.specs.Given.{GivenFirst, NewIsFree, GivenAreLow, NotSpent};
 ghost use Rattle.store_links.specs.TableEntries.{CreateIsOne, OthersMakeNone, DeleteIsOne};
+ghost use Rattle.store_links.specs.Lines.{EachIsOne};
 ghost use Rattle.store_links.specs.HeldEntries.{OthersChangeNone, ContentsStay, MessagesChangeOne, AnyStoreWithIt};
 ghost use Rattle.store_links.specs.Boxes.{BoxIsThere, EachIsABox, SameNames, AsMany};
 ghost use Rattle.store_links.specs.OpenHome.{OpenIsAlike, NoneIsMissing};
@@ -28,6 +29,12 @@ pub fn an_activate_is_a_create()
 pub fn only_a_delete_removes_a_mailbox()
     ensures delete { DeleteIsOne }
     ensures others { OthersMakeNone }
+{}
+
+/// A line of a backend that the master takes, on a link of which all holds that `name_links` says, makes one mailbox for a client's CREATE, removes one for
+/// a client's DELETE, or leaves the store as it is.
+pub fn a_line_is_one_command_or_nothing()
+    ensures { EachIsOne }
 {}
 
 /// An entry about messages changes its mailbox at the store as it does at the backend, and no other mailbox. The backend's other entries change none.

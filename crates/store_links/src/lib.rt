@@ -5,6 +5,7 @@
 //! | a table and what its servers have, and the store that they show | `specs/Shown.antt` |
 //! | the UIDVALIDITYs that the store gave | `specs/Given.antt` |
 //! | CREATE, DELETE, and the master's other entries | `specs/TableEntries.antt` |
+//! | a line that the master takes | `specs/Lines.antt` |
 //! | entries about messages, and a backend's other entries | `specs/HeldEntries.antt` |
 //! | which names are mailboxes, and how many | `specs/Boxes.antt` |
 //! | a name that is open at a home | `specs/OpenHome.antt` |
@@ -17,6 +18,6 @@
 mod laws;
 
 pub use laws::{
-    a_uidvalidity_is_free, an_activate_is_a_create, an_open_mailbox_is_the_stores, each_mailbox_is_a_box, no_mailbox_is_the_empty_store,
+    a_line_is_one_command_or_nothing, a_uidvalidity_is_free, an_activate_is_a_create, an_open_mailbox_is_the_stores, each_mailbox_is_a_box, no_mailbox_is_the_empty_store,
     only_a_delete_removes_a_mailbox, only_messages_change_a_mailbox,
 };
