@@ -1,7 +1,6 @@
 -- The mailboxes of the table are the boxes of the store.
 use Rattle.std.proofs.Common.{◌≡◌, suc, Bool, true, false, ◌||◌, cond, is_some, filter, List, [], ◌∷◌, length, Option, None, Some, refl, sym, ap, subst, ◌∙◌}
 use Rattle.std.specs.BTreeMap.{is_at}
-use Rattle.std.specs.List.{AllByRecursion}
 use Rattle.std.specs.List.Sorted.{IsStrictlySortedBy}
 use Rattle.std.specs.Map.{keys_of, values_of}
 use Rattle.std.specs.Ordering.{is_eq, nat_cmp}
@@ -18,7 +17,7 @@ use Rattle.node_record.specs.declared.table.Record.{Record}
 use Rattle.node_record.specs.Table.{Records, is_mailbox, is_mailbox_if, record_at, mailboxes_in}
 use Rattle.home_law.specs.ManyNames.{Mailbox}
 use Rattle.store_links.specs.Boxes.{BoxIsThere, EachIsABox, mailbox_names, SameNames, AsMany}
-use Rattle.store_links.specs.Shown.{Homes, content_at, IsMailboxOf, StateShows, RecordShows}
+use Rattle.store_links.specs.Shown.{Homes, content_at, StateShows, RecordShows}
 use Rattle.store_links.proofs.ShownLaw.{mailbox_by}
 use Rattle.store_links.proofs.SameKeys.{compared, is_one_of, IsBefore, before_none, same_keys}
 

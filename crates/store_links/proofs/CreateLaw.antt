@@ -1,5 +1,5 @@
 -- ACTIVATE of a mailbox that a CREATE made is the one store's CREATE.
-use Rattle.std.proofs.Common.{◌≡◌, ◌≢◌, ℕ, ◌+◌, Bool, true, false, cond, List, [], ◌∷◌, ◌++◌, map, Option, None, Some, refl, sym, ap, subst, ◌∙◌}
+use Rattle.std.proofs.Common.{◌≡◌, ℕ, ◌+◌, true, false, List, [], ◌∷◌, ◌++◌, Option, None, Some, refl, sym, ap, subst, ◌∙◌}
 use Rattle.std.specs.Ordering.{nat_cmp}
 use Rattle.std.specs.Cmp.Lexicographic.{slice_cmp}
 use Rattle.std.proofs.lemmas.Cmp.{nat_list_cmp_total}
@@ -9,12 +9,9 @@ use Rattle.mail_message.specs.FirstAcl.{first_acl}
 use Rattle.mur_base.specs.declared.home.Location.{Location}
 use Rattle.mur_base.proofs.MapLaws.{names_apart, value_at-with_entry, value_at-with_entry-other}
 use Rattle.mur_base.proofs.MapOrder.{with_entry-in_order}
-use Rattle.mur_model.specs.declared.store.Pair.{Pair}
 use Rattle.mur_model.specs.declared.store.Store.{Store}
 use Rattle.mur_model.specs.Store.{box_at}
 use Rattle.mupdate_codec.specs.declared.command.MCommand.{MCommand}
-use Rattle.mupdate_codec.specs.declared.command.MCommand.TheVariants as command
-use Rattle.node_record.specs.declared.held.Held.{Held}
 use Rattle.node_record.specs.declared.master.MasterRecord.{MasterRecord}
 use Rattle.node_record.specs.declared.master.MasterRecord.TheVariants as entry
 use Rattle.node_record.specs.declared.table.State.{State}
@@ -26,13 +23,13 @@ use Rattle.home_law.specs.Items.{Server, is_same_server}
 use Rattle.home_law.specs.ManyNames.{Mailbox}
 use Rattle.home_law.proofs.SameName.{is_the_same}
 use Rattle.name_links.specs.Contents.{content_in, new_box}
-use Rattle.name_links.specs.OneLink.{OneLink, server_of, table_by}
-use Rattle.name_links.specs.Serials.{serial_in, serial_at, Given, given_at, given_by, gives, IsMade}
+use Rattle.name_links.specs.OneLink.{server_of}
+use Rattle.name_links.specs.Serials.{serial_in, serial_at, Given, given_at, given_by, gives}
 use Rattle.name_links.proofs.StateTurn.{own_active, table_is}
 use Rattle.name_links.proofs.TableTurn.{entry_of, Change, nothing, reserved, activated, deactivated, deleted, line_changes}
 use Rattle.store_links.specs.Given.{given_pair, HasGiven}
-use Rattle.store_links.specs.Shown.{Homes, content_at, IsMailboxOf, RecordShows, NameShows, Shows}
-use Rattle.store_links.specs.TableEntries.{OthersStay, store_with, IsCreated, CreateIsOne}
+use Rattle.store_links.specs.Shown.{Homes, content_at, IsMailboxOf, RecordShows, Shows}
+use Rattle.store_links.specs.TableEntries.{OthersStay, store_with, CreateIsOne}
 use Rattle.store_links.proofs.GivenLaw.{new_is_free}
 use Rattle.store_links.proofs.ShownLaw.{none_by}
 use Rattle.store_links.proofs.TableLaw.{by_name}
@@ -102,10 +99,10 @@ module _ (table : MailboxTable) (homes : Homes) (store : Store) (n : Mailbox) (s
 pub create_is_one : CreateIsOne
 create_is_one link homes store given tag it line n place acl at shown has is gave made =
     let serial_is : serial_at link.table n ≡ Some made.serial =
-        one_given n (serial_at link.table n) made.serial (sym (ap (λ (m : Option MasterRecord). given_by link.table m) gave) ∙ made.gives_it) in
+    one_given n (serial_at link.table n) made.serial (sym (ap (λ (m : Option MasterRecord). given_by link.table m) gave) ∙ made.gives_it) in
     let here : place.server ≡ server_of link = at_server link.table (server_of link) it n place acl (line_changes link.table (server_of link) tag it line is) gave in
     let there : held_at (homes place.server) n ≡ Some (new_box n made.serial) =
-        ap (λ (q : Server). held_at (homes q) n) here ∙ ap (λ (held : Names). held_at held n) at ∙ made.made in
+    ap (λ (q : Server). held_at (homes q) n) here ∙ ap (λ (held : Names). held_at held n) at ∙ made.made in
     record {
       none = none_by homes n (box_at store n) (record_at link.table n) (no_mailbox (record_at link.table n) made.serial serial_is) (shown.names n);
       free = new_is_free store given n made.serial has made.positive made.new;

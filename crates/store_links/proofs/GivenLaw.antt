@@ -1,5 +1,5 @@
 -- The UIDVALIDITYs of the store are those that the master's lines gave.
-use Rattle.std.proofs.Common.{◌≡◌, ◌≢◌, ℕ, ◌<◌, ◌≤◌, ◌-◌, ◌^◌, Bool, false, ◌||◌, nat_eq, List, [], ◌∷◌, map, refl, sym, subst, arith}
+use Rattle.std.proofs.Common.{◌≡◌, ◌≢◌, ℕ, ◌<◌, ◌≤◌, ◌-◌, ◌^◌, false, nat_eq, List, [], ◌∷◌, map, refl, sym, subst, arith}
 use Rattle.std.specs.Prelude.{All}
 use Rattle.std.specs.List.{AllByRecursion}
 use Rattle.std.proofs.lemmas.Bool.Decides.{nat_tests}
@@ -21,7 +21,7 @@ all_given P (pair ∷ pairs) all = All-cons (λ (p : Pair). P (given_pair p)) pa
 pub new_is_free : NewIsFree
 new_is_free store given n serial has positive new =
     let all = all_given (λ (g : Mailbox × ℕ). (g.1 ≢ serial) × (g.0 ≡ n → g.1 < serial)) store.given
-        (subst (λ (gs : Given). AllByRecursion (λ (g : Mailbox × ℕ). (g.1 ≢ serial) × (g.0 ≡ n → g.1 < serial)) gs) (sym has) new) in
+    (subst (λ (gs : Given). AllByRecursion (λ (g : Mailbox × ℕ). (g.1 ≢ serial) × (g.0 ≡ n → g.1 < serial)) gs) (sym has) new) in
     record {
       positive = positive;
       unused = All-weaker (λ (p : Pair). (p.serial ≢ serial) × (p.name ≡ n → p.serial < serial)) (λ (p : Pair). p.serial ≢ serial) (λ p h. h.0) store.given all;

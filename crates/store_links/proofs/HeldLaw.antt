@@ -24,7 +24,7 @@ use Rattle.name_flows.proofs.OneStep.{held_placed-other}
 use Rattle.name_links.specs.Contents.{content_in}
 use Rattle.name_links.proofs.ServedLaw.{acl_kept}
 use Rattle.store_links.specs.HeldEntries.{IsAfter, IsNoMailboxAt, ChangesNone, OthersChangeNone, ContentsStay, changes_in, store_changed, IsChanged, MessagesChangeOne, AnyStoreWithIt}
-use Rattle.store_links.specs.Shown.{Homes, content_at, IsMailboxOf, StateShows, RecordShows, NameShows, Shows}
+use Rattle.store_links.specs.Shown.{Homes, content_at, IsMailboxOf, RecordShows, NameShows, Shows}
 use Rattle.store_links.specs.TableEntries.{OthersStay, acl_at, IsMailboxAt}
 use Rattle.store_links.proofs.Maps.{changed_to, changed_own, changed_other, all_forgotten_other}
 use Rattle.store_links.proofs.ShownLaw.{shows_as, record_of, mailbox_by, name_stays, record_stays}
@@ -194,9 +194,9 @@ module _ (table : MailboxTable) (homes then : Homes) (store : Store) (b : Server
   pub one_changes : IsChanged table then store b n changes
   one_changes =
       let there : box_at (store_changed store n was.content changes) n ≡ Some (content_after_all was.content changes) =
-          value_at-with_value (slice_cmp nat_cmp) names_apart store.boxes n (content_after_all was.content changes) was.content was.in_store in
+      value_at-with_value (slice_cmp nat_cmp) names_apart store.boxes n (content_after_all was.content changes) was.content was.in_store in
       let others : OthersStay store (store_changed store n was.content changes) n =
-          λ m ne. value_at-with_value-other (slice_cmp nat_cmp) names_apart store.boxes n m (content_after_all was.content changes) ne in
+      λ m ne. value_at-with_value-other (slice_cmp nat_cmp) names_apart store.boxes n m (content_after_all was.content changes) ne in
       record {
         box = was.content;
         was = was.in_store;

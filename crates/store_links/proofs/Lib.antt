@@ -5,6 +5,7 @@ pub mod TableLaw
 pub mod CreateLaw
 pub mod LineLaw
 pub mod HeldLaw
+pub mod StepLaw
 pub mod SameKeys
 pub mod BoxesLaw
 pub mod OpenLaw

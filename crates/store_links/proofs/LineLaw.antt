@@ -6,14 +6,13 @@ use Rattle.mur_model.specs.declared.store.Store.{Store}
 use Rattle.mupdate_codec.specs.declared.command.MCommand.{MCommand}
 use Rattle.mupdate_codec.specs.declared.command.MCommand.TheVariants as command
 use Rattle.mupdate_codec.specs.declared.tag.Tag.{Tag}
-use Rattle.node_record.specs.declared.held.Held.{Held}
 use Rattle.node_record.specs.declared.master.MasterRecord.{MasterRecord}
 use Rattle.node_record.specs.declared.master.MasterRecord.TheVariants as entry
 use Rattle.node_record.specs.declared.table.State.{State}
 use Rattle.node_record.specs.declared.table.State.TheVariants.{Bare, Kept, Active}
 use Rattle.node_record.specs.declared.table.Record.{Record}
 use Rattle.node_record.specs.Held.{Names, held_at}
-use Rattle.node_record.specs.Table.{MailboxTable, is_mailbox_if, record_at, table_after}
+use Rattle.node_record.specs.Table.{MailboxTable, is_mailbox_if, record_at}
 use Rattle.master_core.specs.declared.refusal.Refusal.{Refusal}
 use Rattle.master_core.specs.declared.sender.Sender.TheVariants.{Backend}
 use Rattle.master_core.specs.Refusals.{reserve_refusal, activate_refusal, deactivate_refusal, delete_refusal}
@@ -30,8 +29,8 @@ use Rattle.name_links.specs.Contents.{state_by, acl_in, HasAcl, command_fits, Co
 use Rattle.name_links.specs.Known.{known}
 use Rattle.name_links.specs.Lines.{is_asked, backend_line, items_of}
 use Rattle.name_links.specs.LinkIs.{AreSent, LinkHolds}
-use Rattle.name_links.specs.OneLink.{OneLink, server_of, items_if, up_items, back_of, table_by}
-use Rattle.name_links.specs.Serials.{serial_in, Given, given_at, given_by, gives, SerialsHold}
+use Rattle.name_links.specs.OneLink.{OneLink, server_of, items_if, up_items, back_of}
+use Rattle.name_links.specs.Serials.{serial_in, Given, given_at, given_by, SerialsHold}
 use Rattle.name_links.proofs.BoxLaw.{reserved_serial}
 use Rattle.name_links.proofs.ContentTakes.{taken_fits, LineNow, it_now}
 use Rattle.name_links.proofs.HearParts.{and_left, and_right}
@@ -136,9 +135,10 @@ module _ (link : OneLink) (homes : Homes) (store : Store) (given : Given) (it : 
       let was = kept_state b (record_at link.table m) (again_kept (mine_of (see (known link.table m) b)) (ctl_of true link.held link.flows m) now) in
       let list : acl_at link.table b m ≡ Some was.0 = ap acl_in was.1 in
       still (Some (entry.Active m place acl)) made
-      (others_make_none link.table homes store (entry.Active m place acl) shown
-      ((was.0, subst (λ (q : Server). acl_at link.table q m ≡ Some was.0) (sym at) list),
-      subst (λ (held : Names). HasAcl (held_at held m) acl) (sym (ap homes at ∙ at_home)) own))
+      (others_make_none link.table homes store (entry.Active m place acl) shown (
+        (was.0, subst (λ (q : Server). acl_at link.table q m ≡ Some was.0) (sym at) list),
+        subst (λ (held : Names). HasAcl (held_at held m) acl) (sym (ap homes at ∙ at_home)) own,
+      ))
       (ap (λ (z : Option ℕ). given_at m z) (has_list b (record_at link.table m) was.0 list).1)
 
   activates : (m : Mailbox) (place : Location) (acl : List ℕ) → it.1 ≡ command.Activate m place acl → place.server ≡ b → entry_of link.table b it.1 ≡ Some (entry.Active m place acl)
@@ -184,7 +184,7 @@ module _ (link : OneLink) (homes : Homes) (store : Store) (given : Given) (it : 
   taken (activated m place acl is at free made) = activates m place acl is (is_the_same place.server b at) made (is_asked it.0) refl
   taken (deactivated m place was acl at there here active made) =
       let list : acl_at link.table b m ≡ Some acl =
-          ap (λ (r : Option Record). acl_in (state_by b r)) there ∙ ap acl_in (state_here b was here) ∙ ap (λ (z : State). acl_in (Some z)) active in
+      ap (λ (r : Option Record). acl_in (state_by b r)) there ∙ ap acl_in (state_here b was here) ∙ ap (λ (z : State). acl_in (Some z)) active in
       still _ made
       (others_make_none link.table homes store (entry.Inactive m place) shown
       (acl, subst (λ (q : Server). acl_at link.table q m ≡ Some acl) (sym (is_the_same place.server b at)) list)) refl

@@ -1,6 +1,5 @@
 -- A name that is open at the server of its record is in the store as it is there.
-use Rattle.std.proofs.Common.{◌≡◌, Bool, cond, ℕ, List, Option, None, Some, refl, sym, ap, ◌∙◌}
-use Rattle.mail_message.specs.Boxes.{Content}
+use Rattle.std.proofs.Common.{◌≡◌, cond, ℕ, List, Option, None, Some, refl, sym, ap, ◌∙◌}
 use Rattle.mur_base.specs.declared.home.Phase.{Phase}
 use Rattle.backend_core.specs.declared.backend.Backend.{Backend}
 use Rattle.mur_model.specs.declared.store.Store.{Store}

@@ -1,5 +1,5 @@
 -- What is shown of a name by its record, and when it stays so.
-use Rattle.std.proofs.Common.{◌≡◌, ◌≢◌, ◌⊎◌, inl, inr, Bool, true, false, cond, List, [], ℕ, Option, None, Some, refl, sym, ap, subst, ◌∙◌}
+use Rattle.std.proofs.Common.{◌≡◌, ◌≢◌, ◌⊎◌, inl, inr, Bool, true, false, cond, List, ℕ, Option, None, Some, refl, sym, ap, subst, ◌∙◌}
 use Rattle.std.specs.List.Sorted.{IsStrictlySortedBy}
 use Rattle.std.specs.Ordering.{nat_cmp}
 use Rattle.std.specs.Cmp.Lexicographic.{slice_cmp}
@@ -16,8 +16,8 @@ use Rattle.home_law.specs.Items.{Server, is_same_server}
 use Rattle.home_law.specs.ManyNames.{Mailbox}
 use Rattle.home_law.proofs.SameName.{is_itself, is_the_same}
 use Rattle.name_links.specs.Contents.{state_by, acl_in, content_in}
-use Rattle.store_links.specs.Shown.{Homes, content_at, IsMailboxOf, StateShows, RecordShows, NameShows, Shows, ShowsFirst}
-use Rattle.store_links.specs.TableEntries.{acl_at, IsNoMailbox}
+use Rattle.store_links.specs.Shown.{Homes, content_at, IsMailboxOf, StateShows, RecordShows, NameShows, ShowsFirst}
+use Rattle.store_links.specs.TableEntries.{acl_at}
 
 pub shows_first : ShowsFirst
 unfolding IsStrictlySortedBy

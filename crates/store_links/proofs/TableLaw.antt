@@ -1,5 +1,5 @@
 -- The entries of the master: those that make no mailbox and remove none, and DELETE of one.
-use Rattle.std.proofs.Common.{◌≡◌, ◌≢◌, ◌⊎◌, inl, inr, Bool, true, false, cond, ℕ, List, [], ◌∷◌, Option, None, Some, refl, sym, ap, subst, ◌∙◌}
+use Rattle.std.proofs.Common.{◌≡◌, ◌≢◌, ◌⊎◌, inl, inr, Bool, true, false, cond, ℕ, List, Option, None, Some, refl, sym, ap, subst, ◌∙◌}
 use Rattle.std.specs.Ordering.{nat_cmp}
 use Rattle.std.specs.Cmp.Lexicographic.{slice_cmp}
 use Rattle.std.proofs.lemmas.Cmp.{nat_list_cmp_total}
@@ -16,7 +16,7 @@ use Rattle.node_record.specs.declared.master.MasterRecord.TheVariants as entry
 use Rattle.node_record.specs.declared.table.State.{State}
 use Rattle.node_record.specs.declared.table.State.TheVariants.{Bare, Kept, Active}
 use Rattle.node_record.specs.declared.table.Record.{Record}
-use Rattle.node_record.specs.Held.{held_at, has_content}
+use Rattle.node_record.specs.Held.{held_at}
 use Rattle.node_record.specs.Table.{Records, MailboxTable, is_mailbox_if, record_at, kept_state, moved, reserved_again, table_after}
 use Rattle.master_core.specs.Servers.{name_of}
 use Rattle.home_law.specs.ManyNames.{Mailbox}
@@ -25,7 +25,7 @@ use Rattle.name_links.specs.Contents.{acl_in, HasAcl, content_in}
 use Rattle.name_links.proofs.LinesByName.{order_kept}
 use Rattle.name_links.proofs.StateTurn.{own_reserved, own_active, own_kept, own_deleted, record_other}
 use Rattle.store_links.specs.Shown.{Homes, content_at, IsMailboxOf, StateShows, RecordShows, NameShows, Shows}
-use Rattle.store_links.specs.TableEntries.{OthersStay, acl_at, MakesNone, OthersMakeNone, without_box, IsRemoved, DeleteIsOne}
+use Rattle.store_links.specs.TableEntries.{OthersStay, MakesNone, OthersMakeNone, without_box, IsRemoved, DeleteIsOne}
 use Rattle.store_links.proofs.ShownLaw.{none_by, shows_as, record_of, mailbox_by, name_stays}
 
 -- ---- the table stays in order

@@ -7,9 +7,15 @@ use Rattle.node_record.specs.Held.{IsWritableHome}
 use Rattle.node_record.specs.Table.{MailboxTable}
 use Rattle.home_law.specs.Items.{Server}
 use Rattle.home_law.specs.ManyNames.{Mailbox}
+use Rattle.name_links.specs.LinkIs.{LinkHolds}
+use Rattle.name_links.specs.OneLink.{OneLink, server_of}
 use Rattle.serve_law.specs.AsTheStore.{HaveAlike}
 use Rattle.store_links.specs.Shown.{Homes, Shows}
 use Rattle.store_links.specs.TableEntries.{IsMailboxAt, IsNoMailbox}
+
+-- a name that is open at a backend is a mailbox, and its record names that backend
+abbrev pub OpenIsMailbox : Type 0
+OpenIsMailbox = (link : OneLink) (n : Mailbox) → LinkHolds link → IsWritableHome link.held n → IsMailboxAt link.table (server_of link) n
 
 -- the record of a mailbox names this server, and it is open here
 abbrev pub OpenIsAlike : Type 0

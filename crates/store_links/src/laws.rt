@@ -4,8 +4,9 @@ ghost use Rattle.store_links.specs.Given.{GivenFirst, NewIsFree, GivenAreLow, No
 ghost use Rattle.store_links.specs.TableEntries.{CreateIsOne, OthersMakeNone, DeleteIsOne};
 ghost use Rattle.store_links.specs.Lines.{EachIsOne};
 ghost use Rattle.store_links.specs.HeldEntries.{OthersChangeNone, ContentsStay, MessagesChangeOne, AnyStoreWithIt};
+ghost use Rattle.store_links.specs.Steps.{AsksAreNothing, HearsAreNothing, MessageStepsAreOne};
 ghost use Rattle.store_links.specs.Boxes.{BoxIsThere, EachIsABox, SameNames, AsMany};
-ghost use Rattle.store_links.specs.OpenHome.{OpenIsAlike, NoneIsMissing};
+ghost use Rattle.store_links.specs.OpenHome.{OpenIsMailbox, OpenIsAlike, NoneIsMissing};
 
 /// Without mailboxes it is the empty store, which gave no UIDVALIDITY.
 pub fn no_mailbox_is_the_empty_store()
@@ -45,6 +46,14 @@ pub fn only_messages_change_a_mailbox()
     ensures still { ContentsStay }
 {}
 
+/// On a link of which all holds that `name_links` says, a backend's message step is one of the store, and what comes of CREATE and DELETE leaves the
+/// store as it is.
+pub fn a_step_changes_messages_or_nothing()
+    ensures asks { AsksAreNothing }
+    ensures hears { HearsAreNothing }
+    ensures serves { MessageStepsAreOne }
+{}
+
 /// The store's box of a mailbox is what the server of its record has. The names of mailboxes in the table are those of the store's boxes, so there
 /// are as many.
 pub fn each_mailbox_is_a_box()
@@ -56,6 +65,7 @@ pub fn each_mailbox_is_a_box()
 
 /// A mailbox that is open at its record's server is there as the store has it, and a name that is no mailbox isn't in the store.
 pub fn an_open_mailbox_is_the_stores()
+    ensures mailbox { OpenIsMailbox }
     ensures alike { OpenIsAlike }
     ensures none { NoneIsMissing }
 {}
