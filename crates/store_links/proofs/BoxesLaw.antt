@@ -88,7 +88,8 @@ names_kept [] = refl
 names_kept (it ∷ records) = by_test (is_mailbox it.1) (names_kept records)
   where
     by_test : (t : Bool) → length (mailbox_names records) ≡ length (filter is_mailbox (values_of records))
-        → length (cond t (it.0 ∷ mailbox_names records) (mailbox_names records)) ≡ length (cond t (it.1 ∷ filter is_mailbox (values_of records)) (filter is_mailbox (values_of records)))
+        → length (cond t (it.0 ∷ mailbox_names records) (mailbox_names records))
+        ≡ length (cond t (it.1 ∷ filter is_mailbox (values_of records)) (filter is_mailbox (values_of records)))
     by_test true rest = ap suc rest
     by_test false rest = rest
 

@@ -94,19 +94,22 @@ module _ (table : MailboxTable) (homes : Homes) (store : Store) (n : Mailbox) (s
 
   gave_now : (given more : Given) → HasGiven store given → more ≡ (n, serial) ∷ [] → HasGiven now (given ++ more)
   gave_now given more has e =
-      map-append given_pair store.given ((record { name = n; serial = serial }) ∷ []) ∙ ap (λ (gs : Given). gs ++ (n, serial) ∷ []) has ∙ ap (λ (gs : Given). given ++ gs) (sym e)
+      map-append given_pair store.given ((record { name = n; serial = serial }) ∷ []) ∙ ap (λ (gs : Given). gs ++ (n, serial) ∷ []) has
+      ∙ ap (λ (gs : Given). given ++ gs) (sym e)
 
 pub create_is_one : CreateIsOne
 create_is_one link homes store given tag it line n place acl at shown has is gave made =
     let serial_is : serial_at link.table n ≡ Some made.serial =
     one_given n (serial_at link.table n) made.serial (sym (ap (λ (m : Option MasterRecord). given_by link.table m) gave) ∙ made.gives_it) in
-    let here : place.server ≡ server_of link = at_server link.table (server_of link) it n place acl (line_changes link.table (server_of link) tag it line is) gave in
+    let here : place.server ≡ server_of link = at_server link.table (server_of link) it n place acl
+    (line_changes link.table (server_of link) tag it line is) gave in
     let there : held_at (homes place.server) n ≡ Some (new_box n made.serial) =
     ap (λ (q : Server). held_at (homes q) n) here ∙ ap (λ (held : Names). held_at held n) at ∙ made.made in
     record {
       none = none_by homes n (box_at store n) (record_at link.table n) (no_mailbox (record_at link.table n) made.serial serial_is) (shown.names n);
       free = new_is_free store given n made.serial has made.positive made.new;
-      shows = subst (λ (t : MailboxTable). Shows t homes (store_with store n made.serial)) (sym (table_is link.table (server_of link) it (Some (entry.Active n place acl)) gave))
+      shows = subst (λ (t : MailboxTable). Shows t homes (store_with store n made.serial))
+          (sym (table_is link.table (server_of link) it (Some (entry.Active n place acl)) gave))
           (made_shows link.table homes store n made.serial shown place acl made.first there);
       gave = gave_now link.table homes store n made.serial shown given (gives link.table (server_of link) it) has made.gives_it;
       others = others_kept link.table homes store n made.serial shown;

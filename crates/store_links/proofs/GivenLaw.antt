@@ -25,7 +25,8 @@ new_is_free store given n serial has positive new =
     record {
       positive = positive;
       unused = All-weaker (λ (p : Pair). (p.serial ≢ serial) × (p.name ≡ n → p.serial < serial)) (λ (p : Pair). p.serial ≢ serial) (λ p h. h.0) store.given all;
-      rises = All-weaker (λ (p : Pair). (p.serial ≢ serial) × (p.name ≡ n → p.serial < serial)) (λ (p : Pair). p.name ≡ n → p.serial < serial) (λ p h. h.1) store.given all;
+      rises = All-weaker (λ (p : Pair). (p.serial ≢ serial) × (p.name ≡ n → p.serial < serial)) (λ (p : Pair). p.name ≡ n → p.serial < serial)
+          (λ p h. h.1) store.given all;
     }
 
 pub given_are_low : GivenAreLow
@@ -33,7 +34,8 @@ given_are_low table store given has serials =
     all_given (λ (g : Mailbox × ℕ). g.1 ≤ table.serial) store.given
     (subst (λ (gs : Given). AllByRecursion (λ (g : Mailbox × ℕ). g.1 ≤ table.serial) gs) (sym has) serials.given_low)
 
-none_last : (last : ℕ) (pairs : List Pair) → last < 2 ^ 32 - 1 → AllByRecursion (λ (g : Mailbox × ℕ). g.1 ≤ last) (map given_pair pairs) → is_spent pairs ≡ false
+none_last : (last : ℕ) (pairs : List Pair) → last < 2 ^ 32 - 1 → AllByRecursion (λ (g : Mailbox × ℕ). g.1 ≤ last) (map given_pair pairs)
+    → is_spent pairs ≡ false
 unfolding is_spent
 none_last last [] lt all = refl
 none_last last (pair ∷ pairs) lt all =

@@ -23,7 +23,8 @@ use Rattle.home_law.specs.ManyNames.{Mailbox}
 use Rattle.name_flows.proofs.OneStep.{held_placed-other}
 use Rattle.name_links.specs.Contents.{content_in}
 use Rattle.name_links.proofs.ServedLaw.{acl_kept}
-use Rattle.store_links.specs.HeldEntries.{IsAfter, IsNoMailboxAt, ChangesNone, OthersChangeNone, ContentsStay, changes_in, store_changed, IsChanged, MessagesChangeOne, AnyStoreWithIt}
+use Rattle.store_links.specs.HeldEntries.{IsAfter, IsNoMailboxAt, ChangesNone, OthersChangeNone, ContentsStay, changes_in, store_changed, IsChanged}
+use Rattle.store_links.specs.HeldEntries.{MessagesChangeOne, AnyStoreWithIt}
 use Rattle.store_links.specs.Shown.{Homes, content_at, IsMailboxOf, RecordShows, NameShows, Shows}
 use Rattle.store_links.specs.TableEntries.{OthersStay, acl_at, IsMailboxAt}
 use Rattle.store_links.proofs.Maps.{changed_to, changed_own, changed_other, all_forgotten_other}
@@ -41,14 +42,16 @@ phase_content p e (Some it) = by_test (has_content it.phase) refl
     by_test false f = ap (λ (t : Bool). cond t (Some it.content) None) f
 
 -- changes of messages change it
-changed_content : (box : Content) (changes : List Change) (h : Option Held) → content_in h ≡ Some box → content_in (changed_to (with_changes changes) h) ≡ Some (content_after_all box changes)
+changed_content : (box : Content) (changes : List Change) (h : Option Held) → content_in h ≡ Some box
+    → content_in (changed_to (with_changes changes) h) ≡ Some (content_after_all box changes)
 changed_content box changes None e = cc
 changed_content box changes (Some it) e = by_test (has_content it.phase) refl
   where
     by_test : (t : Bool) → has_content it.phase ≡ t → content_in (Some (cond t (with_changes changes it) it)) ≡ Some (content_after_all box changes)
     by_test true f =
         let both : Some it.content ≡ Some box = sym (ap (λ (t : Bool). cond t (Some it.content) None) f) ∙ e in
-        ap (λ (t : Bool). cond t (Some (content_after_all it.content changes)) None) f ∙ ap (λ (c : Content). Some (content_after_all c changes)) (same_Some it.content box both)
+        ap (λ (t : Bool). cond t (Some (content_after_all it.content changes)) None) f
+        ∙ ap (λ (c : Content). Some (content_after_all c changes)) (same_Some it.content box both)
     by_test false f = let no : (let o : Option Content = None in o ≡ Some box) = sym (ap (λ (t : Bool). cond t (Some it.content) None) f) ∙ e in cc
 
 -- ---- entries that change no mailbox
@@ -74,7 +77,8 @@ module _ (table : MailboxTable) (b : Server) (held : Names) (n : Mailbox) where
           (ap content_in (changed_own held m (with_phase p)) ∙ phase_content p e (held_at held m)))
       by_name (inr ne) = inr (ap content_in (changed_other held m (with_phase p) n ne))
 
-  differ : (acl : List ℕ) (names : List Mailbox) → acl_at table b n ≡ Some acl → AllByRecursion (IsNoMailboxAt table b) names → AllByRecursion (λ m. n ≢ m) names
+  differ : (acl : List ℕ) (names : List Mailbox) → acl_at table b n ≡ Some acl → AllByRecursion (IsNoMailboxAt table b) names
+      → AllByRecursion (λ m. n ≢ m) names
   differ acl [] e all = tt
   differ acl (m ∷ names) e all = (
     (λ same. let no : Some acl ≡ None = sym e ∙ subst (λ (k : Mailbox). acl_at table b k ≡ None) (sym same) all.0 in cc),
@@ -115,7 +119,8 @@ contents_stay table homes then store b shown others same = record {
 pub others_change_none : OthersChangeNone
 others_change_none table homes then store b it shown after none = record {
   names = λ n. record_stays homes then b after.others n (box_at store n) (record_at table n)
-      (subst (λ (held : Names). (acl_at table b n ≡ None) ⊎ (content_in (held_at held n) ≡ content_at homes b n)) (sym after.own) (stays table b (homes b) n it none))
+      (subst (λ (held : Names). (acl_at table b n ≡ None) ⊎ (content_in (held_at held n) ≡ content_at homes b n)) (sym after.own)
+      (stays table b (homes b) n it none))
       (shown.names n);
   records_in_order = shown.records_in_order;
   boxes_in_order = shown.boxes_in_order;
@@ -130,7 +135,8 @@ same_changes held m n made changes e =
     let other : Mailbox × List Change = (n, changes) in
     ap (λ (p : Mailbox × List Change). changed held p.0 (with_changes p.1)) (same_Some one other e)
 
-entry_is : (held : Names) (it : BackendRecord) (n : Mailbox) (changes : List Change) → changes_in it ≡ Some (n, changes) → held_after held it ≡ changed held n (with_changes changes)
+entry_is : (held : Names) (it : BackendRecord) (n : Mailbox) (changes : List Change) → changes_in it ≡ Some (n, changes)
+    → held_after held it ≡ changed held n (with_changes changes)
 entry_is held (entry.Make m serial acl) n changes e = cc
 entry_is held (entry.Opened m) n changes e = cc
 entry_is held (entry.Added m messages) n changes e = same_changes held m n _ changes e
@@ -143,7 +149,8 @@ entry_is held (entry.Ready m next) n changes e = cc
 entry_is held (entry.Pointer m server) n changes e = cc
 entry_is held (entry.Forget names) n changes e = cc
 
-module _ (table : MailboxTable) (homes then : Homes) (store : Store) (b : Server) (it : BackendRecord) (n : Mailbox) (changes : List Change) (e : changes_in it ≡ Some (n, changes))
+module _ (table : MailboxTable) (homes then : Homes) (store : Store) (b : Server) (it : BackendRecord) (n : Mailbox) (changes : List Change)
+    (e : changes_in it ≡ Some (n, changes))
     (shown : Shows table homes store) (after : IsAfter homes then b it) (is : IsMailboxAt table b n) where
   was : IsMailboxOf (content_at homes b n) (box_at store n) is.0
   was = mailbox_by table homes store b n is.0 is.1 (shown.names n)

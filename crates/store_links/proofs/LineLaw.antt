@@ -16,7 +16,8 @@ use Rattle.node_record.specs.Table.{MailboxTable, is_mailbox_if, record_at}
 use Rattle.master_core.specs.declared.refusal.Refusal.{Refusal}
 use Rattle.master_core.specs.declared.sender.Sender.TheVariants.{Backend}
 use Rattle.master_core.specs.Refusals.{reserve_refusal, activate_refusal, deactivate_refusal, delete_refusal}
-use Rattle.master_core.specs.Replies.{reserve_by, activate_by, deactivate_by, delete_by, reserve_reply, activate_reply, deactivate_reply, delete_reply, find_reply, list_reply, update_reply, noop_reply, logout_reply, reply_to}
+use Rattle.master_core.specs.Replies.{reserve_by, activate_by, deactivate_by, delete_by, reserve_reply, activate_reply, deactivate_reply, delete_reply}
+use Rattle.master_core.specs.Replies.{find_reply, list_reply, update_reply, noop_reply, logout_reply, reply_to}
 use Rattle.master_core.specs.Step.{table_with}
 use Rattle.home_law.specs.Items.{Server, Mine, Ctl, Item, again, delete, wipe}
 use Rattle.home_law.specs.Link.{see}
@@ -97,7 +98,8 @@ unfolding backend_line
 delete_line b tag m = refl
 
 -- what it is to its name
-one_item : (P : Item → Type 0) (m : Mailbox) (t : Bool) (rest : List Item) → EachItem P (items_of m (cond t (sent_delete m) (sent_wipe m)) ++ rest) → P (cond t delete wipe)
+one_item : (P : Item → Type 0) (m : Mailbox) (t : Bool) (rest : List Item) → EachItem P (items_of m (cond t (sent_delete m) (sent_wipe m)) ++ rest)
+    → P (cond t delete wipe)
 unfolding items_of EachItem
 one_item P m true rest a = let all : EachItem P (delete ∷ rest) = subst (λ (s : Bool). EachItem P (cond s (delete ∷ []) [] ++ rest)) (is_itself m) a in all.0
 one_item P m false rest a = let all : EachItem P (wipe ∷ rest) = subst (λ (s : Bool). EachItem P (cond s (wipe ∷ []) [] ++ rest)) (is_itself m) a in all.0
@@ -110,7 +112,8 @@ wipe_bare : (m : Mine) (c : Ctl) → line_ok m c wipe ≡ true → is_bare m ≡
 unfolding line_ok
 wipe_bare m c e = and_right _ (is_bare m) (and_left _ (not c.hears || is_idle c.flow || is_reserving c.flow) e)
 
-module _ (link : OneLink) (homes : Homes) (store : Store) (given : Given) (it : Tag × MCommand) (ups : List (Tag × MCommand)) (holds : LinkHolds link) (c : ContentHolds link)
+module _ (link : OneLink) (homes : Homes) (store : Store) (given : Given) (it : Tag × MCommand) (ups : List (Tag × MCommand)) (holds : LinkHolds link)
+    (c : ContentHolds link)
     (serials : SerialsHold link.table given) (e : link.ups ≡ it ∷ ups) (at_home : homes (server_of link) ≡ link.held) (shown : Shows link.table homes store)
     (has : HasGiven store given) (line : Tag × OpenLine) (lines : List (Tag × OpenLine)) (first : holds.is.tied.left ≡ line ∷ lines) where
   abbrev b : Server
@@ -123,9 +126,11 @@ module _ (link : OneLink) (homes : Homes) (store : Store) (given : Given) (it : 
   is_line = line_is link it ups holds.ready holds.is e line lines first
 
   -- no mailbox is made or removed
-  still : (made : Option MasterRecord) → entry_of link.table b it.1 ≡ made → Shows (table_with link.table made) homes store → given_by link.table made ≡ [] → Taken
+  still : (made : Option MasterRecord) → entry_of link.table b it.1 ≡ made → Shows (table_with link.table made) homes store → given_by link.table made ≡ []
+      → Taken
   still made f s none =
-      nothing (subst (λ (t : MailboxTable). Shows t homes store) (sym (table_is link.table b it.1 made f)) s) (ap (λ (m : Option MasterRecord). given_by link.table m) f ∙ none)
+      nothing (subst (λ (t : MailboxTable). Shows t homes store) (sym (table_is link.table b it.1 made f)) s)
+      (ap (λ (m : Option MasterRecord). given_by link.table m) f ∙ none)
 
   -- ---- ACTIVATE
 
@@ -141,7 +146,8 @@ module _ (link : OneLink) (homes : Homes) (store : Store) (given : Given) (it : 
       ))
       (ap (λ (z : Option ℕ). given_at m z) (has_list b (record_at link.table m) was.0 list).1)
 
-  activates : (m : Mailbox) (place : Location) (acl : List ℕ) → it.1 ≡ command.Activate m place acl → place.server ≡ b → entry_of link.table b it.1 ≡ Some (entry.Active m place acl)
+  activates : (m : Mailbox) (place : Location) (acl : List ℕ) → it.1 ≡ command.Activate m place acl → place.server ≡ b
+      → entry_of link.table b it.1 ≡ Some (entry.Active m place acl)
       → (t : Bool) → is_asked it.0 ≡ t → Taken
   activates m place acl is at made true asked =
       let new = create_makes_one link given it ups m place acl holds c serials e asked made in
@@ -150,7 +156,8 @@ module _ (link : OneLink) (homes : Homes) (store : Store) (given : Given) (it : 
   activates m place acl is at made false asked =
       again_is m place acl at made
       (subst (λ (t : Bool). item_fits (LineNow link it ups holds c e line lines first) t (command.Activate m place acl)) asked
-      (subst (λ (k : MCommand). item_fits (LineNow link it ups holds c e line lines first) (is_asked it.0) k) is (it_now link it ups holds c e line lines first)))
+      (subst (λ (k : MCommand). item_fits (LineNow link it ups holds c e line lines first) (is_asked it.0) k) is
+      (it_now link it ups holds c e line lines first)))
       (subst (λ (t : Bool). command_fits link.table b link.held t (command.Activate m place acl)) asked
       (subst (λ (k : MCommand). command_fits link.table b link.held (is_asked it.0) k) is (taken_fits link it ups holds c e line lines first)))
 
@@ -161,8 +168,10 @@ module _ (link : OneLink) (homes : Homes) (store : Store) (given : Given) (it : 
   delete_now m is =
       let all : EachItem (LineNow link it ups holds c e line lines first m) (flat_map (up_items b m) link.ups) = (holds.is.named m).ups in
       one_item (LineNow link it ups holds c e line lines first m) m (is_asked it.0) (flat_map (up_items b m) ups)
-      (subst (λ (o : Option OpenLine). EachItem (LineNow link it ups holds c e line lines first m) (items_if m o ++ flat_map (up_items b m) ups)) (delete_line b it.0 m)
-      (subst (λ (k : MCommand). EachItem (LineNow link it ups holds c e line lines first m) (items_if m (backend_line b it.0 k) ++ flat_map (up_items b m) ups)) is
+      (subst (λ (o : Option OpenLine). EachItem (LineNow link it ups holds c e line lines first m) (items_if m o ++ flat_map (up_items b m) ups))
+      (delete_line b it.0 m)
+      (subst (λ (k : MCommand). EachItem (LineNow link it ups holds c e line lines first m)
+      (items_if m (backend_line b it.0 k) ++ flat_map (up_items b m) ups)) is
       (subst (λ (us : List (Tag × MCommand)). EachItem (LineNow link it ups holds c e line lines first m) (flat_map (up_items b m) us)) e all)))
 
   deletes_one : (m : Mailbox) → it.1 ≡ command.Delete m → entry_of link.table b it.1 ≡ Some (entry.Deleted m) → (t : Bool) → is_asked it.0 ≡ t
@@ -174,13 +183,15 @@ module _ (link : OneLink) (homes : Homes) (store : Store) (given : Given) (it : 
   deletes_one m is made false asked now =
       let was = bare_state b (record_at link.table m) (wipe_bare (mine_of (see (known link.table m) b)) (ctl_of true link.held link.flows m) now) in
       still (Some (entry.Deleted m)) made
-      (others_make_none link.table homes store (entry.Deleted m) shown (no_mailbox (record_at link.table m) was.0 (reserved_serial b (record_at link.table m) was.0 was.1))) refl
+      (others_make_none link.table homes store (entry.Deleted m) shown
+      (no_mailbox (record_at link.table m) was.0 (reserved_serial b (record_at link.table m) was.0 was.1))) refl
 
   -- ---- by what the line finds
 
   taken : Change link.table b it.1 → Taken
   taken (changes_nothing made) = still None made shown refl
-  taken (reserved m place is at none made) = still _ made (others_make_none link.table homes store (entry.Reserved m place _) shown (ap is_mailbox_if none)) refl
+  taken (reserved m place is at none made) = still _ made (others_make_none link.table homes store (entry.Reserved m place _) shown
+      (ap is_mailbox_if none)) refl
   taken (activated m place acl is at free made) = activates m place acl is (is_the_same place.server b at) made (is_asked it.0) refl
   taken (deactivated m place was acl at there here active made) =
       let list : acl_at link.table b m ≡ Some acl =

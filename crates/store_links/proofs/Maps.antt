@@ -41,6 +41,7 @@ forgotten_other [] m n ne = refl
 forgotten_other (e ∷ es) m n ne =
     forgotten_by e es (forgotten es m) m n (not_equal (slice_cmp nat_cmp) names_apart n m ne) (forgotten_other es m n ne) (is_eq (slice_cmp nat_cmp m e.0)) refl
 
-pub all_forgotten_other : (names : List Mailbox) (held : Names) (n : Mailbox) → AllByRecursion (λ m. n ≢ m) names → held_at (fold forgotten held names) n ≡ held_at held n
+pub all_forgotten_other : (names : List Mailbox) (held : Names) (n : Mailbox) → AllByRecursion (λ m. n ≢ m) names
+    → held_at (fold forgotten held names) n ≡ held_at held n
 all_forgotten_other [] held n all = refl
 all_forgotten_other (m ∷ names) held n all = all_forgotten_other names (forgotten held m) n all.1 ∙ forgotten_other held m n all.0

@@ -36,7 +36,11 @@ SameMembers xs ys = (n : Mailbox) → is_one_of n xs ≡ is_one_of n ys
 -- the first of one stands before all of the other
 missed : (x y : Mailbox) (xs ys : List Mailbox) → compared x y ≡ Less → IsBefore y ys → SameMembers (x ∷ xs) (y ∷ ys) → ⊥
 missed x y xs ys l before same =
-    let all : IsBefore x (y ∷ ys) = (l, all_as (λ (z : Mailbox). compared y z ≡ Less) (λ (z : Mailbox). compared x z ≡ Less) (λ z h. nat_list_cmp_total.trans x y z l h) ys before) in
+    let all : IsBefore x (y ∷ ys) = (
+      l,
+      all_as (λ (z : Mailbox). compared y z ≡ Less) (λ (z : Mailbox). compared x z ≡ Less)
+          (λ z h. nat_list_cmp_total.trans x y z l h) ys before,
+    ) in
     let no : true ≡ false = sym (first_is x xs) ∙ same x ∙ before_none x (y ∷ ys) all in cc
 
 tails : (x : Mailbox) (xs ys : List Mailbox) → IsBefore x xs → IsBefore x ys → SameMembers (x ∷ xs) (x ∷ ys) → SameMembers xs ys

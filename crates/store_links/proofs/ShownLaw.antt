@@ -80,7 +80,8 @@ module _ (table : MailboxTable) (homes : Homes) (store : Store) (b : Server) (n 
 -- ---- when it stays
 
 -- the record and the box stay
-pub name_stays : (table then : MailboxTable) (homes : Homes) (store later : Store) (n : Mailbox) → record_at then n ≡ record_at table n → box_at later n ≡ box_at store n
+pub name_stays : (table then : MailboxTable) (homes : Homes) (store later : Store) (n : Mailbox) → record_at then n ≡ record_at table n
+    → box_at later n ≡ box_at store n
     → NameShows table homes store n → NameShows then homes later n
 name_stays table then homes store later n r e s =
     subst (λ (f : Option Record). RecordShows homes n (box_at later n) f) (sym r)
@@ -98,12 +99,14 @@ module _ (homes then : Homes) (b : Server) (others : (q : Server) → q ≢ b �
       list : acl_in (Some it.state) ≡ None
       list = sym (ap (λ (t : Bool). acl_in (cond t (Some it.state) None)) own) ∙ none
 
-      by_state : (z : State) → it.state ≡ z → StateShows (content_at homes (it.place).server n) there z → StateShows (content_at then (it.place).server n) there z
+      by_state : (z : State) → it.state ≡ z → StateShows (content_at homes (it.place).server n) there z
+          → StateShows (content_at then (it.place).server n) there z
       by_state (Bare serial) f s = s
       by_state (Kept acl) f s = let no : Some acl ≡ None = sym (ap (λ (z : State). acl_in (Some z)) f) ∙ list in cc
       by_state (Active acl) f s = let no : Some acl ≡ None = sym (ap (λ (z : State). acl_in (Some z)) f) ∙ list in cc
 
-  pub record_stays : (r : Option Record) → (acl_in (state_by b r) ≡ None) ⊎ (content_at then b n ≡ content_at homes b n) → RecordShows homes n there r → RecordShows then n there r
+  pub record_stays : (r : Option Record) → (acl_in (state_by b r) ≡ None) ⊎ (content_at then b n ≡ content_at homes b n) → RecordShows homes n there r
+      → RecordShows then n there r
   record_stays None c s = s
   record_stays (Some it) c s = by_server (same_or_other (slice_cmp nat_cmp) names_apart (it.place).server b) c
     where
@@ -112,4 +115,5 @@ module _ (homes then : Homes) (b : Server) (others : (q : Server) → q ≢ b �
       by_server (inr ne) c = subst (λ (held : Names). StateShows (content_in (held_at held n)) there it.state) (sym (others (it.place).server ne)) s
       by_server (inl at) (inl none) = none_here it at none s
       by_server (inl at) (inr same) =
-          subst (λ (here : Option Content). StateShows here there it.state) (sym (subst (λ (q : Server). content_at then q n ≡ content_at homes q n) (sym at) same)) s
+          subst (λ (here : Option Content). StateShows here there it.state)
+          (sym (subst (λ (q : Server). content_at then q n ≡ content_at homes q n) (sym at) same)) s

@@ -58,7 +58,8 @@ module _ (link : OneLink) (homes then : Homes) (store : Store) (held : Names) (n
       → content_in (held_at held n) ≡ content_in (held_at link.held n)) → Shows link.table then store
   still same =
       contents_stay link.table homes then store (server_of link) shown now.others
-      (λ n acl e. ap (λ (names : Names). content_in (held_at names n)) now.own ∙ same n acl e ∙ sym (ap (λ (names : Names). content_in (held_at names n)) now.was))
+      (λ n acl e. ap (λ (names : Names). content_in (held_at names n)) now.own ∙ same n acl e
+      ∙ sym (ap (λ (names : Names). content_in (held_at names n)) now.was))
 
 pub asks_are_nothing : AsksAreNothing
 asks_are_nothing link homes then store ask now shown =
@@ -70,14 +71,16 @@ hears_are_nothing link homes then store it downs holds c e now shown =
 
 -- ---- message steps
 
-named : (held : Names) (m n : Mailbox) (made changes : List Change) → ◌≡◌ {A = Option (Mailbox × List Change)} (Some (m, made)) (Some (n, changes)) → IsWritableHome held m
+named : (held : Names) (m n : Mailbox) (made changes : List Change) → ◌≡◌ {A = Option (Mailbox × List Change)} (Some (m, made)) (Some (n, changes))
+    → IsWritableHome held m
     → IsWritableHome held n
 named held m n made changes e s =
     let one : Mailbox × List Change = (m, made) in
     let other : Mailbox × List Change = (n, changes) in subst (λ (p : Mailbox × List Change). IsWritableHome held p.0) (same_Some one other e) s
 
 -- the name of an entry about messages is open here
-is_open : (held : Names) (it : BackendRecord) (n : Mailbox) (changes : List Change) → changes_in it ≡ Some (n, changes) → IsMessageStep held it → IsWritableHome held n
+is_open : (held : Names) (it : BackendRecord) (n : Mailbox) (changes : List Change) → changes_in it ≡ Some (n, changes) → IsMessageStep held it
+    → IsWritableHome held n
 is_open held (entry.Make m serial acl) n changes e s = absurd s
 is_open held (entry.Opened m) n changes e s = absurd s
 is_open held (entry.Added m messages) n changes e s = named held m n _ changes e s

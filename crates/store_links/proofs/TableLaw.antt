@@ -35,7 +35,8 @@ again_order : (records : Records) (n : Mailbox) (place : Location) (found : Opti
 again_order records n place None order = order
 again_order records n place (Some it) order = with_value-in_order (slice_cmp nat_cmp) records n (moved place it) order
 
-pub table_order : (table : MailboxTable) (e : MasterRecord) → IsInOrder (slice_cmp nat_cmp) table.records → IsInOrder (slice_cmp nat_cmp) (table_after table e).records
+pub table_order : (table : MailboxTable) (e : MasterRecord) → IsInOrder (slice_cmp nat_cmp) table.records
+    → IsInOrder (slice_cmp nat_cmp) (table_after table e).records
 table_order table (entry.Reserved n place serial) order = with_entry-in_order (slice_cmp nat_cmp) nat_list_cmp_total table.records n _ order
 table_order table (entry.Active n place acl) order = with_entry-in_order (slice_cmp nat_cmp) nat_list_cmp_total table.records n _ order
 table_order table (entry.Inactive n place) order = again_order table.records n place (record_at table n) order
@@ -45,7 +46,8 @@ table_order table (entry.Deleted n) order = order_kept n table.records order
 
 module _ (table : MailboxTable) (homes : Homes) (store later : Store) (shown : Shows table homes store) where
   -- what it shows of its own name, and the store of every other what it had
-  pub by_name : (e : MasterRecord) → NameShows (table_after table e) homes later (name_of e) → OthersStay store later (name_of e) → IsInOrder (slice_cmp nat_cmp) later.boxes
+  pub by_name : (e : MasterRecord) → NameShows (table_after table e) homes later (name_of e) → OthersStay store later (name_of e)
+      → IsInOrder (slice_cmp nat_cmp) later.boxes
       → Shows (table_after table e) homes later
   by_name e own others order = record {
     names = λ n. by_case n (same_or_other (slice_cmp nat_cmp) names_apart n (name_of e));
@@ -66,7 +68,8 @@ kept_acl (Kept acl) = refl
 kept_acl (Active acl) = refl
 
 -- the access list of what is here is the mailbox's
-same_acl : (found : Option Held) (there : Option Content) (old acl : List ℕ) → HasAcl found acl → IsMailboxOf (content_in found) there old → IsMailboxOf (content_in found) there acl
+same_acl : (found : Option Held) (there : Option Content) (old acl : List ℕ) → HasAcl found acl → IsMailboxOf (content_in found) there old
+    → IsMailboxOf (content_in found) there acl
 same_acl None there old acl a s = absurd a
 same_acl (Some it) there old acl a s =
     let here : Some it.content ≡ Some s.content = sym (ap (λ (t : Bool). cond t (Some it.content) None) a.0) ∙ s.at_home in
@@ -76,7 +79,8 @@ same_acl (Some it) there old acl a s =
 module _ (table : MailboxTable) (homes : Homes) (store : Store) (shown : Shows table homes store) where
   own_shows : (e : MasterRecord) → MakesNone table homes e → NameShows (table_after table e) homes store (name_of e)
   own_shows (entry.Reserved n place serial) none =
-      subst (λ (r : Option Record). RecordShows homes n (box_at store n) r) (sym (own_reserved table n place serial)) (none_by homes n (box_at store n) (record_at table n) none (shown.names n))
+      subst (λ (r : Option Record). RecordShows homes n (box_at store n) r) (sym (own_reserved table n place serial))
+      (none_by homes n (box_at store n) (record_at table n) none (shown.names n))
   own_shows (entry.Active n place acl) is =
       subst (λ (r : Option Record). RecordShows homes n (box_at store n) r) (sym (own_active table n place acl))
       (same_acl (held_at (homes place.server) n) (box_at store n) is.0.0 acl is.1 (mailbox_by table homes store place.server n is.0.0 is.0.1 (shown.names n)))
@@ -90,7 +94,8 @@ module _ (table : MailboxTable) (homes : Homes) (store : Store) (shown : Shows t
       (none_by homes n (box_at store n) (record_at table n) none (shown.names n))
 
 pub others_make_none : OthersMakeNone
-others_make_none table homes store e shown none = by_name table homes store store shown e (own_shows table homes store shown e none) (λ m ne. refl) shown.boxes_in_order
+others_make_none table homes store e shown none = by_name table homes store store shown e (own_shows table homes store shown e none)
+    (λ m ne. refl) shown.boxes_in_order
 
 -- ---- DELETE
 

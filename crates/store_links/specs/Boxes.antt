@@ -12,11 +12,13 @@ use Rattle.store_links.specs.TableEntries.{acl_at}
 
 -- the store's box of a mailbox is what the server of its record has, with the record's access list
 abbrev pub BoxIsThere : Type 0
-BoxIsThere = (table : MailboxTable) (homes : Homes) (store : Store) (b : Server) (n : Mailbox) (acl : List ℕ) → Shows table homes store → acl_at table b n ≡ Some acl
+BoxIsThere = (table : MailboxTable) (homes : Homes) (store : Store) (b : Server) (n : Mailbox) (acl : List ℕ) → Shows table homes store
+    → acl_at table b n ≡ Some acl
     → (box : Content) × (content_at homes b n ≡ Some box) × (box_at store n ≡ Some box) × (box.acl ≡ acl)
 
 abbrev pub EachIsABox : Type 0
-EachIsABox = (table : MailboxTable) (homes : Homes) (store : Store) → Shows table homes store → (n : Mailbox) → is_mailbox_if (record_at table n) ≡ is_some (box_at store n)
+EachIsABox = (table : MailboxTable) (homes : Homes) (store : Store) → Shows table homes store → (n : Mailbox)
+    → is_mailbox_if (record_at table n) ≡ is_some (box_at store n)
 
 -- the names that are mailboxes, in their order
 abbrev pub mailbox_names : Records → List Mailbox

@@ -42,7 +42,8 @@ ChangesNone table b (entry.Pointer n server) = IsNoMailboxAt table b n
 ChangesNone table b (entry.Forget names) = AllByRecursion (IsNoMailboxAt table b) names
 
 abbrev pub OthersChangeNone : Type 0
-OthersChangeNone = (table : MailboxTable) (homes then : Homes) (store : Store) (b : Server) (it : BackendRecord) → Shows table homes store → IsAfter homes then b it
+OthersChangeNone = (table : MailboxTable) (homes then : Homes) (store : Store) (b : Server) (it : BackendRecord) → Shows table homes store
+    → IsAfter homes then b it
     → ChangesNone table b it → Shows table then store
 
 -- whatever a server does, if it leaves the content of each mailbox

@@ -22,7 +22,8 @@ pub data IsTaken (link : OneLink) (homes : Homes) (store : Store) (given : Given
   nothing : Shows (table_by link.table (server_of link) it.1) homes store → gives link.table (server_of link) it.1 ≡ [] → IsTaken link homes store given it
   created : (n : Mailbox) (place : Location) (acl : List ℕ) (serial : ℕ) → is_asked it.0 ≡ true → it.1 ≡ command.Activate n place acl
       → IsCreated link.table homes store given (server_of link) it.1 n serial → IsTaken link homes store given it
-  removed : (n : Mailbox) → is_asked it.0 ≡ true → it.1 ≡ command.Delete n → table_by link.table (server_of link) it.1 ≡ table_after link.table (entry.Deleted n)
+  removed : (n : Mailbox) → is_asked it.0 ≡ true → it.1 ≡ command.Delete n
+      → table_by link.table (server_of link) it.1 ≡ table_after link.table (entry.Deleted n)
       → gives link.table (server_of link) it.1 ≡ [] → IsRemoved link.table homes store n → IsTaken link homes store given it
 
 -- on a link of which all holds that `name_links` says

@@ -24,12 +24,14 @@ pub record IsNow (link : OneLink) (homes then : Homes) (held : Names) : Type 0 w
 
 -- a frontend's ask for CREATE or DELETE
 abbrev pub AsksAreNothing : Type 0
-AsksAreNothing = (link : OneLink) (homes then : Homes) (store : Store) (ask : NameAsk) → IsNow link homes then (asks link ask).held → Shows link.table homes store
+AsksAreNothing = (link : OneLink) (homes then : Homes) (store : Store) (ask : NameAsk) → IsNow link homes then (asks link ask).held
+    → Shows link.table homes store
     → Shows link.table then store
 
 -- a response of the master
 abbrev pub HearsAreNothing : Type 0
-HearsAreNothing = (link : OneLink) (homes then : Homes) (store : Store) (it : Tag × MResponse) (downs : List (Tag × MResponse)) → LinkHolds link → ContentHolds link
+HearsAreNothing = (link : OneLink) (homes then : Homes) (store : Store) (it : Tag × MResponse) (downs : List (Tag × MResponse)) → LinkHolds link
+    → ContentHolds link
     → link.downs ≡ it ∷ downs → IsNow link homes then (hears link it downs).held → Shows link.table homes store → Shows link.table then store
 
 -- messages of an open mailbox

@@ -36,7 +36,8 @@ OthersStay store later n = (m : Mailbox) → m ≢ n → box_at later m ≡ box_
 abbrev pub store_with : Store → Mailbox → ℕ → Store
 store_with store n serial = with_new_box store n (empty_box serial (first_acl n))
 
-pub record IsCreated (table : MailboxTable) (homes : Homes) (store : Store) (given : Given) (b : Server) (it : MCommand) (n : Mailbox) (serial : ℕ) : Type 0 where
+pub record IsCreated (table : MailboxTable) (homes : Homes) (store : Store) (given : Given) (b : Server) (it : MCommand) (n : Mailbox) (serial : ℕ)
+    : Type 0 where
   -- there was none of the name, and the UIDVALIDITY is one that it may get
   pub none : box_at store n ≡ None
   pub free : IsFree store n serial
@@ -45,7 +46,8 @@ pub record IsCreated (table : MailboxTable) (homes : Homes) (store : Store) (giv
   pub others : OthersStay store (store_with store n serial) n
 
 abbrev pub CreateIsOne : Type 0
-CreateIsOne = (link : OneLink) (homes : Homes) (store : Store) (given : Given) (tag : Tag) (it : MCommand) (line : OpenLine) (n : Mailbox) (place : Location) (acl : List ℕ)
+CreateIsOne = (link : OneLink) (homes : Homes) (store : Store) (given : Given) (tag : Tag) (it : MCommand) (line : OpenLine) (n : Mailbox) (place : Location)
+    (acl : List ℕ)
     → homes (server_of link) ≡ link.held → Shows link.table homes store → HasGiven store given
     → backend_line (server_of link) tag it ≡ Some line → (reply_to link.table (Backend (server_of link)) it).entry ≡ Some (entry.Active n place acl)
     → (made : IsMade link given it n acl) → IsCreated link.table homes store given (server_of link) it n made.serial
