@@ -1,0 +1,11 @@
+pub mod Maps
+pub mod ShownLaw
+pub mod GivenLaw
+pub mod TableLaw
+pub mod CreateLaw
+pub mod LineLaw
+pub mod HeldLaw
+pub mod StepLaw
+pub mod SameKeys
+pub mod BoxesLaw
+pub mod OpenLaw
