@@ -1,3 +1,4 @@
 pub mod LinesLaw
 pub mod AboveLaw
+pub mod RoutesLaw
 pub mod StreamLaw
