@@ -73,7 +73,8 @@ impl BackNode {
         }
     }
 
-    /// Carries the entry of a step out, and gives what goes out. For want of memory the backend is spent.
+    /// Carries the entry of a step out, and gives what goes out. It is the one that `plan` gave, so no message has the greatest UID of 32 bits. For
+    /// want of memory the backend is spent.
     pub fn settle(&mut self, alloc: Global, it: Rest) -> Result<Outs, Memory>
         requires { IfSome it.entry EntryLeavesNext }
         ensures { IfOk result (λ outs. record { state = self.new; entry = it.entry; outs = outs } ≡ acted self.old it) }

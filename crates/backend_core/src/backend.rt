@@ -56,7 +56,8 @@ impl Backend {
         }
     }
 
-    /// Carries the entries of a step out, and hands its outputs out. For want of memory the backend is spent.
+    /// Carries the entries of a step out, and hands its outputs out. They are those that `plan` gave, so no message has the greatest UID of 32 bits.
+    /// For want of memory the backend is spent.
     pub fn settle(&mut self, alloc: Global, plan: BackPlan) -> Result<Outs, Memory>
         requires { AllByRecursion EntryLeavesNext plan.entries }
         ensures home { OnOk result (self.new ≡ (settles self.old plan).home) }

@@ -32,8 +32,8 @@ impl Intake {
         }
     }
 
-    /// Carries a batch out. Its bodies are moved and not copied, and each change takes time logarithmic in the messages. For
-    /// want of memory the intake stays as it was.
+    /// Carries a batch out, in which no message has the greatest UID of 32 bits. Its bodies are moved and not copied, and each change takes time
+    /// logarithmic in the messages. For want of memory the intake stays as it was.
     pub fn take(&mut self, alloc: Global, batch: Changes) -> Result<(), Memory>
         requires { AllByRecursion LeavesNext batch }
         ensures ok { OnOk result (self.new ≡ content_after_all self.old batch) }

@@ -149,7 +149,8 @@ impl MailBox {
         self.slots.places() <= room || self.slots.len() <= room
     }
 
-    /// Carries a change out; for want of memory the box stays as it was. Logarithmic in the messages.
+    /// Carries a change out; for want of memory the box stays as it was. No message that it puts may have the greatest UID of 32 bits, since a
+    /// UIDNEXT has to be above (RFC 9051, 2.3.1.1). Logarithmic in the messages.
     pub fn apply(&mut self, change: Change) -> Result<(), Memory>
         requires { LeavesNext change }
         ensures ok { OnOk result (self.new ≡ content_after self.old change) }

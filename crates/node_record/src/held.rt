@@ -166,7 +166,8 @@ fn pointer(alloc: Global, server: NodeName) -> Held
 }
 
 /// Carries an entry of a backend's disk out; after want of memory nothing is said of what the backend has. No body is copied.
-/// A name costs time logarithmic in the names, and a message time logarithmic in the messages.
+/// No message of the entry may have the greatest UID of 32 bits: a reader of entries tests that. A name costs time logarithmic in the names, and a
+/// message time logarithmic in the messages.
 pub fn apply_backend(
     alloc: Global,
     held: &mut HeldNames,
