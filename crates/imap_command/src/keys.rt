@@ -127,6 +127,70 @@ fn spaced_set_of(alloc: Global, bytes: &[u8]) -> Result<(SetParts, &[u8]), ReadE
     set_of(alloc, rest)
 }
 
+#[tactic(auto, unfolding(crate::specs::Keys::behind_flat))]
+fn keyword_key_of(bytes: &[u8]) -> Result<(Key, &[u8]), ReadError>
+    ensures { Gives (λ x. (x.0, x.1.now)) result ((behind_flat FlatName.Keyword).at bytes.now) }
+{
+    let (flag, rest) = spaced_keyword_of(bytes)?;
+    Ok((Key::Keyword(flag), rest))
+}
+
+#[tactic(auto, unfolding(crate::specs::Keys::behind_flat))]
+fn unkeyword_key_of(bytes: &[u8]) -> Result<(Key, &[u8]), ReadError>
+    ensures { Gives (λ x. (x.0, x.1.now)) result ((behind_flat FlatName.Unkeyword).at bytes.now) }
+{
+    let (flag, rest) = spaced_keyword_of(bytes)?;
+    Ok((Key::Unkeyword(flag), rest))
+}
+
+#[tactic(auto, unfolding(crate::specs::Keys::behind_flat))]
+fn larger_key_of(bytes: &[u8]) -> Result<(Key, &[u8]), ReadError>
+    ensures { Gives (λ x. (x.0, x.1.now)) result ((behind_flat FlatName.Larger).at bytes.now) }
+{
+    let (size, rest) = spaced_size_of(bytes)?;
+    Ok((Key::Larger(size), rest))
+}
+
+#[tactic(auto, unfolding(crate::specs::Keys::behind_flat))]
+fn smaller_key_of(bytes: &[u8]) -> Result<(Key, &[u8]), ReadError>
+    ensures { Gives (λ x. (x.0, x.1.now)) result ((behind_flat FlatName.Smaller).at bytes.now) }
+{
+    let (size, rest) = spaced_size_of(bytes)?;
+    Ok((Key::Smaller(size), rest))
+}
+
+#[tactic(auto, unfolding(crate::specs::Keys::behind_flat))]
+fn before_key_of(bytes: &[u8]) -> Result<(Key, &[u8]), ReadError>
+    ensures { Gives (λ x. (x.0, x.1.now)) result ((behind_flat FlatName.Before).at bytes.now) }
+{
+    let (day, rest) = spaced_date_of(bytes)?;
+    Ok((Key::Before(day), rest))
+}
+
+#[tactic(auto, unfolding(crate::specs::Keys::behind_flat))]
+fn on_key_of(bytes: &[u8]) -> Result<(Key, &[u8]), ReadError>
+    ensures { Gives (λ x. (x.0, x.1.now)) result ((behind_flat FlatName.On).at bytes.now) }
+{
+    let (day, rest) = spaced_date_of(bytes)?;
+    Ok((Key::On(day), rest))
+}
+
+#[tactic(auto, unfolding(crate::specs::Keys::behind_flat))]
+fn since_key_of(bytes: &[u8]) -> Result<(Key, &[u8]), ReadError>
+    ensures { Gives (λ x. (x.0, x.1.now)) result ((behind_flat FlatName.Since).at bytes.now) }
+{
+    let (day, rest) = spaced_date_of(bytes)?;
+    Ok((Key::Since(day), rest))
+}
+
+#[tactic(auto, unfolding(crate::specs::Keys::behind_flat))]
+fn uid_key_of(alloc: Global, bytes: &[u8]) -> Result<(Key, &[u8]), ReadError>
+    ensures { Gives (λ x. (x.0, x.1.now)) result ((behind_flat FlatName.Uid).at bytes.now) }
+{
+    let (set, rest) = spaced_set_of(alloc, bytes)?;
+    Ok((Key::Uid(set), rest))
+}
+
 /// Reads what stands behind the name of a key that holds no key: its argument, if it has one.
 #[tactic(auto, unfolding(crate::specs::Keys::behind_flat))]
 fn behind_flat_of(alloc: Global, name: FlatName, bytes: &[u8]) -> Result<(Key, &[u8]), ReadError>
@@ -144,38 +208,14 @@ fn behind_flat_of(alloc: Global, name: FlatName, bytes: &[u8]) -> Result<(Key, &
         FlatName::Undraft => Ok((Key::Undraft, bytes)),
         FlatName::Unflagged => Ok((Key::Unflagged, bytes)),
         FlatName::Unseen => Ok((Key::Unseen, bytes)),
-        FlatName::Keyword => {
-            let (flag, rest) = spaced_keyword_of(bytes)?;
-            Ok((Key::Keyword(flag), rest))
-        }
-        FlatName::Unkeyword => {
-            let (flag, rest) = spaced_keyword_of(bytes)?;
-            Ok((Key::Unkeyword(flag), rest))
-        }
-        FlatName::Larger => {
-            let (size, rest) = spaced_size_of(bytes)?;
-            Ok((Key::Larger(size), rest))
-        }
-        FlatName::Smaller => {
-            let (size, rest) = spaced_size_of(bytes)?;
-            Ok((Key::Smaller(size), rest))
-        }
-        FlatName::Before => {
-            let (day, rest) = spaced_date_of(bytes)?;
-            Ok((Key::Before(day), rest))
-        }
-        FlatName::On => {
-            let (day, rest) = spaced_date_of(bytes)?;
-            Ok((Key::On(day), rest))
-        }
-        FlatName::Since => {
-            let (day, rest) = spaced_date_of(bytes)?;
-            Ok((Key::Since(day), rest))
-        }
-        FlatName::Uid => {
-            let (set, rest) = spaced_set_of(alloc, bytes)?;
-            Ok((Key::Uid(set), rest))
-        }
+        FlatName::Keyword => keyword_key_of(bytes),
+        FlatName::Unkeyword => unkeyword_key_of(bytes),
+        FlatName::Larger => larger_key_of(bytes),
+        FlatName::Smaller => smaller_key_of(bytes),
+        FlatName::Before => before_key_of(bytes),
+        FlatName::On => on_key_of(bytes),
+        FlatName::Since => since_key_of(bytes),
+        FlatName::Uid => uid_key_of(alloc, bytes),
     }
 }
 

@@ -2,7 +2,7 @@
 ghost use Rattle.std.specs.Prelude.{◌≡◌, ◌++◌, OnOk, IfOk};
 ghost use Rattle.mur_base.specs.Ascii.{space};
 ghost use Rattle.grammar.specs.Forms.{preceded, several};
-ghost use Rattle.imap_command.specs.Commands.{arguments_text};
+ghost use Rattle.imap_command.specs.Commands.{arguments_text, copy, xfer};
 ghost use Rattle.imap_command.specs.Sets.{set as set_form};
 ghost use Rattle.imap_text.specs.Strings.{atom};
 ghost use Rattle.imap_command.specs.Spells.{Spells, IsSpelled, known, command_text};
@@ -41,6 +41,27 @@ fn put_spaced_set(set: &SetParts, out: &mut Bytes) -> Result<(), Memory>
     put_set(set, out)
 }
 
+#[tactic(auto, using(std::proofs::lemmas::Grind::common_steps))]
+fn put_copy(set: &SetParts, mailbox: &Bytes, out: &mut Bytes) -> Result<(), Memory>
+    ensures { OnOk result (out.new ≡ out.old ++ copy.text (set.now, mailbox.now)) }
+{
+    put_spaced_set(set, out)?;
+    put_one_string(mailbox, out)
+}
+
+#[tactic(auto, using(std::proofs::lemmas::Grind::common_steps))]
+fn put_xfer(
+    mailbox: &Bytes,
+    server: &Bytes,
+    partition: &Option<Bytes>,
+    out: &mut Bytes,
+) -> Result<(), Memory>
+    ensures { OnOk result (out.new ≡ out.old ++ xfer.text ((mailbox.now, server.now), partition.now)) }
+{
+    put_two_strings(mailbox, server, out)?;
+    put_optional_string(partition, out)
+}
+
 /// Prints the arguments of a command.
 #[tactic(auto, using(std::proofs::lemmas::Grind::common_steps), unfolding(crate::specs::Commands::printed_as))]
 fn put_arguments(alloc: Global, command: &Command, out: &mut Bytes) -> Result<(), Memory>
@@ -51,10 +72,7 @@ fn put_arguments(alloc: Global, command: &Command, out: &mut Bytes) -> Result<()
             put_append(alloc, mailbox, flags, date, message, out)
         }
         Command::Authenticate(response) => put_authenticate(response, out),
-        Command::Copy(_, set, mailbox) => {
-            put_spaced_set(set, out)?;
-            put_one_string(mailbox, out)
-        }
+        Command::Copy(_, set, mailbox) => put_copy(set, mailbox, out),
         Command::Create(mailbox)
         | Command::Delete(mailbox)
         | Command::Examine(mailbox)
@@ -75,10 +93,7 @@ fn put_arguments(alloc: Global, command: &Command, out: &mut Bytes) -> Result<()
         Command::Store(_, set, mode, is_silent, flags) => {
             put_store(alloc, set, *mode, *is_silent, flags, out)
         }
-        Command::Xfer(mailbox, server, partition) => {
-            put_two_strings(mailbox, server, out)?;
-            put_optional_string(partition, out)
-        }
+        Command::Xfer(mailbox, server, partition) => put_xfer(mailbox, server, partition, out),
         Command::Capability
         | Command::Close
         | Command::Expunge(None)

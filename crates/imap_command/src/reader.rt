@@ -1,7 +1,9 @@
 // The reader of commands.
 ghost use Rattle.std.specs.Prelude.{◌≡◌, ◌⊎◌, Ok, Err, IfOk, nat_le, if◌then◌else◌};
-ghost use Rattle.grammar.specs.Gives.{Gives};
+ghost use Rattle.grammar.specs.Part.{map};
+ghost use Rattle.grammar.specs.Gives.{Finds, Gives};
 ghost use Rattle.grammar.specs.Exact.{whole_at};
+ghost use Rattle.imap_text.specs.Strings.{crlf_part};
 ghost use Rattle.imap_command.specs.LeftOut.{left_out};
 ghost use Rattle.imap_command.specs.Spells.{Spells, known, commands, tagged_command};
 ghost use Rattle.imap_command.specs.Bad.{IsBad, IsFirstTag};
@@ -38,13 +40,28 @@ impl Class for TagByte {
 /// The greatest length of a tag in bytes.
 const TAG_MOST: usize = 32;
 
-/// Reads a known command behind its tag, to the end of the bytes.
-fn known_of(alloc: Global, bytes: &[u8]) -> Result<Command, ReadError>
-    ensures { Gives (λ command. command) result (whole_at known.part bytes.now) }
+/// A value, and the bytes behind the CRLF that stands behind it.
+fn before_crlf<T: Drop>(value: T, bytes: &[u8]) -> Result<(T, &[u8]), Stop>
+    ensures { Finds (λ x. (x.0, x.1.now)) result ((map (λ _. value) crlf_part).at bytes.now) }
+{
+    let rest = crlf_of(bytes)?;
+    Ok((value, rest))
+}
+
+/// Reads a known command behind its tag, to the end of its line.
+fn known_of(alloc: Global, bytes: &[u8]) -> Result<(Command, &[u8]), ReadError>
+    ensures { Gives (λ x. (x.0, x.1.now)) result (known.part.at bytes.now) }
 {
     let (verb, rest) = table_of(Verb::Uid, &VERBS, bytes)?;
     let (command, rest) = arguments_of(alloc, verb, rest)?;
-    let rest = crlf_of(rest)?;
+    Ok(before_crlf(command, rest)?)
+}
+
+/// Reads a known command behind its tag, to the end of the bytes.
+fn only_known(alloc: Global, bytes: &[u8]) -> Result<Command, ReadError>
+    ensures { Gives (λ command. command) result (whole_at known.part bytes.now) }
+{
+    let (command, rest) = known_of(alloc, bytes)?;
     Ok(ended(command, rest)?)
 }
 
@@ -61,7 +78,7 @@ fn command_of(alloc: Global, bytes: &[u8]) -> Result<(Command, &[u8]), ReadError
     ensures { Gives (λ x. (x.0, x.1.now)) result (commands.part.at bytes.now) }
 {
     let end = &bytes[bytes.len()..];
-    match known_of(alloc, bytes) {
+    match only_known(alloc, bytes) {
         Ok(command) => Ok((command, end)),
         Err(ReadError::Memory) => Err(ReadError::Memory),
         Err(ReadError::Stopped(one)) => match only_left_out(alloc, bytes) {

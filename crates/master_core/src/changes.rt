@@ -52,6 +52,21 @@ fn tell_watchers(
     Ok(())
 }
 
+/// Tells a line to each stream under the tag of its UPDATE.
+#[tactic(auto, using(std::proofs::lemmas::Grind::common_steps))]
+fn tell_line(
+    alloc: Global,
+    streams: &Map<NodeName, Tag>,
+    watchers: &Map<u64, Tag>,
+    line: &MResponse,
+    outs: &mut Outs,
+) -> Result<(), Memory>
+    ensures { OnOk result (outs.new ≡ outs.old ++ (map (node_told line.now) streams.now ++ map (watcher_told line.now) watchers.now)) }
+{
+    tell_nodes(alloc, streams, line, outs)?;
+    tell_watchers(alloc, watchers, line, outs)
+}
+
 /// Tells a change, if there is one, to each stream under the tag of its UPDATE: a line a stream.
 #[tactic(auto, using(std::proofs::lemmas::Grind::common_steps), unfolding(crate::specs::Changes::change_outs))]
 pub fn tell_change(
@@ -63,10 +78,11 @@ pub fn tell_change(
 ) -> Result<(), Memory>
     ensures { OnOk result (outs.new ≡ outs.old ++ change_outs streams.now watchers.now change.now) }
 {
-    if let Some(change) = change {
-        let line = change_line(alloc, change)?;
-        tell_nodes(alloc, streams, &line, outs)?;
-        tell_watchers(alloc, watchers, &line, outs)?;
+    match change {
+        Some(change) => {
+            let line = change_line(alloc, change)?;
+            tell_line(alloc, streams, watchers, &line, outs)
+        }
+        None => Ok(()),
     }
-    Ok(())
 }

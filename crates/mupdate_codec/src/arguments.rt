@@ -1,7 +1,9 @@
 // The arguments of lines, each behind a space (RFC 3656, 3 and 4).
 ghost use Rattle.std.specs.Prelude.{◌≡◌, ◌++◌, OnOk};
+ghost use Rattle.grammar.specs.Forms.{◌spaced◌};
 ghost use Rattle.grammar.specs.Gives.{Gives};
 ghost use Rattle.mupdate_codec.specs.Arguments.{exact, a_string, maybe_string, a_name, a_place, a_mailbox};
+ghost use Rattle.mupdate_codec.specs.Strings.{string_form};
 ghost use Rattle.mupdate_codec.specs.Told.{told_texts};
 
 use crate::location::{location_of, put_location};
@@ -43,11 +45,22 @@ pub fn a_name_of(alloc: Global, bytes: &[u8]) -> Result<(MailName, &[u8]), ReadE
 pub fn a_place_of(alloc: Global, bytes: &[u8]) -> Result<((MailName, Location), &[u8]), ReadError>
     ensures { Gives (λ x. (x.0, x.1.now)) result ((a_place told_texts).part.at bytes.now) }
 {
-    let rest = byte_of(b' ', bytes)?;
-    let (name, rest) = name_of(alloc, rest)?;
+    let (name, rest) = a_name_of(alloc, bytes)?;
     let rest = byte_of(b' ', rest)?;
     let (place, rest) = location_of(alloc, rest)?;
     Ok(((name, place), rest))
+}
+
+/// Reads a location and, behind a space, an access list.
+fn location_with_acl_of(
+    alloc: Global,
+    bytes: &[u8],
+) -> Result<((Location, Bytes), &[u8]), ReadError>
+    ensures { Gives (λ x. (x.0, x.1.now)) result (((told_texts.locations) spaced string_form).part.at bytes.now) }
+{
+    let (place, rest) = location_of(alloc, bytes)?;
+    let (acl, rest) = a_string_of(alloc, rest)?;
+    Ok(((place, acl), rest))
 }
 
 /// Reads a name, a location and an access list.
@@ -57,13 +70,10 @@ pub fn a_mailbox_of(
 ) -> Result<((MailName, (Location, Bytes)), &[u8]), ReadError>
     ensures { Gives (λ x. (x.0, x.1.now)) result ((a_mailbox told_texts).part.at bytes.now) }
 {
-    let rest = byte_of(b' ', bytes)?;
-    let (name, rest) = name_of(alloc, rest)?;
+    let (name, rest) = a_name_of(alloc, bytes)?;
     let rest = byte_of(b' ', rest)?;
-    let (place, rest) = location_of(alloc, rest)?;
-    let rest = byte_of(b' ', rest)?;
-    let (acl, rest) = string_of(alloc, rest)?;
-    Ok(((name, (place, acl)), rest))
+    let (place_with_acl, rest) = location_with_acl_of(alloc, rest)?;
+    Ok(((name, place_with_acl), rest))
 }
 
 /// Prints a string.

@@ -1,9 +1,12 @@
 // The readers of lines.
 ghost use Rattle.std.specs.Prelude.{◌≡◌, ◌≤◌, ◌⊎◌, ◌-◌, ◌++◌, ℕ, List, Ok, Err, IfOk, length, take, nat_eq, if◌then◌else◌};
-ghost use Rattle.grammar.specs.Gives.{Gives};
+ghost use Rattle.grammar.specs.Forms.{dispatch};
+ghost use Rattle.grammar.specs.Part.{byte, map};
+ghost use Rattle.grammar.specs.Gives.{Finds, Gives};
 ghost use Rattle.mupdate_codec.specs.Answers.{IsBegun, BeginsNone};
-ghost use Rattle.mupdate_codec.specs.Commands.{command_line, IsCommandLine};
-ghost use Rattle.mupdate_codec.specs.Responses.{response_line, IsResponseLine};
+ghost use Rattle.mupdate_codec.specs.Arguments.{ended_line};
+ghost use Rattle.mupdate_codec.specs.Commands.{command_arguments, command_line, command_verb, command_verb_form, IsCommandLine};
+ghost use Rattle.mupdate_codec.specs.Responses.{kind_form, response_arguments, response_kind, response_line, IsResponseLine};
 ghost use Rattle.mupdate_codec.specs.Tags.{command_tag, response_tag};
 ghost use Rattle.mupdate_codec.specs.Told.{told_texts, IsTold};
 
@@ -36,6 +39,31 @@ fn response_tag_of(alloc: Global, bytes: &[u8]) -> Result<(Tag, &[u8]), ReadErro
     }
 }
 
+/// A value, and the bytes behind a byte that stands behind it.
+fn followed_by<T: Drop>(value: T, wanted: u8, bytes: &[u8]) -> Result<(T, &[u8]), Stop>
+    ensures { Finds (λ x. (x.0, x.1.now)) result ((map (λ _. value) (byte wanted)).at bytes.now) }
+{
+    let rest = byte_of(wanted, bytes)?;
+    Ok((value, rest))
+}
+
+/// Reads the word of a command and its arguments.
+fn command_of(alloc: Global, bytes: &[u8]) -> Result<(MCommand, &[u8]), ReadError>
+    ensures { Gives (λ x. (x.0, x.1.now)) result ((dispatch command_verb_form command_verb (command_arguments told_texts)).part.at bytes.now) }
+{
+    let (verb, rest) = table_of(Verb::Update, &VERBS, bytes)?;
+    command_arguments(alloc, verb, rest)
+}
+
+/// Reads a command and the end of its line.
+fn ended_command(alloc: Global, bytes: &[u8]) -> Result<(MCommand, &[u8]), ReadError>
+    ensures { Gives (λ x. (x.0, x.1.now)) result ((ended_line (dispatch command_verb_form command_verb (command_arguments told_texts))).part.at bytes.now) }
+{
+    let (command, rest) = command_of(alloc, bytes)?;
+    let (command, rest) = followed_by(command, b'\r', rest)?;
+    Ok(followed_by(command, b'\n', rest)?)
+}
+
 /// Reads a command under its tag.
 #[tactic(auto, unfolding(crate::specs::Commands::command_line))]
 fn tagged_command(alloc: Global, bytes: &[u8]) -> Result<((Tag, MCommand), &[u8]), ReadError>
@@ -43,11 +71,25 @@ fn tagged_command(alloc: Global, bytes: &[u8]) -> Result<((Tag, MCommand), &[u8]
 {
     let (tag, rest) = command_tag_of(alloc, bytes)?;
     let rest = byte_of(b' ', rest)?;
-    let (verb, rest) = table_of(Verb::Update, &VERBS, rest)?;
-    let (command, rest) = command_arguments(alloc, verb, rest)?;
-    let rest = byte_of(b'\r', rest)?;
-    let rest = byte_of(b'\n', rest)?;
+    let (command, rest) = ended_command(alloc, rest)?;
     Ok(((tag, command), rest))
+}
+
+/// Reads the word of a response and its arguments.
+fn response_of(alloc: Global, bytes: &[u8]) -> Result<(MResponse, &[u8]), ReadError>
+    ensures { Gives (λ x. (x.0, x.1.now)) result ((dispatch kind_form response_kind (response_arguments told_texts)).part.at bytes.now) }
+{
+    let (kind, rest) = table_of(Kind::Bad, &KINDS, bytes)?;
+    response_arguments(alloc, kind, rest)
+}
+
+/// Reads a response and the end of its line.
+fn ended_response(alloc: Global, bytes: &[u8]) -> Result<(MResponse, &[u8]), ReadError>
+    ensures { Gives (λ x. (x.0, x.1.now)) result ((ended_line (dispatch kind_form response_kind (response_arguments told_texts))).part.at bytes.now) }
+{
+    let (response, rest) = response_of(alloc, bytes)?;
+    let (response, rest) = followed_by(response, b'\r', rest)?;
+    Ok(followed_by(response, b'\n', rest)?)
 }
 
 /// Reads a response under its tag.
@@ -57,10 +99,7 @@ fn tagged_response(alloc: Global, bytes: &[u8]) -> Result<((Tag, MResponse), &[u
 {
     let (tag, rest) = response_tag_of(alloc, bytes)?;
     let rest = byte_of(b' ', rest)?;
-    let (kind, rest) = table_of(Kind::Bad, &KINDS, rest)?;
-    let (response, rest) = response_arguments(alloc, kind, rest)?;
-    let rest = byte_of(b'\r', rest)?;
-    let rest = byte_of(b'\n', rest)?;
+    let (response, rest) = ended_response(alloc, rest)?;
     Ok(((tag, response), rest))
 }
 

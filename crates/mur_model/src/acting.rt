@@ -4,7 +4,9 @@ ghost use Rattle.mur_model.specs.Act.{worked_at, act_by, act_of, session_after};
 ghost use Rattle.mur_model.specs.Asking.{HasWork, appended_for, viewed_for, work_for};
 ghost use Rattle.mur_model.specs.Acting.{IsActed, IsWorked};
 ghost use Rattle.mur_model.specs.Left.{replied};
-ghost use Rattle.mur_model.specs.Needed.{Mailbox};
+ghost use Rattle.mur_model.specs.Needed.{Mailbox, Make};
+ghost use Rattle.mur_model.specs.Status.{status_on};
+ghost use Rattle.mur_model.specs.Store.{box_at};
 
 use crate::beginning::begin;
 use crate::commands::append::append_at;
@@ -17,8 +19,8 @@ use crate::setting::Setting;
 use crate::store::Store;
 use crate::viewing::viewed_at;
 use crate::work::ViewWork;
-use imap_types::{Command, Op, Reply};
-use mur_base::{MailName, Memory};
+use imap_types::{Command, Op, Reply, StatusItems};
+use mur_base::{Bytes, MailName, Memory};
 use std::alloc::Global;
 
 /// Carries out one command on the store and gives its reply (RFC 9051, 6). A mailbox that is made gets the serial as
@@ -109,15 +111,36 @@ fn work_at(
     requires { IsSome (work_for sess.now op awaited) }
     ensures { IfOk result (λ turn. IfSome (work_for sess.now op awaited) (λ work. IsWorked store.old name.now (worked_at store.old name.now work serial) store.new turn)) }
 {
+    if let Awaited::Append = awaited {
+        return append_by(alloc, store, name, op);
+    }
+    drop(op);
     match awaited {
-        Awaited::Create => Ok(replied(make(alloc, store, name, serial)?)),
-        Awaited::Append => append_by(alloc, store, name, op),
-        Awaited::Status(shown, items) => {
-            Ok(replied(status_at(alloc, store, name, shown, &items)?))
-        }
+        Awaited::Append => unreachable!(),
+        Awaited::Create => create_by(alloc, store, name, serial),
+        Awaited::Status(shown, items) => status_by(alloc, store, name, shown, &items),
         Awaited::Select(_, it) => select_at(alloc, store, name, &it),
         Awaited::Viewed(work) => viewed_by(alloc, store, sess, name, work),
     }
+}
+
+#[tactic(auto, unfolding(crate::specs::Act::work_on))]
+fn create_by(alloc: Global, store: &mut Store, name: &MailName, serial: u32) -> Result<Turn, Memory>
+    ensures { IfOk result (λ turn. IsWorked store.old name.now (worked_at store.old name.now Make serial) store.new turn) }
+{
+    Ok(replied(make(alloc, store, name, serial)?))
+}
+
+fn status_by(
+    alloc: Global,
+    store: &Store,
+    name: &MailName,
+    shown: Bytes,
+    items: &StatusItems,
+) -> Result<Turn, Memory>
+    ensures { IfOk result (λ turn. IsWorked store.now name.now (status_on shown items.now (box_at store.now name.now)) store.now turn) }
+{
+    Ok(replied(status_at(alloc, store, name, shown, items)?))
 }
 
 #[tactic(auto, unfolding(crate::specs::Asking::appended_for, crate::specs::Act::work_on))]
@@ -148,5 +171,5 @@ fn viewed_by(
     let Sess::Selected(view) = sess else {
         unreachable!();
     };
-    viewed_at(alloc, store, name, view, work)
+    viewed_at(alloc, store, name, view, &work)
 }

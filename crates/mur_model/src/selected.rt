@@ -6,6 +6,7 @@ use crate::news::Told;
 use crate::session::{Sess, Turn};
 use crate::view::View;
 use imap_types::{Bye, Reply, ReplyLine, ReplyLines, Verdict};
+use mail_message::OrderedRows;
 use mur_base::{Copied, Memory};
 use std::alloc::Global;
 
@@ -34,19 +35,35 @@ pub fn with_news(
 ) -> Result<Turn, Memory>
     ensures { IfOk result (λ turn. turn ≡ with_news view.now lines told verdict) }
 {
-    let mut lines = lines;
-    put_all(&mut lines, told.lines)?;
-    let view = View {
-        user: view.user.copy(alloc)?,
-        name: view.name.copy(alloc)?,
-        serial: view.serial,
-        is_writable: view.is_writable,
-        rows: told.rows,
-    };
+    let Told { lines: news, rows } = told;
+    let lines = joined(lines, news)?;
+    let view = view_of(alloc, view, rows)?;
     Ok(Turn {
         session: Some(Sess::Selected(view)),
         reply: Reply { lines, verdict },
     })
+}
+
+/// A view with other rows.
+fn view_of(alloc: Global, view: &View, rows: OrderedRows) -> Result<View, Memory>
+    ensures { IfOk result (λ later. later ≡ record view.now { rows = rows }) }
+{
+    Ok(View {
+        user: view.user.copy(alloc)?,
+        name: view.name.copy(alloc)?,
+        serial: view.serial,
+        is_writable: view.is_writable,
+        rows,
+    })
+}
+
+/// Lines with more behind them.
+fn joined(lines: ReplyLines, more: ReplyLines) -> Result<ReplyLines, Memory>
+    ensures { IfOk result (λ all. all ≡ lines ++ more) }
+{
+    let mut lines = lines;
+    put_all(&mut lines, more)?;
+    Ok(lines)
 }
 
 /// Puts lines behind others.

@@ -26,9 +26,9 @@ pub fn viewed_at(
     store: &mut Store,
     name: &MailName,
     view: &View,
-    work: ViewWork,
+    work: &ViewWork,
 ) -> Result<Turn, Memory>
-    ensures { IfOk result (λ turn. let worked = viewed_on view.now work (box_at store.old name.now) in
+    ensures { IfOk result (λ turn. let worked = viewed_on view.now work.now (box_at store.old name.now) in
         (store.new ≡ store_after store.old name.now worked.left) × (turn ≡ worked.turn)) }
 {
     match store.boxes.get_mut(name) {
@@ -42,9 +42,9 @@ fn viewed_on(
     alloc: Global,
     view: &View,
     mailbox: &mut MailBox,
-    work: ViewWork,
+    work: &ViewWork,
 ) -> Result<Turn, Memory>
-    ensures { IfOk result (λ turn. IsLeft mailbox.old (viewed_on view.now work (Some mailbox.old)) mailbox.new turn) }
+    ensures { IfOk result (λ turn. IsLeft mailbox.old (viewed_on view.now work.now (Some mailbox.old)) mailbox.new turn) }
 {
     if mailbox.serial() == view.serial {
         work_there(alloc, view, mailbox, work)
@@ -58,17 +58,17 @@ fn work_there(
     alloc: Global,
     view: &View,
     mailbox: &mut MailBox,
-    work: ViewWork,
+    work: &ViewWork,
 ) -> Result<Turn, Memory>
-    ensures { IfOk result (λ turn. IsLeft mailbox.old (work_there view.now work mailbox.old) mailbox.new turn) }
+    ensures { IfOk result (λ turn. IsLeft mailbox.old (work_there view.now work.now mailbox.old) mailbox.new turn) }
 {
     match work {
-        ViewWork::News(why) => news_at(alloc, view, why, mailbox),
+        ViewWork::News(why) => news_at(alloc, view, *why, mailbox),
         ViewWork::Close => close_at(alloc, view, mailbox),
         ViewWork::Expunge(None) => expunge_at(alloc, view, mailbox, None),
         ViewWork::Expunge(Some(uids)) => expunge_at(alloc, view, mailbox, Some(uids.as_slice())),
-        ViewWork::Store(it) => store_at(alloc, view, mailbox, &it),
-        ViewWork::Fetch(it) => fetch_at(alloc, view, mailbox, &it),
-        ViewWork::Search(it) => search_at(alloc, view, mailbox, &it),
+        ViewWork::Store(it) => store_at(alloc, view, mailbox, it),
+        ViewWork::Fetch(it) => fetch_at(alloc, view, mailbox, it),
+        ViewWork::Search(it) => search_at(alloc, view, mailbox, it),
     }
 }

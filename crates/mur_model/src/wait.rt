@@ -100,7 +100,9 @@ fn begins_if_made(made: Result<Begun, Memory>) -> Result<bool, Memory>
     ensures { IfOk result (λ begins. IsOkAnd made (λ begun. begins ≡ begins_session begun.session)) }
 {
     let begun = made?;
-    Ok(begins_with(&begun.session))
+    let begins = begins_with(&begun.session);
+    drop(begun);
+    Ok(begins)
 }
 
 #[tactic(auto, unfolding(crate::specs::Waits::begins_session))]

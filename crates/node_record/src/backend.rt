@@ -2,7 +2,7 @@
 ghost use Rattle.std.specs.Prelude.{◌≡◌, ◌⊎◌, ◌++◌, ℕ, OnOk, IfOk, Ok, Err};
 ghost use Rattle.grammar.specs.Gives.{Finds, Gives};
 ghost use Rattle.node_record.specs.BackendEntries.{backend_entry, backend_fields, backend_kinds, backend_number, backend_of, kind_of_backend, kind_of_number};
-ghost use Rattle.node_record.specs.Parts.{number_text, sized_text};
+ghost use Rattle.node_record.specs.Parts.{list_text, number_text, sized_text};
 ghost use Rattle.node_record.specs.Ruled.{IsBackendRecord};
 ghost use Rattle.node_record.specs.Stored.{IsStored, IsFirstBad};
 
@@ -12,7 +12,7 @@ use crate::list::{list_of, put_list};
 use crate::message::{MessageForm, RowForm};
 use crate::number::{Number, number_of, put_number};
 use crate::text::{Name, name_of, node_of, put_text, text_of};
-use grammar::{Between, Grammar, ReadError, Stop, byte_in, whole_of};
+use grammar::{Between, Grammar, Production, ReadError, Stop, byte_in, whole_of};
 use mail_message::{Changes, Messages, Rows, Uids};
 use mur_base::{Bytes, Items, MailName, Memory, NodeName};
 use std::alloc::Global;
@@ -251,57 +251,84 @@ fn number_of_kind(entry: &BackendRecord) -> u8
     }
 }
 
-/// Puts a new mailbox's UIDVALIDITY and access list at the end of bytes.
-fn put_made(serial: u32, acl: &Bytes, out: &mut Bytes) -> Result<(), Memory>
-    ensures { OnOk result (out.new ≡ out.old ++ (number_text serial ++ sized_text acl.now)) }
+#[tactic(auto, using(std::proofs::lemmas::Grind::common_steps))]
+fn put_make(name: &MailName, serial: u32, acl: &Bytes, out: &mut Bytes) -> Result<(), Memory>
+    ensures { OnOk result (out.new ≡ out.old ++ (sized_text name.now ++ (number_text serial ++ sized_text acl.now))) }
 {
+    put_text(name.as_bytes(), out)?;
     put_number(serial, out)?;
     put_text(acl.as_slice(), out)
 }
 
+#[tactic(auto, using(std::proofs::lemmas::Grind::common_steps))]
+fn put_begun(
+    name: &MailName,
+    giver: &NodeName,
+    serial: u32,
+    acl: &Bytes,
+    out: &mut Bytes,
+) -> Result<(), Memory>
+    ensures { OnOk result (out.new ≡ out.old ++ (sized_text name.now ++ (sized_text giver.now ++ (number_text serial ++ sized_text acl.now)))) }
+{
+    put_text(name.as_bytes(), out)?;
+    put_text(giver.as_bytes(), out)?;
+    put_number(serial, out)?;
+    put_text(acl.as_slice(), out)
+}
+
+#[tactic(auto, using(std::proofs::lemmas::Grind::common_steps))]
+fn put_ready(name: &MailName, next: u32, out: &mut Bytes) -> Result<(), Memory>
+    ensures { OnOk result (out.new ≡ out.old ++ (sized_text name.now ++ number_text next)) }
+{
+    put_text(name.as_bytes(), out)?;
+    put_number(next, out)
+}
+
+#[tactic(auto, using(std::proofs::lemmas::Grind::common_steps))]
+fn put_pointer(name: &MailName, server: &NodeName, out: &mut Bytes) -> Result<(), Memory>
+    ensures { OnOk result (out.new ≡ out.old ++ (sized_text name.now ++ sized_text server.now)) }
+{
+    put_text(name.as_bytes(), out)?;
+    put_text(server.as_bytes(), out)
+}
+
+/// Puts the name of a mailbox and a list at the end of bytes.
+#[tactic(auto, using(std::proofs::lemmas::Grind::common_steps))]
+fn put_named_list<P: Production>(
+    name: &MailName,
+    of: &P,
+    members: &[P::Value],
+    out: &mut Bytes,
+) -> Result<(), Memory>
+    ensures { OnOk result (out.new ≡ out.old ++ (sized_text name.now ++ list_text (P.form of.now).text members.now)) }
+{
+    put_text(name.as_bytes(), out)?;
+    put_list(of, members, out)
+}
+
 /// Puts the fields of an entry at the end of bytes.
-#[tactic(auto, using(std::proofs::lemmas::Grind::common_steps), unfolding(crate::specs::BackendEntries::backend_parts))]
+#[tactic(auto, unfolding(crate::specs::BackendEntries::backend_parts))]
 fn put_fields(entry: &BackendRecord, out: &mut Bytes) -> Result<(), Memory>
     ensures { OnOk result (out.new ≡ out.old ++ backend_fields entry.now) }
 {
     match entry {
-        BackendRecord::Make(name, serial, acl) => {
-            put_text(name.as_bytes(), out)?;
-            put_made(*serial, acl, out)
+        BackendRecord::Make(name, serial, acl) => put_make(name, *serial, acl, out),
+        BackendRecord::Opened(name) | BackendRecord::Closing(name) => {
+            put_text(name.as_bytes(), out)
         }
-        BackendRecord::Opened(name) | BackendRecord::Closing(name) => put_text(
-            name.as_bytes(),
-            out,
-        ),
         BackendRecord::Added(name, messages) => {
-            put_text(name.as_bytes(), out)?;
-            put_list(&MessageForm, messages.as_slice(), out)
+            put_named_list(name, &MessageForm, messages.as_slice(), out)
         }
-        BackendRecord::Flagged(name, rows) => {
-            put_text(name.as_bytes(), out)?;
-            put_list(&RowForm, rows.as_slice(), out)
-        }
-        BackendRecord::Gone(name, uids) => {
-            put_text(name.as_bytes(), out)?;
-            put_list(&Number, uids.as_slice(), out)
-        }
+        BackendRecord::Flagged(name, rows) => put_named_list(name, &RowForm, rows.as_slice(), out),
+        BackendRecord::Gone(name, uids) => put_named_list(name, &Number, uids.as_slice(), out),
         BackendRecord::Begun(name, giver, serial, acl) => {
-            put_text(name.as_bytes(), out)?;
-            put_text(giver.as_bytes(), out)?;
-            put_made(*serial, acl, out)
+            put_begun(name, giver, *serial, acl, out)
         }
         BackendRecord::Took(name, changes) => {
-            put_text(name.as_bytes(), out)?;
-            put_list(&ChangeForm, changes.as_slice(), out)
+            put_named_list(name, &ChangeForm, changes.as_slice(), out)
         }
-        BackendRecord::Ready(name, next) => {
-            put_text(name.as_bytes(), out)?;
-            put_number(*next, out)
-        }
-        BackendRecord::Pointer(name, server) => {
-            put_text(name.as_bytes(), out)?;
-            put_text(server.as_bytes(), out)
-        }
+        BackendRecord::Ready(name, next) => put_ready(name, *next, out),
+        BackendRecord::Pointer(name, server) => put_pointer(name, server, out),
         BackendRecord::Forget(names) => put_list(&Name, names.as_slice(), out),
     }
 }

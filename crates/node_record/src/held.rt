@@ -1,7 +1,8 @@
 // What a backend has of its names, and the fold of its entries.
-ghost use Rattle.std.specs.Prelude.{◌≡◌, OnOk, IfOk};
+ghost use Rattle.std.specs.Prelude.{◌≡◌, OnOk, IfOk, None, Some};
 ghost use Rattle.std.specs.List.{AllByRecursion, fold};
-ghost use Rattle.mail_message.specs.Boxes.{LeavesNext};
+ghost use Rattle.mail_message.specs.Boxes.{LeavesNext, empty_box};
+ghost use Rattle.mail_message.specs.RowOrder.{HasNext};
 ghost use Rattle.node_record.specs.Held.{puts, relabels, removals, with_changes, with_phase, took_in, ready_in, has_content, is_receiving, changed, placed, forgotten, pointer, held_after, EntryLeavesNext};
 
 use crate::backend::{BackendRecord, MailNames};
@@ -154,6 +155,60 @@ fn forget(held: &mut HeldNames, names: &MailNames)
     }
 }
 
+/// Puts messages into the mailbox of a name.
+fn add(
+    alloc: Global,
+    held: &mut HeldNames,
+    name: &MailName,
+    messages: Messages,
+) -> Result<(), Memory>
+    requires { AllByRecursion (λ message. HasNext message.uid) messages }
+    ensures { OnOk result (held.new ≡ changed held.old name.now (with_changes (puts messages))) }
+{
+    change(alloc, held, name, puts(alloc, messages)?)
+}
+
+/// Gives messages in the mailbox of a name other flags.
+fn relabel(alloc: Global, held: &mut HeldNames, name: &MailName, rows: Rows) -> Result<(), Memory>
+    ensures { OnOk result (held.new ≡ changed held.old name.now (with_changes (relabels rows))) }
+{
+    change(alloc, held, name, relabels(alloc, rows)?)
+}
+
+/// Takes messages away from the mailbox of a name.
+fn take_away(
+    alloc: Global,
+    held: &mut HeldNames,
+    name: &MailName,
+    uids: &Uids,
+) -> Result<(), Memory>
+    ensures { OnOk result (held.new ≡ changed held.old name.now (with_changes (removals uids.now))) }
+{
+    change(alloc, held, name, removals(alloc, uids)?)
+}
+
+/// A mailbox that was made here and is not yet known to be active.
+fn created(alloc: Global, serial: u32, acl: Bytes) -> Held
+    ensures { result ≡ record { phase = Phase.Creating; giver = None; content = empty_box serial acl } }
+{
+    Held {
+        phase: Phase::Creating,
+        giver: None,
+        content: MailBox::make(alloc, serial, acl),
+    }
+}
+
+/// A mailbox whose content comes in from a backend.
+fn receiving(alloc: Global, giver: NodeName, serial: u32, acl: Bytes) -> Held
+    ensures { result ≡ record { phase = Phase.Receiving; giver = Some giver; content = empty_box serial acl } }
+{
+    Held {
+        phase: Phase::Receiving,
+        giver: Some(giver),
+        content: MailBox::make(alloc, serial, acl),
+    }
+}
+
 /// A pointer to a server.
 fn pointer(alloc: Global, server: NodeName) -> Held
     ensures { result ≡ pointer server }
@@ -177,40 +232,27 @@ pub fn apply_backend(
     ensures { OnOk result (held.new ≡ held_after held.old entry) }
 {
     match entry {
-        BackendRecord::Make(name, serial, acl) => {
-            let content = MailBox::make(alloc, serial, acl);
-            place(held, name, made(Phase::Creating, None, content))?;
+        BackendRecord::Make(name, serial, acl) => place(held, name, created(alloc, serial, acl)),
+        BackendRecord::Opened(name) => {
+            bring(held, &name, Phase::Open);
+            Ok(())
         }
-        BackendRecord::Opened(name) => bring(held, &name, Phase::Open),
-        BackendRecord::Added(name, messages) => {
-            change(alloc, held, &name, puts(alloc, messages)?)?;
+        BackendRecord::Added(name, messages) => add(alloc, held, &name, messages),
+        BackendRecord::Flagged(name, rows) => relabel(alloc, held, &name, rows),
+        BackendRecord::Gone(name, uids) => take_away(alloc, held, &name, &uids),
+        BackendRecord::Closing(name) => {
+            bring(held, &name, Phase::Closing);
+            Ok(())
         }
-        BackendRecord::Flagged(name, rows) => {
-            change(alloc, held, &name, relabels(alloc, rows)?)?;
-        }
-        BackendRecord::Gone(name, uids) => {
-            change(alloc, held, &name, removals(alloc, &uids)?)?;
-        }
-        BackendRecord::Closing(name) => bring(held, &name, Phase::Closing),
         BackendRecord::Begun(name, giver, serial, acl) => {
-            let content = MailBox::make(alloc, serial, acl);
-            place(held, name, made(Phase::Receiving, Some(giver), content))?;
+            place(held, name, receiving(alloc, giver, serial, acl))
         }
-        BackendRecord::Took(name, changes) => take_in(alloc, held, &name, changes)?,
-        BackendRecord::Ready(name, next) => make_ready(held, &name, next)?,
-        BackendRecord::Pointer(name, server) => place(held, name, pointer(alloc, server))?,
-        BackendRecord::Forget(names) => forget(held, &names),
-    }
-    Ok(())
-}
-
-/// What a backend has of a name, made of its parts.
-fn made(phase: Phase, giver: Option<NodeName>, content: MailBox) -> Held
-    ensures { result ≡ record { phase = phase; giver = giver; content = content } }
-{
-    Held {
-        phase,
-        giver,
-        content,
+        BackendRecord::Took(name, changes) => take_in(alloc, held, &name, changes),
+        BackendRecord::Ready(name, next) => make_ready(held, &name, next),
+        BackendRecord::Pointer(name, server) => place(held, name, pointer(alloc, server)),
+        BackendRecord::Forget(names) => {
+            forget(held, &names);
+            Ok(())
+        }
     }
 }

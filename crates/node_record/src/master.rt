@@ -35,22 +35,46 @@ pub fn copied_place(alloc: Global, place: &Location) -> Result<Location, Memory>
     })
 }
 
+fn copied_reserved(
+    alloc: Global,
+    name: &MailName,
+    place: &Location,
+    serial: u32,
+) -> Result<MasterRecord, Memory>
+    ensures { IfOk result (λ copy. copy ≡ MasterRecord.Reserved name.now place.now serial) }
+{
+    let place = copied_place(alloc, place)?;
+    Ok(MasterRecord::Reserved(name.copy(alloc)?, place, serial))
+}
+
+fn copied_active(
+    alloc: Global,
+    name: &MailName,
+    place: &Location,
+    acl: &Bytes,
+) -> Result<MasterRecord, Memory>
+    ensures { IfOk result (λ copy. copy ≡ MasterRecord.Active name.now place.now acl.now) }
+{
+    let place = copied_place(alloc, place)?;
+    let acl = Bytes::from_slice(alloc, acl.as_slice())?;
+    Ok(MasterRecord::Active(name.copy(alloc)?, place, acl))
+}
+
+fn copied_inactive(alloc: Global, name: &MailName, place: &Location) -> Result<MasterRecord, Memory>
+    ensures { IfOk result (λ copy. copy ≡ MasterRecord.Inactive name.now place.now) }
+{
+    let place = copied_place(alloc, place)?;
+    Ok(MasterRecord::Inactive(name.copy(alloc)?, place))
+}
+
 impl Copied for MasterRecord {
     fn copy(&self, alloc: Global) -> Result<MasterRecord, Memory> {
         match self {
             MasterRecord::Reserved(name, place, serial) => {
-                let place = copied_place(alloc, place)?;
-                Ok(MasterRecord::Reserved(name.copy(alloc)?, place, *serial))
+                copied_reserved(alloc, name, place, *serial)
             }
-            MasterRecord::Active(name, place, acl) => {
-                let place = copied_place(alloc, place)?;
-                let acl = Bytes::from_slice(alloc, acl.as_slice())?;
-                Ok(MasterRecord::Active(name.copy(alloc)?, place, acl))
-            }
-            MasterRecord::Inactive(name, place) => {
-                let place = copied_place(alloc, place)?;
-                Ok(MasterRecord::Inactive(name.copy(alloc)?, place))
-            }
+            MasterRecord::Active(name, place, acl) => copied_active(alloc, name, place, acl),
+            MasterRecord::Inactive(name, place) => copied_inactive(alloc, name, place),
             MasterRecord::Deleted(name) => Ok(MasterRecord::Deleted(name.copy(alloc)?)),
         }
     }

@@ -1,7 +1,9 @@
 // AUTHENTICATE PLAIN (RFC 9051, 6.2.2; RFC 4616).
 ghost use Rattle.std.specs.Prelude.{◌≡◌, ◌++◌, OnOk};
+ghost use Rattle.mur_base.specs.Ascii.{space};
+ghost use Rattle.grammar.specs.Forms.{maybe};
 ghost use Rattle.grammar.specs.Gives.{Gives};
-ghost use Rattle.imap_command.specs.Authenticate.{is_base64_char, authenticate_form};
+ghost use Rattle.imap_command.specs.Authenticate.{is_base64_char, authenticate_form, response as response_form};
 
 use grammar::{AnyCase, Class, Only, ReadError, Run, begins, byte_of, word_of};
 use mur_base::{Bytes, Memory};
@@ -23,19 +25,26 @@ impl Class for Base64Char {
 /// The one mechanism.
 const MECHANISM: [&[u8]; 1] = [b"PLAIN"];
 
+/// Reads a response behind a space, where one stands there.
+fn response_of(alloc: Global, bytes: &[u8]) -> Result<(Option<Bytes>, &[u8]), ReadError>
+    ensures { Gives (λ x. (x.0, x.1.now)) result ((maybe space response_form).part.at bytes.now) }
+{
+    if begins(&Only(b' '), bytes) {
+        let rest = byte_of(b' ', bytes)?;
+        let (response, rest) = word_of(&Run { of: Base64Char }, rest)?;
+        Ok((Some(Bytes::from_slice(alloc, response)?), rest))
+    } else {
+        Ok((None, bytes))
+    }
+}
+
 /// Reads what stands behind the name AUTHENTICATE.
 pub fn authenticate_of(alloc: Global, bytes: &[u8]) -> Result<(Option<Bytes>, &[u8]), ReadError>
     ensures { Gives (λ x. (x.0, x.1.now)) result (authenticate_form.part.at bytes.now) }
 {
     let rest = byte_of(b' ', bytes)?;
     let (_, rest) = word_of(&AnyCase { names: &MECHANISM }, rest)?;
-    if begins(&Only(b' '), rest) {
-        let rest = byte_of(b' ', rest)?;
-        let (response, rest) = word_of(&Run { of: Base64Char }, rest)?;
-        Ok((Some(Bytes::from_slice(alloc, response)?), rest))
-    } else {
-        Ok((None, rest))
-    }
+    response_of(alloc, rest)
 }
 
 /// Prints what stands behind the name AUTHENTICATE.

@@ -1,7 +1,9 @@
 // SETACL (RFC 4314, 3.1).
 ghost use Rattle.std.specs.Prelude.{◌≡◌, ◌++◌, OnOk, IfOk};
+ghost use Rattle.grammar.specs.Forms.{◌spaced◌};
 ghost use Rattle.grammar.specs.Gives.{Gives};
 ghost use Rattle.imap_command.specs.SetAcl.{rights_of, signed, mod_rights, set_acl};
+ghost use Rattle.imap_text.specs.Strings.{argument};
 
 use grammar::{ReadError, byte_of};
 use imap_text::{astring_of, put_astring};
@@ -28,6 +30,19 @@ fn mod_rights_of(alloc: Global, bytes: &[u8]) -> Result<((Mode, Bytes), &[u8]), 
     Ok((rights_of(alloc, text.as_slice())?, rest))
 }
 
+/// Reads an identifier and, behind a space, mod-rights.
+fn id_with_rights_of(
+    alloc: Global,
+    bytes: &[u8],
+) -> Result<((Bytes, (Mode, Bytes)), &[u8]), ReadError>
+    ensures { Gives (λ x. (x.0, x.1.now)) result ((argument spaced mod_rights).part.at bytes.now) }
+{
+    let (id, rest) = astring_of(alloc, bytes)?;
+    let rest = byte_of(b' ', rest)?;
+    let (rights, rest) = mod_rights_of(alloc, rest)?;
+    Ok(((id, rights), rest))
+}
+
 /// Reads what stands behind the name SETACL.
 pub fn set_acl_of(
     alloc: Global,
@@ -38,10 +53,8 @@ pub fn set_acl_of(
     let rest = byte_of(b' ', bytes)?;
     let (mailbox, rest) = astring_of(alloc, rest)?;
     let rest = byte_of(b' ', rest)?;
-    let (id, rest) = astring_of(alloc, rest)?;
-    let rest = byte_of(b' ', rest)?;
-    let (rights, rest) = mod_rights_of(alloc, rest)?;
-    Ok(((mailbox, (id, rights)), rest))
+    let (granted, rest) = id_with_rights_of(alloc, rest)?;
+    Ok(((mailbox, granted), rest))
 }
 
 /// Rights behind their sign.
@@ -59,6 +72,13 @@ fn signed(alloc: Global, mode: Mode, rights: &Bytes) -> Result<Bytes, Memory>
     Ok(text)
 }
 
+fn put_mod_rights(alloc: Global, mode: Mode, rights: &Bytes, out: &mut Bytes) -> Result<(), Memory>
+    ensures { OnOk result (out.new ≡ out.old ++ mod_rights.text (mode, rights.now)) }
+{
+    let text = signed(alloc, mode, rights)?;
+    put_astring(text.as_slice(), out)
+}
+
 /// Prints what stands behind the name SETACL.
 #[tactic(auto, using(std::proofs::lemmas::Grind::common_steps))]
 pub fn put_set_acl(
@@ -71,11 +91,10 @@ pub fn put_set_acl(
 ) -> Result<(), Memory>
     ensures { OnOk result (out.new ≡ out.old ++ set_acl.text (mailbox.now, (id.now, (mode, rights.now)))) }
 {
-    let text = signed(alloc, mode, rights)?;
     out.push(b' ')?;
     put_astring(mailbox.as_slice(), out)?;
     out.push(b' ')?;
     put_astring(id.as_slice(), out)?;
     out.push(b' ')?;
-    put_astring(text.as_slice(), out)
+    put_mod_rights(alloc, mode, rights, out)
 }

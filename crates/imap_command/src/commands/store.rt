@@ -1,7 +1,9 @@
 // STORE (RFC 9051, 6.4.6).
 ghost use Rattle.std.specs.Prelude.{◌≡◌, ◌++◌, OnOk};
+ghost use Rattle.grammar.specs.Forms.{◌spaced◌};
 ghost use Rattle.grammar.specs.Gives.{Gives};
-ghost use Rattle.imap_command.specs.Store.{mode_text, store_form};
+ghost use Rattle.imap_command.specs.Flags.{store_flags};
+ghost use Rattle.imap_command.specs.Store.{mode_text, store_form, store_mode};
 
 use crate::flags::{put_flags, store_flags_of};
 use crate::sets::{put_set, set_of};
@@ -20,6 +22,19 @@ const MODE_ROWS: [(&[u8], (Mode, bool)); 6] = [
     (b"-FLAGS.SILENT", (Mode::Remove, true)),
 ];
 
+/// Reads a mode and, behind a space, flags.
+fn mode_with_flags_of(
+    alloc: Global,
+    bytes: &[u8],
+) -> Result<(((Mode, bool), FlagSet), &[u8]), ReadError>
+    ensures { Gives (λ x. (x.0, x.1.now)) result ((store_mode spaced store_flags).part.at bytes.now) }
+{
+    let (mode, rest) = table_of((Mode::Replace, false), &MODE_ROWS, bytes)?;
+    let rest = byte_of(b' ', rest)?;
+    let (flags, rest) = store_flags_of(alloc, rest)?;
+    Ok(((mode, flags), rest))
+}
+
 /// Reads what stands behind the name STORE.
 pub fn store_of(
     alloc: Global,
@@ -30,10 +45,8 @@ pub fn store_of(
     let rest = byte_of(b' ', bytes)?;
     let (set, rest) = set_of(alloc, rest)?;
     let rest = byte_of(b' ', rest)?;
-    let (mode, rest) = table_of((Mode::Replace, false), &MODE_ROWS, rest)?;
-    let rest = byte_of(b' ', rest)?;
-    let (flags, rest) = store_flags_of(alloc, rest)?;
-    Ok(((set, (mode, flags)), rest))
+    let (change, rest) = mode_with_flags_of(alloc, rest)?;
+    Ok(((set, change), rest))
 }
 
 /// Prints a mode.

@@ -1,17 +1,21 @@
 // FETCH and UID FETCH of flags and UIDs alone (RFC 9051, 6.4.5).
-ghost use Rattle.std.specs.Prelude.{◌≡◌, ◌+◌, ◌<◌, ◌^◌, ◌++◌, IfOk, OnOk, map};
+ghost use Rattle.std.specs.Prelude.{◌≡◌, ◌+◌, ◌<◌, ◌^◌, ◌++◌, false, IfOk, OnOk, map};
 ghost use Rattle.std.specs.List.{filter};
 ghost use Rattle.std.specs.Option.{option_copied, option_map, IfSome};
 ghost use Rattle.mur_model.specs.FetchRows.{asks_rows, is_in_row, row_line, row_lines, row_part, rows_told, told_uids};
-ghost use Rattle.mur_model.specs.News.{has_row};
+ghost use Rattle.imap_types.specs.declared.reply.Verdict.TheVariants.{Ok as ok_reply};
+ghost use Rattle.mail_store.specs.Named.{set_of};
+ghost use Rattle.mur_model.specs.Fetch.{fetch_name, items_told};
+ghost use Rattle.mur_model.specs.News.{has_row, news};
+ghost use Rattle.mur_model.specs.Selected.{with_news};
 
 use crate::commands::fetch::{Fetching, asks_flags, fetch_name, items_told};
 use crate::commands::store::code_for;
-use crate::news::{news_of, number_of};
+use crate::news::{Told, news_of, number_of};
 use crate::selected::with_news;
 use crate::session::Turn;
 use crate::view::View;
-use imap_types::{Parts, ReplyLine, ReplyLines, Verdict};
+use imap_types::{Code, Parts, ReplyLine, ReplyLines, Verdict};
 use mail_fetch::{flags_part, uid_part};
 use mail_message::{Item, OrderedRows, Row, Uids};
 use mur_base::{Bytes, Memory};
@@ -112,6 +116,51 @@ fn told_uids(alloc: Global, it: &Fetching, now: &OrderedRows) -> Result<Uids, Me
     }
 }
 
+/// The lines of the messages that the rows of a mailbox have.
+fn row_lines(
+    alloc: Global,
+    view: &View,
+    it: &Fetching,
+    now: &OrderedRows,
+) -> Result<ReplyLines, Memory>
+    ensures { IfOk result (λ lines. lines ≡ row_lines (items_told it.now false) view.now.rows now.now it.now.uids) }
+{
+    let items = items_told(alloc, it, false)?;
+    let mut lines = ReplyLines::new(alloc);
+    put_row_lines(
+        alloc,
+        &mut lines,
+        items.as_slice(),
+        &view.rows,
+        now,
+        it.uids.as_slice(),
+    )?;
+    Ok(lines)
+}
+
+/// The news that stand behind those lines.
+fn row_news(alloc: Global, view: &View, it: &Fetching, now: OrderedRows) -> Result<Told, Memory>
+    ensures { IfOk result (λ told. told ≡ news view.now.rows now it.now.by_uid (set_of (told_uids it.now now))) }
+{
+    let told = told_uids(alloc, it, &now)?;
+    news_of(alloc, &view.rows, now, it.by_uid, told.as_slice())
+}
+
+/// What a FETCH with these lines, news and code is told.
+pub fn fetched(
+    alloc: Global,
+    view: &View,
+    by_uid: bool,
+    lines: ReplyLines,
+    news: Told,
+    code: Code,
+) -> Result<Turn, Memory>
+    ensures { IfOk result (λ turn. turn ≡ with_news view.now lines news (ok_reply code (fetch_name by_uid))) }
+{
+    let verdict = Verdict::Ok(code, Bytes::from_slice(alloc, fetch_name(by_uid))?);
+    with_news(alloc, view, lines, news, verdict)
+}
+
 /// What is told where a mailbox has these rows. Time is linear in the rows and the UIDs, but for the set of those whose flags are told,
 /// which is made where something has changed.
 pub fn rows_told(
@@ -122,13 +171,8 @@ pub fn rows_told(
 ) -> Result<Turn, Memory>
     ensures { IfOk result (λ turn. turn ≡ rows_told view.now it.now now) }
 {
-    let mut lines = ReplyLines::new(alloc);
-    let items = items_told(alloc, it, false)?;
-    let uids = it.uids.as_slice();
-    put_row_lines(alloc, &mut lines, items.as_slice(), &view.rows, &now, uids)?;
-    let told = told_uids(alloc, it, &now)?;
-    let code = code_for(it.by_uid, &now, uids);
-    let news = news_of(alloc, &view.rows, now, it.by_uid, told.as_slice())?;
-    let verdict = Verdict::Ok(code, Bytes::from_slice(alloc, fetch_name(it.by_uid))?);
-    with_news(alloc, view, lines, news, verdict)
+    let lines = row_lines(alloc, view, it, &now)?;
+    let code = code_for(it.by_uid, &now, it.uids.as_slice());
+    let news = row_news(alloc, view, it, now)?;
+    fetched(alloc, view, it.by_uid, lines, news, code)
 }

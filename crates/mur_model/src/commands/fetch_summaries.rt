@@ -1,15 +1,18 @@
 // FETCH and UID FETCH of flags, UIDs, dates and sizes alone (RFC 9051, 6.4.5).
-ghost use Rattle.std.specs.Prelude.{◌≡◌, ◌+◌, ◌<◌, ◌^◌, ◌++◌, IfOk, OnOk, map};
+ghost use Rattle.std.specs.Prelude.{◌≡◌, ◌+◌, ◌<◌, ◌^◌, ◌++◌, false, IfOk, OnOk, map};
 ghost use Rattle.std.specs.Option.{option_map, IfSome};
+ghost use Rattle.mail_store.specs.Named.{set_of};
+ghost use Rattle.mur_model.specs.Fetch.{items_told};
+ghost use Rattle.mur_model.specs.News.{news};
 ghost use Rattle.mur_model.specs.FetchSummaries.{asks_summaries, is_in_summary, summaries_told, summary_line, summary_lines, summary_part, uids_told};
 
-use crate::commands::fetch::{Fetching, asks_flags, fetch_name, items_told};
+use crate::commands::fetch::{Fetching, asks_flags, items_told};
+use crate::commands::fetch_rows::fetched;
 use crate::commands::store::code_for;
-use crate::news::{news_of, number_of};
-use crate::selected::with_news;
+use crate::news::{Told, news_of, number_of};
 use crate::session::Turn;
 use crate::view::View;
-use imap_types::{Parts, ReplyLine, ReplyLines, Verdict};
+use imap_types::{Parts, ReplyLine, ReplyLines};
 use mail_fetch::{date_part, flags_part, size_part, uid_part};
 use mail_message::{Item, OrderedRows, Summaries, Summary, Uids};
 use mur_base::{Bytes, Memory};
@@ -106,6 +109,41 @@ fn uids_told(alloc: Global, it: &Fetching, summaries: &[Summary]) -> Result<Uids
     }
 }
 
+/// The lines of messages with these summaries.
+fn summary_lines(
+    alloc: Global,
+    view: &View,
+    it: &Fetching,
+    summaries: &Summaries,
+) -> Result<ReplyLines, Memory>
+    ensures { IfOk result (λ lines. lines ≡ summary_lines (items_told it.now false) view.now.rows summaries.now) }
+{
+    let items = items_told(alloc, it, false)?;
+    let mut lines = ReplyLines::new(alloc);
+    put_summary_lines(
+        alloc,
+        &mut lines,
+        items.as_slice(),
+        &view.rows,
+        summaries.as_slice(),
+    )?;
+    Ok(lines)
+}
+
+/// The news that stand behind those lines.
+fn summary_news(
+    alloc: Global,
+    view: &View,
+    it: &Fetching,
+    summaries: &Summaries,
+    now: OrderedRows,
+) -> Result<Told, Memory>
+    ensures { IfOk result (λ told. told ≡ news view.now.rows now it.now.by_uid (set_of (uids_told it.now summaries.now))) }
+{
+    let told = uids_told(alloc, it, summaries.as_slice())?;
+    news_of(alloc, &view.rows, now, it.by_uid, told.as_slice())
+}
+
 /// What is told of the named messages by their summaries, and of the mailbox's rows at the same moment. Time is linear in the rows and the
 /// summaries, but for the set of the UIDs whose flags are told, which is made where something has changed.
 pub fn summaries_told(
@@ -117,18 +155,8 @@ pub fn summaries_told(
 ) -> Result<Turn, Memory>
     ensures { IfOk result (λ turn. turn ≡ summaries_told view.now it.now summaries.now now) }
 {
-    let mut lines = ReplyLines::new(alloc);
-    let items = items_told(alloc, it, false)?;
-    put_summary_lines(
-        alloc,
-        &mut lines,
-        items.as_slice(),
-        &view.rows,
-        summaries.as_slice(),
-    )?;
-    let told = uids_told(alloc, it, summaries.as_slice())?;
+    let lines = summary_lines(alloc, view, it, summaries)?;
     let code = code_for(it.by_uid, &now, it.uids.as_slice());
-    let news = news_of(alloc, &view.rows, now, it.by_uid, told.as_slice())?;
-    let verdict = Verdict::Ok(code, Bytes::from_slice(alloc, fetch_name(it.by_uid))?);
-    with_news(alloc, view, lines, news, verdict)
+    let news = summary_news(alloc, view, it, summaries, now)?;
+    fetched(alloc, view, it.by_uid, lines, news, code)
 }
