@@ -1,0 +1,9 @@
+pub mod Texts
+pub mod Mailboxes
+pub mod StepsSaid
+pub mod AnswersTold
+pub mod MessageSteps
+pub mod Queues
+pub mod BackLaw
+pub mod MasterLaw
+pub mod OneHome
