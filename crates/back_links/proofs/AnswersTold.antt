@@ -29,7 +29,7 @@ use Rattle.name_links.specs.Lines.{backend_line}
 use Rattle.name_links.specs.OneLink.{under}
 use Rattle.name_links.specs.Spelled.{IsNameText, IsPlaceText, IsShort, HasTexts, TellsTexts}
 use Rattle.name_links.proofs.OnWay.{all_append}
-use Rattle.back_links.specs.Spelled.{IsTextTag, IsSpelledResponse}
+use Rattle.back_links.specs.Spelled.{IsTextTag, HasResponseTexts}
 use Rattle.back_links.proofs.Texts.{decimal_short}
 
 abbrev AreTold : List MResponse → Type 0
@@ -110,6 +110,6 @@ module _ (table : MailboxTable) (can : CanBeTold table) (low : table.serial < 2 
   answers_told tag command.Noop line e = cc
   answers_told tag command.Logout line e = cc
 
-pub under_spelled : (tag : Tag) (answers : List MResponse) → IsTextTag tag → AreTold answers → AllByRecursion IsSpelledResponse (map (under tag) answers)
+pub under_spelled : (tag : Tag) (answers : List MResponse) → IsTextTag tag → AreTold answers → AllByRecursion HasResponseTexts (map (under tag) answers)
 under_spelled tag [] tagged all = tt
 under_spelled tag (it ∷ answers) tagged all = ((tagged, all.0), under_spelled tag answers tagged all.1)

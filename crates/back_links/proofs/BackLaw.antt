@@ -26,6 +26,7 @@ use Rattle.name_flows.specs.declared.ask.AskKind.{AskKind}
 use Rattle.name_flows.specs.declared.ask.NameAsk.{NameAsk}
 use Rattle.name_flows.specs.Asked.{asked_step}
 use Rattle.name_flows.specs.Heard.{heard_step}
+use Rattle.name_flows.specs.Link.{end_step}
 use Rattle.name_flows.specs.Listing.{up_step}
 use Rattle.name_flows.specs.Running.{new_flows}
 use Rattle.name_flows.specs.Steps.{FlowStep, held_with, handed}
@@ -49,9 +50,9 @@ use Rattle.name_links.proofs.LinkLaw.{first_law, asks_law, hears_law}
 use Rattle.name_links.proofs.OnWay.{all_append}
 use Rattle.name_links.proofs.SerialTurn.{first_serials}
 use Rattle.name_links.proofs.ServedLaw.{serves_content, serves_law}
-use Rattle.back_links.specs.BackEvents.{GoesOnAt, TalkBegins, fits_by, IsFitting, AsksKeepTalk, HearsKeepsTalk, IsServed, MessagesAreServed}
+use Rattle.back_links.specs.BackEvents.{TalkAfterNode, TalkBegins, fits_by, IsFitting, AsksKeepTalk, HearsKeepsTalk, IsServed, MessagesAreServed}
 use Rattle.back_links.specs.OneTalk.{HaveEachOther, link_of, HoldsOfEachName, HasTalk}
-use Rattle.back_links.specs.Spelled.{CanBeSaid, IsSpelledCommand, IsSpelledResponse}
+use Rattle.back_links.specs.Spelled.{CanTellMaster, HasCommandTexts, HasResponseTexts}
 use Rattle.back_links.specs.Written.{AreWritten, command_message, response_message}
 use Rattle.back_links.proofs.Mailboxes.{served_spelled}
 use Rattle.back_links.proofs.MessageSteps.{IsStepIf, message_steps}
@@ -83,28 +84,28 @@ module _ (master : Master) (name : List ℕ) (node : BackNode) (up down : List L
     owes = record { running = only.owes.running; waiting = only.owes.waiting };
   }
 
-  then_written : HaveEachOther master name node → CanBeSaid node.flows node.home.held → AreWritten up down ups downs → StepSaid node.flows.me node.home.held step
+  then_written : HaveEachOther master name node → CanTellMaster node.flows node.home.held → AreWritten up down ups downs → StepSaid node.flows.me node.home.held step
       → AnswersOnly (IsNot master.me) node.flows step
       → AreWritten (up ++ messages_to master.me then.outs) down (ups ++ map (message_of step.flows.me node.home.held) step.sends) downs
   then_written each said written so only = record {
-    up = written_then command_message up (messages_to master.me then.outs) ups (map (message_of step.flows.me node.home.held) step.sends) written.up
+    up_is = written_then command_message up (messages_to master.me then.outs) ups (map (message_of step.flows.me node.home.held) step.sends) written.up_is
         (step_sends master.me node.home.held step (only.master ∙ each.its_master) only.answers);
-    down = written.down;
-    commands = all_append IsSpelledCommand ups (map (message_of step.flows.me node.home.held) step.sends) written.commands
+    down_is = written.down_is;
+    commands = all_append HasCommandTexts ups (map (message_of step.flows.me node.home.held) step.sends) written.commands
         (sends_spelled step.flows.me node.home.held step.sends so.can.place said.mailboxes so.sends);
     responses = written.responses;
   }
 
-  goes_on : HaveEachOther master name node → CanBeTold master.table → CanBeSaid node.flows node.home.held → AreWritten up down ups downs
+  goes_on : HaveEachOther master name node → CanBeTold master.table → CanTellMaster node.flows node.home.held → AreWritten up down ups downs
       → StepSaid node.flows.me node.home.held step → AnswersOnly (IsNot master.me) node.flows step
-      → HoldsOfEachName (does (link_of master node ups downs) downs step) given → GoesOnAt master name then up down given
+      → HoldsOfEachName (does (link_of master node ups downs) downs step) given → TalkAfterNode master name then up down given
   goes_on each told said written so only holds = record {
     ups = ups ++ map (message_of step.flows.me node.home.held) step.sends;
     downs = downs;
     written = then_written each said written so only;
     each = then_each each so only;
     told = told;
-    said = subst (λ (held : Names). CanBeSaid then.state.flows held) held_is (handed_said node.flows.me node.home.held step so);
+    said = subst (λ (held : Names). CanTellMaster then.state.flows held) held_is (handed_said node.flows.me node.home.held step so);
     holds = subst (λ (held : Names). HoldsOfEachName (record {
         table = master.table;
         flows = then.state.flows;
@@ -124,11 +125,11 @@ pub talk_begins : TalkBegins
 unfolding taken_up booted
 talk_begins place me backends spelled backend =
     let node : BackNode = new_node place me in
-    subst (λ (mine : Bool). GoesOnAt (booted me backends empty_table) place.server (done_by (cond mine (talks node (up_step node.flows)) (passed_over node))) [] [] [])
+    subst (λ (mine : Bool). TalkAfterNode (booted me backends empty_table) place.server (done_by (cond mine (talks node (up_step node.flows)) (passed_over node))) [] [] [])
     (sym (same_name me))
     (goes_on (booted me backends empty_table) place.server node [] [] [] [] [] (up_step node.flows)
     (record { named = refl; backend = backend; no_stream = refl; its_master = refl; owes = none_owed (IsNot me) place me })
-    none_told (new_said place me spelled) (record { up = refl; down = refl; commands = tt; responses = tt })
+    none_told (new_said place me spelled) (record { up_is = refl; down_is = refl; commands = tt; responses = tt })
     (up_said node.flows [] (new_said place me spelled)) (up_answers (IsNot me) node.flows (none_owed (IsNot me) place me))
     (record {
       names = first_law place me (place_no_bang place spelled);
@@ -154,13 +155,13 @@ module _ (master : Master) (name : List ℕ) (node : BackNode) (up down : List L
   abbrev link : OneLink
   link = link_of master node talk.ups talk.downs
 
-  spelled : AllByRecursion IsSpelledResponse (first.it ∷ first.more)
-  spelled = subst (AllByRecursion IsSpelledResponse) first.are talk.written.responses
+  spelled : AllByRecursion HasResponseTexts (first.it ∷ first.more)
+  spelled = subst (AllByRecursion HasResponseTexts) first.are talk.written.responses
 
-  heard : GoesOnAt master name (done_by (talks node (heard_step node.flows node.home.held (first.it).0 (first.it).1))) up down given
+  heard : TalkAfterNode master name (done_by (talks node (heard_step node.flows node.home.held (first.it).0 (first.it).1))) up down given
   heard =
       goes_on master name node up down talk.ups first.more given (heard_step node.flows node.home.held (first.it).0 (first.it).1) talk.each talk.told talk.said
-      (record { up = talk.written.up; down = first.rest; commands = talk.written.commands; responses = spelled.1 })
+      (record { up_is = talk.written.up_is; down_is = first.rest; commands = talk.written.commands; responses = spelled.1 })
       (heard_said node.flows node.home.held talk.said (first.it).0 (first.it).1 spelled.0.1)
       (heard_answers (IsNot master.me) node.flows node.home.held (first.it).0 (first.it).1 talk.each.owes)
       (record {
@@ -170,34 +171,34 @@ module _ (master : Master) (name : List ℕ) (node : BackNode) (up down : List L
         serials = talk.holds.serials;
       })
 
-  hears_first : GoesOnAt master name (node_takes node master.me message) up down given
+  hears_first : TalkAfterNode master name (node_takes node master.me message) up down given
   hears_first =
-      subst (λ (m : LinkMsg). GoesOnAt master name (node_takes node master.me m) up down given) (sym first.is)
-      (subst (λ (next : BackActed). GoesOnAt master name next up down given)
+      subst (λ (m : LinkMsg). TalkAfterNode master name (node_takes node master.me m) up down given) (sym first.is)
+      (subst (λ (next : BackActed). TalkAfterNode master name next up down given)
       (sym (hears_is node master.me first.it (is_its_master node master.me talk.each.its_master) (response_read first.it spelled.0))) heard)
 
 pub hears_keeps_talk : HearsKeepsTalk
 hears_keeps_talk master name node up down given message talk =
-    hears_first master name node up down given message talk (first_of response_message message down talk.downs talk.written.down)
+    hears_first master name node up down given message talk (first_of response_message message down talk.downs talk.written.down_is)
 
 -- ---- it takes anything else
 
 module _ (master : Master) (name : List ℕ) (node : BackNode) (up down : List LinkMsg) (given : Given) (from : List ℕ) (ne : from ≢ master.me)
     (talk : HasTalk master name node up down given) where
   -- nothing comes of it
-  nothing_comes : GoesOnAt master name (done_by (passed_over node)) up down given
+  nothing_comes : TalkAfterNode master name (done_by (passed_over node)) up down given
   nothing_comes = subst (λ (u : List LinkMsg). HasTalk master name node u down given) (sym (append-nil up)) talk
 
   not_its_master : is_my_master node from ≡ false
   not_its_master = other_name from node.flows.master (λ e. ne (e ∙ talk.each.its_master))
 
   -- what the master alone may send
-  passed : (it : UpToEntry) → GoesOnAt master name (done_by (cond (is_my_master node from) it (passed_over node))) up down given
-  passed it = subst (λ (mine : Bool). GoesOnAt master name (done_by (cond mine it (passed_over node))) up down given) (sym not_its_master) nothing_comes
+  passed : (it : UpToEntry) → TalkAfterNode master name (done_by (cond (is_my_master node from) it (passed_over node))) up down given
+  passed it = subst (λ (mine : Bool). TalkAfterNode master name (done_by (cond mine it (passed_over node))) up down given) (sym not_its_master) nothing_comes
 
   -- CREATE and DELETE
   named_comes : (ask : FrontAsk) (kind : AskKind) → fits_by (Some kind) ask
-      → GoesOnAt master name (done_by (talks node (asked_step node.flows node.home.held (name_ask from ask kind)))) up down given
+      → TalkAfterNode master name (done_by (talks node (asked_step node.flows node.home.held (name_ask from ask kind)))) up down given
   named_comes ask kind fits =
       let it : NameAsk = name_ask from ask kind in
       let link : OneLink = link_of master node talk.ups talk.downs in
@@ -242,7 +243,7 @@ module _ (master : Master) (name : List ℕ) (node : BackNode) (up down : List L
         };
       }
 
-  messages_come : (ask : FrontAsk) → name_kind ask.op ≡ None → GoesOnAt master name (done_by (serves node (back_plan node.home (FromFront from ask)))) up down given
+  messages_come : (ask : FrontAsk) → name_kind ask.op ≡ None → TalkAfterNode master name (done_by (serves node (back_plan node.home (FromFront from ask)))) up down given
   messages_come ask none =
       let plan : BackPlan = owes from ask.id (ask_plan node.home ask) in
       let made : Option BackendRecord = only_entry plan.entries in
@@ -252,14 +253,14 @@ module _ (master : Master) (name : List ℕ) (node : BackNode) (up down : List L
       subst (λ (u : List LinkMsg). HasTalk master name then u down given) (sym (ap (λ (l : List LinkMsg). up ++ l) silent ∙ append-nil up))
       (entry_made made (message_steps node.home from ask none))
 
-  asked_comes : (ask : FrontAsk) (kind : Option AskKind) → name_kind ask.op ≡ kind → fits_by kind ask → GoesOnAt master name (done_by (ask_by node from ask kind)) up down given
+  asked_comes : (ask : FrontAsk) (kind : Option AskKind) → name_kind ask.op ≡ kind → fits_by kind ask → TalkAfterNode master name (done_by (ask_by node from ask kind)) up down given
   asked_comes ask (Some kind) is fits = named_comes ask kind fits
   asked_comes ask None is fits = messages_come ask is
 
-  comes : (message : LinkMsg) → IsFitting message → GoesOnAt master name (node_takes node from message) up down given
+  comes : (message : LinkMsg) → IsFitting message → TalkAfterNode master name (node_takes node from message) up down given
   unfolding taken_up
   comes Up fits = passed (talks node (up_step node.flows))
-  comes End fits = passed _
+  comes End fits = passed (talks node (end_step node.flows))
   comes (Line line) fits = passed (line_by node (response_in line))
   comes (Ask ask) fits = asked_comes ask (name_kind ask.op) refl fits
   comes (Answer answer) fits = nothing_comes

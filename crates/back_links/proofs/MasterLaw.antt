@@ -13,6 +13,7 @@ use Rattle.master_core.specs.declared.sender.Sender.{Sender}
 use Rattle.master_core.specs.declared.sender.Sender.TheVariants.{Backend, Frontend, Outside}
 use Rattle.master_core.specs.declared.streams.StreamStep.{StreamStep}
 use Rattle.master_core.specs.declared.streams.StreamStep.TheVariants as stream
+use Rattle.master_core.specs.Changes.{change_outs}
 use Rattle.master_core.specs.Linked.{sender_by, sender_of, node_says, let_out}
 use Rattle.master_core.specs.Outside.{Stepped, bytes_in, connect}
 use Rattle.master_core.specs.Replies.{reply_to, bad_reply}
@@ -21,7 +22,7 @@ use Rattle.master_core.specs.Streams.{is_stream, stream_step, streaming, without
 use Rattle.master_core.proofs.OutsideAlone.{AreItsOwn, IsBeside, bytes_alone, connects_alone, ends_alone}
 use Rattle.master_core.proofs.ServersLaw.{by_line}
 use Rattle.mupdate_codec.specs.declared.command.MCommand.{MCommand}
-use Rattle.mupdate_codec.specs.declared.command.MCommand.TheVariants as command
+use Rattle.mupdate_codec.specs.declared.command.MResponse.{MResponse}
 use Rattle.mupdate_codec.specs.declared.tag.Tag.{Tag}
 use Rattle.mupdate_codec.specs.Arguments.{exact}
 use Rattle.mupdate_codec.specs.Commands.{command_line}
@@ -52,10 +53,10 @@ use Rattle.name_links.proofs.MadeLaw.{create_makes_one}
 use Rattle.name_links.proofs.OnWay.{all_append}
 use Rattle.name_links.proofs.Outs.{line_is_reply}
 use Rattle.name_links.proofs.SerialTurn.{lines_serials}
-use Rattle.back_links.specs.Created.{Activates, IsMadeAt, CreateMakesNew}
-use Rattle.back_links.specs.MasterEvents.{GoesOnAfter, given_if, given_in, TakesKeepsTalk, OthersKeepTalk, FrontendsKeepTalk, ClientsKeep, ClientsKeepTalk}
+use Rattle.back_links.specs.Created.{TakesActivate, IsMadeThere, CreateMakesNew}
+use Rattle.back_links.specs.MasterEvents.{TalkAfterMaster, given_if, given_in, TakesKeepsTalk, OthersKeepTalk, FrontendsKeepTalk, ClientsLeaveTalk, ClientsKeepTalk}
 use Rattle.back_links.specs.OneTalk.{HaveEachOther, link_of, HoldsOfEachName, HasTalk}
-use Rattle.back_links.specs.Spelled.{IsSpelledCommand, IsSpelledResponse}
+use Rattle.back_links.specs.Spelled.{HasCommandTexts, HasResponseTexts}
 use Rattle.back_links.specs.Written.{AreWritten, command_message, response_message}
 use Rattle.back_links.proofs.AnswersTold.{answers_told, under_spelled}
 use Rattle.back_links.proofs.Queues.{told_messages, written_then, IsFirst, first_of}
@@ -67,7 +68,7 @@ use Rattle.back_links.proofs.Texts.{command_read}
 record IsItsLine (master : Master) (name : List ℕ) (message : LinkMsg) (it : Tag × MCommand) : Type 0 where
   line : OpenLine
   is : message ≡ command_message it
-  spelled : IsSpelledCommand it
+  spelled : HasCommandTexts it
   meant : backend_line name it.0 it.1 ≡ Some line
   sender : sender_of master name ≡ Backend name
   no_stream : is_stream master (Backend name) ≡ false
@@ -95,7 +96,7 @@ its_line : (master : Master) (name : List ℕ) (node : BackNode) (up down : List
 its_line master name node up down given message talk first =
     let link : OneLink = link_of master node talk.ups talk.downs in
     let line = first_meant link first.it first.more talk.holds.names first.are in
-    let spelled : AllByRecursion IsSpelledCommand (first.it ∷ first.more) = subst (AllByRecursion IsSpelledCommand) first.are talk.written.commands in
+    let spelled : AllByRecursion HasCommandTexts (first.it ∷ first.more) = subst (AllByRecursion HasCommandTexts) first.are talk.written.commands in
     record {
       line = line.0;
       is = first.is;
@@ -140,7 +141,7 @@ module _ (master : Master) (name : List ℕ) (message : LinkMsg) (it : Tag × MC
       let reply = reply_to master.table (Backend name) it.1 in
       let answers : List LinkMsg = map (told_line it.0) reply.answers in
       reply_messages master name (Backend name) it.0 reply
-      ∙ ap (λ (l : List LinkMsg). l ++ _) (own_answers name (Backend name) it.0 reply.answers refl)
+      ∙ ap (λ (l : List LinkMsg). l ++ messages_to name (change_outs master.streams master.watchers reply.entry)) (own_answers name (Backend name) it.0 reply.answers refl)
       ∙ ap (λ (l : List LinkMsg). answers ++ l) (change_untold master name reply.entry none)
       ∙ append-nil answers
       ∙ told_messages it.0 reply.answers
@@ -151,7 +152,7 @@ module _ (master : Master) (name : List ℕ) (message : LinkMsg) (it : Tag × MC
   other_messages node ne none =
       let reply = reply_to master.table (Backend name) it.1 in
       reply_messages master node (Backend name) it.0 reply
-      ∙ ap (λ (l : List LinkMsg). l ++ _) (no_answers node (Backend name) it.0 reply.answers ne)
+      ∙ ap (λ (l : List LinkMsg). l ++ messages_to node (change_outs master.streams master.watchers reply.entry)) (no_answers node (Backend name) it.0 reply.answers ne)
       ∙ change_untold master node reply.entry none
 
 -- ---- the master takes it
@@ -167,7 +168,7 @@ module _ (master : Master) (name : List ℕ) (node : BackNode) (up down : List L
   abbrev link : OneLink
   link = link_of master node talk.ups talk.downs
 
-  abbrev downs_then : Server → List _
+  abbrev downs_then : Server → List (Tag × MResponse)
   downs_then b = talk.downs ++ map (under it.0) (answers_to master.table b it.1)
 
   holds_then : HoldsOfEachName (record { table = table_by master.table name it.1; flows = node.flows; held = node.home.held; ups = first.more; downs = downs_then name })
@@ -184,17 +185,17 @@ module _ (master : Master) (name : List ℕ) (node : BackNode) (up down : List L
             (first_meant link it first.more talk.holds.names first.are).1;
       })
 
-  taken_talk : GoesOnAfter (let_out (next master name message it its)) name node up down (given ++ gives master.table name it.1)
+  taken_talk : TalkAfterMaster (let_out (next master name message it its)) name node up down (given ++ gives master.table name it.1)
   unfolding replied
   taken_talk = record {
     ups = first.more;
     downs = downs_then name;
     written = record {
-      up = first.rest;
-      down = written_then response_message down _ talk.downs (map (under it.0) (answers_to master.table name it.1)) talk.written.down
+      up_is = first.rest;
+      down_is = written_then response_message down _ talk.downs (map (under it.0) (answers_to master.table name it.1)) talk.written.down_is
           (own_messages master name message it its talk.each.no_stream);
-      commands = (subst (AllByRecursion IsSpelledCommand) first.are talk.written.commands).1;
-      responses = all_append IsSpelledResponse talk.downs (map (under it.0) (answers_to master.table name it.1)) talk.written.responses
+      commands = (subst (AllByRecursion HasCommandTexts) first.are talk.written.commands).1;
+      responses = all_append HasResponseTexts talk.downs (map (under it.0) (answers_to master.table name it.1)) talk.written.responses
           (under_spelled it.0 (answers_to master.table name it.1) its.spelled.0
           (answers_told master.table talk.told its.low name it.0 it.1 its.line its.meant));
     };
@@ -210,14 +211,14 @@ module _ (master : Master) (name : List ℕ) (node : BackNode) (up down : List L
     holds = holds_then;
   }
 
-  takes_first : GoesOnAfter (node_says master name message) name node up down (given ++ given_in master.table name message)
+  takes_first : TalkAfterMaster (node_says master name message) name node up down (given ++ given_in master.table name message)
   takes_first =
-      subst (λ (s : Stepped). GoesOnAfter s name node up down (given ++ given_in master.table name message)) (sym (says_reply master name message it its))
-      (subst (λ (g : Given). GoesOnAfter (let_out (next master name message it its)) name node up down (given ++ g)) (sym (gives_same master name message it its)) taken_talk)
+      subst (λ (s : Stepped). TalkAfterMaster s name node up down (given ++ given_in master.table name message)) (sym (says_reply master name message it its))
+      (subst (λ (g : Given). TalkAfterMaster (let_out (next master name message it its)) name node up down (given ++ g)) (sym (gives_same master name message it its)) taken_talk)
 
 pub takes_keeps_talk : TakesKeepsTalk
 takes_keeps_talk master name node up down given message talk =
-    takes_first master name node up down given message talk (first_of command_message message up talk.ups talk.written.up)
+    takes_first master name node up down given message talk (first_of command_message message up talk.ups talk.written.up_is)
 
 -- ---- the master takes a line of another backend
 
@@ -229,7 +230,7 @@ module _ (master : Master) (name other : List ℕ) (node : BackNode) (up down : 
   abbrev apart : other ≢ server_of there
   apart = λ e. ne (e ∙ talk.each.named)
 
-  other_talk : GoesOnAfter (let_out (next master other message it its)) name node up down (given ++ gives master.table other it.1)
+  other_talk : TalkAfterMaster (let_out (next master other message it its)) name node up down (given ++ gives master.table other it.1)
   unfolding replied
   other_talk =
       subst (λ (d : List LinkMsg). HasTalk (next master other message it its).master name node up d (given ++ gives master.table other it.1))
@@ -255,14 +256,14 @@ module _ (master : Master) (name other : List ℕ) (node : BackNode) (up down : 
         };
       })
 
-  others_first : GoesOnAfter (node_says master other message) name node up down (given ++ given_in master.table other message)
+  others_first : TalkAfterMaster (node_says master other message) name node up down (given ++ given_in master.table other message)
   others_first =
-      subst (λ (s : Stepped). GoesOnAfter s name node up down (given ++ given_in master.table other message)) (sym (says_reply master other message it its))
-      (subst (λ (g : Given). GoesOnAfter (let_out (next master other message it its)) name node up down (given ++ g)) (sym (gives_same master other message it its)) other_talk)
+      subst (λ (s : Stepped). TalkAfterMaster s name node up down (given ++ given_in master.table other message)) (sym (says_reply master other message it its))
+      (subst (λ (g : Given). TalkAfterMaster (let_out (next master other message it its)) name node up down (given ++ g)) (sym (gives_same master other message it its)) other_talk)
 
 pub others_keep_talk : OthersKeepTalk
 others_keep_talk master name other node its up down its_up its_down given message ne talk others =
-    let first = first_of command_message message its_up others.ups others.written.up in
+    let first = first_of command_message message its_up others.ups others.written.up_is in
     others_first master name other node up down given message ne talk first.it (its_line master other its its_up its_down given message others first)
 
 -- ---- the master takes something else
@@ -317,8 +318,8 @@ settled_rest planned front tag stream.Ends = (record { me = refl; backends = ref
 
 step_rest : (master : Master) (front : List ℕ) (next : Planned) → StepIs master (Frontend front) next → next.entry ≡ None → IsAllButStreams master next.master
 unfolding bad_step bad_reply replied
-step_rest master front next (is_bad tag tagged) none = record { me = refl; backends = refl; table = refl }
-step_rest master front next (is_taken tag it tagged has may) none =
+step_rest master front _ (is_bad tag tagged) none = record { me = refl; backends = refl; table = refl }
+step_rest master front _ (is_taken tag it tagged has may) none =
     let rest = settled_rest (replied master (Frontend front) tag (reply_to master.table (Frontend front) it)) front tag (stream_step it) in
     record {
       me = rest.0.me;
@@ -387,7 +388,7 @@ some_again : {one other : Tag × MCommand} → (let o : Option (Tag × MCommand)
 some_again e = cc
 
 module _ (master : Master) (name : List ℕ) (node : BackNode) (up down : List LinkMsg) (given : Given) (message : LinkMsg) (mailbox acl : List ℕ)
-    (talk : HasTalk master name node (message ∷ up) down given) (activates : Activates master name message mailbox acl)
+    (talk : HasTalk master name node (message ∷ up) down given) (activates : TakesActivate master name message mailbox acl)
     (first : IsFirst command_message message up talk.ups) where
   abbrev line : IsItsLine master name message first.it
   line = its_line master name node up down given message talk first
@@ -415,7 +416,7 @@ module _ (master : Master) (name : List ℕ) (node : BackNode) (up down : List L
       (subst (λ (c : Tag × MCommand). is_asked c.0 ≡ true) same_command activates.asked)
       (subst (λ (b : Server). (reply_to master.table (Backend b) (first.it).1).entry ≡ Some (entry.Active mailbox activates.place acl)) (sym talk.each.named) made_entry)
 
-  made_there : IsMadeAt master name node given message mailbox acl
+  made_there : IsMadeThere master name node given message mailbox acl
   made_there = record {
     serial = made.serial;
     made = made.made;
@@ -427,4 +428,4 @@ module _ (master : Master) (name : List ℕ) (node : BackNode) (up down : List L
 
 pub create_makes_new : CreateMakesNew
 create_makes_new master name node up down given message mailbox acl talk activates =
-    made_there master name node up down given message mailbox acl talk activates (first_of command_message message up talk.ups talk.written.up)
+    made_there master name node up down given message mailbox acl talk activates (first_of command_message message up talk.ups talk.written.up_is)

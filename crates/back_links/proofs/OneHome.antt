@@ -23,7 +23,7 @@ use Rattle.name_links.specs.Contents.{acl_in, state_at, state_by}
 use Rattle.name_links.specs.Known.{kind_of, known, known_by}
 use Rattle.name_links.specs.OneLink.{OneLink, server_of, back_of}
 use Rattle.name_links.specs.Serials.{Given}
-use Rattle.back_links.specs.OneHome.{IsNamed, OpenIsNamed, OpenAtOne}
+use Rattle.back_links.specs.OneHome.{IsNamedAt, OpenIsNamed, OpenAtOne}
 use Rattle.back_links.specs.OneTalk.{link_of, HasTalk}
 
 open_serves : (found : Option Held) → IsOpen found → phase_in found ≡ serving
@@ -81,7 +81,7 @@ module _ (master : Master) (name : List ℕ) (node : BackNode) (up down : List L
       of_record (server_of link) (record_at master.table mailbox) kept (own_record (known master.table mailbox) (server_of link) kept e) (inl refl))
       own_mine
 
-  named_there : IsNamed master name mailbox
+  named_there : IsNamedAt master name mailbox
   named_there =
       let there = subst (λ (b : Server). IsAt b (record_at master.table mailbox)) talk.each.named recorded_there in record { acl = there.0; recorded = there.1 }
 
@@ -97,5 +97,5 @@ open_at_one master name other node its up down its_up its_down given talk others
     let two = named_there master other its its_up its_down given others mailbox here in
     let first = server_of_record name (record_at master.table mailbox) one.acl one.recorded in
     let second = server_of_record other (record_at master.table mailbox) two.acl two.recorded in
-    let same : first.0 ≡ second.0 = record_again (sym first.1.0 ∙ second.1.0) in
-    sym second.1.1 ∙ ap (λ (it : Record). (it.place).server) (sym same) ∙ first.1.1
+    let same : first.0 ≡ second.0 = record_again (sym first.1 ∙ second.1) in
+    sym second.2 ∙ ap (λ (it : Record). (it.place).server) (sym same) ∙ first.2

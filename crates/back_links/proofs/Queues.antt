@@ -91,8 +91,8 @@ told_messages tag (it ∷ answers) = ap (λ (l : List LinkMsg). told_line tag it
 
 pub written_then : {A : Type 0} (text : A → LinkMsg) (queue more : List LinkMsg) (its extra : List A) → queue ≡ map text its → more ≡ map text extra
     → queue ++ more ≡ map text (its ++ extra)
-written_then text queue more its extra is then =
-    ap (λ (q : List LinkMsg). q ++ more) is ∙ ap (λ (m : List LinkMsg). map text its ++ m) then ∙ sym (map-append text its extra)
+written_then text queue more its extra is more_is =
+    ap (λ (q : List LinkMsg). q ++ more) is ∙ ap (λ (m : List LinkMsg). map text its ++ m) more_is ∙ sym (map-append text its extra)
 
 -- the first message is that of the first
 pub record IsFirst {A : Type 0} (text : A → LinkMsg) (message : LinkMsg) (queue : List LinkMsg) (its : List A) : Type 0 where

@@ -36,40 +36,40 @@ use Rattle.name_links.specs.OneLink.{message_of}
 use Rattle.name_links.specs.Spelled.{IsNameText, IsPlaceText, TellsTexts}
 use Rattle.name_links.proofs.LinesByName.{Each, each_put}
 use Rattle.name_links.proofs.OnWay.{all_append}
-use Rattle.back_links.specs.Spelled.{IsTextTag, IsSpelledCommand, IsAboutName, IsSpelledLine, IsSpelledAsk, AreSpelled, CanBeSaid}
+use Rattle.back_links.specs.Spelled.{IsTextTag, HasCommandTexts, IsAboutName, HasLineTexts, HasAskTexts, HaveTexts, CanTellMaster}
 use Rattle.back_links.proofs.Mailboxes.{acl_there, none_spelled, made_spelled, pointed_spelled, opened_spelled, closed_spelled, gone_spelled, forget_spelled}
 use Rattle.back_links.proofs.Texts.{first_short, line_texts}
 
 -- what a step leaves can be told, and what it sends can be read again
 pub record StepSaid (me : Location) (held : Names) (step : FlowStep) : Type 0 where
   pub me_is : step.flows.me ≡ me
-  pub can : CanBeSaid step.flows (held_with held step.entry)
-  pub sends : AllByRecursion IsSpelledLine step.sends
+  pub can : CanTellMaster step.flows (held_with held step.entry)
+  pub sends : AllByRecursion HasLineTexts step.sends
 
 abbrev AreLines : List SentLine → Type 0
-AreLines lines = AllByRecursion IsSpelledLine lines
+AreLines lines = AllByRecursion HasLineTexts lines
 
 abbrev AreAsks : List NameAsk → Type 0
-AreAsks asks = AllByRecursion IsSpelledAsk asks
+AreAsks asks = AllByRecursion HasAskTexts asks
 
 -- ---- lines that no client's command waits for
 
-unasked_spelled : (what : Sent) → IsAboutName what → IsSpelledLine (unasked_line what)
+unasked_spelled : (what : Sent) → IsAboutName what → HasLineTexts (unasked_line what)
 unfolding is_mupdate_tag_byte
 unasked_spelled what about = (refl, about)
 
-find_spelled : (name : List ℕ) → IsNameText name → IsSpelledLine (find_line name)
+find_spelled : (name : List ℕ) → IsNameText name → HasLineTexts (find_line name)
 unfolding is_mupdate_tag_byte
 find_spelled name named = (refl, named)
 
-resync_spelled : IsSpelledLine resync_line
+resync_spelled : HasLineTexts resync_line
 unfolding is_mupdate_tag_byte
 resync_spelled = (refl, tt)
 
 -- ---- lines by their names
 
 abbrev AreByName : LinesByName → Type 0
-AreByName lines = Each (λ e. IsSpelledLine e.1) lines
+AreByName lines = Each (λ e. HasLineTexts e.1) lines
 
 lines_spelled : (lines : LinesByName) → AreByName lines → AreLines (map line_in lines)
 lines_spelled [] all = tt
@@ -87,7 +87,7 @@ finds_spelled : (held : Names) (lines : LinesByName) → All IsNameText (keys_of
 finds_spelled [] lines named all = all
 finds_spelled (e ∷ held) lines named all =
     finds_spelled held (with_find lines e) (All-tail IsNameText e.0 (keys_of held) named)
-    (each_put e.0 (find_line e.0) (λ e. IsSpelledLine e.1) (find_spelled e.0 (All-head IsNameText e.0 (keys_of held) named)) lines all)
+    (each_put e.0 (find_line e.0) (λ e. HasLineTexts e.1) (find_spelled e.0 (All-head IsNameText e.0 (keys_of held) named)) lines all)
 
 -- ---- the asks that waited for a resync
 
@@ -97,19 +97,23 @@ record RoundSaid (f : Flows) (it : Round) : Type 0 where
   none_waits : it.flows.resync ≡ None
   lines_are : AreByName it.lines
 
-round_by_said : (f : Flows) (it : Round) (ask : NameAsk) (body : Option AnswerBody) → IsSpelledAsk ask → RoundSaid f it → RoundSaid f (round_by it ask body)
+round_by_said : (f : Flows) (it : Round) (ask : NameAsk) (body : Option AnswerBody) → HasAskTexts ask → RoundSaid f it → RoundSaid f (round_by it ask body)
 round_by_said f it ask (Some body) spelled so = record { me_is = so.me_is; sent_is = so.sent_is; none_waits = so.none_waits; lines_are = so.lines_are }
 round_by_said f it ask None spelled so = record {
   me_is = so.me_is;
   sent_is = so.sent_is;
   none_waits = so.none_waits;
-  lines_are = each_put ask.name (begun_line ask) (λ e. IsSpelledLine e.1) spelled it.lines so.lines_are;
+  lines_are = each_put ask.name (begun_line ask) (λ e. HasLineTexts e.1) spelled it.lines so.lines_are;
 }
 
 rounds_said : (f : Flows) (held : Names) (asks : List NameAsk) (it : Round) → AreAsks asks → RoundSaid f it → RoundSaid f (fold (round held) it asks)
 rounds_said f held [] it all so = so
 rounds_said f held (ask ∷ asks) it all so =
     rounds_said f held asks (round held it ask) all.1 (round_by_said f it ask (refusal it.flows held ask.name ask.kind) all.0 so)
+
+-- what they begin with
+abbrev first_round : Flows → Names → Resync → Round
+first_round f held it = record { flows = record f { resync = None }; lines = fold with_find [] (filter (is_lost it.listed) held); answers = [] }
 
 noted_waiting : (resync : Option Resync) (name : List ℕ) → waiting_in (noted_in resync name) ≡ waiting_in resync
 noted_waiting None name = refl
@@ -121,10 +125,10 @@ abbrev IfAbout : Option Sent → Type 0
 IfAbout None = Unit {0}
 IfAbout (Some what) = IsAboutName what
 
-module _ (f : Flows) (held : Names) (is : CanBeSaid f held) where
+module _ (f : Flows) (held : Names) (is : CanTellMaster f held) where
   -- the lines sent before and the asks that wait are left as they are
   does : (step : FlowStep) → step.flows.me ≡ f.me → step.flows.sent ≡ f.sent → waiting_in step.flows.resync ≡ waiting_in f.resync
-      → AreSpelled (held_with held step.entry) → AreLines step.sends → StepSaid f.me held step
+      → HaveTexts (held_with held step.entry) → AreLines step.sends → StepSaid f.me held step
   does step me_is sent_is waiting_is mailboxes sends = record {
     me_is = me_is;
     can = record {
@@ -158,7 +162,7 @@ module _ (f : Flows) (held : Names) (is : CanBeSaid f held) where
       record { me_is = refl; can = record { place = is.place; mailboxes = is.mailboxes; sent = is.sent; waiting = tt }; sends = tt }
   ended_said (Some it) at =
       let lost = filtered_named (is_lost it.listed) held is.mailboxes.names in
-      let so = rounds_said f held it.waiting _ (subst (λ r. AreAsks (waiting_in r)) at is.waiting)
+      let so = rounds_said f held it.waiting (first_round f held it) (subst (λ r. AreAsks (waiting_in r)) at is.waiting)
       (record { me_is = refl; sent_is = refl; none_waits = refl; lines_are = finds_spelled (filter (is_lost it.listed) held) [] lost tt }) in
       record {
         me_is = so.me_is;
@@ -229,14 +233,14 @@ module _ (f : Flows) (held : Names) (is : CanBeSaid f held) where
 
   -- ---- an ask
 
-  more_asks : (asks : List NameAsk) (ask : NameAsk) → AreAsks asks → IsSpelledAsk ask → AreAsks (asks ++ ask ∷ [])
-  more_asks asks ask all spelled = all_append IsSpelledAsk asks (ask ∷ []) all (spelled, tt)
+  more_asks : (asks : List NameAsk) (ask : NameAsk) → AreAsks asks → HasAskTexts ask → AreAsks (asks ++ ask ∷ [])
+  more_asks asks ask all spelled = all_append HasAskTexts asks (ask ∷ []) all (spelled, tt)
 
-  tested_said : (ask : NameAsk) (body : Option AnswerBody) → IsSpelledAsk ask → StepSaid f.me held (tested_by f ask body)
+  tested_said : (ask : NameAsk) (body : Option AnswerBody) → HasAskTexts ask → StepSaid f.me held (tested_by f ask body)
   tested_said ask (Some body) spelled = does _ refl refl refl is.mailboxes tt
   tested_said ask None spelled = does _ refl refl refl is.mailboxes (spelled, tt)
 
-  asked_by_said : (ask : NameAsk) (resync : Option Resync) → f.resync ≡ resync → IsSpelledAsk ask → StepSaid f.me held (asked_by f held ask resync)
+  asked_by_said : (ask : NameAsk) (resync : Option Resync) → f.resync ≡ resync → HasAskTexts ask → StepSaid f.me held (asked_by f held ask resync)
   unfolding asked_by
   asked_by_said ask None at spelled = tested_said ask (refusal f held ask.name ask.kind) spelled
   asked_by_said ask (Some it) at spelled = record {
@@ -250,7 +254,7 @@ module _ (f : Flows) (held : Names) (is : CanBeSaid f held) where
     sends = tt;
   }
 
-  pub asked_said : (ask : NameAsk) → IsSpelledAsk ask → StepSaid f.me held (asked_step f held ask)
+  pub asked_said : (ask : NameAsk) → HasAskTexts ask → StepSaid f.me held (asked_step f held ask)
   unfolding asked_step
   asked_said ask spelled = asked_by_said ask f.resync refl spelled
 
@@ -258,7 +262,7 @@ module _ (f : Flows) (held : Names) (is : CanBeSaid f held) where
 
 abbrev IfLine : Option SentLine → Type 0
 IfLine None = Unit {0}
-IfLine (Some line) = IsSpelledLine line
+IfLine (Some line) = HasLineTexts line
 
 first_said : (lines : List SentLine) → AreLines lines → IfLine (first_line lines)
 first_said [] all = tt
@@ -268,8 +272,8 @@ behind_said : (lines : List SentLine) → AreLines lines → AreLines (behind_fi
 behind_said [] all = tt
 behind_said (line ∷ lines) all = all.1
 
-module _ (f : Flows) (held : Names) (is : CanBeSaid f held) where
-  taken_is : CanBeSaid (taken f) held
+module _ (f : Flows) (held : Names) (is : CanTellMaster f held) where
+  taken_is : CanTellMaster (taken f) held
   taken_is = record { place = is.place; mailboxes = is.mailboxes; sent = behind_said f.sent is.sent; waiting = is.waiting }
 
   about_by : (line : Option SentLine) → IfLine line → IfAbout (what_in line)
@@ -301,23 +305,23 @@ module _ (f : Flows) (held : Names) (is : CanBeSaid f held) where
 
 -- ---- the link comes up first
 
-pub new_said : (me : Location) (master : List ℕ) → IsPlaceText me → CanBeSaid (new_flows me master) []
+pub new_said : (me : Location) (master : List ℕ) → IsPlaceText me → CanTellMaster (new_flows me master) []
 new_said me master place = record { place = place; mailboxes = none_spelled; sent = tt; waiting = tt }
 
-pub up_said : (f : Flows) (held : Names) → CanBeSaid f held → StepSaid f.me held (up_step f)
+pub up_said : (f : Flows) (held : Names) → CanTellMaster f held → StepSaid f.me held (up_step f)
 up_said f held is = does f held is _ refl refl refl is.mailboxes (resync_spelled, tt)
 
 -- ---- what is handed out
 
-pub handed_said : (me : Location) (held : Names) (step : FlowStep) → StepSaid me held step → CanBeSaid (handed held step).flows (held_with held step.entry)
+pub handed_said : (me : Location) (held : Names) (step : FlowStep) → StepSaid me held step → CanTellMaster (handed held step).flows (held_with held step.entry)
 handed_said me held step so = record {
   place = so.can.place;
   mailboxes = so.can.mailboxes;
-  sent = all_append IsSpelledLine step.flows.sent step.sends so.can.sent so.sends;
+  sent = all_append HasLineTexts step.flows.sent step.sends so.can.sent so.sends;
   waiting = so.can.waiting;
 }
 
-pub sends_spelled : (me : Location) (held : Names) (sends : List SentLine) → IsPlaceText me → AreSpelled held → AreLines sends
-    → AllByRecursion IsSpelledCommand (map (message_of me held) sends)
+pub sends_spelled : (me : Location) (held : Names) (sends : List SentLine) → IsPlaceText me → HaveTexts held → AreLines sends
+    → AllByRecursion HasCommandTexts (map (message_of me held) sends)
 sends_spelled me held [] place are all = tt
 sends_spelled me held (line ∷ sends) place are all = (line_texts me held line place (acl_there held are) all.0, sends_spelled me held sends place are all.1)

@@ -52,7 +52,7 @@ use Rattle.name_links.specs.OneLink.{message_of}
 use Rattle.name_links.specs.Spelled.{IsTagText, IsNameText, IsPlaceText, IsShort, HasTexts}
 use Rattle.name_links.proofs.Reading.{read_back}
 use Rattle.name_links.proofs.Spelled.{commands_are_spelled, responses_are_spelled}
-use Rattle.back_links.specs.Spelled.{IsTextTag, IsSpelledCommand, IsSpelledResponse, IsAboutName, IsSpelledLine, IsSpelledAsk, HasShortAcl}
+use Rattle.back_links.specs.Spelled.{IsTextTag, HasCommandTexts, HasResponseTexts, IsAboutName, HasLineTexts, HasAskTexts, HasShortAcl}
 
 -- ---- numbers
 
@@ -89,7 +89,7 @@ ask_tagged id conn command =
     ∙ and_both _ _ (digits_stand one (decimal_writes id.conn).digits) (and_both _ _ dash_stands (digits_stand two (decimal_writes id.command).digits)) in
     and_both _ _ (and_both _ _ all (le-leb _ _ size)) (some_behind one 45 two)
 
-pub ask_spelled : (ask : NameAsk) → ask.id.conn < 2 ^ 64 → ask.id.command < 2 ^ 64 → IsNameText ask.name → IsSpelledAsk ask
+pub ask_spelled : (ask : NameAsk) → ask.id.conn < 2 ^ 64 → ask.id.command < 2 ^ 64 → IsNameText ask.name → HasAskTexts ask
 ask_spelled ask conn command name = (ask_tagged ask.id conn command, by_kind ask.kind)
   where
     by_kind : (kind : AskKind) → IsAboutName (first_line kind ask.name)
@@ -129,17 +129,17 @@ place_no_bang place is = no_bangs place.server (short_parts place.server is.0).0
 
 -- ---- reading
 
-pub command_is : (it : Tag × MCommand) → IsSpelledCommand it → IsCommandLine ((command_line exact).text it) it
+pub command_is : (it : Tag × MCommand) → HasCommandTexts it → IsCommandLine ((command_line exact).text it) it
 command_is it spelled = by_tag it.0 spelled.0
   where
     by_tag : (tag : Tag) → IsTextTag tag → IsCommandLine ((command_line exact).text (tag, it.1)) (tag, it.1)
     by_tag Star tagged = absurd tagged
     by_tag (Text text) tagged = (let s = commands_are_spelled text it.1 tagged spelled.1 in law_command_line.prints s.0 (Text text, it.1) s.1)
 
-pub command_read : (it : Tag × MCommand) → IsSpelledCommand it → command_in ((command_line exact).text it) ≡ Some it
+pub command_read : (it : Tag × MCommand) → HasCommandTexts it → command_in ((command_line exact).text it) ≡ Some it
 command_read it spelled = line_is ((command_line exact).text it) it (command_is it spelled)
 
-pub response_read : (it : Tag × MResponse) → IsSpelledResponse it → response_in (text_of it.0 it.1) ≡ Some it
+pub response_read : (it : Tag × MResponse) → HasResponseTexts it → response_in (text_of it.0 it.1) ≡ Some it
 response_read it spelled = by_tag it.0 spelled.0
   where
     by_tag : (tag : Tag) → IsTextTag tag → response_in (text_of tag it.1) ≡ Some (tag, it.1)
@@ -164,6 +164,6 @@ command_texts me held (Delete name) place acls about = about
 command_texts me held (Wipe name) place acls about = about
 command_texts me held (Find name) place acls about = about
 
-pub line_texts : (me : Location) (held : Names) (line : SentLine) → IsPlaceText me → ((name : List ℕ) → IfSome (held_at held name) HasShortAcl) → IsSpelledLine line
-    → IsSpelledCommand (message_of me held line)
+pub line_texts : (me : Location) (held : Names) (line : SentLine) → IsPlaceText me → ((name : List ℕ) → IfSome (held_at held name) HasShortAcl) → HasLineTexts line
+    → HasCommandTexts (message_of me held line)
 line_texts me held line place acls spelled = (spelled.0, command_texts me held line.what place acls spelled.1)

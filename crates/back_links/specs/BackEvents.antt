@@ -23,13 +23,13 @@ use Rattle.name_links.specs.Spelled.{IsNameText, IsPlaceText}
 use Rattle.back_links.specs.OneTalk.{HasTalk}
 
 -- the talk goes on after a step of the backend: what it sends the master comes behind what is on its way
-abbrev pub GoesOnAt : Master → List ℕ → BackActed → List LinkMsg → List LinkMsg → Given → Type 0
-GoesOnAt master name next up down given = HasTalk master name next.state (up ++ messages_to master.me next.outs) down given
+abbrev pub TalkAfterNode : Master → List ℕ → BackActed → List LinkMsg → List LinkMsg → Given → Type 0
+TalkAfterNode master name next up down given = HasTalk master name next.state (up ++ messages_to master.me next.outs) down given
 
 -- the link of a new backend with a new master comes up
 abbrev pub TalkBegins : Type 0
 TalkBegins = (place : Location) (me : List ℕ) (backends : List (List ℕ)) → IsPlaceText place → list_any (pointwise nat_eq place.server) backends ≡ true
-    → GoesOnAt (booted me backends empty_table) place.server (node_takes (new_node place me) me Up) [] [] []
+    → TalkAfterNode (booted me backends empty_table) place.server (node_takes (new_node place me) me Up) [] [] []
 
 -- a CREATE or DELETE is of a name, and its command's numbers are of 64 bits
 abbrev pub fits_by : Option AskKind → FrontAsk → Type 0
@@ -43,17 +43,17 @@ IsFitting message = Unit {0}
 -- a frontend asks for something, or another node sends anything else
 abbrev pub AsksKeepTalk : Type 0
 AsksKeepTalk = (master : Master) (name : List ℕ) (node : BackNode) (up down : List LinkMsg) (given : Given) (from : List ℕ) (message : LinkMsg) → from ≢ master.me
-    → IsFitting message → HasTalk master name node up down given → GoesOnAt master name (node_takes node from message) up down given
+    → IsFitting message → HasTalk master name node up down given → TalkAfterNode master name (node_takes node from message) up down given
 
 -- the backend takes the first message of the master
 abbrev pub HearsKeepsTalk : Type 0
 HearsKeepsTalk = (master : Master) (name : List ℕ) (node : BackNode) (up down : List LinkMsg) (given : Given) (message : LinkMsg)
-    → HasTalk master name node up (message ∷ down) given → GoesOnAt master name (node_takes node master.me message) up down given
+    → HasTalk master name node up (message ∷ down) given → TalkAfterNode master name (node_takes node master.me message) up down given
 
 -- an ask for messages is carried out where the mailbox is open, whatever is on its way
 pub record IsServed (master : Master) (name : List ℕ) (node : BackNode) (up down : List LinkMsg) (given : Given) (from : List ℕ) (ask : FrontAsk) : Type 0 where
   pub done : IsCarriedOut node from ask
-  pub goes_on : GoesOnAt master name (node_takes node from (Ask ask)) up down given
+  pub goes_on : TalkAfterNode master name (node_takes node from (Ask ask)) up down given
 
 abbrev pub MessagesAreServed : Type 0
 MessagesAreServed = (master : Master) (name : List ℕ) (node : BackNode) (up down : List LinkMsg) (given : Given) (from : List ℕ) (ask : FrontAsk) → from ≢ master.me

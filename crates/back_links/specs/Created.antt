@@ -20,7 +20,7 @@ use Rattle.back_links.specs.MasterEvents.{given_in}
 use Rattle.back_links.specs.OneTalk.{HasTalk}
 
 -- a message under a client's command, by which the master makes a name active
-pub record Activates (master : Master) (name : List ℕ) (message : LinkMsg) (mailbox acl : List ℕ) : Type 0 where
+pub record TakesActivate (master : Master) (name : List ℕ) (message : LinkMsg) (mailbox acl : List ℕ) : Type 0 where
   pub bytes : List ℕ
   pub tag : Tag
   pub it : MCommand
@@ -31,7 +31,7 @@ pub record Activates (master : Master) (name : List ℕ) (message : LinkMsg) (ma
   pub taken : (line_step master (sender_of master name) bytes).entry ≡ Some (entry.Active mailbox place acl)
 
 -- the node has the mailbox, empty and with its first access list, and it is given a UIDVALIDITY that no mailbox had
-pub record IsMadeAt (master : Master) (name : List ℕ) (node : BackNode) (given : Given) (message : LinkMsg) (mailbox acl : List ℕ) : Type 0 where
+pub record IsMadeThere (master : Master) (name : List ℕ) (node : BackNode) (given : Given) (message : LinkMsg) (mailbox acl : List ℕ) : Type 0 where
   pub serial : ℕ
   pub made : held_at node.home.held mailbox ≡ Some (new_box mailbox serial)
   pub first : acl ≡ first_acl mailbox
@@ -41,4 +41,4 @@ pub record IsMadeAt (master : Master) (name : List ℕ) (node : BackNode) (given
 
 abbrev pub CreateMakesNew : Type 0
 CreateMakesNew = (master : Master) (name : List ℕ) (node : BackNode) (up down : List LinkMsg) (given : Given) (message : LinkMsg) (mailbox acl : List ℕ)
-    → HasTalk master name node (message ∷ up) down given → Activates master name message mailbox acl → IsMadeAt master name node given message mailbox acl
+    → HasTalk master name node (message ∷ up) down given → TakesActivate master name message mailbox acl → IsMadeThere master name node given message mailbox acl

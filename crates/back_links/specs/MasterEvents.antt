@@ -20,8 +20,8 @@ use Rattle.name_links.specs.Serials.{Given, gives}
 use Rattle.back_links.specs.OneTalk.{HasTalk}
 
 -- the talk goes on after a step of the master: what it sends the node comes behind what is on its way
-abbrev pub GoesOnAfter : Stepped → List ℕ → BackNode → List LinkMsg → List LinkMsg → Given → Type 0
-GoesOnAfter next name node up down given = HasTalk next.master name node up (down ++ messages_to name next.outs) given
+abbrev pub TalkAfterMaster : Stepped → List ℕ → BackNode → List LinkMsg → List LinkMsg → Given → Type 0
+TalkAfterMaster next name node up down given = HasTalk next.master name node up (down ++ messages_to name next.outs) given
 
 -- the UIDVALIDITY that a message of a backend gives to a mailbox, if it gives one
 
@@ -37,26 +37,26 @@ given_in table server message = []
 abbrev pub TakesKeepsTalk : Type 0
 TakesKeepsTalk = (master : Master) (name : List ℕ) (node : BackNode) (up down : List LinkMsg) (given : Given) (message : LinkMsg)
     → HasTalk master name node (message ∷ up) down given
-    → GoesOnAfter (node_says master name message) name node up down (given ++ given_in master.table name message)
+    → TalkAfterMaster (node_says master name message) name node up down (given ++ given_in master.table name message)
 
 -- it takes the first message of another backend
 abbrev pub OthersKeepTalk : Type 0
 OthersKeepTalk = (master : Master) (name other : List ℕ) (node its : BackNode) (up down its_up its_down : List LinkMsg) (given : Given) (message : LinkMsg)
     → other ≢ name → HasTalk master name node up down given → HasTalk master other its (message ∷ its_up) its_down given
-    → GoesOnAfter (node_says master other message) name node up down (given ++ given_in master.table other message)
+    → TalkAfterMaster (node_says master other message) name node up down (given ++ given_in master.table other message)
 
 -- it takes any message of a node that is no backend
 abbrev pub FrontendsKeepTalk : Type 0
 FrontendsKeepTalk = (master : Master) (name front : List ℕ) (node : BackNode) (up down : List LinkMsg) (given : Given) (message : LinkMsg)
     → list_any (pointwise nat_eq front) master.backends ≡ false → HasTalk master name node up down given
-    → GoesOnAfter (node_says master front message) name node up down given
+    → TalkAfterMaster (node_says master front message) name node up down given
 
 -- a client from outside connects, sends bytes, or closes its connection
-pub record ClientsKeep (master : Master) (name : List ℕ) (node : BackNode) (up down : List LinkMsg) (given : Given) : Type 0 where
-  pub connects : (conn : ℕ) → GoesOnAfter (connect master conn) name node up down given
-  pub says : (conn : ℕ) (bytes : List ℕ) → GoesOnAfter (bytes_in master conn bytes) name node up down given
+pub record ClientsLeaveTalk (master : Master) (name : List ℕ) (node : BackNode) (up down : List LinkMsg) (given : Given) : Type 0 where
+  pub connects : (conn : ℕ) → TalkAfterMaster (connect master conn) name node up down given
+  pub says : (conn : ℕ) (bytes : List ℕ) → TalkAfterMaster (bytes_in master conn bytes) name node up down given
   pub ends : (conn : ℕ) → HasTalk (without master (Outside conn)) name node up down given
 
 abbrev pub ClientsKeepTalk : Type 0
 ClientsKeepTalk = (master : Master) (name : List ℕ) (node : BackNode) (up down : List LinkMsg) (given : Given) → HasTalk master name node up down given
-    → ClientsKeep master name node up down given
+    → ClientsLeaveTalk master name node up down given

@@ -9,13 +9,13 @@ use Rattle.name_links.specs.Serials.{Given}
 use Rattle.back_links.specs.OneTalk.{HasTalk}
 
 -- the record of a mailbox names the server, with an access list
-pub record IsNamed (master : Master) (server mailbox : List ℕ) : Type 0 where
+pub record IsNamedAt (master : Master) (server mailbox : List ℕ) : Type 0 where
   pub acl : List ℕ
   pub recorded : acl_in (state_at master.table server mailbox) ≡ Some acl
 
 abbrev pub OpenIsNamed : Type 0
 OpenIsNamed = (master : Master) (name : List ℕ) (node : BackNode) (up down : List LinkMsg) (given : Given) → HasTalk master name node up down given
-    → (mailbox : List ℕ) → IsWritableHome node.home.held mailbox → IsNamed master name mailbox
+    → (mailbox : List ℕ) → IsWritableHome node.home.held mailbox → IsNamedAt master name mailbox
 
 -- no other node with a talk has it open
 abbrev pub OpenAtOne : Type 0

@@ -15,7 +15,7 @@ use Rattle.name_links.specs.Contents.{ContentHolds}
 use Rattle.name_links.specs.LinkIs.{LinkHolds}
 use Rattle.name_links.specs.OneLink.{OneLink}
 use Rattle.name_links.specs.Serials.{Given, BoxesHold, SerialsHold}
-use Rattle.back_links.specs.Spelled.{CanBeSaid}
+use Rattle.back_links.specs.Spelled.{CanTellMaster}
 use Rattle.back_links.specs.Written.{AreWritten}
 
 -- Each has the other: the master takes the node of this name for a backend, which never sent UPDATE, and the node is that of its server. It owes answers
@@ -45,5 +45,5 @@ pub record HasTalk (master : Master) (name : List ℕ) (node : BackNode) (up dow
   pub written : AreWritten up down ups downs
   pub each : HaveEachOther master name node
   pub told : CanBeTold master.table
-  pub said : CanBeSaid node.flows node.home.held
+  pub said : CanTellMaster node.flows node.home.held
   pub holds : HoldsOfEachName (link_of master node ups downs) given

@@ -24,11 +24,11 @@ IsTextTag (Text text) = IsTagText text
 
 -- a command and a response that can be read again, each under its tag
 
-abbrev pub IsSpelledCommand : Tag × MCommand → Type 0
-IsSpelledCommand it = IsTextTag it.0 × HasTexts it.1
+abbrev pub HasCommandTexts : Tag × MCommand → Type 0
+HasCommandTexts it = IsTextTag it.0 × HasTexts it.1
 
-abbrev pub IsSpelledResponse : Tag × MResponse → Type 0
-IsSpelledResponse it = IsTextTag it.0 × TellsTexts it.1
+abbrev pub HasResponseTexts : Tag × MResponse → Type 0
+HasResponseTexts it = IsTextTag it.0 × TellsTexts it.1
 
 -- the name that a line is about
 abbrev pub IsAboutName : Sent → Type 0
@@ -41,24 +41,24 @@ IsAboutName (Delete name) = IsNameText name
 IsAboutName (Wipe name) = IsNameText name
 IsAboutName (Find name) = IsNameText name
 
-abbrev pub IsSpelledLine : SentLine → Type 0
-IsSpelledLine line = IsTextTag line.tag × IsAboutName line.what
+abbrev pub HasLineTexts : SentLine → Type 0
+HasLineTexts line = IsTextTag line.tag × IsAboutName line.what
 
 -- the line with which an ask begins
-abbrev pub IsSpelledAsk : NameAsk → Type 0
-IsSpelledAsk ask = IsSpelledLine (begun_line ask)
+abbrev pub HasAskTexts : NameAsk → Type 0
+HasAskTexts ask = HasLineTexts (begun_line ask)
 
 abbrev pub HasShortAcl : Held → Type 0
 HasShortAcl it = IsShort it.content.acl
 
 -- mailboxes
-pub record AreSpelled (held : Names) : Type 0 where
+pub record HaveTexts (held : Names) : Type 0 where
   pub names : All IsNameText (keys_of held)
   pub acls : All HasShortAcl (values_of held)
 
-pub record CanBeSaid (flows : Flows) (held : Names) : Type 0 where
+pub record CanTellMaster (flows : Flows) (held : Names) : Type 0 where
   pub place : IsPlaceText flows.me
-  pub mailboxes : AreSpelled held
+  pub mailboxes : HaveTexts held
   -- the lines whose last answer hasn't come, and the asks that wait
-  pub sent : AllByRecursion IsSpelledLine flows.sent
-  pub waiting : AllByRecursion IsSpelledAsk (waiting_in flows.resync)
+  pub sent : AllByRecursion HasLineTexts flows.sent
+  pub waiting : AllByRecursion HasAskTexts (waiting_in flows.resync)

@@ -9,7 +9,7 @@ use Rattle.mupdate_codec.specs.declared.command.MResponse.{MResponse}
 use Rattle.mupdate_codec.specs.declared.tag.Tag.{Tag}
 use Rattle.mupdate_codec.specs.Arguments.{exact}
 use Rattle.mupdate_codec.specs.Commands.{command_line}
-use Rattle.back_links.specs.Spelled.{IsSpelledCommand, IsSpelledResponse}
+use Rattle.back_links.specs.Spelled.{HasCommandTexts, HasResponseTexts}
 
 abbrev pub command_message : Tag × MCommand → LinkMsg
 command_message it = Line ((command_line exact).text it)
@@ -19,7 +19,7 @@ response_message it = Line (text_of it.0 it.1)
 
 -- the messages to the master are the lines of these commands, those to the backend the lines of these responses
 pub record AreWritten (up down : List LinkMsg) (ups : List (Tag × MCommand)) (downs : List (Tag × MResponse)) : Type 0 where
-  pub up : up ≡ map command_message ups
-  pub down : down ≡ map response_message downs
-  pub commands : AllByRecursion IsSpelledCommand ups
-  pub responses : AllByRecursion IsSpelledResponse downs
+  pub up_is : up ≡ map command_message ups
+  pub down_is : down ≡ map response_message downs
+  pub commands : AllByRecursion HasCommandTexts ups
+  pub responses : AllByRecursion HasResponseTexts downs
