@@ -66,7 +66,8 @@ records_told : (test : List ℕ × Record → Bool) (records : Records) → AllB
 records_told test [] all = tt
 records_told test (entry ∷ records) all = by_test (test entry) (records_told test records all.1)
   where
-    by_test : (passes : Bool) → AreTold (map listed_line (filter test records)) → AreTold (map listed_line (cond passes (entry ∷ filter test records) (filter test records)))
+    by_test : (passes : Bool) → AreTold (map listed_line (filter test records))
+        → AreTold (map listed_line (cond passes (entry ∷ filter test records) (filter test records)))
     by_test true more = (record_told entry all.0, more)
     by_test false more = more
 

@@ -66,8 +66,8 @@ IsNot master front = front ≢ master
 
 -- ---- a step of the backend's talk
 
-module _ (master : Master) (name : List ℕ) (node : BackNode) (up down : List LinkMsg) (ups : List (Tag × MCommand)) (downs : List (Tag × MResponse)) (given : Given)
-    (step : FlowStep) where
+module _ (master : Master) (name : List ℕ) (node : BackNode) (up down : List LinkMsg) (ups : List (Tag × MCommand)) (downs : List (Tag × MResponse))
+    (given : Given) (step : FlowStep) where
   abbrev then : BackActed
   then = done_by (talks node step)
 
@@ -84,8 +84,8 @@ module _ (master : Master) (name : List ℕ) (node : BackNode) (up down : List L
     owes = record { running = only.owes.running; waiting = only.owes.waiting };
   }
 
-  then_written : HaveEachOther master name node → CanTellMaster node.flows node.home.held → AreWritten up down ups downs → StepSaid node.flows.me node.home.held step
-      → AnswersOnly (IsNot master.me) node.flows step
+  then_written : HaveEachOther master name node → CanTellMaster node.flows node.home.held → AreWritten up down ups downs
+      → StepSaid node.flows.me node.home.held step → AnswersOnly (IsNot master.me) node.flows step
       → AreWritten (up ++ messages_to master.me then.outs) down (ups ++ map (message_of step.flows.me node.home.held) step.sends) downs
   then_written each said written so only = record {
     up_is = written_then command_message up (messages_to master.me then.outs) ups (map (message_of step.flows.me node.home.held) step.sends) written.up_is
@@ -107,12 +107,12 @@ module _ (master : Master) (name : List ℕ) (node : BackNode) (up down : List L
     told = told;
     said = subst (λ (held : Names). CanTellMaster then.state.flows held) held_is (handed_said node.flows.me node.home.held step so);
     holds = subst (λ (held : Names). HoldsOfEachName (record {
-        table = master.table;
-        flows = then.state.flows;
-        held = held;
-        ups = ups ++ map (message_of step.flows.me node.home.held) step.sends;
-        downs = downs;
-      }) given) held_is holds;
+      table = master.table;
+      flows = then.state.flows;
+      held = held;
+      ups = ups ++ map (message_of step.flows.me node.home.held) step.sends;
+      downs = downs;
+    }) given) held_is holds;
   }
 
 -- ---- the link comes up first
@@ -125,7 +125,8 @@ pub talk_begins : TalkBegins
 unfolding taken_up booted
 talk_begins place me backends spelled backend =
     let node : BackNode = new_node place me in
-    subst (λ (mine : Bool). TalkAfterNode (booted me backends empty_table) place.server (done_by (cond mine (talks node (up_step node.flows)) (passed_over node))) [] [] [])
+    let next : Bool → BackActed = λ mine. done_by (cond mine (talks node (up_step node.flows)) (passed_over node)) in
+    subst (λ (mine : Bool). TalkAfterNode (booted me backends empty_table) place.server (next mine) [] [] [])
     (sym (same_name me))
     (goes_on (booted me backends empty_table) place.server node [] [] [] [] [] (up_step node.flows)
     (record { named = refl; backend = backend; no_stream = refl; its_master = refl; owes = none_owed (IsNot me) place me })
@@ -213,7 +214,8 @@ module _ (master : Master) (name : List ℕ) (node : BackNode) (up down : List L
       })
 
   -- an entry of an ask for messages
-  entry_made : (made : Option BackendRecord) → IsStepIf node.home.held made → HasTalk master name (record node { home = home_with node.home made }) up down given
+  entry_made : (made : Option BackendRecord) → IsStepIf node.home.held made
+      → HasTalk master name (record node { home = home_with node.home made }) up down given
   entry_made None step = talk
   entry_made (Some it) step =
       let link : OneLink = link_of master node talk.ups talk.downs in
@@ -243,7 +245,8 @@ module _ (master : Master) (name : List ℕ) (node : BackNode) (up down : List L
         };
       }
 
-  messages_come : (ask : FrontAsk) → name_kind ask.op ≡ None → TalkAfterNode master name (done_by (serves node (back_plan node.home (FromFront from ask)))) up down given
+  messages_come : (ask : FrontAsk) → name_kind ask.op ≡ None
+      → TalkAfterNode master name (done_by (serves node (back_plan node.home (FromFront from ask)))) up down given
   messages_come ask none =
       let plan : BackPlan = owes from ask.id (ask_plan node.home ask) in
       let made : Option BackendRecord = only_entry plan.entries in
@@ -253,7 +256,8 @@ module _ (master : Master) (name : List ℕ) (node : BackNode) (up down : List L
       subst (λ (u : List LinkMsg). HasTalk master name then u down given) (sym (ap (λ (l : List LinkMsg). up ++ l) silent ∙ append-nil up))
       (entry_made made (message_steps node.home from ask none))
 
-  asked_comes : (ask : FrontAsk) (kind : Option AskKind) → name_kind ask.op ≡ kind → fits_by kind ask → TalkAfterNode master name (done_by (ask_by node from ask kind)) up down given
+  asked_comes : (ask : FrontAsk) (kind : Option AskKind) → name_kind ask.op ≡ kind → fits_by kind ask
+      → TalkAfterNode master name (done_by (ask_by node from ask kind)) up down given
   asked_comes ask (Some kind) is fits = named_comes ask kind fits
   asked_comes ask None is fits = messages_come ask is
 
@@ -269,7 +273,9 @@ pub asks_keep_talk : AsksKeepTalk
 asks_keep_talk master name node up down given from message ne fits talk = comes master name node up down given from ne talk message fits
 
 pub messages_are_served : MessagesAreServed
-messages_are_served master name node up down given from ask ne of opened rising talk = record {
-  done = open_is_carried_out node from ask of opened rising;
-  goes_on = asks_keep_talk master name node up down given from (Ask ask) ne (subst (λ (kind : Option AskKind). fits_by kind ask) (sym (no_kind ask.op of)) tt) talk;
-}
+messages_are_served master name node up down given from ask ne of opened rising talk =
+    let fits : IsFitting (Ask ask) = subst (λ (kind : Option AskKind). fits_by kind ask) (sym (no_kind ask.op of)) tt in
+    record {
+      done = open_is_carried_out node from ask of opened rising;
+      goes_on = asks_keep_talk master name node up down given from (Ask ask) ne fits talk;
+    }

@@ -54,7 +54,7 @@ use Rattle.name_links.proofs.OnWay.{all_append}
 use Rattle.name_links.proofs.Outs.{line_is_reply}
 use Rattle.name_links.proofs.SerialTurn.{lines_serials}
 use Rattle.back_links.specs.Created.{TakesActivate, IsMadeThere, CreateMakesNew}
-use Rattle.back_links.specs.MasterEvents.{TalkAfterMaster, given_if, given_in, TakesKeepsTalk, OthersKeepTalk, FrontendsKeepTalk, ClientsLeaveTalk, ClientsKeepTalk}
+use Rattle.back_links.specs.MasterEvents.{TalkAfterMaster, given_if, given_in, TakesKeepsTalk, OthersKeepTalk, FrontendsKeepTalk, UpsKeepTalk, ClientsLeaveTalk, ClientsKeepTalk}
 use Rattle.back_links.specs.OneTalk.{HaveEachOther, link_of, HoldsOfEachName, HasTalk}
 use Rattle.back_links.specs.Spelled.{HasCommandTexts, HasResponseTexts}
 use Rattle.back_links.specs.Written.{AreWritten, command_message, response_message}
@@ -128,7 +128,9 @@ module _ (master : Master) (name : List ℕ) (message : LinkMsg) (it : Tag × MC
       ∙ ap (λ (p : Planned). let_out p) step_replies
 
   gives_same : given_in master.table name message ≡ gives master.table name it.1
-  gives_same = ap (λ (m : LinkMsg). given_in master.table name m) its.is ∙ ap (λ (c : Option (Tag × MCommand)). given_if master.table name c) (command_read it its.spelled)
+  gives_same =
+      ap (λ (m : LinkMsg). given_in master.table name m) its.is
+      ∙ ap (λ (c : Option (Tag × MCommand)). given_if master.table name c) (command_read it its.spelled)
 
   table_told : CanBeTold master.table → CanBeTold (table_by master.table name it.1)
   unfolding replied
@@ -141,7 +143,8 @@ module _ (master : Master) (name : List ℕ) (message : LinkMsg) (it : Tag × MC
       let reply = reply_to master.table (Backend name) it.1 in
       let answers : List LinkMsg = map (told_line it.0) reply.answers in
       reply_messages master name (Backend name) it.0 reply
-      ∙ ap (λ (l : List LinkMsg). l ++ messages_to name (change_outs master.streams master.watchers reply.entry)) (own_answers name (Backend name) it.0 reply.answers refl)
+      ∙ ap (λ (l : List LinkMsg). l ++ messages_to name (change_outs master.streams master.watchers reply.entry))
+      (own_answers name (Backend name) it.0 reply.answers refl)
       ∙ ap (λ (l : List LinkMsg). answers ++ l) (change_untold master name reply.entry none)
       ∙ append-nil answers
       ∙ told_messages it.0 reply.answers
@@ -152,7 +155,8 @@ module _ (master : Master) (name : List ℕ) (message : LinkMsg) (it : Tag × MC
   other_messages node ne none =
       let reply = reply_to master.table (Backend name) it.1 in
       reply_messages master node (Backend name) it.0 reply
-      ∙ ap (λ (l : List LinkMsg). l ++ messages_to node (change_outs master.streams master.watchers reply.entry)) (no_answers node (Backend name) it.0 reply.answers ne)
+      ∙ ap (λ (l : List LinkMsg). l ++ messages_to node (change_outs master.streams master.watchers reply.entry))
+      (no_answers node (Backend name) it.0 reply.answers ne)
       ∙ change_untold master node reply.entry none
 
 -- ---- the master takes it
@@ -171,11 +175,12 @@ module _ (master : Master) (name : List ℕ) (node : BackNode) (up down : List L
   abbrev downs_then : Server → List (Tag × MResponse)
   downs_then b = talk.downs ++ map (under it.0) (answers_to master.table b it.1)
 
-  holds_then : HoldsOfEachName (record { table = table_by master.table name it.1; flows = node.flows; held = node.home.held; ups = first.more; downs = downs_then name })
-      (given ++ gives master.table name it.1)
+  abbrev link_then : Server → OneLink
+  link_then b = record { table = table_by master.table b it.1; flows = node.flows; held = node.home.held; ups = first.more; downs = downs_then b }
+
+  holds_then : HoldsOfEachName (link_then name) (given ++ gives master.table name it.1)
   holds_then =
-      subst (λ (b : Server). HoldsOfEachName (record { table = table_by master.table b it.1; flows = node.flows; held = node.home.held; ups = first.more; downs = downs_then b })
-      (given ++ gives master.table b it.1)) talk.each.named
+      subst (λ (b : Server). HoldsOfEachName (link_then b) (given ++ gives master.table b it.1)) talk.each.named
       (record {
         names = takes_law link it first.more talk.holds.names first.are;
         contents = takes_content link it first.more talk.holds.names talk.holds.contents first.are;
@@ -214,7 +219,8 @@ module _ (master : Master) (name : List ℕ) (node : BackNode) (up down : List L
   takes_first : TalkAfterMaster (node_says master name message) name node up down (given ++ given_in master.table name message)
   takes_first =
       subst (λ (s : Stepped). TalkAfterMaster s name node up down (given ++ given_in master.table name message)) (sym (says_reply master name message it its))
-      (subst (λ (g : Given). TalkAfterMaster (let_out (next master name message it its)) name node up down (given ++ g)) (sym (gives_same master name message it its)) taken_talk)
+      (subst (λ (g : Given). TalkAfterMaster (let_out (next master name message it its)) name node up down (given ++ g))
+      (sym (gives_same master name message it its)) taken_talk)
 
 pub takes_keeps_talk : TakesKeepsTalk
 takes_keeps_talk master name node up down given message talk =
@@ -259,7 +265,8 @@ module _ (master : Master) (name other : List ℕ) (node : BackNode) (up down : 
   others_first : TalkAfterMaster (node_says master other message) name node up down (given ++ given_in master.table other message)
   others_first =
       subst (λ (s : Stepped). TalkAfterMaster s name node up down (given ++ given_in master.table other message)) (sym (says_reply master other message it its))
-      (subst (λ (g : Given). TalkAfterMaster (let_out (next master other message it its)) name node up down (given ++ g)) (sym (gives_same master other message it its)) other_talk)
+      (subst (λ (g : Given). TalkAfterMaster (let_out (next master other message it its)) name node up down (given ++ g))
+      (sym (gives_same master other message it its)) other_talk)
 
 pub others_keep_talk : OthersKeepTalk
 others_keep_talk master name other node its up down its_up its_down given message ne talk others =
@@ -292,8 +299,7 @@ leaves_talk master next name node up down sent given leaves none talk =
       };
       told = subst CanBeTold (sym leaves.table) talk.told;
       said = talk.said;
-      holds = subst (λ (t : MailboxTable). HoldsOfEachName (record { table = t; flows = node.flows; held = node.home.held; ups = talk.ups; downs = talk.downs }) given)
-          (sym leaves.table) talk.holds;
+      holds = subst (λ (t : MailboxTable). HoldsOfEachName (record (link_of master node talk.ups talk.downs) { table = t }) given) (sym leaves.table) talk.holds;
     })
 
 -- a frontend's line changes nothing but its stream
@@ -309,8 +315,8 @@ no_entry master front line (Some it) e =
     let by = by_line master (Frontend front) it line e in
     let no : Frontend front ≡ Backend by.node = by.is in cc
 
-settled_rest : (planned : Planned) (front : List ℕ) (tag : Tag) (step : StreamStep) → IsAllButStreams planned.master (settled planned (Frontend front) tag step).master
-    × ((settled planned (Frontend front) tag step).entry ≡ planned.entry)
+settled_rest : (planned : Planned) (front : List ℕ) (tag : Tag) (step : StreamStep)
+    → IsAllButStreams planned.master (settled planned (Frontend front) tag step).master × ((settled planned (Frontend front) tag step).entry ≡ planned.entry)
 unfolding settled streaming without
 settled_rest planned front tag stream.Stays = (record { me = refl; backends = refl; table = refl }, refl)
 settled_rest planned front tag stream.Begins = (record { me = refl; backends = refl; table = refl }, refl)
@@ -329,7 +335,8 @@ step_rest master front _ (is_taken tag it tagged has may) none =
 
 line_rest : (master : Master) (front line : List ℕ) → IsAllButStreams master (line_step master (Frontend front) line).master
 line_rest master front line =
-    step_rest master front (line_step master (Frontend front) line) (step_is master (Frontend front) line) (no_entry master front line (line_step master (Frontend front) line).entry refl)
+    step_rest master front (line_step master (Frontend front) line) (step_is master (Frontend front) line)
+    (no_entry master front line (line_step master (Frontend front) line).entry refl)
 
 ended_rest : (master : Master) (front : List ℕ) → IsAllButStreams master (without master (Frontend front))
 unfolding without
@@ -355,10 +362,14 @@ frontends_keep_talk master name front node up down given message none talk =
     leaves_talk master (node_says master front message).master name node up down (messages_to name (node_says master front message).outs) given
     (record { me = rest.me; backends = rest.backends; stream = silent.stream; table = rest.table }) (silent.nothing talk.each.no_stream) talk
 
+pub ups_keep_talk : UpsKeepTalk
+unfolding node_says
+ups_keep_talk master name other node up down given talk = subst (λ (d : List LinkMsg). HasTalk master name node up d given) (sym (append-nil down)) talk
+
 -- ---- a client from outside
 
-client_keeps : (master next : Master) (outs : List Out) (conn : ℕ) (name : List ℕ) (node : BackNode) (up down : List LinkMsg) (given : Given) → IsBeside conn master next
-    → AreItsOwn conn outs → HasTalk master name node up down given → HasTalk next name node up (down ++ messages_to name outs) given
+client_keeps : (master next : Master) (outs : List Out) (conn : ℕ) (name : List ℕ) (node : BackNode) (up down : List LinkMsg) (given : Given)
+    → IsBeside conn master next → AreItsOwn conn outs → HasTalk master name node up down given → HasTalk next name node up (down ++ messages_to name outs) given
 client_keeps master next outs conn name node up down given beside own talk =
     leaves_talk master next name node up down (messages_to name outs) given
     (record {
@@ -414,14 +425,16 @@ module _ (master : Master) (name : List ℕ) (node : BackNode) (up down : List L
   made =
       create_makes_one at given first.it first.more mailbox activates.place acl talk.holds.names talk.holds.contents talk.holds.serials first.are
       (subst (λ (c : Tag × MCommand). is_asked c.0 ≡ true) same_command activates.asked)
-      (subst (λ (b : Server). (reply_to master.table (Backend b) (first.it).1).entry ≡ Some (entry.Active mailbox activates.place acl)) (sym talk.each.named) made_entry)
+      (subst (λ (b : Server). (reply_to master.table (Backend b) (first.it).1).entry ≡ Some (entry.Active mailbox activates.place acl))
+      (sym talk.each.named) made_entry)
 
   made_there : IsMadeThere master name node given message mailbox acl
   made_there = record {
     serial = made.serial;
     made = made.made;
     first = made.first;
-    gives = gives_same master name message first.it line ∙ subst (λ (b : Server). gives master.table b (first.it).1 ≡ (mailbox, made.serial) ∷ []) talk.each.named made.gives_it;
+    gives = gives_same master name message first.it line
+        ∙ subst (λ (b : Server). gives master.table b (first.it).1 ≡ (mailbox, made.serial) ∷ []) talk.each.named made.gives_it;
     positive = made.positive;
     new = made.new;
   }

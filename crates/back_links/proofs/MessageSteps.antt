@@ -59,7 +59,8 @@ module _ (held : Names) (name : List ℕ) where
   made_steps entry [] made is = tt
   made_steps entry (first ∷ rest) made is = (made (first ∷ rest) is, tt)
 
-  unless_steps : (plan : OpPlan) (answered : Option Response) → (answered ≡ None → AreSteps held plan.entries) → AreSteps held (plans_unless plan answered).entries
+  unless_steps : (plan : OpPlan) (answered : Option Response) → (answered ≡ None → AreSteps held plan.entries)
+      → AreSteps held (plans_unless plan answered).entries
   unfolding plans_unless
   unless_steps plan (Some response) steps = tt
   unless_steps plan None steps = steps refl

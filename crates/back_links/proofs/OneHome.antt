@@ -11,7 +11,7 @@ use Rattle.node_record.specs.declared.table.State.{State}
 use Rattle.node_record.specs.declared.table.State.TheVariants.{Bare, Kept, Active}
 use Rattle.node_record.specs.Held.{IsOpen, IsWritableHome, held_at}
 use Rattle.node_record.specs.Table.{record_at}
-use Rattle.home_law.specs.Items.{Server, is_same_server, RecordKind, bare, kept, active, recorded, mine, serving}
+use Rattle.home_law.specs.Items.{Server, is_same_server, RecordKind, bare, kept, active, recorded, Mine, mine, serving}
 use Rattle.home_law.specs.Link.{see}
 use Rattle.home_law.specs.Rows.{mine_of}
 use Rattle.home_law.proofs.LinkSays.{serving_mine}
@@ -51,7 +51,8 @@ of_record b (Some it) k e kind =
     let both = server_again e in
     of_state b it it.state refl both.1 (subst (λ (j : RecordKind). (j ≡ kept) ⊎ (j ≡ active)) (sym both.0) kind)
 
-server_of_record : (b : Server) (found : Option Record) (acl : List ℕ) → acl_in (state_by b found) ≡ Some acl → (it : Record) × (found ≡ Some it) × ((it.place).server ≡ b)
+server_of_record : (b : Server) (found : Option Record) (acl : List ℕ) → acl_in (state_by b found) ≡ Some acl
+    → (it : Record) × (found ≡ Some it) × ((it.place).server ≡ b)
 server_of_record b None acl e = cc
 server_of_record b (Some it) acl e = by_test (is_same_server (it.place).server b) refl
   where
@@ -66,18 +67,21 @@ module _ (master : Master) (name : List ℕ) (node : BackNode) (up down : List L
   abbrev link : OneLink
   link = link_of master node talk.ups talk.downs
 
-  own_mine : (mine_of (see (known master.table mailbox) (server_of link)) ≡ mine active) ⊎ (mine_of (see (known master.table mailbox) (server_of link)) ≡ mine kept)
+  abbrev its_own : Mine
+  its_own = mine_of (see (known master.table mailbox) (server_of link))
+
+  own_mine : (its_own ≡ mine active) ⊎ (its_own ≡ mine kept)
   unfolding back_of
   own_mine =
-      serving_mine (mine_of (see (known master.table mailbox) (server_of link))) (back_of link mailbox) (talk.holds.names.is.named mailbox)
+      serving_mine its_own (back_of link mailbox) (talk.holds.names.is.named mailbox)
       (open_serves (held_at node.home.held mailbox) opened)
 
   recorded_there : IsAt (server_of link) (record_at master.table mailbox)
   recorded_there =
       ⊎_elim
-      (λ (e : mine_of (see (known master.table mailbox) (server_of link)) ≡ mine active).
+      (λ (e : its_own ≡ mine active).
       of_record (server_of link) (record_at master.table mailbox) active (own_record (known master.table mailbox) (server_of link) active e) (inr refl))
-      (λ (e : mine_of (see (known master.table mailbox) (server_of link)) ≡ mine kept).
+      (λ (e : its_own ≡ mine kept).
       of_record (server_of link) (record_at master.table mailbox) kept (own_record (known master.table mailbox) (server_of link) kept e) (inl refl))
       own_mine
 

@@ -47,7 +47,8 @@ lines_sent : (master to : List ℕ) (me : Location) (held : Names) (sends : List
     → messages_to master (map (line_out to) (map (line_text me held) sends)) ≡ map command_message (map (message_of me held) sends)
 lines_sent master to me held [] same = refl
 lines_sent master to me held (line ∷ sends) same =
-    ap (λ (l : List LinkMsg). l ++ messages_to master (map (line_out to) (map (line_text me held) sends))) (to_it master to (Line (line_text me held line)) same)
+    ap (λ (l : List LinkMsg). l ++ messages_to master (map (line_out to) (map (line_text me held) sends)))
+    (to_it master to (Line (line_text me held line)) same)
     ∙ ap (λ (l : List LinkMsg). command_message (message_of me held line) ∷ l) (lines_sent master to me held sends same)
 
 no_answers : (master : List ℕ) (answers : List Told) → All (IsToOne (λ front. front ≢ master)) answers → messages_to master (map answer_out answers) ≡ []

@@ -16,6 +16,7 @@ use Rattle.node_record.specs.Held.{Names, held_at}
 use Rattle.name_flows.specs.declared.ask.NameAsk.{NameAsk}
 use Rattle.name_flows.specs.declared.flow.Stage.TheVariants.{Reserving, Making, Deactivating, Deleting}
 use Rattle.name_flows.specs.declared.flows.Flows.{Flows}
+use Rattle.name_flows.specs.declared.gives.Gives.{Gives}
 use Rattle.name_flows.specs.declared.resync.Resync.{Resync}
 use Rattle.name_flows.specs.declared.sent.Sent.{Sent}
 use Rattle.name_flows.specs.declared.sent.Sent.TheVariants.{List as List_line, Reserve, Make, Again, Deactivate, Delete, Wipe, Find}
@@ -119,6 +120,14 @@ noted_waiting : (resync : Option Resync) (name : List ℕ) → waiting_in (noted
 noted_waiting None name = refl
 noted_waiting (Some it) name = refl
 
+-- what becomes of a name that is listed as active, and of one that is listed as reserved
+
+abbrev opened_if : Bool → List ℕ → Gives
+opened_if b name = cond b (record { entry = Some (entry.Opened name); sends = []; answers = [] }) (record { entry = None; sends = []; answers = [] })
+
+abbrev reserved_if : Bool → List ℕ → Gives
+reserved_if b name = record { entry = None; sends = unasked_line (cond b (Again name) (Wipe name)) ∷ []; answers = [] }
+
 -- ---- steps
 
 abbrev IfAbout : Option Sent → Type 0
@@ -205,12 +214,12 @@ module _ (f : Flows) (held : Names) (is : CanTellMaster f held) where
   listed_said : (name : List ℕ) (is_active : Bool) → IsNameText name → StepSaid f.me held (listed_step f held name is_active)
   listed_said name true named = by_test (is_creating (held_at held name) || is_closing (held_at held name))
     where
-      by_test : (b : Bool) → StepSaid f.me held (given (noted f name) (cond b (record { entry = Some (entry.Opened name); sends = []; answers = [] }) (record { entry = None; sends = []; answers = [] })))
+      by_test : (b : Bool) → StepSaid f.me held (given (noted f name) (opened_if b name))
       by_test true = does _ refl refl (noted_waiting f.resync name) (opened_spelled held name is.mailboxes) tt
       by_test false = does _ refl refl (noted_waiting f.resync name) is.mailboxes tt
   listed_said name false named = by_test (is_open (held_at held name) || is_closing (held_at held name))
     where
-      by_test : (b : Bool) → StepSaid f.me held (given (noted f name) (record { entry = None; sends = unasked_line (cond b (Again name) (Wipe name)) ∷ []; answers = [] }))
+      by_test : (b : Bool) → StepSaid f.me held (given (noted f name) (reserved_if b name))
       by_test true = does _ refl refl (noted_waiting f.resync name) is.mailboxes (unasked_spelled (Again name) named, tt)
       by_test false = does _ refl refl (noted_waiting f.resync name) is.mailboxes (unasked_spelled (Wipe name) named, tt)
 
@@ -291,9 +300,12 @@ module _ (f : Flows) (held : Names) (is : CanTellMaster f held) where
   first : IfLine (first_line f.sent)
   first = first_said f.sent is.sent
 
+  about : IfAbout (what_in (first_line f.sent))
+  about = about_by (first_line f.sent) first
+
   response_said : (it : MResponse) → TellsTexts it → StepSaid f.me held (response_step f held it)
-  response_said (response.Mailbox name place acl) tells = record_said f held is name place true (what_in (first_line f.sent)) tells.0 (about_by (first_line f.sent) first)
-  response_said (response.Reserve name place) tells = record_said f held is name place false (what_in (first_line f.sent)) tells.0 (about_by (first_line f.sent) first)
+  response_said (response.Mailbox name place acl) tells = record_said f held is name place true (what_in (first_line f.sent)) tells.0 about
+  response_said (response.Reserve name place) tells = record_said f held is name place false (what_in (first_line f.sent)) tells.0 about
   response_said (response.Delete name) tells = silent_said f held is
   response_said (response.Ok text) tells = ok_by_said text (first_line f.sent) first
   response_said (response.No text) tells = no_by_said text (first_line f.sent) first

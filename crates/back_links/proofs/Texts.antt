@@ -106,7 +106,8 @@ list_short : (name : List ℕ) (owned : Bool) → length name ≤ 255 → IsShor
 unfolding owner_acl first_level
 list_short name true fits =
     let level : List ℕ = level_before (drop 5 name) (position (λ b. b == 46) (drop 5 name)) in
-    omega (arith, length-append level (9 ∷ (codes "lrswipkxtea" ++ 9 ∷ [])), level_within (drop 5 name) (position (λ b. b == 46) (drop 5 name)), length-drop 5 name, fits)
+    let within : length level ≤ length (drop 5 name) = level_within (drop 5 name) (position (λ b. b == 46) (drop 5 name)) in
+    omega (arith, length-append level (9 ∷ (codes "lrswipkxtea" ++ 9 ∷ [])), within, length-drop 5 name, fits)
 list_short name false fits = omega arith
 
 pub first_short : (name : List ℕ) → IsNameText name → IsShort (first_acl name)
@@ -152,7 +153,11 @@ acl_short : (found : Option Held) → IfSome found HasShortAcl → IsShort (acl_
 acl_short None short = omega arith
 acl_short (Some it) short = short
 
-pub command_texts : (me : Location) (held : Names) (what : Sent) → IsPlaceText me → ((name : List ℕ) → IfSome (held_at held name) HasShortAcl) → IsAboutName what
+-- each mailbox here has a short access list
+abbrev HaveShortAcls : Names → Type 0
+HaveShortAcls held = (name : List ℕ) → IfSome (held_at held name) HasShortAcl
+
+command_texts : (me : Location) (held : Names) (what : Sent) → IsPlaceText me → HaveShortAcls held → IsAboutName what
     → HasTexts (command_of me held what)
 command_texts me held List_line place acls about =
     let parts = short_parts me.server place.0 in omega (arith, length-append me.server (bang ∷ []), parts.2)
@@ -164,6 +169,6 @@ command_texts me held (Delete name) place acls about = about
 command_texts me held (Wipe name) place acls about = about
 command_texts me held (Find name) place acls about = about
 
-pub line_texts : (me : Location) (held : Names) (line : SentLine) → IsPlaceText me → ((name : List ℕ) → IfSome (held_at held name) HasShortAcl) → HasLineTexts line
+pub line_texts : (me : Location) (held : Names) (line : SentLine) → IsPlaceText me → HaveShortAcls held → HasLineTexts line
     → HasCommandTexts (message_of me held line)
 line_texts me held line place acls spelled = (spelled.0, command_texts me held line.what place acls spelled.1)

@@ -42,8 +42,8 @@ IsFitting message = Unit {0}
 
 -- a frontend asks for something, or another node sends anything else
 abbrev pub AsksKeepTalk : Type 0
-AsksKeepTalk = (master : Master) (name : List ℕ) (node : BackNode) (up down : List LinkMsg) (given : Given) (from : List ℕ) (message : LinkMsg) → from ≢ master.me
-    → IsFitting message → HasTalk master name node up down given → TalkAfterNode master name (node_takes node from message) up down given
+AsksKeepTalk = (master : Master) (name : List ℕ) (node : BackNode) (up down : List LinkMsg) (given : Given) (from : List ℕ) (message : LinkMsg)
+    → from ≢ master.me → IsFitting message → HasTalk master name node up down given → TalkAfterNode master name (node_takes node from message) up down given
 
 -- the backend takes the first message of the master
 abbrev pub HearsKeepsTalk : Type 0
@@ -56,6 +56,6 @@ pub record IsServed (master : Master) (name : List ℕ) (node : BackNode) (up do
   pub goes_on : TalkAfterNode master name (node_takes node from (Ask ask)) up down given
 
 abbrev pub MessagesAreServed : Type 0
-MessagesAreServed = (master : Master) (name : List ℕ) (node : BackNode) (up down : List LinkMsg) (given : Given) (from : List ℕ) (ask : FrontAsk) → from ≢ master.me
-    → is_of_messages ask.op ≡ true → is_open_here (held_at node.home ask.name) ≡ true → RisesAt node.home ask.name → HasTalk master name node up down given
+MessagesAreServed = (master : Master) (name : List ℕ) (node : BackNode) (up down : List LinkMsg) (given : Given) (from : List ℕ) (ask : FrontAsk)
+    → from ≢ master.me → is_of_messages ask.op ≡ true → is_open_here (held_at node.home ask.name) ≡ true → RisesAt node.home ask.name → HasTalk master name node up down given
     → IsServed master name node up down given from ask

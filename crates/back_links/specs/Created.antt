@@ -41,4 +41,5 @@ pub record IsMadeThere (master : Master) (name : List ℕ) (node : BackNode) (gi
 
 abbrev pub CreateMakesNew : Type 0
 CreateMakesNew = (master : Master) (name : List ℕ) (node : BackNode) (up down : List LinkMsg) (given : Given) (message : LinkMsg) (mailbox acl : List ℕ)
-    → HasTalk master name node (message ∷ up) down given → TakesActivate master name message mailbox acl → IsMadeThere master name node given message mailbox acl
+    → HasTalk master name node (message ∷ up) down given → TakesActivate master name message mailbox acl
+    → IsMadeThere master name node given message mailbox acl

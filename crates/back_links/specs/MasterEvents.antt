@@ -4,7 +4,7 @@ use Rattle.std.specs.List.{list_any}
 use Rattle.std.specs.Cmp.Lexicographic.{pointwise}
 use Rattle.home_law.specs.Items.{Server}
 use Rattle.link_msg.specs.declared.message.LinkMsg.{LinkMsg}
-use Rattle.link_msg.specs.declared.message.LinkMsg.TheVariants.{Line}
+use Rattle.link_msg.specs.declared.message.LinkMsg.TheVariants.{Up, Line}
 use Rattle.master_core.specs.declared.master.Master.{Master}
 use Rattle.master_core.specs.declared.sender.Sender.TheVariants.{Outside}
 use Rattle.master_core.specs.Linked.{node_says}
@@ -50,6 +50,11 @@ abbrev pub FrontendsKeepTalk : Type 0
 FrontendsKeepTalk = (master : Master) (name front : List ℕ) (node : BackNode) (up down : List LinkMsg) (given : Given) (message : LinkMsg)
     → list_any (pointwise nat_eq front) master.backends ≡ false → HasTalk master name node up down given
     → TalkAfterMaster (node_says master front message) name node up down given
+
+-- a link of the master comes up, whose ever it is
+abbrev pub UpsKeepTalk : Type 0
+UpsKeepTalk = (master : Master) (name other : List ℕ) (node : BackNode) (up down : List LinkMsg) (given : Given) → HasTalk master name node up down given
+    → TalkAfterMaster (node_says master other Up) name node up down given
 
 -- a client from outside connects, sends bytes, or closes its connection
 pub record ClientsLeaveTalk (master : Master) (name : List ℕ) (node : BackNode) (up down : List LinkMsg) (given : Given) : Type 0 where

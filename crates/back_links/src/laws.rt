@@ -1,7 +1,7 @@
 // What the steps of the master and of a backend are to what holds of both and of the messages between them.
 ghost use Rattle.back_links.specs.BackEvents.{TalkBegins, AsksKeepTalk, HearsKeepsTalk, MessagesAreServed};
 ghost use Rattle.back_links.specs.Created.{CreateMakesNew};
-ghost use Rattle.back_links.specs.MasterEvents.{TakesKeepsTalk, OthersKeepTalk, FrontendsKeepTalk, ClientsKeepTalk};
+ghost use Rattle.back_links.specs.MasterEvents.{TakesKeepsTalk, OthersKeepTalk, FrontendsKeepTalk, UpsKeepTalk, ClientsKeepTalk};
 ghost use Rattle.back_links.specs.OneHome.{OpenAtOne, OpenIsNamed};
 
 /// What holds of a backend, of the master and of the messages between them holds when their link comes up first, and stays so in each event: the
@@ -14,6 +14,7 @@ pub fn each_event_keeps_a_talk()
     ensures takes { TakesKeepsTalk }
     ensures others { OthersKeepTalk }
     ensures frontends { FrontendsKeepTalk }
+    ensures ups { UpsKeepTalk }
     ensures clients { ClientsKeepTalk }
 {}
 

@@ -1,5 +1,5 @@
 use Rattle.back_links.proofs.BackLaw.{talk_begins, asks_keep_talk, hears_keeps_talk}
-use Rattle.back_links.proofs.MasterLaw.{takes_keeps_talk, others_keep_talk, frontends_keep_talk, clients_keep_talk}
+use Rattle.back_links.proofs.MasterLaw.{takes_keeps_talk, others_keep_talk, frontends_keep_talk, ups_keep_talk, clients_keep_talk}
 use Rattle.back_links.proofs.laws.each_event_keeps_a_talk.Goals as goal
 
 pub returns-clause-begins : goal.returns-clause-begins
@@ -19,6 +19,9 @@ returns-clause-others c = others_keep_talk
 
 pub returns-clause-frontends : goal.returns-clause-frontends
 returns-clause-frontends c = frontends_keep_talk
+
+pub returns-clause-ups : goal.returns-clause-ups
+returns-clause-ups c = ups_keep_talk
 
 pub returns-clause-clients : goal.returns-clause-clients
 returns-clause-clients c = clients_keep_talk
