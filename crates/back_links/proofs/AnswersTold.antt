@@ -1,9 +1,8 @@
 -- What the master answers a backend can be read again, where its table can be told.
-use Rattle.std.proofs.Common.{◌≡◌, ℕ, ◌+◌, ◌<◌, ◌≤◌, ◌^◌, nat_eq, Bool, true, false, cond, List, [], ◌∷◌, ◌++◌, length, map, filter, Option, None, Some, refl, sym, ap, subst, arith}
-use Rattle.std.specs.Cmp.Lexicographic.{pointwise}
+use Rattle.std.proofs.Common.{◌≡◌, ℕ, ◌+◌, ◌<◌, ◌^◌, Bool, true, false, cond, List, [], ◌∷◌, ◌++◌, map, filter, Option, None, Some, refl, arith}
 use Rattle.std.specs.List.{AllByRecursion}
 use Rattle.grammar.specs.Numbers.{decimal_text}
-use Rattle.home_law.specs.Items.{Server, is_same_server}
+use Rattle.home_law.specs.Items.{Server}
 use Rattle.home_law.specs.ManyNames.{SentLine as OpenLine}
 use Rattle.master_core.specs.declared.refusal.Refusal.{Refusal}
 use Rattle.master_core.specs.declared.refusal.Refusal.TheVariants as refusal
@@ -27,7 +26,7 @@ use Rattle.feed_links.proofs.Names.{found_has}
 use Rattle.name_links.specs.Answers.{answers_to}
 use Rattle.name_links.specs.Lines.{backend_line}
 use Rattle.name_links.specs.OneLink.{under}
-use Rattle.name_links.specs.Spelled.{IsNameText, IsPlaceText, IsShort, HasTexts, TellsTexts}
+use Rattle.name_links.specs.Spelled.{IsNameText, IsPlaceText, IsShort, TellsTexts}
 use Rattle.name_links.proofs.OnWay.{all_append}
 use Rattle.back_links.specs.Spelled.{IsTextTag, HasResponseTexts}
 use Rattle.back_links.proofs.Texts.{decimal_short}

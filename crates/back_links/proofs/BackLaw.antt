@@ -1,9 +1,8 @@
 -- A talk begins when the link comes up first, and goes on in each step of the backend.
-use Rattle.std.proofs.Common.{◌≡◌, ◌≢◌, ℕ, ◌<◌, ◌^◌, Bool, true, false, cond, nat_eq, List, [], ◌∷◌, ◌++◌, map, Option, None, Some, refl, sym, ap, subst, ◌∙◌, append-nil}
-use Rattle.std.specs.List.{list_any, AllByRecursion}
+use Rattle.std.proofs.Common.{◌≡◌, ◌≢◌, ℕ, Bool, true, false, cond, nat_eq, List, [], ◌∷◌, ◌++◌, map, Option, None, Some, refl, sym, ap, subst, ◌∙◌, append-nil}
+use Rattle.std.specs.List.{AllByRecursion}
 use Rattle.std.specs.List.Sorted.{IsStrictlySortedBy}
 use Rattle.std.specs.Cmp.Lexicographic.{pointwise}
-use Rattle.backend_core.specs.declared.backend.Backend.{Backend}
 use Rattle.backend_core.specs.declared.input.BackInput.TheVariants.{FromFront}
 use Rattle.backend_core.specs.declared.plan.BackPlan.{BackPlan}
 use Rattle.backend_core.specs.AskPlan.{ask_plan}
@@ -20,7 +19,7 @@ use Rattle.mupdate_codec.specs.declared.tag.Tag.{Tag}
 use Rattle.mupdate_codec.specs.Whole.{response_in}
 use Rattle.mur_base.specs.declared.home.Location.{Location}
 use Rattle.node_record.specs.declared.backend.BackendRecord.{BackendRecord}
-use Rattle.node_record.specs.Held.{Names, held_after}
+use Rattle.node_record.specs.Held.{Names}
 use Rattle.node_record.specs.Table.{empty_table}
 use Rattle.name_flows.specs.declared.ask.AskKind.{AskKind}
 use Rattle.name_flows.specs.declared.ask.NameAsk.{NameAsk}
@@ -28,10 +27,9 @@ use Rattle.name_flows.specs.Asked.{asked_step}
 use Rattle.name_flows.specs.Heard.{heard_step}
 use Rattle.name_flows.specs.Link.{end_step}
 use Rattle.name_flows.specs.Listing.{up_step}
-use Rattle.name_flows.specs.Running.{new_flows}
-use Rattle.name_flows.specs.Steps.{FlowStep, held_with, handed}
+use Rattle.name_flows.specs.Steps.{FlowStep, held_with}
 use Rattle.back_node.specs.declared.node.BackNode.{BackNode}
-use Rattle.back_node.specs.Acted.{BackActed, acted, home_with}
+use Rattle.back_node.specs.Acted.{BackActed, home_with}
 use Rattle.back_node.specs.Node.{is_my_master, new_node}
 use Rattle.back_node.specs.Takes.{UpToEntry, ask_by, line_by, name_ask, name_kind, node_takes, only_entry, passed_over, serves, taken_up, talks}
 use Rattle.back_node.proofs.AtHome.{done_by}
@@ -41,16 +39,15 @@ use Rattle.back_node.proofs.Owed.{AnswersOnly, ask_answers, heard_answers, none_
 use Rattle.feed_links.specs.Lines.{messages_to}
 use Rattle.feed_links.specs.Spelled.{CanBeTold}
 use Rattle.feed_links.proofs.Names.{same_name, other_name}
-use Rattle.name_links.specs.OneLink.{OneLink, does, message_of, IsMessageStep, serves as serves_link}
+use Rattle.name_links.specs.OneLink.{OneLink, does, message_of}
 use Rattle.name_links.specs.Serials.{Given}
-use Rattle.name_links.specs.Spelled.{IsPlaceText}
 use Rattle.name_links.proofs.BoxLaw.{first_boxes, asks_boxes, hears_boxes, serves_boxes}
 use Rattle.name_links.proofs.ContentLaw.{first_content, asks_content, hears_content}
 use Rattle.name_links.proofs.LinkLaw.{first_law, asks_law, hears_law}
 use Rattle.name_links.proofs.OnWay.{all_append}
 use Rattle.name_links.proofs.SerialTurn.{first_serials}
 use Rattle.name_links.proofs.ServedLaw.{serves_content, serves_law}
-use Rattle.back_links.specs.BackEvents.{TalkAfterNode, TalkBegins, fits_by, IsFitting, AsksKeepTalk, HearsKeepsTalk, IsServed, MessagesAreServed}
+use Rattle.back_links.specs.BackEvents.{TalkAfterNode, TalkBegins, fits_by, IsFitting, AsksKeepTalk, HearsKeepsTalk, MessagesAreServed}
 use Rattle.back_links.specs.OneTalk.{HaveEachOther, link_of, HoldsOfEachName, HasTalk}
 use Rattle.back_links.specs.Spelled.{CanTellMaster, HasCommandTexts, HasResponseTexts}
 use Rattle.back_links.specs.Written.{AreWritten, command_message, response_message}

@@ -1,8 +1,8 @@
 -- The mailboxes of a backend can be told after each entry that a step writes.
-use Rattle.std.proofs.Common.{◌≡◌, ℕ, ◌≤◌, Bool, true, false, cond, List, [], ◌∷◌, map, length, Option, None, Some, refl, sym, ap, subst, arith}
+use Rattle.std.proofs.Common.{ℕ, Bool, true, false, cond, List, [], ◌∷◌, Option, None, Some, sym, subst, arith}
 use Rattle.std.specs.Prelude.{All}
 use Rattle.std.specs.List.{fold}
-use Rattle.std.specs.Map.{keys_of, values_of}
+use Rattle.std.specs.Map.{values_of}
 use Rattle.std.specs.Option.{IfSome}
 use Rattle.std.specs.Ordering.{nat_cmp}
 use Rattle.std.specs.BTreeMap.{is_at}
@@ -12,7 +12,6 @@ use Rattle.std.proofs.lemmas.Map.{keys-set_value}
 use Rattle.std.proofs.lemmas.Map.Entries.{All-lookup}
 use Rattle.std.proofs.lemmas.Map.Views.{All-keys-insert_entry, All-values-insert_entry, All-map-remove_entry, All-values-set_value}
 use Rattle.mail_message.specs.declared.change.Change.{Change}
-use Rattle.mur_base.specs.declared.home.Phase.{Phase}
 use Rattle.mur_base.specs.declared.home.Phase.TheVariants.{Creating, Open, Closing}
 use Rattle.mail_message.specs.Boxes.{empty_box}
 use Rattle.node_record.specs.declared.backend.BackendRecord.{BackendRecord}
@@ -25,7 +24,6 @@ use Rattle.name_links.specs.OneLink.{IsMessageStep}
 use Rattle.name_links.specs.Spelled.{IsNameText, IsShort}
 use Rattle.name_links.proofs.ServedLaw.{acl_kept}
 use Rattle.back_links.specs.Spelled.{HaveTexts, HasShortAcl}
-use Rattle.back_links.proofs.Texts.{first_short}
 
 abbrev is_named : List ℕ → List ℕ → Bool
 is_named name = is_at (slice_cmp nat_cmp name)

@@ -17,7 +17,7 @@ use Rattle.master_core.specs.Changes.{change_outs}
 use Rattle.master_core.specs.Linked.{sender_by, sender_of, node_says, let_out}
 use Rattle.master_core.specs.Outside.{Stepped, bytes_in, connect}
 use Rattle.master_core.specs.Replies.{reply_to, bad_reply}
-use Rattle.master_core.specs.Step.{Planned, table_with, reply_outs, replied, settled, bad_step, line_step}
+use Rattle.master_core.specs.Step.{Planned, table_with, replied, settled, bad_step, line_step}
 use Rattle.master_core.specs.Streams.{is_stream, stream_step, streaming, without}
 use Rattle.master_core.proofs.OutsideAlone.{AreItsOwn, IsBeside, bytes_alone, connects_alone, ends_alone}
 use Rattle.master_core.proofs.ServersLaw.{by_line}
@@ -37,7 +37,7 @@ use Rattle.feed_links.specs.Lines.{messages_to, stream_of}
 use Rattle.feed_links.specs.Spelled.{CanBeTold}
 use Rattle.feed_links.proofs.FeedLaw.{no_message, SaysNothingTo, says_nothing_to}
 use Rattle.feed_links.proofs.Messages.{told_line, own_answers, no_answers, change_untold, reply_messages}
-use Rattle.feed_links.proofs.Steps.{StepIs, is_bad, is_taken, taken, step_is}
+use Rattle.feed_links.proofs.Steps.{StepIs, is_bad, is_taken, step_is}
 use Rattle.feed_links.proofs.TablesTold.{tables_can_be_told}
 use Rattle.name_links.specs.Answers.{HasNoBang, IsTable, answers_to}
 use Rattle.name_links.specs.Lines.{is_asked, backend_line}
@@ -54,10 +54,10 @@ use Rattle.name_links.proofs.OnWay.{all_append}
 use Rattle.name_links.proofs.Outs.{line_is_reply}
 use Rattle.name_links.proofs.SerialTurn.{lines_serials}
 use Rattle.back_links.specs.Created.{TakesActivate, IsMadeThere, CreateMakesNew}
-use Rattle.back_links.specs.MasterEvents.{TalkAfterMaster, given_if, given_in, TakesKeepsTalk, OthersKeepTalk, FrontendsKeepTalk, UpsKeepTalk, ClientsLeaveTalk, ClientsKeepTalk}
-use Rattle.back_links.specs.OneTalk.{HaveEachOther, link_of, HoldsOfEachName, HasTalk}
+use Rattle.back_links.specs.MasterEvents.{TalkAfterMaster, given_if, given_in, TakesKeepsTalk, OthersKeepTalk, FrontendsKeepTalk, UpsKeepTalk, ClientsKeepTalk}
+use Rattle.back_links.specs.OneTalk.{link_of, HoldsOfEachName, HasTalk}
 use Rattle.back_links.specs.Spelled.{HasCommandTexts, HasResponseTexts}
-use Rattle.back_links.specs.Written.{AreWritten, command_message, response_message}
+use Rattle.back_links.specs.Written.{command_message, response_message}
 use Rattle.back_links.proofs.AnswersTold.{answers_told, under_spelled}
 use Rattle.back_links.proofs.Queues.{told_messages, written_then, IsFirst, first_of}
 use Rattle.back_links.proofs.Texts.{command_read}

@@ -1,8 +1,6 @@
 -- Who has a name open, its record names.
 use Rattle.std.proofs.Common.{◌≡◌, ◌⊎◌, inl, inr, ℕ, Bool, true, false, List, Option, None, Some, refl, sym, ap, subst, ◌∙◌}
 use Rattle.std.proofs.Math.Logic.{⊎_elim}
-use Rattle.mur_base.specs.declared.home.Phase.{Phase}
-use Rattle.mur_base.specs.declared.home.Phase.TheVariants.{Open}
 use Rattle.link_msg.specs.declared.message.LinkMsg.{LinkMsg}
 use Rattle.master_core.specs.declared.master.Master.{Master}
 use Rattle.node_record.specs.declared.held.Held.{Held}
@@ -11,7 +9,7 @@ use Rattle.node_record.specs.declared.table.State.{State}
 use Rattle.node_record.specs.declared.table.State.TheVariants.{Bare, Kept, Active}
 use Rattle.node_record.specs.Held.{IsOpen, IsWritableHome, held_at}
 use Rattle.node_record.specs.Table.{record_at}
-use Rattle.home_law.specs.Items.{Server, is_same_server, RecordKind, bare, kept, active, recorded, Mine, mine, serving}
+use Rattle.home_law.specs.Items.{Server, is_same_server, RecordKind, kept, active, recorded, Mine, mine, serving}
 use Rattle.home_law.specs.Link.{see}
 use Rattle.home_law.specs.Rows.{mine_of}
 use Rattle.home_law.proofs.LinkSays.{serving_mine}
@@ -19,7 +17,7 @@ use Rattle.home_law.proofs.Records.{own_record}
 use Rattle.home_law.proofs.SameName.{is_itself, is_the_same}
 use Rattle.name_flows.specs.OneName.{phase_in, phase_of}
 use Rattle.back_node.specs.declared.node.BackNode.{BackNode}
-use Rattle.name_links.specs.Contents.{acl_in, state_at, state_by}
+use Rattle.name_links.specs.Contents.{acl_in, state_by}
 use Rattle.name_links.specs.Known.{kind_of, known, known_by}
 use Rattle.name_links.specs.OneLink.{OneLink, server_of, back_of}
 use Rattle.name_links.specs.Serials.{Given}

@@ -1,9 +1,9 @@
 -- What a backend sends can be read again, and what it has can still be told, whatever comes to it.
-use Rattle.std.proofs.Common.{◌≡◌, ℕ, ◌<◌, ◌^◌, Bool, true, false, ◌&&◌, ◌||◌, not, cond, List, [], ◌∷◌, ◌++◌, map, filter, Option, None, Some, refl, sym, subst}
+use Rattle.std.proofs.Common.{◌≡◌, ℕ, Bool, true, false, ◌&&◌, ◌||◌, not, cond, List, [], ◌∷◌, ◌++◌, map, filter, Option, None, Some, refl, sym, subst}
 use Rattle.std.specs.Prelude.{All}
 use Rattle.std.specs.List.{AllByRecursion, fold}
 use Rattle.std.specs.Map.{keys_of}
-use Rattle.std.proofs.lemmas.List.Elements.{All-nil, All-cons, All-head, All-tail}
+use Rattle.std.proofs.lemmas.List.Elements.{All-cons, All-head, All-tail}
 use Rattle.link_msg.specs.declared.answer.AnswerBody.{AnswerBody}
 use Rattle.mupdate_codec.specs.declared.command.MResponse.{MResponse}
 use Rattle.mupdate_codec.specs.declared.command.MResponse.TheVariants as response
@@ -28,11 +28,11 @@ use Rattle.name_flows.specs.Finds.{forgotten_if}
 use Rattle.name_flows.specs.Heard.{is_answer, first_line, behind_first, what_in, taken, ok_of, ok_by, no_of, no_by, record_of, response_step, heard_step}
 use Rattle.name_flows.specs.Lines.{unasked_line}
 use Rattle.name_flows.specs.Link.{waiting_in}
-use Rattle.name_flows.specs.Listed.{LinesByName, is_lost, is_unmade, name_in, find_line, forget_all, line_in, with_find, Round, round_by, round, list_ok_by}
+use Rattle.name_flows.specs.Listed.{LinesByName, is_lost, is_unmade, name_in, find_line, line_in, with_find, Round, round_by, round, list_ok_by}
 use Rattle.name_flows.specs.Listing.{noted_in, noted, listed_step, resync_line, up_step}
 use Rattle.name_flows.specs.Phases.{is_creating, is_open, is_closing}
 use Rattle.name_flows.specs.Running.{has_flow, is_at, new_flows}
-use Rattle.name_flows.specs.Steps.{FlowStep, Handed, given, silent, changing, held_with, handed}
+use Rattle.name_flows.specs.Steps.{FlowStep, given, silent, changing, held_with, handed}
 use Rattle.name_links.specs.OneLink.{message_of}
 use Rattle.name_links.specs.Spelled.{IsNameText, IsPlaceText, TellsTexts}
 use Rattle.name_links.proofs.LinesByName.{Each, each_put}

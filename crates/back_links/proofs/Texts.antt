@@ -1,13 +1,9 @@
 -- Tags of client's commands are tags, first access lists aren't too long, and so the commands of a backend's lines can be read again.
-use Rattle.std.proofs.Common.{◌≡◌, ℕ, ◌+◌, ◌<◌, ◌≤◌, ◌^◌, ◌&&◌, ◌||◌, not, nat_eq, Bool, true, false, cond, List, [], ◌∷◌, ◌++◌, length, take, drop, codes, Option, None, Some, refl, sym, ap, subst, ◌∙◌}
+use Rattle.std.proofs.Common.{◌≡◌, ℕ, ◌<◌, ◌≤◌, ◌^◌, not, nat_eq, Bool, true, false, cond, List, [], ◌∷◌, ◌++◌, length, drop, codes, Option, None, Some, refl, subst, ◌∙◌}
 use Rattle.std.proofs.Common.{arith, eqb-true, le-leb, length-append, length-drop}
-use Rattle.std.specs.Prelude.{position, nat_le, ◌==◌, min}
+use Rattle.std.specs.Prelude.{position, ◌==◌}
 use Rattle.std.specs.List.{list_all, starts_with}
-use Rattle.std.specs.Fmt.{decimal}
 use Rattle.std.specs.Option.{IfSome}
-use Rattle.std.specs.Ordering.{nat_cmp}
-use Rattle.std.specs.Cmp.Lexicographic.{slice_cmp}
-use Rattle.std.specs.BTreeMap.{is_at}
 use Rattle.std.proofs.lemmas.Bool.Decides.{nat_tests}
 use Rattle.std.proofs.lemmas.Fmt.{length-decimal-le}
 use Rattle.std.proofs.lemmas.List.{length-take}
@@ -37,7 +33,7 @@ use Rattle.mur_base.specs.Number.{is_digit}
 use Rattle.mur_base.proofs.NamesFit.{name_fits}
 use Rattle.node_record.specs.declared.held.Held.{Held}
 use Rattle.node_record.specs.Held.{Names, held_at}
-use Rattle.text_parts.specs.Locations.{bang, short_names}
+use Rattle.text_parts.specs.Locations.{bang}
 use Rattle.text_parts.proofs.LocationsLaw.{short_parts}
 use Rattle.name_flows.specs.declared.ask.AskKind.{AskKind}
 use Rattle.name_flows.specs.declared.ask.AskKind.TheVariants.{Create, Delete as Remove}
@@ -46,10 +42,10 @@ use Rattle.name_flows.specs.declared.sent.Sent.{Sent}
 use Rattle.name_flows.specs.declared.sent.Sent.TheVariants.{List as List_line, Reserve, Make, Again, Deactivate, Delete, Wipe, Find}
 use Rattle.name_flows.specs.declared.sent.SentLine.{SentLine}
 use Rattle.name_flows.specs.Asked.{first_line}
-use Rattle.name_flows.specs.Lines.{acl_at, acl_in, command_of, server_prefix}
+use Rattle.name_flows.specs.Lines.{acl_in, command_of}
 use Rattle.name_links.specs.Answers.{HasNoBang}
 use Rattle.name_links.specs.OneLink.{message_of}
-use Rattle.name_links.specs.Spelled.{IsTagText, IsNameText, IsPlaceText, IsShort, HasTexts}
+use Rattle.name_links.specs.Spelled.{IsNameText, IsPlaceText, IsShort, HasTexts}
 use Rattle.name_links.proofs.Reading.{read_back}
 use Rattle.name_links.proofs.Spelled.{commands_are_spelled, responses_are_spelled}
 use Rattle.back_links.specs.Spelled.{IsTextTag, HasCommandTexts, HasResponseTexts, IsAboutName, HasLineTexts, HasAskTexts, HasShortAcl}

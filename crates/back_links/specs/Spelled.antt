@@ -1,5 +1,5 @@
 -- What a backend can tell the master by lines that are read again: its names are names, its access lists aren't too long, and its tags are tags.
-use Rattle.std.specs.Prelude.{List, All}
+use Rattle.std.specs.Prelude.{All}
 use Rattle.std.specs.List.{AllByRecursion}
 use Rattle.std.specs.Map.{keys_of, values_of}
 use Rattle.mupdate_codec.specs.declared.command.MCommand.{MCommand}
