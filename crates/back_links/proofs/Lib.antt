@@ -5,5 +5,8 @@ pub mod AnswersTold
 pub mod MessageSteps
 pub mod Queues
 pub mod BackLaw
+pub mod FirstLine
 pub mod MasterLaw
+pub mod OtherSteps
+pub mod MadeThere
 pub mod OneHome

@@ -1,5 +1,6 @@
 use Rattle.back_links.proofs.BackLaw.{talk_begins, asks_keep_talk, hears_keeps_talk}
-use Rattle.back_links.proofs.MasterLaw.{takes_keeps_talk, others_keep_talk, frontends_keep_talk, ups_keep_talk, clients_keep_talk}
+use Rattle.back_links.proofs.MasterLaw.{takes_keeps_talk, others_keep_talk}
+use Rattle.back_links.proofs.OtherSteps.{frontends_keep_talk, ups_keep_talk, clients_keep_talk}
 use Rattle.back_links.proofs.laws.each_event_keeps_a_talk.Goals as goal
 
 pub returns-clause-begins : goal.returns-clause-begins
