@@ -1,5 +1,5 @@
 mod Rows
-mod OnlyEntry
+pub mod OnlyEntry
 pub mod AtHome
 pub mod OpenHere
 mod NameAsks
