@@ -1,10 +1,10 @@
 mod Rows
-mod OnlyEntry
-mod AtHome
-mod OpenHere
+pub mod OnlyEntry
+pub mod AtHome
+pub mod OpenHere
 mod NameAsks
-mod Courses
-mod Owed
+pub mod Courses
+pub mod Owed
 mod Said
 mod OneName
 mod FlowNext

@@ -40,7 +40,7 @@ use Rattle.back_node.specs.NodeLaws.{IsAtHome, IsCarriedOut, IsDone, answered_on
 use Rattle.back_node.specs.Takes.{name_kind, node_takes, serves}
 use Rattle.back_node.proofs.AtHome.{ask_is_at_home, done_by, message_step}
 
-no_kind : (op : Op) → is_of_messages op ≡ true → name_kind op ≡ None
+pub no_kind : (op : Op) → is_of_messages op ≡ true → name_kind op ≡ None
 no_kind Create of = cc
 no_kind Delete of = cc
 no_kind op of = refl

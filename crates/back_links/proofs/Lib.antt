@@ -1,0 +1,12 @@
+pub mod Texts
+pub mod Mailboxes
+pub mod StepsSaid
+pub mod AnswersTold
+pub mod MessageSteps
+pub mod Queues
+pub mod BackLaw
+pub mod FirstLine
+pub mod MasterLaw
+pub mod OtherSteps
+pub mod MadeThere
+pub mod OneHome
