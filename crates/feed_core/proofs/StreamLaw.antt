@@ -1,16 +1,13 @@
 -- What a frontend hears of the lines that the master sends under the tag of its UPDATE.
-use Rattle.std.proofs.Common.{◌≡◌, ℕ, nat_eq, true, List, [], ◌∷◌, codes, map, Option, Some, refl, ap, ◌∙◌}
-use Rattle.std.specs.Prelude.{All}
-use Rattle.mupdate_codec.specs.declared.command.MCommand.{MCommand}
+use Rattle.std.proofs.Common.{◌≡◌, ℕ, List, Some, refl, ap}
 use Rattle.mupdate_codec.specs.declared.command.MCommand.TheVariants as command
 use Rattle.mupdate_codec.specs.declared.command.MResponse.{MResponse}
-use Rattle.mupdate_codec.specs.declared.tag.Tag.{Tag}
 use Rattle.mupdate_codec.specs.Arguments.{exact}
 use Rattle.mupdate_codec.specs.Characters.{is_mupdate_tag_byte}
 use Rattle.mupdate_codec.specs.Commands.{command_line, command_word, command_printed_as, command_arguments}
 use Rattle.mupdate_codec.specs.Responses.{response_line, IsSpelledResponse}
 use Rattle.mupdate_codec.specs.Tags.{mupdate_tag_text}
-use Rattle.mupdate_codec.specs.Whole.{command_in, response_in}
+use Rattle.mupdate_codec.specs.Whole.{command_in}
 use Rattle.mupdate_codec.proofs.LinesLaw.{law_response_line}
 use Rattle.mupdate_codec.proofs.WholeLaw.{response_is}
 use Rattle.feed_core.specs.declared.replica.Replica.{Replica}
