@@ -4,7 +4,7 @@ ghost use Rattle.std.specs.Option.{option_copied};
 ghost use Rattle.std.specs.Ordering.{nat_cmp};
 ghost use Rattle.std.specs.Cmp.Lexicographic.{slice_cmp};
 ghost use Rattle.mur_base.specs.Map.{value_at};
-ghost use Rattle.feed_core.specs.Feed.{empty_replica, rec_at, reserved_in, TakesLine};
+ghost use Rattle.feed_core.specs.Feed.{empty_replica, put, rec_at, reserved_in, TakesLine};
 
 use crate::fault::FeedFault;
 use crate::rec::Rec;
@@ -21,6 +21,15 @@ pub struct Replica {
     pub whole: bool,
 }
 
+/// Puts the record of a name in the place of the one that it has, if it has one.
+fn put_in(records: &mut Map<MailName, Rec>, name: MailName, rec: Rec) -> Result<(), Memory>
+    ensures ok { OnOk result (records.new ≡ put records.old name rec) }
+    ensures err { OnErr result (records.new ≡ records.old) }
+{
+    records.insert(name, rec)?;
+    Ok(())
+}
+
 /// Reserves a name: one that has a record keeps its access list.
 fn reserve_in(
     records: &mut Map<MailName, Rec>,
@@ -31,12 +40,12 @@ fn reserve_in(
     ensures err { OnErr result (records.new ≡ records.old) }
 {
     match records.get_mut(&name) {
-        Some(rec) => rec.reserve(place),
-        None => {
-            records.insert(name, Rec::Reserved(place, None))?;
+        Some(rec) => {
+            rec.reserve(place);
+            Ok(())
         }
+        None => put_in(records, name, Rec::Reserved(place, None)),
     }
-    Ok(())
 }
 
 impl Replica {
@@ -57,16 +66,19 @@ impl Replica {
     {
         match line {
             MResponse::Mailbox(name, place, acl) => {
-                self.records.insert(name, Rec::Active(place, acl))?;
+                Ok(put_in(&mut self.records, name, Rec::Active(place, acl))?)
             }
-            MResponse::Reserve(name, place) => reserve_in(&mut self.records, name, place)?,
+            MResponse::Reserve(name, place) => Ok(reserve_in(&mut self.records, name, place)?),
             MResponse::Delete(name) => {
                 self.records.remove(&name);
+                Ok(())
             }
-            MResponse::Ok(_text) => self.whole = true,
-            MResponse::No(_text) | MResponse::Bad(_text) => return Err(FeedFault::NoFeedLine),
+            MResponse::Ok(_text) => {
+                self.whole = true;
+                Ok(())
+            }
+            MResponse::No(_text) | MResponse::Bad(_text) => Err(FeedFault::NoFeedLine),
         }
-        Ok(())
     }
 
     /// The record of a name, if there is one. It takes no memory. Logarithmic in the records.
