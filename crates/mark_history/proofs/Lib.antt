@@ -3,3 +3,10 @@ pub mod NextMarks
 pub mod EachPoint
 pub mod Marks
 pub mod Told
+pub mod Legal
+pub mod LeftOut
+pub mod Without
+pub mod CarriesFrom
+pub mod ByLast
+pub mod TakenBack
+pub mod MarkLaw

@@ -24,6 +24,7 @@ use Rattle.mark_history.specs.declared.mark.Mark.{Mark}
 use Rattle.mark_history.specs.declared.mark.MarkKind.{MarkKind}
 use Rattle.mark_history.specs.declared.mark.MarkKind.TheVariants.{Home}
 use Rattle.mark_history.specs.History.{is_of, next_of, counts_as, point_as, points_by, points_of}
+use Rattle.mark_history.proofs.EachPoint.{beyond, count_cons, within}
 use Rattle.mark_history.proofs.Tally.{acts, conn_of, command_of, Fit, Verdict, verdict, none_next, of_both}
 use Rattle.mark_history.proofs.Tally.Verdict.{replies, is_lost, is_open, tells}
 
@@ -105,13 +106,6 @@ pub record IsOf (told : ℕ → ℕ) (mark : Mark) (point : Point) : Type 0 wher
   pub if_lost : loses point.what ≡ true → told (conn_of mark) < command_of mark
   pub either : (point.what ≡ replied) × (command_of mark ≤ told (conn_of mark)) ⊎ (point.what ≡ lost)
 
--- a mark's command is among those that its client was told of, or isn't
-within : (told : ℕ → ℕ) (mark : Mark) (b : Bool) → nat_le (command_of mark) (told (conn_of mark)) ≡ b → b ≡ true → command_of mark ≤ told (conn_of mark)
-within told mark b h t = let both : nat_le (command_of mark) (told (conn_of mark)) ≡ true = h ∙ t in grind (arith, nat_tests)
-
-beyond : (told : ℕ → ℕ) (mark : Mark) (b : Bool) → nat_le (command_of mark) (told (conn_of mark)) ≡ b → b ≡ false → told (conn_of mark) < command_of mark
-beyond told mark b h t = let both : nat_le (command_of mark) (told (conn_of mark)) ≡ false = h ∙ t in grind (arith, nat_tests)
-
 its_reply : (told : ℕ → ℕ) (mark : Mark) → acts mark.kind ≡ true → command_of mark ≤ told (conn_of mark) → IsOf told mark (point_as mark replied)
 unfolding loses
 its_reply told mark acting low = record { same_step = refl; same_ask = refl; acting = acting; if_lost = λ k. cc; either = inl (refl, low) }
@@ -166,10 +160,10 @@ pairs_by told mark R points of rest b h next (is_lost t always none is) = subst 
 pairs_by told mark R points of rest b h next (is_open t only none is) = subst (λ w. AllPairs R (points_by mark w ++ points)) (sym is) rest
 pairs_by told mark R points of rest b h next (tells telling is) = subst (λ w. AllPairs R (points_by mark w ++ points)) (sym is) rest
 
-head_pairs : (R : Mark → Mark → Type 0) (x : Mark) (xs : List Mark) → AllPairs R (x ∷ xs) → All (R x) xs
+pub head_pairs : (R : Mark → Mark → Type 0) (x : Mark) (xs : List Mark) → AllPairs R (x ∷ xs) → All (R x) xs
 head_pairs R x xs pairs = λ k d h. pairs 0 (suc k) d (omega arith) (omega arith)
 
-tail_pairs : (R : Mark → Mark → Type 0) (x : Mark) (xs : List Mark) → AllPairs R (x ∷ xs) → AllPairs R xs
+pub tail_pairs : (R : Mark → Mark → Type 0) (x : Mark) (xs : List Mark) → AllPairs R (x ∷ xs) → AllPairs R xs
 tail_pairs R x xs pairs = λ i j d h k. pairs (suc i) (suc j) d (omega arith) (omega arith)
 
 -- another course with the same store, and the same session at the connection of each of these marks
@@ -225,13 +219,13 @@ pub record FollowsTo (setting : Setting) (talk : Talk) (first : Course) (points 
   pub same_store : end.store ≡ store
   pub follows : Follows setting talk first points end
 
-same_carried : (setting : Setting) (course other : Course) (conn : ℕ) (request : Request) (serial : ℕ) → other.store ≡ course.store
+pub same_carried : (setting : Setting) (course other : Course) (conn : ℕ) (request : Request) (serial : ℕ) → other.store ≡ course.store
     → other.sessions conn ≡ course.sessions conn → carried_out setting other conn request serial ≡ carried_out setting course conn request serial
 same_carried setting course other conn request serial store session =
     ap (λ s. answer_of setting s (other.sessions conn) request serial) store
     ∙ ap (λ s. answer_of setting course.store s request serial) session
 
-same_takes : (setting : Setting) (talk : Talk) (course other : Course) (conn number : ℕ) (request : Request) (serial : ℕ) → other.store ≡ course.store
+pub same_takes : (setting : Setting) (talk : Talk) (course other : Course) (conn number : ℕ) (request : Request) (serial : ℕ) → other.store ≡ course.store
     → other.sessions conn ≡ course.sessions conn → Takes setting talk course conn number request serial → Takes setting talk other conn number request serial
 same_takes setting talk course other conn number request serial store session takes = record {
   asked = takes.asked;
@@ -240,13 +234,13 @@ same_takes setting talk course other conn number request serial store session ta
       (subst (λ s. MayTake setting course.store s request serial) (sym session) takes.free);
 }
 
-same_with : (one two : ℕ → Sess) (conn : ℕ) (a b : Sess) (other : ℕ) → a ≡ b → one other ≡ two other
+pub same_with : (one two : ℕ → Sess) (conn : ℕ) (a b : Sess) (other : ℕ) → a ≡ b → one other ≡ two other
     → with_session one conn a other ≡ with_session two conn b other
 unfolding with_session
 same_with one two conn a b other e f =
     ap (λ s. if nat_eq other conn then s else one other) e ∙ ap (λ s. if nat_eq other conn then b else s) f
 
-with_session_elsewhere : (sessions : ℕ → Sess) (conn : ℕ) (session : Sess) (other : ℕ) → conn ≢ other
+pub with_session_elsewhere : (sessions : ℕ → Sess) (conn : ℕ) (session : Sess) (other : ℕ) → conn ≢ other
     → with_session sessions conn session other ≡ sessions other
 unfolding with_session
 with_session_elsewhere sessions conn session other ne = let apart : nat_eq other conn ≡ false = grind (arith, nat_tests) in rw apart refl
@@ -405,7 +399,7 @@ is_mark conn number mark = acts mark.kind && (nat_eq (conn_of mark) conn && nat_
 abbrev pub MarkedOnce : (ℕ → ℕ) → List Mark → Type 0
 MarkedOnce counts marks = (conn number : ℕ) → count_by (is_mark conn number) marks ≡ one_up_to (counts conn) number
 
-one_next : (count number : ℕ) → one_up_to (count + 1) number ≡ one_up_to count number + cond (nat_eq (count + 1) number) 1 0
+pub one_next : (count number : ℕ) → one_up_to (count + 1) number ≡ one_up_to count number + cond (nat_eq (count + 1) number) 1 0
 unfolding one_up_to
 one_next count number = grind (arith, nat_tests)
 
@@ -414,7 +408,7 @@ count_marks_push : (conn number : ℕ) (marks : List Mark) (mark : Mark)
 count_marks_push conn number marks mark =
     sum_by-append (λ (m : Mark). cond (is_mark conn number m) 1 0) marks (mark ∷ []) ∙ ap (λ n. count_by (is_mark conn number) marks + n) (omega arith)
 
-acting_mark : (conn number : ℕ) (mark : Mark) → acts mark.kind ≡ true
+pub acting_mark : (conn number : ℕ) (mark : Mark) → acts mark.kind ≡ true
     → is_mark conn number mark ≡ (nat_eq (conn_of mark) conn && nat_eq (command_of mark) number)
 acting_mark conn number mark acting = ap (λ a. a && (nat_eq (conn_of mark) conn && nat_eq (command_of mark) number)) acting
 
@@ -452,10 +446,7 @@ marked_once_telling counts marks mark telling once conn number =
     ∙ (let zero_more : count_by (is_mark conn number) marks + 0 ≡ count_by (is_mark conn number) marks = omega arith in zero_more)
     ∙ once conn number
 
-count_cons : {T : Type 0} (p : T → Bool) (x : T) (xs : List T) → count_by p (x ∷ xs) ≡ cond (p x) 1 0 + count_by p xs
-count_cons p x xs = sum_by-append (λ y. cond (p y) 1 0) (x ∷ []) xs ∙ ap (λ n. n + count_by p xs) (omega arith)
-
-count_both : {T : Type 0} (p : T → Bool) (xs ys : List T) → count_by p (xs ++ ys) ≡ count_by p xs + count_by p ys
+pub count_both : {T : Type 0} (p : T → Bool) (xs ys : List T) → count_by p (xs ++ ys) ≡ count_by p xs + count_by p ys
 count_both p xs ys = sum_by-append (λ y. cond (p y) 1 0) xs ys
 
 reply_counted : (conn number : ℕ) (mark : Mark) (at : Bool) → nat_eq (conn_of mark) conn ≡ at → (same : Bool) → nat_eq (command_of mark) number ≡ same

@@ -28,7 +28,7 @@ acts (Told Behind) = false
 -- whether a mark may have this next mark of its command, by whether its client was told of the command
 unfoldable pub fits : MarkKind → Option MarkKind → Bool → Bool
 fits (Told Here) next told = told
-fits (Told Behind) next told = true
+fits (Told Behind) next told = told
 fits (Home counts) None told = not told
 fits (Home counts) (Some (Told Behind)) told = told
 fits (Home counts) (Some kind) told = false
@@ -70,29 +70,45 @@ unfolding next_of
 none_next ask [] e = All-nil (λ (m : Mark). is_of ask m ≡ false)
 none_next ask (mark ∷ marks) e = none_by ask mark marks (none_next ask marks) (is_of ask mark) refl e
 
--- two marks of one command
-pub of_both : (mark later : Mark) → conn_of later ≡ conn_of mark → command_of later ≡ command_of mark → is_of mark.ask later ≡ true
-of_both mark later c n =
-    let one : nat_eq (conn_of later) (conn_of mark) ≡ true = grind (arith, nat_tests) in
-    let two : nat_eq (command_of later) (command_of mark) ≡ true = grind (arith, nat_tests) in rw (one, two) refl
+-- a command by its connection and its number
+pub same_id : (one other : AskId) → one.conn ≡ other.conn → one.command ≡ other.command → one ≡ other
+same_id one other c n =
+    let first : one ≡ record { conn = other.conn; command = one.command } = ap {B = AskId} (λ k. record { conn = k; command = one.command }) c in
+    first ∙ ap {B = AskId} (λ k. record { conn = other.conn; command = k }) n
 
--- two marks of different commands
-pub of_another : (mark later : Mark) (b : Bool) → is_of mark.ask later ≡ b → (conn_of later ≡ conn_of mark → command_of mark < command_of later) → b ≡ false
-of_another mark later true h apart = by (nat_eq (conn_of later) (conn_of mark)) refl (nat_eq (command_of later) (command_of mark)) refl h
+-- a mark that is of a command, and one that isn't
+pub of_ask : (ask : AskId) (mark : Mark) → conn_of mark ≡ ask.conn → command_of mark ≡ ask.command → is_of ask mark ≡ true
+of_ask ask mark c n =
+    let one : nat_eq (conn_of mark) ask.conn ≡ true = grind (arith, nat_tests) in
+    let two : nat_eq (command_of mark) ask.command ≡ true = grind (arith, nat_tests) in rw (one, two) refl
+
+pub of_equal : (ask : AskId) (mark : Mark) → is_of ask mark ≡ true → (conn_of mark ≡ ask.conn) × (command_of mark ≡ ask.command)
+of_equal ask mark h = by (nat_eq (conn_of mark) ask.conn) refl (nat_eq (command_of mark) ask.command) refl h
   where
-    by : (a : Bool) → nat_eq (conn_of later) (conn_of mark) ≡ a → (c : Bool) → nat_eq (command_of later) (command_of mark) ≡ c → a && c ≡ true → true ≡ false
-    by true e true f both =
-        (let same : conn_of later ≡ conn_of mark = grind (arith, nat_tests) in
-        let equal : command_of later ≡ command_of mark = grind (arith, nat_tests) in absurd (omega (arith, apart same, equal)))
+    by : (a : Bool) → nat_eq (conn_of mark) ask.conn ≡ a → (c : Bool) → nat_eq (command_of mark) ask.command ≡ c → a && c ≡ true
+        → (conn_of mark ≡ ask.conn) × (command_of mark ≡ ask.command)
+    by true e true f both = (grind (arith, nat_tests), grind (arith, nat_tests))
     by true e false f both = cc
     by false e c f both = cc
-of_another mark later false h apart = refl
+
+-- two marks of one command
+pub of_both : (mark later : Mark) → conn_of later ≡ conn_of mark → command_of later ≡ command_of mark → is_of mark.ask later ≡ true
+of_both mark later c n = of_ask mark.ask later c n
+
+-- two marks of different commands
+pub of_other : (one other : Mark) (b : Bool) → is_of one.ask other ≡ b → (conn_of one ≡ conn_of other → command_of one ≡ command_of other → ⊥) → b ≡ false
+of_other one other true h apart = (let both = of_equal one.ask other h in absurd (apart (sym both.0) (sym both.1)))
+of_other one other false h apart = refl
+
+pub of_another : (mark later : Mark) (b : Bool) → is_of mark.ask later ≡ b → (conn_of later ≡ conn_of mark → command_of mark < command_of later) → b ≡ false
+of_another mark later b h apart = of_other mark later b h (λ c n. absurd (omega (arith, apart (sym c), n)))
 
 unfoldable pub next_or : Option MarkKind → Option MarkKind → Option MarkKind
 next_or None other = other
 next_or (Some kind) other = Some kind
 
-abbrev its_kind : AskId → Mark → Option MarkKind
+-- what a mark says of a command, if it is of it
+abbrev pub its_kind : AskId → Mark → Option MarkKind
 its_kind ask mark = if is_of ask mark then Some mark.kind else None
 
 next_if : (b : Bool) (kind : MarkKind) (one other : Option MarkKind)
@@ -102,7 +118,7 @@ next_if true kind one other = refl
 next_if false kind one other = refl
 
 -- the next mark of a command where one was put behind
-next_push : (ask : AskId) (marks : List Mark) (mark : Mark) → next_of ask (marks ++ mark ∷ []) ≡ next_or (next_of ask marks) (its_kind ask mark)
+pub next_push : (ask : AskId) (marks : List Mark) (mark : Mark) → next_of ask (marks ++ mark ∷ []) ≡ next_or (next_of ask marks) (its_kind ask mark)
 unfolding next_of next_or
 next_push ask [] mark = refl
 next_push ask (first ∷ marks) mark =

@@ -155,13 +155,13 @@ tells_here setting talk conn told answer said = record {
   own = let count = length_with_item told conn answer in grind (arith, nat_tests);
 }
 
-telling : acts (Told Behind) ≡ false
+pub telling : acts (Told Behind) ≡ false
 unfolding acts
 telling = refl
 
-fits_any : (b : _) → fits (Told Behind) None b ≡ true
+fits_now : (number count : ℕ) → number ≤ count → fits (Told Behind) None (nat_le number count) ≡ true
 unfolding fits
-fits_any b = refl
+fits_now number count low = grind (arith, nat_tests)
 
 -- the client is told of the next command; the marks of others, and of its earlier commands, stay as they fit
 fits_behind : (now : ℕ) (talk : Talk) (told : ℕ → List Answer) (conn : ℕ) (answer : Answer) → length (talk.answers conn) ≡ length (told conn) + 1
@@ -213,7 +213,8 @@ told_behind_push setting now marks talk told course conn answer said is =
           (λ (ne : other ≢ conn). omega (arith, is.ahead other, ap length (with_item-other told conn answer other ne)))
           (cases_eq other conn);
       fit = fit_push (counts_of told) (counts_of (with_item told conn answer)) marks mark is.fit
-          (λ k d h. fits_behind now talk told conn answer said (get_or marks k d) (is.numbers k d h)) (fits_any _);
+          (λ k d h. fits_behind now talk told conn answer said (get_or marks k d) (is.numbers k d h))
+          (fits_now (length (told conn) + 1) (length (with_item told conn answer conn)) (omega (arith, length_with_item told conn answer)));
     }
 
 -- more is asked

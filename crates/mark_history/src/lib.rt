@@ -2,10 +2,16 @@
 //!
 //! A home marks that it answered a command, and whether that counts where the client is never told; a frontend marks that it told the client.
 //! A mark counts by the next mark of its command (`specs/History.antt`), so the history is read off the marks alone ([`points_of`]).
+//!
+//! In a run one step acts on each command (`proofs/Told.antt`). Where steps may also only see a command, and what one did is taken back
+//! (`specs/Marked.antt`), the same holds of the marks without those of such steps (`proofs/ByLast.antt`), and these make the same history
+//! ([`the_last_step_counts`]).
 #![tactic(auto)]
 
 mod history;
+mod laws;
 mod mark;
 
 pub use history::{Points, points_of};
+pub use laws::the_last_step_counts;
 pub use mark::{Mark, MarkKind};

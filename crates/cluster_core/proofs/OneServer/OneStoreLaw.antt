@@ -1,13 +1,10 @@
 -- The one-store law at every step of a run.
-use Rattle.std.proofs.Common.{◌≡◌, ℕ, ◌+◌, ◌≤◌, ◌<◌, Bool, true, false, ◌||◌, List, [], ◌∷◌, ◌++◌, length}
+use Rattle.std.proofs.Common.{◌≡◌, ℕ, ◌+◌, ◌≤◌, Bool, true, false, ◌||◌, List, [], ◌∷◌, ◌++◌, length}
 use Rattle.std.proofs.Common.{Option, None, Some, refl, sym, ◌∙◌}
 use Rattle.std.proofs.Common.{ap, subst, arith, length-append}
 use Rattle.std.proofs.Common.{inl, inr}
 use Rattle.std.specs.Prelude.{AllPairs}
 use Rattle.std.specs.List.{list_any}
-use Rattle.std.proofs.Math.Logic.{⊎_elim}
-use Rattle.std.proofs.lemmas.Bool.Decides.{nat_tests}
-use Rattle.std.proofs.lemmas.List.{append-nil}
 use Rattle.front_core.specs.declared.connection.Connection.{Connection}
 use Rattle.imap_talk.specs.Transcript.{transcript_of, all_told_till, ends}
 use Rattle.imap_wire.specs.Frames.{begun}
@@ -15,9 +12,7 @@ use Rattle.mur_base.specs.declared.point.AskId.{AskId}
 use Rattle.mur_base.specs.declared.point.Point.{Point}
 use Rattle.imap_types.specs.declared.request.Answer.{Answer}
 use Rattle.mur_model.specs.declared.setting.Setting.{Setting}
-use Rattle.mur_model.specs.declared.store.Store.{Store}
-use Rattle.mur_model.specs.History.{Course, Talk, IsLegal, IsInCommandOrder, EndsAtLoss, IsUnanswered, loses, reads}
-use Rattle.mur_model.proofs.HistoryGrows.{one_up_to}
+use Rattle.mur_model.specs.History.{loses}
 use Rattle.imap_talk.specs.Inputs.{inputs_of, requests_in}
 use Rattle.front_core.proofs.OneConnection.Readings.{inputs_in}
 use Rattle.cluster_core.specs.declared.world.Client.{Client}
@@ -26,7 +21,8 @@ use Rattle.cluster_core.specs.declared.world.World.{World}
 use Rattle.front_core.specs.Ending.{EndsOnlyLast}
 use Rattle.imap_talk.specs.Heard.{Heard, bytes_heard, frames_heard, has_closed, elsewhere}
 use Rattle.cluster_core.specs.History.{history_of}
-use Rattle.mark_history.specs.FirstCourse.{first_course}
+use Rattle.mark_history.specs.Marked.{IsLegalTo}
+use Rattle.mark_history.proofs.Legal.{IsToldSo, all_told, legal_marks}
 use Rattle.cluster_core.specs.Headline.OneStore.{AreEmpty, IsAnsweredThrough}
 use Rattle.cluster_core.specs.Headline.Points.{AreMadeBy, LosesTheNext}
 use Rattle.cluster_core.specs.Shown.{given_by, given_to}
@@ -40,20 +36,11 @@ use Rattle.front_core.proofs.OneConnection.Standing.IsLeft.{nothing, left_waitin
 use Rattle.cluster_core.proofs.Connections.KeepsLaw.{ConnectionIs}
 use Rattle.cluster_core.proofs.Connections.KeepsLaw.ConnectionIs.{is_nobody, is_elsewhere, is_open, is_closed}
 use Rattle.mark_history.proofs.Tally.{conn_of, command_of}
-use Rattle.mark_history.proofs.Marks.{IsOf, Later, NoMore, Replied, all_points, counts_of, none_behind, pairs_of_points, marks_follow, answering_points, losing_points}
+use Rattle.mark_history.proofs.Marks.{Later, all_points, counts_of, pairs_of_points}
 use Rattle.front_core.proofs.OneConnection.LastAnswer.{none_given, stands_last}
 use Rattle.imap_talk.proofs.RequestsOf.{requests_of, answered_lengths}
 use Rattle.mark_history.proofs.Told.{IsTold}
 use Rattle.front_core.proofs.OneConnection.Places.{of_connection, Place, is_asked, is_answered, its_message, nowhere_on_empty}
-
--- what was replied is what was told and at most one more
-pub record IsToldSo (told said : List Answer) : Type 0 where
-  pub rest : List Answer
-  pub parts : said ≡ told ++ rest
-  pub few : length rest ≤ 1
-
-all_told : (told said : List Answer) → said ≡ told → IsToldSo told said
-all_told told said e = record { rest = []; parts = e ∙ sym (append-nil told); few = omega arith }
 
 told_knows : (home : List ℕ) (conn : ℕ) (was : _) (tag : _) (name : List ℕ) (work : _) (told said : List Answer) (session : _) (place : Place)
     → Knows home conn was tag name work told said session place → IsToldSo told said
@@ -152,100 +139,13 @@ says_of setting home conn world story heard (is_closed bytes node front connecti
   waits_not = λ empty stays. cc;
 }
 
-answered_once : (count number n : ℕ) → n ≡ one_up_to count number → 0 < number → number ≤ count → n ≡ 1
-unfolding one_up_to
-answered_once count number n e low high = grind (arith, nat_tests)
-
-at_most_one : (count number n : ℕ) → n ≡ one_up_to count number → n ≤ 1
-unfolding one_up_to
-at_most_one count number n e = grind (arith, nat_tests)
-
--- what is related of two points, by their marks
-conns_same : (told : ℕ → ℕ) (earlier later : Mark) (one other : Point) → IsOf told earlier one → IsOf told later other → one.ask.conn ≡ other.ask.conn
-    → conn_of earlier ≡ conn_of later
-conns_same told earlier later one other is at same = sym (ap (λ (a : AskId). a.conn) is.same_ask) ∙ same ∙ ap (λ (a : AskId). a.conn) at.same_ask
-
-in_order_by : (told : ℕ → ℕ) (earlier later : Mark) (one other : Point) → Later earlier later → IsOf told earlier one → IsOf told later other
-    → one.ask.conn ≡ other.ask.conn → one.ask.command ≤ other.ask.command
-in_order_by told earlier later one other behind is at same =
-    omega (
-      arith,
-      behind.0 (conns_same told earlier later one other is at same),
-      ap (λ (a : AskId). a.command) is.same_ask,
-      ap (λ (a : AskId). a.command) at.same_ask,
-    )
-
-no_more : (told : ℕ → ℕ) (earlier later : Mark) (one other : Point) → NoMore told earlier later → IsOf told earlier one → IsOf told later other
-    → loses one.what ≡ true → one.ask.conn ≡ other.ask.conn → ⊥
-no_more told earlier later one other none is at loss same =
-    none is.acting (is.if_lost loss) (conns_same told earlier later one other is at same)
-
-no_read : (told : ℕ → ℕ) (mark : Mark) (point : Point) → IsOf told mark point → reads point.what ≡ false
-unfolding reads
-no_read told mark point is = ⊎_elim (λ both. ap reads both.0) (λ lost. ap reads lost) is.either
-
-unanswered : (story : Story) (mark : Mark) (point : Point) → IsOf (counts_of story.told) mark point → IsUnanswered (told_of story) point
-unanswered story mark point is = λ loss. omega (
-  arith,
-  is.if_lost loss,
-  ap (λ (a : AskId). a.command) is.same_ask,
-  ap (λ (a : AskId). length (story.told a.conn)) is.same_ask,
-)
-
--- the commands of the marks were replied to, of which at most one that no client was told of
-replied_to : (setting : Setting) (now : ℕ) (marks : List Mark) (story : Story) → IsTold setting now marks story.talk story.told story.course
-    → ((conn : ℕ) → IsToldSo (story.told conn) (story.talk.answers conn))
-    → Replied (counts_of story.told) (λ conn. length (story.talk.answers conn)) marks
-replied_to setting now marks story told so = record {
-  numbers = told.numbers;
-  few = λ conn. omega (arith, ap length (so conn).parts, length-append (story.told conn) (so conn).rest, (so conn).few);
-}
-
--- a history is legal, and its store comes out so
-pub record IsLegalTo (setting : Setting) (talk : Talk) (points : List Point) (store : Store) : Type 0 where
-  pub last : Course
-  pub same_store : last.store ≡ store
-  pub legal : IsLegal setting first_course talk points last
-
 -- the history is legal for what was asked and told
 pub legal_history : (setting : Setting) (world : World) (story : Story)
     → IsTold setting world.steps world.marks story.talk story.told story.course
     → ((conn : ℕ) → IsToldSo (story.told conn) (story.talk.answers conn))
     → IsLegalTo setting (told_of story) (history_of world) story.course.store
 unfolding history_of
-legal_history setting world story told so =
-    let none : AllPairs (NoMore (counts_of story.told)) world.marks =
-    none_behind (counts_of story.told) (λ conn. length (story.talk.answers conn)) world.marks told.fit told.later
-    (replied_to setting world.steps world.marks story told so) in
-    let followed = marks_follow setting story.talk story.told
-    (record { rest = λ conn. (so conn).rest; parts = λ conn. (so conn).parts }) first_course story.course world.marks told.carries told.fit none in
-    record {
-      last = followed.end;
-      same_store = followed.same_store;
-      legal = record {
-        follows = followed.follows;
-        answered_once = λ conn number low high. answering_points (counts_of story.told) conn number world.marks told.fit high
-            ∙ answered_once (length (story.talk.answers conn)) number _ (told.once conn number) low
-            (omega (arith, high, ap length (so conn).parts, length-append (story.told conn) (so conn).rest));
-        lost_unanswered = all_points (counts_of story.told) (λ (m : Mark). command_of m ≤ length (story.talk.answers (conn_of m)))
-            (IsUnanswered (told_of story)) (λ mark point bound is. unanswered story mark point is) world.marks told.fit told.numbers;
-        lost_once = λ conn number. omega (
-          arith,
-          losing_points (counts_of story.told) conn number world.marks told.fit,
-          at_most_one (length (story.talk.answers conn)) number _ (told.once conn number),
-        );
-        lost_last = pairs_of_points (counts_of story.told) (NoMore (counts_of story.told))
-            (λ (m : Mark). command_of m ≤ length (story.talk.answers (conn_of m))) EndsAtLoss
-            (λ earlier later one other behind bound is at. no_more (counts_of story.told) earlier later one other behind is at) world.marks told.fit none
-            told.numbers;
-        never_read = all_points (counts_of story.told) (λ (m : Mark). command_of m ≤ length (story.talk.answers (conn_of m)))
-            (λ (point : Point). reads point.what ≡ false)
-            (λ mark point bound is. no_read (counts_of story.told) mark point is) world.marks told.fit told.numbers;
-        in_order = pairs_of_points (counts_of story.told) Later (λ (m : Mark). command_of m ≤ length (story.talk.answers (conn_of m))) IsInCommandOrder
-            (λ earlier later one other behind bound is at. in_order_by (counts_of story.told) earlier later one other behind is at) world.marks told.fit
-            told.later told.numbers;
-      };
-    }
+legal_history setting world story told so = legal_marks setting world.steps world.marks story.talk story.told story.course told so
 
 -- the steps of the history rise
 pub steps_rise : (setting : Setting) (world : World) (story : Story)

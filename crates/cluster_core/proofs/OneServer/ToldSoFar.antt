@@ -1,11 +1,10 @@
 -- What is told at every step of a run.
-use Rattle.std.proofs.Common.{◌≡◌, ℕ, zero, suc, ◌+◌, ◌≤◌, ◌<◌, Bool, true, false, cond, nat_eq, List, [], ◌∷◌, ◌++◌, length}
+use Rattle.std.proofs.Common.{◌≡◌, ℕ, zero, suc, ◌+◌, ◌≤◌, ◌<◌, true, false, cond, nat_eq, List, [], ◌∷◌, ◌++◌, length}
 use Rattle.std.proofs.Common.{Some, refl, sym, ◌∙◌, ap, subst, arith, length-append}
 use Rattle.std.specs.Prelude.{All, IfSome, count_by}
 use Rattle.std.proofs.lemmas.Bool.Decides.{nat_tests}
 use Rattle.std.proofs.lemmas.List.{append-nil}
 use Rattle.std.proofs.lemmas.List.Elements.{All-append, All-nil, All-cons, All-weaker}
-use Rattle.std.proofs.lemmas.List.Sums.{sum_by-append}
 use Rattle.std.proofs.lemmas.Option.{slice_get_within}
 use Rattle.mail_store.specs.Kept.{AreUidsBelowNext}
 use Rattle.mur_base.specs.declared.point.AskId.{AskId}
@@ -51,12 +50,15 @@ use Rattle.store_law.proofs.NoneLost.{both_hold, loses_none}
 use Rattle.store_law.proofs.OthersUnseen.{keeps_to_its_own}
 use Rattle.store_law.proofs.OwnSelected.{none_own, points_own}
 use Rattle.mark_history.proofs.Tally.{acts, conn_of, command_of}
-use Rattle.mark_history.proofs.Marks.{Carries, counts_of, is_mark, all_points}
+use Rattle.mark_history.proofs.EachPoint.{count_cons}
+use Rattle.mark_history.proofs.Marks.{Carries, count_both, counts_of, is_mark, all_points}
 use Rattle.mark_history.proofs.Marks.Carries.{no_marks, a_mark, a_telling}
 use Rattle.store_law.proofs.CausesTold.{have_causes}
 use Rattle.cluster_core.proofs.OneServer.GuestsServed.{others_are_silent}
 use Rattle.cluster_core.proofs.Routing.RoutedLaw.{routed_points}
-use Rattle.cluster_core.proofs.OneServer.OneStoreLaw.{SaysOf, says_of, IsLegalTo, legal_history, loses_the_next, made_by_now, steps_rise, IsToldSo}
+use Rattle.cluster_core.proofs.OneServer.OneStoreLaw.{SaysOf, says_of, legal_history, loses_the_next, made_by_now, steps_rise}
+use Rattle.mark_history.proofs.Legal.{IsToldSo}
+use Rattle.mark_history.specs.Marked.{IsLegalTo}
 use Rattle.imap_talk.proofs.ReadLaw.{heard_sound, read_of_legal}
 use Rattle.imap_talk.proofs.RequestsOf.{asks_all}
 use Rattle.serve_law.proofs.HomeStore.{low_serials}
@@ -84,12 +86,6 @@ marks_asked setting talk first last marks (a_mark course end mark request serial
 marks_asked setting talk first last marks (a_telling course end mark rest telling later) =
     All-cons (λ (m : Mark). acts m.kind ≡ true → command_of m ≤ length (talk.requests (conn_of m))) mark rest
     (λ a. (let both : false ≡ true = sym telling ∙ a in cc)) (marks_asked setting talk course end rest later)
-
-count_cons : (p : Mark → Bool) (x : Mark) (xs : List Mark) → count_by p (x ∷ xs) ≡ cond (p x) 1 0 + count_by p xs
-count_cons p x xs = sum_by-append (λ y. cond (p y) 1 0) (x ∷ []) xs ∙ ap (λ n. n + count_by p xs) (omega arith)
-
-count_both : (p : Mark → Bool) (xs ys : List Mark) → count_by p (xs ++ ys) ≡ count_by p xs + count_by p ys
-count_both p xs ys = sum_by-append (λ y. cond (p y) 1 0) xs ys
 
 own_mark : (mark : Mark) → acts mark.kind ≡ true → is_mark (conn_of mark) (command_of mark) mark ≡ true
 own_mark mark acting = let one : nat_eq (conn_of mark) (conn_of mark) ≡ true = grind (arith, nat_tests) in

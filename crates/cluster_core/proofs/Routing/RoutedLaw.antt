@@ -17,7 +17,6 @@ use Rattle.mur_config.specs.declared.config.Config.{Config}
 use Rattle.mur_config.specs.Nodes.{AreNodes}
 use Rattle.mur_model.specs.declared.setting.Setting.{Setting}
 use Rattle.mur_model.specs.History.{is_about}
-use Rattle.mur_model.proofs.HistoryGrows.{one_up_to}
 use Rattle.schedule_text.specs.declared.event.Event.{Event}
 use Rattle.schedule_text.specs.declared.event.Event.TheVariants.{Deliver}
 use Rattle.mark_history.specs.declared.mark.Mark.{Mark}
@@ -40,23 +39,14 @@ use Rattle.cluster_core.proofs.Histories.InTime.{run_behind}
 use Rattle.mark_history.proofs.Marks.{counts_of, is_mark}
 use Rattle.cluster_core.proofs.Routing.StepMarks.{StepMarks, is_home_mark, step_marks}
 use Rattle.cluster_core.proofs.Routing.StepMarks.StepMarks.{takes_ask, tells}
-use Rattle.mark_history.proofs.Tally.{acts, command_of, conn_of}
+use Rattle.mark_history.proofs.Legal.{at_most_one}
+use Rattle.mark_history.proofs.Tally.{acts, command_of, conn_of, same_id}
 use Rattle.mark_history.proofs.Told.{IsTold}
 use Rattle.cluster_core.proofs.Nodes.LinkedNodes.{start_keeps}
 use Rattle.cluster_core.proofs.Nodes.OneNodeLaw.{one_more_step}
 use Rattle.cluster_core.proofs.Runs.StartLaw.{fresh_start}
 use Rattle.cluster_core.proofs.Runs.StepsMade.{steps_made}
 use Rattle.cluster_core.proofs.Runs.Unrolled.{run_steps-append}
-
--- a command by its connection and its number
-same_id : (one other : AskId) → one.conn ≡ other.conn → one.command ≡ other.command → one ≡ other
-same_id one other c n =
-    let first : one ≡ record { conn = other.conn; command = one.command } = ap {B = AskId} (λ k. record { conn = k; command = one.command }) c in
-    first ∙ ap {B = AskId} (λ k. record { conn = other.conn; command = k }) n
-
-at_most_one : (count number n : ℕ) → n ≡ one_up_to count number → n ≤ 1
-unfolding one_up_to
-at_most_one count number n e = grind (arith, nat_tests)
 
 just_kind : {one other : MarkKind} → one ≡ other → is_home_mark one ≡ is_home_mark other
 just_kind e = ap is_home_mark e

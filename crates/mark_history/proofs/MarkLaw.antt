@@ -1,0 +1,239 @@
+-- Marks that are made so make a legal history.
+use Rattle.std.proofs.Common.{◌≡◌, ◌≢◌, ℕ, ◌+◌, Bool, true, false, cond, nat_eq, List, [], ◌∷◌, ◌++◌, length, if◌then◌else◌, Some, refl, sym, ◌∙◌, ap, subst, arith, length-append}
+use Rattle.std.proofs.Math.Logic.{⊎_elim}
+use Rattle.std.proofs.lemmas.Bool.{cases_eq}
+use Rattle.std.proofs.lemmas.Bool.Decides.{nat_tests}
+use Rattle.link_msg.specs.declared.counts.Counts.{Counts}
+use Rattle.link_msg.specs.declared.counts.Counts.TheVariants.{IfAnswered}
+use Rattle.link_msg.specs.declared.how.How.TheVariants.{Here, Behind}
+use Rattle.imap_types.specs.declared.request.Answer.{Answer}
+use Rattle.imap_types.specs.declared.request.Request.{Request}
+use Rattle.mur_model.specs.declared.setting.Setting.{Setting}
+use Rattle.mur_model.specs.History.{numbered, with_session}
+use Rattle.mur_model.proofs.HistoryGrows.{one_up_to}
+use Rattle.mur_model.proofs.Numbered.{with_item}
+use Rattle.mark_history.specs.declared.mark.Mark.{Mark}
+use Rattle.mark_history.specs.declared.mark.MarkKind.{MarkKind}
+use Rattle.mark_history.specs.declared.mark.MarkKind.TheVariants.{Home, Told}
+use Rattle.mark_history.specs.FirstCourse.{first_course}
+use Rattle.mark_history.specs.History.{points_of}
+use Rattle.mark_history.specs.Marked.{AreMarked, CanAct, IsLegalTo, IsUnreplied, IsUntold, MakesLegalHistories, Tale, acting, done, first_tale, last_of, mark_now, open_ask, talk_told, taking_back, telling, with_list}
+use Rattle.mark_history.specs.Marked.AreMarked.{nothing, a_step, asks, sees, carries_out, tells, tells_at_once, takes_back}
+use Rattle.mark_history.proofs.ByLast.{IsToldByLast, asked_by_last, later_by_last, push_by_last, seen_by_last, told_behind_by_last, points_by_last, tale_said}
+use Rattle.mark_history.proofs.CarriesFrom.{from_none, same_functions}
+use Rattle.mark_history.proofs.LeftOut.LeavesOut.{no_marks as none_left}
+use Rattle.mark_history.proofs.Legal.{IsToldSo, all_told, legal_marks}
+use Rattle.mark_history.proofs.Marks.Carries.{no_marks}
+use Rattle.mark_history.proofs.Tally.{acts, Fit}
+use Rattle.mark_history.proofs.TakenBack.{taken_back_by_last, list_at, list_elsewhere}
+use Rattle.mark_history.proofs.Told.{next_course, next_mark, still_told, tells_here}
+
+-- ---- the same steps, as the law has them
+
+more_by : {T : Type 0} (lists : ℕ → List T) (own : List T) (conn : ℕ) (item : T) (other : ℕ) (b : Bool) → nat_eq other conn ≡ b → lists conn ≡ own
+    → cond b (lists other ++ item ∷ []) (lists other) ≡ (if b then own ++ item ∷ [] else lists other)
+more_by lists own conn item other true e is = let same : other ≡ conn = grind (arith, nat_tests) in ap (λ l. l ++ item ∷ []) (ap lists same ∙ is)
+more_by lists own conn item other false e is = refl
+
+more_listed : {T : Type 0} (lists : ℕ → List T) (own : List T) (conn : ℕ) (item : T) → lists conn ≡ own
+    → with_item lists conn item ≡ with_list lists conn (own ++ item ∷ [])
+unfolding with_item with_list
+more_listed lists own conn item is = same_functions (λ other. more_by lists own conn item other (nat_eq other conn) refl is)
+
+-- the mark of the open command, where it has no reply
+as_open : (P : Mark → Type 0) (now : ℕ) (tale : Tale) (conn : ℕ) (kind : MarkKind) → IsUnreplied tale conn → P (next_mark now tale.talk conn kind)
+    → P (mark_now now tale conn kind)
+as_open P now tale conn kind unreplied holds =
+    subst (λ (l : List Answer). P (record { step = now; ask = record { conn = conn; command = length l + 1 }; kind = kind })) unreplied holds
+
+abbrev said_so : Setting → Tale → (ℕ → List Answer) → (ℕ → List ℕ) → (ℕ → List Answer) → ℕ → Request → ℕ → Tale
+said_so setting tale answers serials told conn request serial = record {
+  talk = record { requests = tale.talk.requests; answers = answers; serials = serials };
+  told = told;
+  course = next_course setting tale.course conn request serial;
+  before = with_session tale.before conn (tale.course.sessions conn);
+}
+
+as_acting : (setting : Setting) (now : ℕ) (marks : List Mark) (tale : Tale) (told : ℕ → List Answer) (conn : ℕ) (request : Request) (serial : ℕ)
+    → IsUnreplied tale conn → IsToldByLast setting now marks (tale_said setting tale told conn request serial)
+    → IsToldByLast setting now marks (record (acting setting tale conn request serial) { told = told })
+as_acting setting now marks tale told conn request serial unreplied is =
+    let answer : Answer = (done setting tale conn request serial).answer in
+    subst (λ s. IsToldByLast setting now marks
+    (said_so setting tale (with_list tale.talk.answers conn (tale.told conn ++ answer ∷ [])) s told conn request serial))
+    (more_listed tale.talk.serials (tale.talk.serials conn) conn serial refl)
+    (subst (λ a. IsToldByLast setting now marks (said_so setting tale a (with_item tale.talk.serials conn serial) told conn request serial))
+    (more_listed tale.talk.answers (tale.told conn) conn answer unreplied) is)
+
+-- a step carries the open command out
+home_acts : (counts : Counts) → acts (Home counts) ≡ true
+unfolding acts
+home_acts counts = refl
+
+just : {one other : Counts} → Home one ≡ Home other → one ≡ other
+just e = cc
+
+next_asked : (setting : Setting) (tale : Tale) (conn : ℕ) (request : Request) (serial : ℕ) → CanAct setting tale conn request serial
+    → numbered (tale.talk.requests conn) (length (tale.talk.answers conn) + 1) ≡ Some request
+next_asked setting tale conn request serial can =
+    ap (λ (l : List Answer). numbered (tale.talk.requests conn) (length l + 1)) can.unreplied ∙ can.asked
+
+pub acts_by_last : (setting : Setting) (now : ℕ) (marks : List Mark) (tale : Tale) (conn : ℕ) (counts : Counts) (request : Request) (serial : ℕ)
+    → CanAct setting tale conn request serial
+    → (counts ≡ IfAnswered → (done setting tale conn request serial).store ≡ tale.course.store) → IsToldByLast setting now marks tale
+    → IsToldByLast setting now (marks ++ mark_now now tale conn (Home counts) ∷ []) (acting setting tale conn request serial)
+acts_by_last setting now marks tale conn counts request serial can unless is =
+    as_open (λ m. IsToldByLast setting now (marks ++ m ∷ []) (acting setting tale conn request serial)) now tale conn (Home counts) can.unreplied
+    (as_acting setting now (marks ++ next_mark now tale.talk conn (Home counts) ∷ []) tale tale.told conn request serial can.unreplied
+    (push_by_last setting now marks tale tale.told conn request serial (Home counts) (home_acts counts)
+    (still_told setting tale.talk conn counts tale.told (omega (arith, ap length can.unreplied)))
+    (next_asked setting tale conn request serial can) can.free (λ kind. unless (just kind)) is))
+
+-- what was replied is taken back, and the command is carried out anew
+pub anew_by_last : (setting : Setting) (now : ℕ) (marks : List Mark) (tale : Tale) (conn : ℕ) (answer : Answer) (counts : Counts)
+    (request : Request) (serial : ℕ) → IsUntold tale conn answer → last_of (open_ask tale conn) marks ≡ Some (Home IfAnswered)
+    → CanAct setting (taking_back tale conn) conn request serial
+    → (counts ≡ IfAnswered → (done setting (taking_back tale conn) conn request serial).store ≡ tale.course.store) → IsToldByLast setting now marks tale
+    → IsToldByLast setting now (marks ++ mark_now now tale conn (Home counts) ∷ []) (acting setting (taking_back tale conn) conn request serial)
+anew_by_last setting now marks tale conn answer counts request serial untold last can unless is =
+    acts_by_last setting now marks (taking_back tale conn) conn counts request serial can unless
+    (taken_back_by_last setting now marks tale conn answer untold last is)
+
+here_acts : acts (Told Here) ≡ true
+unfolding acts
+here_acts = refl
+
+-- and its client is told at once
+at_once_by_last : (setting : Setting) (now : ℕ) (marks : List Mark) (tale : Tale) (conn : ℕ) (request : Request) (serial : ℕ)
+    → CanAct setting tale conn request serial → IsToldByLast setting now marks tale
+    → IsToldByLast setting now (marks ++ mark_now now tale conn (Told Here) ∷ [])
+    (telling (acting setting tale conn request serial) conn (done setting tale conn request serial).answer)
+at_once_by_last setting now marks tale conn request serial can is =
+    let answer : Answer = (done setting tale conn request serial).answer in
+    subst (λ (t : ℕ → List Answer). IsToldByLast setting now (marks ++ mark_now now tale conn (Told Here) ∷ [])
+    (record (acting setting tale conn request serial) { told = t }))
+    (more_listed tale.told (tale.told conn) conn answer refl)
+    (as_open (λ m. IsToldByLast setting now (marks ++ m ∷ []) (record (acting setting tale conn request serial) { told = with_item tale.told conn answer })) now
+    tale conn (Told Here) can.unreplied
+    (as_acting setting now (marks ++ next_mark now tale.talk conn (Told Here) ∷ []) tale (with_item tale.told conn answer) conn request serial can.unreplied
+    (push_by_last setting now marks tale (with_item tale.told conn answer) conn request serial (Told Here) here_acts
+    (tells_here setting tale.talk conn tale.told answer (ap length can.unreplied)) (next_asked setting tale conn request serial can) can.free
+    (λ kind. cc) is)))
+
+tells_by_last : (setting : Setting) (now : ℕ) (marks : List Mark) (tale : Tale) (conn : ℕ) (answer : Answer) → IsUntold tale conn answer
+    → IsToldByLast setting now marks tale
+    → IsToldByLast setting now (marks ++ mark_now now tale conn (Told Behind) ∷ []) (telling tale conn answer)
+tells_by_last setting now marks tale conn answer untold is =
+    subst (λ (t : ℕ → List Answer). IsToldByLast setting now (marks ++ mark_now now tale conn (Told Behind) ∷ []) (record tale { told = t }))
+    (more_listed tale.told (tale.told conn) conn answer refl)
+    (told_behind_by_last setting now marks tale conn answer (ap length untold ∙ length-append (tale.told conn) (answer ∷ [])) is)
+
+-- ---- at the start
+
+nothing_counted : (number : ℕ) → 0 ≡ one_up_to 0 number
+unfolding one_up_to
+nothing_counted number = grind (arith, nat_tests)
+
+fits_none : Fit (λ conn. 0) []
+unfolding Fit
+fits_none = tt
+
+first_by_last : (setting : Setting) → IsToldByLast setting 0 [] first_tale
+first_by_last setting = record {
+  acting = [];
+  leaves = none_left;
+  is_told = record {
+    carries = no_marks first_course;
+    once = λ conn number. nothing_counted number;
+    later = λ i j d h k. absurd (omega arith);
+    numbers = λ k d h. absurd (omega arith);
+    timely = λ k d h. absurd (omega arith);
+    serials = λ conn. refl;
+    ahead = λ conn. omega arith;
+    fit = fits_none;
+  };
+  earlier = first_course.sessions;
+  from = from_none first_course first_course.sessions;
+  before = λ conn more. refl;
+}
+
+-- ---- each connection has one reply at most of which its client wasn't told
+
+abbrev HasOne : Tale → Type 0
+HasOne tale = (conn : ℕ) → IsToldSo (tale.told conn) (tale.talk.answers conn)
+
+one_more : (told said : List Answer) (answer : Answer) → said ≡ told ++ answer ∷ [] → IsToldSo told said
+one_more told said answer e = record { rest = answer ∷ []; parts = e; few = omega arith }
+
+acting_one : (setting : Setting) (tale : Tale) (conn : ℕ) (request : Request) (serial : ℕ) → HasOne tale → HasOne (acting setting tale conn request serial)
+acting_one setting tale conn request serial so = λ c. ⊎_elim
+    (λ (e : c ≡ conn). one_more (tale.told c) _ (done setting tale conn request serial).answer
+    (ap (with_list tale.talk.answers conn (tale.told conn ++ (done setting tale conn request serial).answer ∷ [])) e
+    ∙ list_at tale.talk.answers conn (tale.told conn ++ (done setting tale conn request serial).answer ∷ [])
+    ∙ ap (λ x. tale.told x ++ (done setting tale conn request serial).answer ∷ []) (sym e)))
+    (λ (ne : c ≢ conn). subst (λ l. IsToldSo (tale.told c) l) (sym (list_elsewhere tale.talk.answers conn _ c ne)) (so c))
+    (cases_eq c conn)
+
+telling_one : (tale : Tale) (conn : ℕ) (answer : Answer) → IsUntold tale conn answer → HasOne tale → HasOne (telling tale conn answer)
+telling_one tale conn answer untold so = λ c. ⊎_elim
+    (λ (e : c ≡ conn). all_told (with_list tale.told conn (tale.told conn ++ answer ∷ []) c) (tale.talk.answers c)
+    (ap tale.talk.answers e ∙ untold ∙ sym (ap (with_list tale.told conn (tale.told conn ++ answer ∷ [])) e
+    ∙ list_at tale.told conn (tale.told conn ++ answer ∷ []))))
+    (λ (ne : c ≢ conn). subst (λ l. IsToldSo l (tale.talk.answers c)) (sym (list_elsewhere tale.told conn (tale.told conn ++ answer ∷ []) c ne)) (so c))
+    (cases_eq c conn)
+
+taken_one : (tale : Tale) (conn : ℕ) → HasOne tale → HasOne (taking_back tale conn)
+taken_one tale conn so = λ c. ⊎_elim
+    (λ (e : c ≡ conn). all_told (tale.told c) (with_list tale.talk.answers conn (tale.told conn) c)
+    (ap (with_list tale.talk.answers conn (tale.told conn)) e ∙ list_at tale.talk.answers conn (tale.told conn) ∙ ap tale.told (sym e)))
+    (λ (ne : c ≢ conn). subst (λ l. IsToldSo (tale.told c) l) (sym (list_elsewhere tale.talk.answers conn (tale.told conn) c ne)) (so c))
+    (cases_eq c conn)
+
+-- ---- whatever is made
+
+record Holds (setting : Setting) (now : ℕ) (marks : List Mark) (tale : Tale) : Type 0 where
+  so : HasOne tale
+  law : IsToldByLast setting now marks tale
+
+holds : (setting : Setting) (now : ℕ) (marks : List Mark) (tale : Tale) → AreMarked setting now marks tale → Holds setting now marks tale
+holds setting now marks tale nothing = record { so = λ conn. all_told [] [] refl; law = first_by_last setting }
+holds setting now marks tale (a_step earlier later those its le made) =
+    let before = holds setting earlier those its made in record { so = before.so; law = later_by_last setting earlier later those its le before.law }
+holds setting now marks tale (asks at those its requests more made) =
+    let before = holds setting at those its made in record { so = before.so; law = asked_by_last setting at those its requests more before.law }
+holds setting now marks tale (sees at those its conn unreplied made) =
+    let before = holds setting at those its made in
+    record {
+      so = before.so;
+      law = as_open (λ m. IsToldByLast setting at (those ++ m ∷ []) its) at its conn (Home IfAnswered) unreplied
+          (seen_by_last setting at those its conn before.law);
+    }
+holds setting now marks tale (carries_out at those its conn counts request serial can unless made) =
+    let before = holds setting at those its made in
+    record {
+      so = acting_one setting its conn request serial before.so;
+      law = acts_by_last setting at those its conn counts request serial can unless before.law;
+    }
+holds setting now marks tale (tells at those its conn answer untold made) =
+    let before = holds setting at those its made in
+    record { so = telling_one its conn answer untold before.so; law = tells_by_last setting at those its conn answer untold before.law }
+holds setting now marks tale (tells_at_once at those its conn request serial can made) =
+    let before = holds setting at those its made in
+    let answer : Answer = (done setting its conn request serial).answer in
+    record {
+      so = telling_one (acting setting its conn request serial) conn answer (list_at its.talk.answers conn (its.told conn ++ answer ∷ []))
+          (acting_one setting its conn request serial before.so);
+      law = at_once_by_last setting at those its conn request serial can before.law;
+    }
+holds setting now marks tale (takes_back at those its conn answer untold last made) =
+    let before = holds setting at those its made in
+    record { so = taken_one its conn before.so; law = taken_back_by_last setting at those its conn answer untold last before.law }
+
+pub legal_by_last : (setting : Setting) (now : ℕ) (marks : List Mark) (tale : Tale) → IsToldByLast setting now marks tale
+    → ((conn : ℕ) → IsToldSo (tale.told conn) (tale.talk.answers conn)) → IsLegalTo setting (talk_told tale) (points_of marks) tale.course.store
+legal_by_last setting now marks tale is so =
+    subst (λ points. IsLegalTo setting (talk_told tale) points tale.course.store) (sym (points_by_last setting now marks tale is))
+    (legal_marks setting now is.acting tale.talk tale.told tale.course is.is_told so)
+
+pub legal_histories : MakesLegalHistories
+legal_histories setting now marks tale made = let its = holds setting now marks tale made in legal_by_last setting now marks tale its.law its.so
