@@ -55,7 +55,8 @@ leaves_talk master next name node up down sent given leaves none talk =
       };
       told = subst CanBeTold (sym leaves.table) talk.told;
       said = talk.said;
-      holds = subst (λ (t : MailboxTable). HoldsOfEachName (record (link_of master node talk.ups talk.downs) { table = t }) given) (sym leaves.table) talk.holds;
+      holds =
+          subst (λ (t : MailboxTable). HoldsOfEachName (record (link_of master node talk.ups talk.downs) { table = t }) given) (sym leaves.table) talk.holds;
     })
 
 -- a frontend's line changes nothing but its stream
