@@ -1,4 +1,4 @@
--- Who has a name open, its record names.
+-- Who has a name open, its record names; and no two mailboxes have one UIDVALIDITY.
 use Rattle.std.proofs.Common.{◌≡◌, ◌⊎◌, inl, inr, ℕ, Bool, true, false, List, Option, None, Some, refl, sym, ap, subst, ◌∙◌}
 use Rattle.std.proofs.Math.Logic.{⊎_elim}
 use Rattle.link_msg.specs.declared.message.LinkMsg.{LinkMsg}
@@ -17,11 +17,13 @@ use Rattle.home_law.proofs.Records.{own_record}
 use Rattle.home_law.proofs.SameName.{is_itself, is_the_same}
 use Rattle.name_flows.specs.OneName.{phase_in, phase_of}
 use Rattle.back_node.specs.declared.node.BackNode.{BackNode}
-use Rattle.name_links.specs.Contents.{acl_in, state_by}
+use Rattle.name_links.specs.Contents.{acl_in, state_at, state_by}
 use Rattle.name_links.specs.Known.{kind_of, known, known_by}
 use Rattle.name_links.specs.OneLink.{OneLink, server_of, back_of}
 use Rattle.name_links.specs.Serials.{Given}
+use Rattle.name_links.proofs.BoxLaw.{mailboxes_differ}
 use Rattle.back_links.specs.OneHome.{IsNamedAt, OpenIsNamed, OpenAtOne}
+use Rattle.back_links.specs.Validities.{ValiditiesDiffer}
 use Rattle.back_links.specs.OneTalk.{link_of, HasTalk}
 
 open_serves : (found : Option Held) → IsOpen found → phase_in found ≡ serving
@@ -101,3 +103,12 @@ open_at_one master name other node its up down its_up its_down given talk others
     let second = server_of_record other (record_at master.table mailbox) two.acl two.recorded in
     let same : first.0 ≡ second.0 = record_again (sym first.1 ∙ second.1) in
     sym second.2 ∙ ap (λ (it : Record). (it.place).server) (sym same) ∙ first.2
+
+-- ---- UIDVALIDITYs
+
+pub validities_differ : ValiditiesDiffer
+validities_differ master name other node its up down its_up its_down given talk others one two serial first second has have =
+    mailboxes_differ (link_of master node talk.ups talk.downs) (link_of master its others.ups others.downs) given talk.holds.serials talk.holds.boxes
+    others.holds.boxes one two first.acl second.acl serial
+    (subst (λ (b : Server). acl_in (state_at master.table b one) ≡ Some first.acl) (sym talk.each.named) first.recorded)
+    (subst (λ (b : Server). acl_in (state_at master.table b two) ≡ Some second.acl) (sym others.each.named) second.recorded) has have

@@ -57,5 +57,5 @@ pub record IsServed (master : Master) (name : List ℕ) (node : BackNode) (up do
 
 abbrev pub MessagesAreServed : Type 0
 MessagesAreServed = (master : Master) (name : List ℕ) (node : BackNode) (up down : List LinkMsg) (given : Given) (from : List ℕ) (ask : FrontAsk)
-    → from ≢ master.me → is_of_messages ask.op ≡ true → is_open_here (held_at node.home ask.name) ≡ true → RisesAt node.home ask.name → HasTalk master name node up down given
-    → IsServed master name node up down given from ask
+    → from ≢ master.me → is_of_messages ask.op ≡ true → is_open_here (held_at node.home ask.name) ≡ true → RisesAt node.home ask.name
+    → HasTalk master name node up down given → IsServed master name node up down given from ask

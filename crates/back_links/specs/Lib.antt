@@ -4,4 +4,5 @@ pub mod OneTalk
 pub mod BackEvents
 pub mod MasterEvents
 pub mod OneHome
+pub mod Validities
 pub mod Created

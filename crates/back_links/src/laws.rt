@@ -3,6 +3,7 @@ ghost use Rattle.back_links.specs.BackEvents.{TalkBegins, AsksKeepTalk, HearsKee
 ghost use Rattle.back_links.specs.Created.{CreateMakesNew};
 ghost use Rattle.back_links.specs.MasterEvents.{TakesKeepsTalk, OthersKeepTalk, FrontendsKeepTalk, UpsKeepTalk, ClientsKeepTalk};
 ghost use Rattle.back_links.specs.OneHome.{OpenAtOne, OpenIsNamed};
+ghost use Rattle.back_links.specs.Validities.{ValiditiesDiffer};
 
 /// What holds of a backend, of the master and of the messages between them holds when their link comes up first, and stays so in each event: the
 /// backend takes what a frontend asks, or the first message of the master; the master takes the first message of the backend or of another one,
@@ -22,6 +23,11 @@ pub fn each_event_keeps_a_talk()
 pub fn a_name_is_open_at_one_backend()
     ensures named { OpenIsNamed }
     ensures one { OpenAtOne }
+{}
+
+/// Two mailboxes, each at the backend that its record names, have two UIDVALIDITYs.
+pub fn no_two_mailboxes_have_one_uidvalidity()
+    ensures { ValiditiesDiffer }
 {}
 
 /// Where the master takes the ACTIVATE of a CREATE, the backend that sent it has the new mailbox, with a UIDVALIDITY that no mailbox had.
