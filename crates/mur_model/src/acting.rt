@@ -114,6 +114,7 @@ fn work_at(
     if let Awaited::Append = awaited {
         return append_by(alloc, store, name, op);
     }
+    // No other work looks at it. By a call, so that its drop is not proved in each arm.
     drop(op);
     match awaited {
         Awaited::Append => unreachable!(),

@@ -101,6 +101,7 @@ fn begins_if_made(made: Result<Begun, Memory>) -> Result<bool, Memory>
 {
     let begun = made?;
     let begins = begins_with(&begun.session);
+    // By a call, so that the drops of its parts are proved elsewhere, and once.
     drop(begun);
     Ok(begins)
 }

@@ -138,7 +138,7 @@ fn row_lines(
     Ok(lines)
 }
 
-/// The news that stand behind those lines.
+/// The news that stand behind the lines of a FETCH.
 fn row_news(alloc: Global, view: &View, it: &Fetching, now: OrderedRows) -> Result<Told, Memory>
     ensures { IfOk result (λ told. told ≡ news view.now.rows now it.now.by_uid (set_of (told_uids it.now now))) }
 {
@@ -146,7 +146,7 @@ fn row_news(alloc: Global, view: &View, it: &Fetching, now: OrderedRows) -> Resu
     news_of(alloc, &view.rows, now, it.by_uid, told.as_slice())
 }
 
-/// What a FETCH with these lines, news and code is told.
+/// What is told of a FETCH with these lines, news and code.
 pub fn fetched(
     alloc: Global,
     view: &View,

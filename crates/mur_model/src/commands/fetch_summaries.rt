@@ -130,7 +130,7 @@ fn summary_lines(
     Ok(lines)
 }
 
-/// The news that stand behind those lines.
+/// The news that stand behind the lines of a FETCH.
 fn summary_news(
     alloc: Global,
     view: &View,
