@@ -1,11 +1,12 @@
 // What the frames of a connection are to its session.
 ghost use Rattle.std.specs.Prelude.{◌≡◌, IfOk};
 ghost use Rattle.imap_talk.specs.declared.inputs.Before.TheVariants.{Hears};
+ghost use Rattle.mur_model.specs.Waits.{begun_behind};
 ghost use Rattle.imap_talk.specs.Inputs.{asks_for, continuation_of, input_at, line_at, line_of_frame, request_at, too_big_at, whole_given};
 
 use imap_command::{read_request, too_big};
 use imap_reply::Continuation;
-use imap_types::{Request, Tag};
+use imap_types::{Command, Request, Tag};
 use imap_wire::{Frame, FrameFault};
 use mur_base::{Bytes, Memory};
 use mur_model::{Setting, Wait, begun_behind, wait_of, waits_begun, with_line};
@@ -110,8 +111,27 @@ fn line_at(
     ensures { IfOk result (λ given. given ≡ line_at setting.now tag wait line.now) }
 {
     let command = with_line(wait, Bytes::from_slice(alloc, line)?);
-    let begun = begun_behind(alloc, setting, waits_begun(wait), &command)?;
-    Ok(asks_for(Request::Command(tag, command), begun))
+    command_at(alloc, setting, waits_begun(wait), tag, command)
+}
+
+/// A command that waits for nothing more.
+fn command_at(
+    alloc: Global,
+    setting: &Setting,
+    begun: bool,
+    tag: Tag,
+    command: Command,
+) -> Result<Given, Memory>
+    ensures { IfOk result (λ given. given ≡ asks_for (Request.Command tag command) (Hears (begun_behind setting.now begun command))) }
+{
+    match begun_behind(alloc, setting, begun, &command) {
+        Ok(behind) => Ok(asks_for(Request::Command(tag, command), behind)),
+        Err(memory) => {
+            // By a call, so that the drop is proved once, and not at each place.
+            drop(command);
+            Err(memory)
+        }
+    }
 }
 
 fn asks_for(request: Request, begun: bool) -> Given
@@ -134,14 +154,14 @@ fn request_at(
 {
     match request {
         Request::Command(tag, command) => match wait_of(begun, &command) {
-            Some(wait) => Ok(Given {
-                input: Input::GoesOn(continuation_of(wait)),
-                next: Before::Waits(tag, wait),
-            }),
-            None => {
-                let behind = begun_behind(alloc, setting, begun, &command)?;
-                Ok(asks_for(Request::Command(tag, command), behind))
+            Some(wait) => {
+                drop(command);
+                Ok(Given {
+                    input: Input::GoesOn(continuation_of(wait)),
+                    next: Before::Waits(tag, wait),
+                })
             }
+            None => command_at(alloc, setting, begun, tag, command),
         },
         request => Ok(asks_for(request, begun)),
     }

@@ -177,6 +177,8 @@ impl Master {
             ≡ after outs.old (command_step self.old from.now tag command)) }
     {
         if self.is_barred(from, &command) {
+            // By a call, so that the drop is proved once, and not here.
+            drop(command);
             return self.refuse(alloc, from, &tag, outs);
         }
         let step = stream_step(&command);
