@@ -10,18 +10,17 @@ use Rattle.node_step.specs.NodeStep.{takes as node_takes}
 use Rattle.link_msg.specs.declared.message.LinkMsg.{LinkMsg}
 use Rattle.link_msg.specs.declared.out.Out.{Out}
 use Rattle.link_msg.specs.declared.out.Out.TheVariants.{Client as to_client, Close, Link as to_node, Mark as mark, Told as tell}
-use Rattle.mur_base.specs.Map.{with_value, IsInOrder}
+use Rattle.mur_base.specs.Map.{IsInOrder}
 use Rattle.mur_base.proofs.MapOrder.{with_entry-in_order, with_value-in_order}
 use Rattle.mur_config.specs.declared.config.Config.{Config}
 use Rattle.mur_config.specs.declared.node.Node.{Node}
-use Rattle.mur_model.specs.declared.setting.Setting.{Setting}
 use Rattle.schedule_text.specs.declared.event.Event.{Event}
 use Rattle.schedule_text.specs.declared.event.Event.TheVariants.{Open, Data, Hang, Deliver}
 use Rattle.cluster_core.specs.declared.world.Client.{Client}
 use Rattle.cluster_core.specs.declared.world.World.{World}
 use Rattle.cluster_core.specs.Flow.{run_steps}
 use Rattle.link_queue.specs.Links.{on_link}
-use Rattle.cluster_core.specs.World.{not_lost, no_world, start, with_node, with_nodes, home_of, setting_of, client_at, node_at, given_more, carry, carry_all}
+use Rattle.cluster_core.specs.World.{not_lost, no_world, start, with_node, with_nodes, client_at, node_at, given_more, carry, carry_all}
 use Rattle.cluster_core.specs.World.{with_state, comes_to, with_client, opens, client_does, taken_from_link, deliver_first, takes, stepped, steps_by}
 use Rattle.cluster_core.proofs.Runs.UpsLaw.{started}
 

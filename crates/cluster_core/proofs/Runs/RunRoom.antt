@@ -9,7 +9,7 @@ use Rattle.schedule_text.specs.Brings.{steps_of, bytes_brought, steps_of_all, by
 use Rattle.cluster_core.specs.declared.layout.Layout.{Layout}
 use Rattle.cluster_core.specs.declared.world.World.{World}
 use Rattle.link_queue.specs.Links.{on_link}
-use Rattle.cluster_core.specs.World.{ClusterState, begun, layout_of, start, steps_by}
+use Rattle.cluster_core.specs.World.{ClusterState, begun, layout_of, steps_by}
 use Rattle.cluster_core.specs.Flow.{Flowing, turn_by, turn_of_link, round, rounds, rounds_by, flow, happens, run, run_of, ran}
 use Rattle.cluster_core.specs.Room.{HaveCommands, HasRoom}
 use Rattle.cluster_core.proofs.Runs.RoomLaw.{more_commands, step_commands, step_steps, one_step, start_commands, start_steps}

@@ -1,4 +1,4 @@
-use Rattle.std.proofs.Common.{rules, ◌≡◌, ◌≢◌, ◌∙◌, arith}
+use Rattle.std.proofs.Common.{rules, ◌≢◌, ◌∙◌, arith}
 use Rattle.std.proofs.lemmas.List.{drop_all}
 use Rattle.mur_config.specs.declared.node.Kind.TheVariants.{Master}
 use Rattle.cluster_core.proofs.Flows.FlowMade.{item_at}
