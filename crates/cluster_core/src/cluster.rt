@@ -1,5 +1,7 @@
 // The cluster as one value.
 ghost use Rattle.std.specs.Prelude.{◌≡◌, ◌<◌, ◌^◌, List, IfOk, OnOk};
+ghost use Rattle.std.specs.Option.{option_copied, option_map};
+ghost use Rattle.master_core.specs.declared.master.Master.{Master};
 ghost use Rattle.mur_config.specs.declared.config.Config.{Config};
 ghost use Rattle.imap_command.specs.Ruled.{IsDate};
 ghost use Rattle.mur_config.specs.Nodes.{AreNodes};
@@ -11,6 +13,7 @@ ghost use Rattle.cluster_core.specs.Headline.FlowLaw.{AreItsSteps};
 ghost use Rattle.cluster_core.specs.Headline.{IsOneServer};
 ghost use Rattle.cluster_core.specs.History.{history_of};
 ghost use Rattle.cluster_core.specs.Headline.OneNode.{OneNodeWorksEach, ServesItsOwnBehind};
+ghost use Rattle.cluster_core.specs.Headline.Outside.{master_at};
 ghost use Rattle.cluster_core.specs.Room.{HasRoom};
 ghost use Rattle.cluster_core.specs.Shown.{given_to, home_rows};
 ghost use Rattle.cluster_core.specs.World.{begun};
@@ -24,6 +27,7 @@ use crate::world::World;
 use mark_history::Points;
 use mur_base::{Items, MailName, Memory, NodeName, Phase};
 use mur_config::Config;
+use node_record::Table;
 use schedule_text::{Event, Events};
 use std::alloc::Global;
 use std::marker::Model;
@@ -126,6 +130,13 @@ impl Cluster {
             Some(client) => client.given.as_slice(),
             None => &[],
         }
+    }
+
+    /// The table of the master.
+    pub fn table(&self) -> Option<&Table>
+        ensures { option_copied result ≡ option_map (λ (master : Master). master.table) (master_at self.now.world self.now.layout.master) }
+    {
+        self.world.table(&self.layout.master)
     }
 
     /// The mailboxes of all nodes.

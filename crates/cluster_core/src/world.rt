@@ -1,6 +1,8 @@
 // The whole cluster at one moment.
 ghost use Rattle.std.specs.Prelude.{◌≡◌};
-ghost use Rattle.std.specs.Option.{option_copied};
+ghost use Rattle.std.specs.Option.{option_copied, option_map};
+ghost use Rattle.master_core.specs.declared.master.Master.{Master};
+ghost use Rattle.cluster_core.specs.Headline.Outside.{master_at};
 ghost use Rattle.cluster_core.specs.World.{home_at};
 
 use crate::shared_name::SharedName;
@@ -9,6 +11,7 @@ use link_msg::LinkMsg;
 use link_queue::{Broken, Links};
 use mark_history::Mark;
 use mur_base::{Bytes, Items, Map, NodeName};
+use node_record::Table;
 use node_step::NodeState;
 
 /// A client: the node that it connected to, and all bytes that it was given.
@@ -44,6 +47,17 @@ impl World {
         match self.nodes.get(node) {
             Some(it) => it.as_back(),
             None => None,
+        }
+    }
+
+    /// The table of the master of a name, if there is one.
+    #[tactic(auto, unfolding(node_step::specs::NodeStep::as_master))]
+    pub fn table(&self, node: &NodeName) -> Option<&Table>
+        ensures { option_copied result ≡ option_map (λ (master : Master). master.table) (master_at self.now node.now) }
+    {
+        match self.nodes.get(node) {
+            Some(NodeState::Master(master)) => Some(&master.table),
+            Some(NodeState::Front(_) | NodeState::Back(_)) | None => None,
         }
     }
 }

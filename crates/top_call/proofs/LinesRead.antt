@@ -1,5 +1,5 @@
 -- Each line of the output is read back as what it is of.
-use Rattle.std.proofs.Common.{◌≡◌, ℕ, List, [], ◌∷◌, ◌++◌, refl, sym, subst, append_assoc}
+use Rattle.std.proofs.Common.{◌≡◌, ℕ, List, [], ◌∷◌, ◌++◌, refl, sym, ◌∙◌, ap, subst, append_assoc}
 use Rattle.std.specs.Prelude.{codes}
 use Rattle.std.specs.List.{flat_map}
 use Rattle.std.specs.Fmt.{decimal}
@@ -10,12 +10,15 @@ use Rattle.mur_base.specs.declared.home.Phase.{Phase}
 use Rattle.mur_base.specs.declared.home.Phase.TheVariants.{Creating, Open as open_here, Closing, Receiving, Ready, Pointer}
 use Rattle.cluster_core.specs.declared.cluster.HomeRow.{HomeRow}
 use Rattle.cluster_core.specs.declared.world.Client.{Client}
+use Rattle.node_record.specs.declared.table.Record.{Record}
+use Rattle.node_record.specs.declared.table.State.{State}
+use Rattle.node_record.specs.declared.table.State.TheVariants.{Bare, Kept, Active}
 use Rattle.schedule_text.specs.Cuts.{cuts_of}
 use Rattle.schedule_text.specs.Text.{text_of, name_text_of}
 use Rattle.top_call.specs.Output.{to_line, client_lines, given_lines, point_line, what_text, unreached_text, row_counts_text, pointer_text, phase_text, row_text, line_by_phase}
-use Rattle.top_call.specs.Output.{box_line, end_line}
+use Rattle.top_call.specs.Output.{box_line, end_line, location_text, record_line, state_word}
 use Rattle.top_call.specs.ReadBack.{TellsEach, no_line, a_line, IsToLine, TellsClient, IsPointLine, SaysWhat, SaysCounts, IsRowLine, IsLineAt, IsBoxLine}
-use Rattle.top_call.specs.ReadBack.{IsEndLine}
+use Rattle.top_call.specs.ReadBack.{IsEndLine, IsRecordLine, SaysState}
 use Rattle.top_call.proofs.CutsJoined.{join_cuts, cuts_something}
 use Rattle.mur_base.proofs.DecimalReadBack.{number_of-decimal}
 use Rattle.top_call.proofs.OneWord.{one_word}
@@ -67,6 +70,29 @@ point_line_read point = record {
   of_command = number_of-decimal (point.ask).command;
   is = what_said point.what;
 }
+
+state_said : (state : State) → SaysState state (state_word state)
+state_said (Bare serial) = refl
+state_said (Kept acl) = refl
+state_said (Active acl) = refl
+
+pub record_line_read : (entry : List ℕ × Record) → IsRecordLine entry (record_line entry)
+unfolding record_line location_text
+record_line_read entry = record {
+  name = name_text_of entry.0;
+  state = state_word (entry.1).state;
+  words = placed (codes "master " ++ name_text_of entry.0 ++ codes " " ++ state_word (entry.1).state ++ codes " ") (entry.1).place.server
+      (entry.1).place.partition;
+  named = name_text_read entry.0;
+  one_word = one_word entry.0;
+  says = state_said (entry.1).state;
+}
+  where
+    placed : (front server partition : List ℕ) → front ++ (server ++ codes "!" ++ partition) ++ codes "\n" ≡ front ++ server ++ codes "!" ++ partition
+        ++ codes "\n"
+    placed front server partition =
+        ap (λ (x : List ℕ). x ++ codes "\n") (sym (append_assoc front (server ++ codes "!") partition)
+        ∙ ap (λ (x : List ℕ). x ++ partition) (sym (append_assoc front server (codes "!"))))
 
 -- the state, without the LF
 counts_state : List ℕ → HomeRow → List ℕ

@@ -8,16 +8,17 @@ use Rattle.schedule_text.specs.declared.event.Event.{Event}
 use Rattle.cluster_core.specs.declared.layout.Layout.{Layout}
 use Rattle.cluster_core.specs.declared.world.World.{World}
 use Rattle.cluster_core.specs.Flow.{run_of, steps_of_run}
+use Rattle.cluster_core.specs.Headline.Outside.{table_at}
 use Rattle.cluster_core.specs.History.{history_of}
 use Rattle.cluster_core.specs.Shown.{home_rows}
 use Rattle.cluster_core.specs.World.{layout_of, start}
-use Rattle.top_call.specs.Output.{output_of, lines_of, client_lines, point_line, box_line, end_line}
-use Rattle.top_call.specs.ReadBack.{TellsClient, IsPointLine, IsBoxLine, TellsRun}
+use Rattle.top_call.specs.Output.{output_of, lines_of, client_lines, point_line, record_line, box_line, end_line}
+use Rattle.top_call.specs.ReadBack.{TellsClient, IsPointLine, IsRecordLine, IsBoxLine, TellsRun}
 use Rattle.top_call.specs.Replay.{replay_text}
 use Rattle.cluster_core.proofs.Connections.ClientsInOrder.{clients_in_order}
 use Rattle.cluster_core.proofs.Runs.Unrolled.{by_steps}
 use Rattle.top_call.proofs.FoundLaw.{clients_found}
-use Rattle.top_call.proofs.LinesRead.{tells_each, client_read, point_line_read, box_line_read, end_line_read}
+use Rattle.top_call.proofs.LinesRead.{tells_each, client_read, point_line_read, record_line_read, box_line_read, end_line_read}
 
 output_read : (layout : Layout) (world : World) → IsInOrder nat_cmp world.clients
     → TellsRun (output_of (record { layout = layout; world = world })) layout world
@@ -25,12 +26,14 @@ unfolding output_of lines_of
 output_read layout world ordered = record {
   to_text = flat_map client_lines world.clients;
   point_text = flat_map point_line (history_of world);
+  record_text = flat_map record_line (table_at world layout.master).records;
   box_text = flat_map box_line (home_rows layout world);
   end_text = end_line world.steps (length (history_of world));
   whole = refl;
   clients = tells_each TellsClient client_lines client_read world.clients;
   found = clients_found world ordered;
   points = tells_each IsPointLine point_line point_line_read (history_of world);
+  records = tells_each IsRecordLine record_line record_line_read (table_at world layout.master).records;
   boxes = tells_each IsBoxLine box_line box_line_read (home_rows layout world);
   ends = end_line_read world.steps (length (history_of world));
 }

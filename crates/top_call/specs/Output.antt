@@ -1,18 +1,23 @@
--- The output of a run: what clients were given, the history, the mailboxes, and a last line. Each line ends with an LF.
+-- The output of a run: what clients were given, the history, the master's records, the mailboxes, and a last line. Each line ends with an LF.
 use Rattle.std.specs.Prelude.{ℕ, List, [], ◌++◌, length, codes}
 use Rattle.std.specs.List.{flat_map}
 use Rattle.std.specs.Fmt.{decimal}
 use Rattle.mur_base.specs.declared.point.Point.{Point}
 use Rattle.mur_base.specs.declared.point.What.{What}
 use Rattle.mur_base.specs.declared.point.What.TheVariants.{Reply, Read, Lost, Reserved, Unreached}
+use Rattle.mur_base.specs.declared.home.Location.{Location}
 use Rattle.mur_base.specs.declared.home.Phase.{Phase}
 use Rattle.mur_base.specs.declared.home.Phase.TheVariants.{Creating, Open as open_here, Closing, Receiving, Ready, Pointer}
 use Rattle.cluster_core.specs.declared.cluster.HomeRow.{HomeRow}
 use Rattle.cluster_core.specs.declared.world.Client.{Client}
-use Rattle.cluster_core.specs.declared.world.World.{World}
+use Rattle.cluster_core.specs.Headline.Outside.{table_at}
 use Rattle.cluster_core.specs.History.{history_of}
 use Rattle.cluster_core.specs.Shown.{home_rows}
 use Rattle.cluster_core.specs.World.{ClusterState}
+use Rattle.node_record.specs.declared.table.Record.{Record}
+use Rattle.node_record.specs.declared.table.State.{State}
+use Rattle.node_record.specs.declared.table.State.TheVariants.{Bare, Kept, Active}
+use Rattle.node_record.specs.Table.{Records}
 use Rattle.schedule_text.specs.Cuts.{cuts_of}
 use Rattle.schedule_text.specs.Text.{text_of, name_text_of}
 
@@ -42,6 +47,20 @@ unfoldable pub point_line : Point → List ℕ
 point_line point =
     codes "point " ++ decimal point.step ++ codes " " ++ decimal (point.ask).conn ++ codes "." ++ decimal (point.ask).command ++ codes " "
     ++ what_text point.what ++ codes "\n"
+
+-- how far the master is with a name (RFC 3656, 3.5 and 3.6)
+abbrev pub state_word : State → List ℕ
+state_word (Bare serial) = codes "reserved"
+state_word (Kept acl) = codes "reserved"
+state_word (Active acl) = codes "active"
+
+unfoldable pub location_text : Location → List ℕ
+location_text place = place.server ++ codes "!" ++ place.partition
+
+-- `master NAME active SERVER!PARTITION`, or with `reserved`: a record of the master's table
+unfoldable pub record_line : List ℕ × Record → List ℕ
+record_line entry =
+    codes "master " ++ name_text_of entry.0 ++ codes " " ++ state_word (entry.1).state ++ codes " " ++ location_text (entry.1).place ++ codes "\n"
 
 -- the word of a phase, and the UIDVALIDITY, the UIDNEXT and how many messages there are
 unfoldable pub row_counts_text : List ℕ → HomeRow → List ℕ
@@ -79,11 +98,15 @@ box_line row = line_by_phase row row.phase
 unfoldable pub end_line : ℕ → ℕ → List ℕ
 end_line steps points = codes "end " ++ decimal steps ++ codes " " ++ decimal points ++ codes "\n"
 
--- clients in rising order of connections, points in order, mailboxes in byte order of names
-unfoldable pub lines_of : World → List Point → List HomeRow → List ℕ
-lines_of world points rows =
-    flat_map client_lines world.clients
-    ++ (flat_map point_line points ++ (flat_map box_line rows ++ end_line world.steps (length points)))
+-- the records of the master's table
+abbrev pub records_of : ClusterState → Records
+records_of now = (table_at now.world now.layout.master).records
+
+-- clients in rising order of connections, points in order, records and mailboxes in byte order of names
+unfoldable pub lines_of : ClusterState → List Point → List HomeRow → List ℕ
+lines_of now points rows =
+    flat_map client_lines now.world.clients
+    ++ (flat_map point_line points ++ (flat_map record_line (records_of now) ++ (flat_map box_line rows ++ end_line now.world.steps (length points))))
 
 unfoldable pub output_of : ClusterState → List ℕ
-output_of now = lines_of now.world (history_of now.world) (home_rows now.layout now.world)
+output_of now = lines_of now (history_of now.world) (home_rows now.layout now.world)

@@ -12,8 +12,12 @@ use Rattle.cluster_core.specs.declared.cluster.HomeRow.{HomeRow}
 use Rattle.cluster_core.specs.declared.world.Client.{Client}
 use Rattle.cluster_core.specs.declared.layout.Layout.{Layout}
 use Rattle.cluster_core.specs.declared.world.World.{World}
+use Rattle.cluster_core.specs.Headline.Outside.{table_at}
 use Rattle.cluster_core.specs.History.{history_of}
 use Rattle.cluster_core.specs.Shown.{given_to, home_rows}
+use Rattle.node_record.specs.declared.table.Record.{Record}
+use Rattle.node_record.specs.declared.table.State.{State}
+use Rattle.node_record.specs.declared.table.State.TheVariants.{Bare, Kept, Active}
 use Rattle.schedule_text.specs.Text.{bytes_of}
 
 -- a word that is read as this number, which is one of 64 bits as the code's numbers are
@@ -65,6 +69,21 @@ pub record IsPointLine (point : Point) (line : List ℕ) : Type 0 where
   pub of_command : ReadsNumber command (point.ask).command
   pub is : SaysWhat point.what what
 
+abbrev pub SaysState : State → List ℕ → Type 0
+SaysState (Bare serial) word = word ≡ codes "reserved"
+SaysState (Kept acl) word = word ≡ codes "reserved"
+SaysState (Active acl) word = word ≡ codes "active"
+
+-- `master NAME STATE SERVER!PARTITION`; the name is one word
+pub record IsRecordLine (entry : List ℕ × Record) (line : List ℕ) : Type 0 where
+  pub name : List ℕ
+  pub state : List ℕ
+  pub words : line ≡ codes "master " ++ name ++ codes " " ++ state ++ codes " " ++ (entry.1).place.server ++ codes "!" ++ (entry.1).place.partition
+      ++ codes "\n"
+  pub named : ReadsBytes name entry.0
+  pub one_word : All (λ (c : ℕ). c ≢ space) name
+  pub says : SaysState (entry.1).state state
+
 -- a phase by its word, and UIDVALIDITY, UIDNEXT and how many messages there are
 pub record SaysCounts (phase : List ℕ) (row : HomeRow) (state : List ℕ) : Type 0 where
   pub serial : List ℕ
@@ -104,16 +123,18 @@ pub record IsEndLine (steps points : ℕ) (line : List ℕ) : Type 0 where
   pub of_steps : ReadsNumber first steps
   pub of_points : ReadsNumber second points
 
--- the text of a run: what the clients were given, the history, the mailboxes at the nodes that have them, how many steps and points. Each
--- client is the one that its number finds
+-- the text of a run: what the clients were given, the history, the master's records, the mailboxes at the nodes that have them, how many steps and
+-- points. Each client is the one that its number finds
 pub record TellsRun (text : List ℕ) (layout : Layout) (world : World) : Type 0 where
   pub to_text : List ℕ
   pub point_text : List ℕ
+  pub record_text : List ℕ
   pub box_text : List ℕ
   pub end_text : List ℕ
-  pub whole : text ≡ to_text ++ (point_text ++ (box_text ++ end_text))
+  pub whole : text ≡ to_text ++ (point_text ++ (record_text ++ (box_text ++ end_text)))
   pub clients : TellsEach TellsClient world.clients to_text
   pub found : All (λ (client : ℕ × Client). given_to world client.0 ≡ (client.1).given) world.clients
   pub points : TellsEach IsPointLine (history_of world) point_text
+  pub records : TellsEach IsRecordLine (table_at world layout.master).records record_text
   pub boxes : TellsEach IsBoxLine (home_rows layout world) box_text
   pub ends : IsEndLine world.steps (length (history_of world)) end_text

@@ -3,16 +3,17 @@ ghost use Rattle.std.specs.Prelude.{OnOk};
 ghost use Rattle.std.specs.List.{flat_map};
 ghost use Rattle.mur_edge.specs.Counts.{HasHostCause};
 ghost use Rattle.mur_edge.specs.Sink.{Took, TookFront};
-ghost use Rattle.top_call.specs.Output.{client_lines, given_lines, lines_of};
+ghost use Rattle.top_call.specs.Output.{client_lines, given_lines, lines_of, record_line, records_of};
 ghost use Rattle.top_call.specs.Writing.{DidPut};
 
 mod lines;
 
 use cluster_core::{Cluster, HomeRows, Points};
-use lines::{End, Given, Line};
-use mur_base::Bytes;
+use lines::{End, Given, Line, Recorded};
 use mur_base::limits::PIECE_LIMIT;
+use mur_base::{Bytes, MailName, Map};
 use mur_edge::{HostFault, Sink, write_all};
+use node_record::Record;
 use schedule_text::LineCuts;
 use std::alloc::Global;
 
@@ -25,8 +26,8 @@ pub fn write_output<S: Sink>(
     rows: &HomeRows,
     sink: &mut S,
 ) -> Result<(), HostFault>
-    ensures all { OnOk result (Took (S.facts sink.old).taken (S.facts sink.new).taken (lines_of cluster.now.world points.now rows.now)) }
-    ensures front { TookFront (S.facts sink.old).taken (S.facts sink.new).taken (lines_of cluster.now.world points.now rows.now) }
+    ensures all { OnOk result (Took (S.facts sink.old).taken (S.facts sink.new).taken (lines_of cluster.now points.now rows.now)) }
+    ensures front { TookFront (S.facts sink.old).taken (S.facts sink.new).taken (lines_of cluster.now points.now rows.now) }
     ensures cause { HasHostCause (S.facts sink.old).faults (S.facts sink.new).faults result }
 {
     let mut part = Bytes::new(alloc);
@@ -43,11 +44,12 @@ fn write_lines<S: Sink>(
     part: &mut Bytes,
     sink: &mut S,
 ) -> Result<(), HostFault>
-    ensures did { DidPut (S.facts sink.old).taken (S.facts sink.new).taken part.old part.new (lines_of cluster.now.world points.now rows.now) result }
+    ensures did { DidPut (S.facts sink.old).taken (S.facts sink.new).taken part.old part.new (lines_of cluster.now points.now rows.now) result }
     ensures cause { HasHostCause (S.facts sink.old).faults (S.facts sink.new).faults result }
 {
     write_clients(cluster, part, sink)?;
     write_each(points.as_slice(), part, sink)?;
+    write_table(cluster, part, sink)?;
     write_each(rows.as_slice(), part, sink)?;
     let end = End {
         steps: cluster.steps(),
@@ -67,6 +69,31 @@ fn write_clients<S: Sink>(
 {
     for (conn, _) in cluster.world().clients.iter() {
         write_given(*conn, cluster.sent(*conn), part, sink)?;
+    }
+    Ok(())
+}
+
+/// The records of the master's table.
+fn write_table<S: Sink>(cluster: &Cluster, part: &mut Bytes, sink: &mut S) -> Result<(), HostFault>
+    ensures did { DidPut (S.facts sink.old).taken (S.facts sink.new).taken part.old part.new (flat_map record_line (records_of cluster.now)) result }
+    ensures cause { HasHostCause (S.facts sink.old).faults (S.facts sink.new).faults result }
+{
+    match cluster.table() {
+        Some(table) => write_records(table.records(), part, sink),
+        None => Ok(()),
+    }
+}
+
+fn write_records<S: Sink>(
+    records: &Map<MailName, Record>,
+    part: &mut Bytes,
+    sink: &mut S,
+) -> Result<(), HostFault>
+    ensures did { DidPut (S.facts sink.old).taken (S.facts sink.new).taken part.old part.new (flat_map record_line records.now) result }
+    ensures cause { HasHostCause (S.facts sink.old).faults (S.facts sink.new).faults result }
+{
+    for (name, it) in records.iter() {
+        write_line(&Recorded { name, it }, part, sink)?;
     }
     Ok(())
 }

@@ -143,7 +143,7 @@ fn write_text<H: Host>(
     points: &Points,
     rows: &HomeRows,
 ) -> Status
-    ensures did { EndsWriting (lines_of cluster.now.world points.now rows.now) (H.facts host.old) (H.facts host.new) result }
+    ensures did { EndsWriting (lines_of cluster.now points.now rows.now) (H.facts host.old) (H.facts host.new) result }
     ensures counts { CountsStatus result (H.facts host.old).faults (H.facts host.new).faults }
 {
     let mut out = match host.out() {

@@ -1,9 +1,10 @@
 // The lines of the output.
 ghost use Rattle.std.specs.Prelude.{◌≡◌, ℕ, List, ◌++◌, OnOk};
-ghost use Rattle.top_call.specs.Output.{what_text, unreached_text, row_text, phase_text, row_counts_text, pointer_text};
+ghost use Rattle.top_call.specs.Output.{what_text, unreached_text, location_text, row_text, phase_text, row_counts_text, pointer_text, state_word};
 
 use cluster_core::HomeRow;
-use mur_base::{Bytes, Memory, NodeName, Phase, Point, What, put_number};
+use mur_base::{Bytes, Location, MailName, Memory, NodeName, Phase, Point, What, put_number};
+use node_record::{Record, State};
 use schedule_text::{put_name_text, put_text};
 
 /// What is printed as one line.
@@ -21,6 +22,13 @@ pub trait Line {
 pub struct Given<'a> {
     pub conn: u64,
     pub piece: &'a [u8],
+}
+
+/// `master NAME STATE SERVER!PARTITION`: a record of the master's table.
+#[derive(Drop)]
+pub struct Recorded<'a> {
+    pub name: &'a MailName,
+    pub it: &'a Record,
 }
 
 /// `end STEPS POINTS`.
@@ -84,6 +92,42 @@ fn put_unreached(node: &NodeName, out: &mut Bytes) -> Result<(), Memory>
 {
     out.extend_from_slice(b"refused unreached ")?;
     out.extend_from_slice(node.as_bytes())?;
+    Ok(())
+}
+
+impl Line for Recorded<'_> {
+    ghost use Rattle.top_call.specs.Output.{record_line};
+
+    ghost text = { λ line. record_line (line.name.now, line.it.now) };
+
+    #[tactic(auto, unfolding(crate::specs::Output::record_line))]
+    fn put(&self, out: &mut Bytes) -> Result<(), Memory> {
+        out.extend_from_slice(b"master ")?;
+        put_name_text(self.name.as_bytes(), out)?;
+        out.push(b' ')?;
+        out.extend_from_slice(state_word(&self.it.state))?;
+        out.push(b' ')?;
+        put_location(&self.it.place, out)?;
+        out.push(b'\n')
+    }
+}
+
+fn state_word(state: &State) -> &'static [u8]
+    ensures { result.now ≡ state_word state.now }
+{
+    match state {
+        State::Bare(_) | State::Kept(_) => b"reserved",
+        State::Active(_) => b"active",
+    }
+}
+
+#[tactic(auto, unfolding(crate::specs::Output::location_text))]
+fn put_location(place: &Location, out: &mut Bytes) -> Result<(), Memory>
+    ensures { OnOk result (out.new ≡ out.old ++ location_text place.now) }
+{
+    out.extend_from_slice(place.server.as_bytes())?;
+    out.push(b'!')?;
+    out.extend_from_slice(place.partition.as_slice())?;
     Ok(())
 }
 
