@@ -51,7 +51,7 @@ front_above front b rest =
 pub above_front : (level name : List ℕ) → is_above level name ≡ true → name ≡ level ++ drop (length level) name
 above_front level name h =
     let tests = and_parts (nat_lt (length level) (length name)) (starts_with nat_eq name level && is_level_end (drop (length level) name))
-        (sym (above_is level name) ∙ h) in
+    (sym (above_is level name) ∙ h) in
     let parts = and_parts (starts_with nat_eq name level) (is_level_end (drop (length level) name)) tests.1 in
     starts_with-parts name level parts.0
 
@@ -107,7 +107,7 @@ levels_by : (front : List ℕ) (b : ℕ) (rest x : List ℕ) → (x ≡ front) �
 levels_by front b rest x (inl same) later =
     subst (λ y. is_among (levels_from front (b ∷ rest)) y ≡ nat_le (length front) (length y) && is_above y (front ++ b ∷ rest)) (sym same)
     (there front b rest (nat_eq b dot) refl (subst (λ y. is_among (levels_from (front ++ b ∷ []) rest) y
-        ≡ nat_le (length (front ++ b ∷ [])) (length y) && is_above y ((front ++ b ∷ []) ++ rest)) same later))
+    ≡ nat_le (length (front ++ b ∷ [])) (length y) && is_above y ((front ++ b ∷ []) ++ rest)) same later))
 levels_by front b rest x (inr ne) later = elsewhere front b rest x ne later
 
 levels_behind : (rest front x : List ℕ) → is_among (levels_from front rest) x ≡ nat_le (length front) (length x) && is_above x (front ++ rest)

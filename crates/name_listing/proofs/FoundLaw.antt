@@ -1,6 +1,7 @@
 -- What is found of each name is what LIST tells of it.
 use Rattle.std.proofs.Common.{◌≡◌, ◌≢◌, ◌⊎◌, inl, inr, ℕ, Bool, true, false, ◌&&◌, ◌||◌, not, cond, List, [], ◌∷◌, Option, Some, None}
 use Rattle.std.proofs.Common.{refl, sym, ap, ◌∙◌, subst}
+use Rattle.std.specs.Prelude.{if◌then◌else◌}
 use Rattle.std.specs.Option.{option_or}
 use Rattle.std.specs.List.{fold, list_any}
 use Rattle.std.specs.Str.{bytes_eq}
@@ -13,8 +14,14 @@ use Rattle.mur_base.proofs.MapLaws.{names_apart, same_or_other, value_at-with_en
 use Rattle.imap_types.specs.declared.reply.Attribute.{Attribute}
 use Rattle.imap_types.specs.declared.reply.Attribute.TheVariants.{None as no_attribute, NonExistent}
 use Rattle.name_listing.specs.Listing.{Lines, ends_in_percent, is_above, is_among, listed_as}
-use Rattle.name_listing.specs.Found.{with_mailbox, with_level, with_levels, levels_from, found_lines}
+use Rattle.name_listing.specs.Found.{with_mailbox, with_level, with_levels, levels_from}
 use Rattle.name_listing.proofs.Above.{same_text, other_text, levels_above}
+
+-- what is found: mailboxes, and behind a '%' at the end the levels above mailboxes
+unfoldable pub found_lines : List ℕ → List (List ℕ) → Lines
+found_lines pattern names =
+    if ends_in_percent pattern then fold (with_levels pattern) (fold (with_mailbox pattern) [] names) names
+    else fold (with_mailbox pattern) [] names
 
 -- what is told of a name
 abbrev pub told : Lines → List ℕ → Option Attribute
@@ -55,7 +62,7 @@ mailboxes_told pattern [] lines x = sym (ap (λ b. cond b (Some no_attribute) (t
 mailboxes_told pattern (name ∷ names) lines x =
     mailboxes_told pattern names (with_mailbox pattern lines name) x
     ∙ ap (λ o. cond (matches pattern x && is_among names x) (Some no_attribute) o)
-        (mailbox_by pattern lines name x (same_or_other (slice_cmp nat_cmp) names_apart x name))
+    (mailbox_by pattern lines name x (same_or_other (slice_cmp nat_cmp) names_apart x name))
     ∙ either (matches pattern x) (bytes_eq x name) (is_among names x) (Some no_attribute) (told lines x)
 
 -- a level, where this holds
@@ -108,7 +115,7 @@ levels_told pattern [] lines x = or_none (told lines x)
 levels_told pattern (level ∷ levels) lines x =
     levels_told pattern levels (with_level pattern lines level) x
     ∙ ap (λ o. option_or o (level_if (matches pattern x && is_among levels x)))
-        (level_by pattern lines level x (same_or_other (slice_cmp nat_cmp) names_apart x level))
+    (level_by pattern lines level x (same_or_other (slice_cmp nat_cmp) names_apart x level))
     ∙ either_level (told lines x) (matches pattern x) (bytes_eq x level) (is_among levels x)
 
 -- the levels above one mailbox

@@ -12,8 +12,8 @@ use Rattle.mur_base.proofs.MapOrder.{with_entry-in_order}
 use Rattle.imap_types.specs.declared.reply.Attribute.{Attribute}
 use Rattle.imap_types.specs.declared.reply.Attribute.TheVariants.{None as no_attribute, NonExistent}
 use Rattle.name_listing.specs.Listing.{Lines, ends_in_percent, IsListing}
-use Rattle.name_listing.specs.Found.{with_mailbox, with_level, with_levels, levels_from, found_lines}
-use Rattle.name_listing.proofs.FoundLaw.{found_told}
+use Rattle.name_listing.specs.Found.{with_mailbox, with_level, with_levels, levels_from}
+use Rattle.name_listing.proofs.FoundLaw.{found_lines, found_told}
 
 abbrev Rises : Lines → Type 0
 Rises lines = IsInOrder (slice_cmp nat_cmp) lines

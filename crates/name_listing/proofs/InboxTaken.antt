@@ -1,12 +1,11 @@
 -- INBOX in a pattern is what a user is shown of the name that INBOX means.
-use Rattle.std.proofs.Common.{◌≡◌, ℕ, Bool, true, false, ◌&&◌, cond, nat_eq, nat_le, List, [], ◌∷◌, ◌++◌, length, take, drop, Option, Some, None}
-use Rattle.std.proofs.Common.{refl, sym, ap, ◌∙◌, subst}
+use Rattle.std.proofs.Common.{◌≡◌, ℕ, Bool, true, false, ◌&&◌, cond, nat_le, List, ◌++◌, length, take, drop, Some, None}
+use Rattle.std.proofs.Common.{refl, sym, ap, ◌∙◌}
 use Rattle.std.specs.Prelude.{codes}
-use Rattle.std.specs.List.{starts_with}
 use Rattle.std.specs.Str.{str_eq_ignore_ascii_case}
 use Rattle.std.proofs.lemmas.Bool.{and_parts}
 use Rattle.std.proofs.lemmas.List.{drop_at}
-use Rattle.mur_base.specs.Inbox.{own_name, is_level_end, behind, behind_inbox, moved, shown_name, taken_name}
+use Rattle.mur_base.specs.Inbox.{own_name, is_level_end, behind, behind_inbox, shown_name, taken_name}
 use Rattle.name_listing.specs.Listing.{pattern_of}
 use Rattle.name_listing.proofs.Above.{starts_with-front}
 

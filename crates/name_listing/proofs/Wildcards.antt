@@ -1,17 +1,17 @@
 -- Patterns '*' and '%', and those without wildcards.
-use Rattle.std.proofs.Common.{◌≡◌, ◌≢◌, ◌⊎◌, inl, inr, ℕ, ◌+◌, Bool, true, false, ◌&&◌, ◌||◌, not, cond, nat_eq, List, [], ◌∷◌, ◌++◌, length}
-use Rattle.std.proofs.Common.{drop, Option, Some, None, refl, sym, ap, ◌∙◌, subst, arith}
+use Rattle.std.proofs.Common.{◌≡◌, ◌⊎◌, inl, inr, ℕ, Bool, true, false, ◌&&◌, ◌||◌, not, nat_eq, List, [], ◌∷◌, ◌++◌, length}
+use Rattle.std.proofs.Common.{Some, None, refl, sym, ap, ◌∙◌, subst, arith}
 use Rattle.std.specs.Prelude.{codes}
-use Rattle.std.specs.List.{list_any, list_all, All, Any, Contains}
+use Rattle.std.specs.List.{list_all, Any, Contains}
 use Rattle.std.proofs.lemmas.Bool.{and_parts, or_right, eqb-true, eq-eqb, ne_eqb, true≢false, not-true, not_from_false}
 use Rattle.std.proofs.lemmas.List.{get_or_at, length_push}
 use Rattle.std.proofs.lemmas.List.Elements.{All-head, All-tail, All-get_or}
 use Rattle.std.proofs.lemmas.List.Sums.{AllPass-from_list_all, list_all-from_AllPass}
-use Rattle.mur_base.specs.Ascii.{percent, star, dot}
+use Rattle.mur_base.specs.Ascii.{percent, dot}
 use Rattle.mur_base.specs.Patterns.{matches, behind_byte, behind_some, behind_one, covers, is_wildcard}
 use Rattle.imap_types.specs.declared.reply.Attribute.{Attribute}
 use Rattle.imap_types.specs.declared.reply.Attribute.TheVariants.{None as no_attribute, NonExistent}
-use Rattle.name_listing.specs.Listing.{is_among, is_above, ends_in_percent, listed_as}
+use Rattle.name_listing.specs.Listing.{ends_in_percent, listed_as}
 use Rattle.name_listing.specs.Told.{StandsAbove, IsOneLevel, HasNoWildcard}
 use Rattle.name_listing.proofs.ToldLaw.{listed_fits, among_from, from_among, not_among, some_below, any_below, mailbox_told, level_told, told_kind}
 use Rattle.name_listing.proofs.ToldLaw.{ends_from, from_ends}
@@ -101,7 +101,7 @@ fits_plain (b ∷ rest) [] plain h =
     absurd (true≢false (sym h ∙ plain_byte b (matches rest) [] (first_plain b rest plain)))
 fits_plain (b ∷ rest) (t ∷ text) plain h =
     let parts = and_parts (nat_eq t b) (matches rest text)
-        (sym (plain_byte b (matches rest) (t ∷ text) (first_plain b rest plain)) ∙ h) in
+    (sym (plain_byte b (matches rest) (t ∷ text) (first_plain b rest plain)) ∙ h) in
     ap (λ l. t ∷ l) (fits_plain rest text (rest_plain b rest plain) parts.1) ∙ ap (λ x. x ∷ rest) (eqb-true t b parts.0)
 
 pub plain_there : (pattern : List ℕ) (names : List (List ℕ)) → HasNoWildcard pattern → Contains names pattern

@@ -1,5 +1,5 @@
 -- What LIST tells, in other words.
-use Rattle.std.specs.Prelude.{◌≡◌, ◌≢◌, ℕ, Bool, true, false, List, [], ◌∷◌, ◌++◌}
+use Rattle.std.specs.Prelude.{◌≡◌, ◌≢◌, ℕ, true, false, List, [], ◌∷◌, ◌++◌}
 use Rattle.std.specs.List.{All, Any, Contains}
 use Rattle.mur_base.specs.Ascii.{percent, dot}
 use Rattle.mur_base.specs.Patterns.{is_wildcard, matches}

@@ -44,11 +44,7 @@ pub fn put_levels<'a>(
     Ok(())
 }
 
-fn put_levels_of<'a>(
-    name: &'a [u8],
-    pattern: &[u8],
-    found: &mut Found<'a>,
-) -> Result<(), Memory>
+fn put_levels_of<'a>(name: &'a [u8], pattern: &[u8], found: &mut Found<'a>) -> Result<(), Memory>
     requires { length name.now ≤ NAME_LIMIT }
     ensures { OnOk result (found.new ≡ with_levels pattern.now found.old name.now) }
 {

@@ -1,7 +1,9 @@
 // What LIST tells, as laws of its definition.
-ghost use Rattle.std.specs.Prelude.{◌≡◌, ◌≢◌, ◌↔◌, ◌⊎◌, ℕ, List, [], ◌∷◌, ◌++◌, codes, None, Some, true};
+ghost use Rattle.std.specs.Prelude.{◌≡◌, ◌≢◌, ◌↔◌, ◌⊎◌, ◌≤◌, ℕ, length, List, [], ◌∷◌, ◌++◌, codes, None, Some, true};
 ghost use Rattle.std.specs.List.{Any, Contains};
+ghost use Rattle.mur_base.specs.declared.limits.TheConstants.{NAME_LIMIT};
 ghost use Rattle.mur_base.specs.Inbox.{behind_inbox, shown_name, taken_name};
+ghost use Rattle.mur_base.specs.Names.{mail_name_fault};
 ghost use Rattle.mur_base.specs.Patterns.{matches};
 ghost use Rattle.imap_types.specs.declared.reply.Attribute.{Attribute};
 ghost use Rattle.imap_types.specs.declared.reply.Attribute.TheVariants.{None as no_attribute, NoSelect, NonExistent};
@@ -12,6 +14,12 @@ ghost use Rattle.name_listing.specs.Told.{StandsAbove, IsOneLevel, IsToldLevel, 
 pub fn there_is_one_listing()
     ensures { (pattern : List ℕ) (names : List (List ℕ)) (one other : Lines) → IsListing pattern names one
         → IsListing pattern names other → one ≡ other }
+{}
+
+/// Each line tells what is listed of its name, and what is listed has a line.
+pub fn each_line_tells_what_is_listed()
+    ensures { (pattern : List ℕ) (names : List (List ℕ)) (lines : Lines) (name : List ℕ) (attribute : Attribute) → IsListing pattern names lines
+        → (Contains lines (name, attribute)) ↔ (listed_as pattern names name ≡ Some attribute) }
 {}
 
 /// What is listed matches the pattern, and is listed as a mailbox or as a level that is none.
@@ -63,6 +71,11 @@ pub fn inbox_is_taken_as_in_names()
         → pattern_of reference mailbox ≡ shown_name user (taken_name user (reference ++ mailbox)) }
     ensures other { (reference mailbox : List ℕ) → behind_inbox (reference ++ mailbox) ≡ None
         → pattern_of reference mailbox ≡ reference ++ mailbox }
+{}
+
+/// What a user is shown of a mailbox's name is short enough to be listed.
+pub fn a_shown_name_can_be_listed()
+    ensures { (user name : List ℕ) → mail_name_fault name ≡ None → length (shown_name user name) ≤ NAME_LIMIT }
 {}
 
 /// Worked listings.

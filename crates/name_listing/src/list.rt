@@ -5,7 +5,6 @@ ghost use Rattle.std.specs.Cmp.Lexicographic.{slice_cmp};
 ghost use Rattle.mur_base.specs.declared.limits.TheConstants.{NAME_LIMIT};
 ghost use Rattle.mur_base.specs.Map.{IsInOrder};
 ghost use Rattle.name_listing.specs.Listing.{IsListing};
-ghost use Rattle.name_listing.specs.Found.{found_lines};
 ghost use Rattle.name_listing.specs.Told.{line_of};
 
 use crate::found::{Found, put_levels, put_mailboxes};

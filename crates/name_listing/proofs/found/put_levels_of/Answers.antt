@@ -18,7 +18,7 @@ loop-i-preserved c =
       | then-name-i-eq46+in_ok-put_level w ↦
           let more = level_more name at.i (omega arith) (grind (arith, nat_tests, w.if-name-i-eq46.true)) in
           let now : fold (with_level pattern) (with_level pattern at.found (take at.i name)) (levels_from (take (at.i + 1) name) (drop (at.i + 1) name))
-              ≡ with_levels pattern c.args.found.now name = ap (fold (with_level pattern) at.found) (sym more) ∙ at.invariant in
+          ≡ with_levels pattern c.args.found.now name = ap (fold (with_level pattern) at.found) (sym more) ∙ at.invariant in
           grind (arith, now, w.found-is, w.put_level.ensures)
       | else-name-i-eq46 w ↦
           let less = level_same name at.i (omega arith) (grind (arith, nat_tests, w.if-name-i-eq46.false)) in

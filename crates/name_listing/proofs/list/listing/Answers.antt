@@ -1,7 +1,8 @@
 use Rattle.std.proofs.Common.{◌≡◌, ◌∙◌, true, false, [], arith}
 use Rattle.std.specs.List.{fold}
 use Rattle.name_listing.specs.Listing.{ends_in_percent}
-use Rattle.name_listing.specs.Found.{with_mailbox, with_levels, found_lines}
+use Rattle.name_listing.specs.Found.{with_mailbox, with_levels}
+use Rattle.name_listing.proofs.FoundLaw.{found_lines}
 use Rattle.name_listing.proofs.FoundOrder.{ok_listing, found_all, found_same}
 use Rattle.name_listing.proofs.list.listing.Goals.{then-ends_in_percent+in_ok-put_levels, else-ends_in_percent}
 use Rattle.name_listing.proofs.list.listing.Goals as goal
