@@ -1,21 +1,20 @@
 -- The levels of a name that are looked up are those that stand above it.
-use Rattle.std.proofs.Common.{◌≡◌, ◌≢◌, ◌⊎◌, inl, inr, ℕ, ◌+◌, ◌<◌, Bool, true, false, ◌&&◌, cond, nat_eq, nat_lt, nat_le}
-use Rattle.std.proofs.Common.{List, [], ◌∷◌, ◌++◌, length, get_or, take, drop, Some, None, refl, sym, ap, ◌∙◌, subst, arith}
-use Rattle.std.specs.Prelude.{is_some}
+use Rattle.std.proofs.Common.{◌≡◌, ◌≢◌, ◌⊎◌, inl, inr, ℕ, ◌+◌, ◌<◌, ◌≤◌, Bool, true, false, ◌&&◌, nat_eq, nat_le}
+use Rattle.std.proofs.Common.{List, [], ◌∷◌, ◌++◌, length, get_or, take, drop, refl, sym, ap, ◌∙◌, subst, arith}
 use Rattle.std.specs.List.{starts_with}
 use Rattle.std.specs.Str.{bytes_eq}
-use Rattle.std.proofs.lemmas.Bool.{and_parts, and_left, and_right, false_from_ne_true, eq-eqb, lt-ltb, le-ltb, le-leb, lt-leb, leb-true, cases_order}
-use Rattle.std.proofs.lemmas.List.{append-nil, append_assoc, length-append, length_push, take_at, drop_at}
+use Rattle.std.proofs.lemmas.Bool.{and_left, and_right, false_from_ne_true, eq-eqb, ne_eqb, le-leb, lt-leb, leb-true, cases_eq, cases_order}
+use Rattle.std.proofs.lemmas.List.{append-nil, append_assoc, length-append, length_push, take_at}
 use Rattle.std.proofs.lemmas.List.{drop_more, take_more}
 use Rattle.std.proofs.lemmas.Slice.Eq.{bytes_eq-Decides}
 use Rattle.std.specs.Ordering.{nat_cmp}
 use Rattle.std.specs.Cmp.Lexicographic.{slice_cmp}
 use Rattle.mur_base.specs.Ascii.{dot}
-use Rattle.mur_base.specs.Inbox.{behind, is_level_end}
 use Rattle.mur_base.proofs.InboxLaw.{starts_with-parts}
 use Rattle.mur_base.proofs.MapLaws.{names_apart, same_or_other}
 use Rattle.name_listing.specs.Listing.{is_above, is_among}
 use Rattle.name_listing.specs.Found.{levels_from}
+use Rattle.name_listing.specs.Told.{StandsAbove}
 
 pub same_text : (x : List ℕ) → bytes_eq x x ≡ true
 same_text x = (bytes_eq-Decides x x).1 refl
@@ -23,50 +22,55 @@ same_text x = (bytes_eq-Decides x x).1 refl
 pub other_text : (x y : List ℕ) → x ≢ y → bytes_eq x y ≡ false
 other_text x y ne = false_from_ne_true _ (λ same. ne ((bytes_eq-Decides x y).0 same))
 
-some_of : (b : Bool) (rest : List ℕ) → is_some (cond b (Some rest) None) ≡ b
-some_of true rest = refl
-some_of false rest = refl
-
--- a front that is shorter, and behind which a level ends
-pub above_is : (level name : List ℕ) → is_above level name
-    ≡ nat_lt (length level) (length name) && (starts_with nat_eq name level && is_level_end (drop (length level) name))
-unfolding is_above behind
-above_is level name = ap (λ b. nat_lt (length level) (length name) && b) (some_of (starts_with nat_eq name level && is_level_end (drop (length level) name)) (drop (length level) name))
-
 pub starts_with-front : (front rest : List ℕ) → starts_with nat_eq (front ++ rest) front ≡ true
 starts_with-front [] rest = refl
 starts_with-front (b ∷ front) rest = rw (eq-eqb b b refl) (starts_with-front front rest)
 
-longer : (front : List ℕ) (b : ℕ) (rest : List ℕ) → length front < length (front ++ b ∷ rest)
-longer front b rest = rw (length-append front (b ∷ rest)) (omega arith)
+-- what stands above a name is a front of it, behind which a separator stands
+pub stands_above : (level name : List ℕ) → is_above level name ≡ true → StandsAbove level name
+unfolding is_above
+stands_above level name h =
+    let rest = drop (length (level ++ dot ∷ [])) name in
+    (rest, starts_with-parts name (level ++ dot ∷ []) h ∙ append_assoc level (dot ∷ []) rest)
+
+pub above_from : (level name : List ℕ) → StandsAbove level name → is_above level name ≡ true
+unfolding is_above
+above_from level name below =
+    ap (λ n. starts_with nat_eq n (level ++ dot ∷ [])) (below.1 ∙ sym (append_assoc level (dot ∷ []) below.0))
+    ∙ starts_with-front (level ++ dot ∷ []) below.0
+
+either_way : (a b : ℕ) → nat_eq a b ≡ nat_eq b a
+either_way a b = elim (cases_eq a b) [
+  | inl same ↦ eq-eqb a b same ∙ sym (eq-eqb b a (sym same))
+  | inr differ ↦ ne_eqb a b differ ∙ sym (ne_eqb b a (λ same. differ (sym same)))
+]
+
+and_true : (b : Bool) → (b && true) ≡ b
+and_true true = refl
+and_true false = refl
 
 -- a front stands above a name where a separator follows
 pub front_above : (front : List ℕ) (b : ℕ) (rest : List ℕ) → is_above front (front ++ b ∷ rest) ≡ nat_eq b dot
-unfolding is_level_end
-front_above front b rest =
-    above_is front (front ++ b ∷ rest)
-    ∙ rw (lt-ltb _ _ (longer front b rest), starts_with-front front (b ∷ rest), drop_at front (b ∷ rest) (length front) refl) refl
-
--- what stands above a name is a front of it
-pub above_front : (level name : List ℕ) → is_above level name ≡ true → name ≡ level ++ drop (length level) name
-above_front level name h =
-    let tests = and_parts (nat_lt (length level) (length name)) (starts_with nat_eq name level && is_level_end (drop (length level) name))
-    (sym (above_is level name) ∙ h) in
-    let parts = and_parts (starts_with nat_eq name level) (is_level_end (drop (length level) name)) tests.1 in
-    starts_with-parts name level parts.0
+unfolding is_above
+front_above [] b rest = and_true (nat_eq dot b) ∙ either_way dot b
+front_above (c ∷ front) b rest = rw (eq-eqb c c refl) (front_above front b rest)
 
 -- a name has one level of a length above it
 one_length : (front rest x : List ℕ) → length front ≡ length x → is_above x (front ++ rest) ≡ true → x ≡ front
 one_length front rest x same h =
-    sym (take_at x (drop (length x) (front ++ rest)) (length front) (sym same))
-    ∙ sym (ap (take (length front)) (above_front x (front ++ rest) h)) ∙ take_at front rest (length front) refl
+    let below = stands_above x (front ++ rest) h in
+    sym (take_at x (dot ∷ below.0) (length front) (sym same)) ∙ sym (ap (take (length front)) below.1) ∙ take_at front rest (length front) refl
+
+-- what stands above a name is shorter
+pub above_is_shorter : (level name : List ℕ) → length name ≤ length level → is_above level name ≡ false
+above_is_shorter level name long = false_from_ne_true _ (λ h.
+    let below = stands_above level name h in
+    let sizes = ap length below.1 ∙ length-append level (dot ∷ below.0) in omega (arith, sizes, long))
 
 none_left : (front x : List ℕ) (b : Bool) → nat_le (length front) (length x) ≡ b
     → (nat_le (length front) (length x) && is_above x front) ≡ false
 none_left front x false h = and_left _ _ h
-none_left front x true h =
-    let whole : nat_lt (length x) (length front) ≡ false = le-ltb (length x) (length front) (leb-true (length front) (length x) h) in
-    and_right _ _ (above_is x front ∙ and_left _ _ whole)
+none_left front x true h = and_right _ _ (above_is_shorter x front (leb-true (length front) (length x) h))
 
 there : (front : List ℕ) (b : ℕ) (rest : List ℕ) (d : Bool) → nat_eq b dot ≡ d
     → (is_among (levels_from (front ++ b ∷ []) rest) front ≡ nat_le (length (front ++ b ∷ [])) (length front) && is_above front ((front ++ b ∷ []) ++ rest))
@@ -131,7 +135,3 @@ pub level_same : (name : List ℕ) (i : ℕ) → i < length name → nat_eq (get
     → levels_from (take i name) (drop i name) ≡ levels_from (take (i + 1) name) (drop (i + 1) name)
 unfolding levels_from
 level_same name i h e = rw (drop_more name i 0 h, take_more name i 0 h, e) refl
-
--- no level stands above itself
-pub none_above : (level : List ℕ) → is_above level level ≡ false
-none_above level = above_is level level ∙ and_left _ _ (le-ltb (length level) (length level) (omega arith))

@@ -1,21 +1,20 @@
 -- What LIST tells of a name, by the tests that it is told by.
 use Rattle.std.proofs.Common.{◌≡◌, ◌≢◌, ◌⊎◌, ◌↔◌, inl, inr, ℕ, ◌-◌, Bool, true, false, ◌&&◌, not, cond, List, [], ◌∷◌}
-use Rattle.std.proofs.Common.{◌++◌, length, take, drop, Option, Some, None, refl, sym, ap, ◌∙◌, subst}
+use Rattle.std.proofs.Common.{◌++◌, length, take, Option, Some, None, refl, sym, ◌∙◌}
 use Rattle.std.specs.List.{list_any, Any, Contains}
 use Rattle.std.specs.Cmp.Lexicographic.{nat_list_eq_equiv}
-use Rattle.std.proofs.lemmas.Bool.{eqb-true, false_from_ne_true, true≢false}
+use Rattle.std.proofs.lemmas.Bool.{false_from_ne_true, true≢false}
 use Rattle.std.proofs.lemmas.Bool.Decides.{Decides-eqb}
-use Rattle.std.proofs.lemmas.List.{append-nil}
 use Rattle.std.proofs.lemmas.List.Folds.{Any-from_list_any, list_any-from_Any}
 use Rattle.std.proofs.lemmas.Map.Views.{list_any-from_Contains, Contains-from_any}
 use Rattle.std.proofs.lemmas.Slice.Eq.{bytes_eq-Decides, ends_is}
-use Rattle.mur_base.specs.Ascii.{percent, dot}
+use Rattle.mur_base.specs.Ascii.{percent}
 use Rattle.mur_base.specs.Patterns.{matches}
 use Rattle.imap_types.specs.declared.reply.Attribute.{Attribute}
 use Rattle.imap_types.specs.declared.reply.Attribute.TheVariants.{None as no_attribute, NoSelect, NonExistent}
 use Rattle.name_listing.specs.Listing.{is_among, is_above, ends_in_percent, listed_as}
 use Rattle.name_listing.specs.Told.{StandsAbove, IsToldLevel}
-use Rattle.name_listing.proofs.Above.{above_front, front_above, none_above}
+use Rattle.name_listing.proofs.Above.{stands_above, above_from}
 
 -- what is told by the tests: it matches, is a mailbox, the pattern ends in '%', a mailbox stands below
 abbrev told_by : Bool → Bool → Bool → Bool → Option Attribute
@@ -74,21 +73,7 @@ not_among names name none = false_from_ne_true _ (λ h. none (from_among names n
 pub none_among : (names : List (List ℕ)) (name : List ℕ) → is_among names name ≡ false → (Contains names name → ⊥)
 none_among names name h = λ there. true≢false (sym (among_from names name there) ∙ h)
 
--- a level stands above a name
-below_by : (level rest : List ℕ) → is_above level (level ++ rest) ≡ true → StandsAbove level (level ++ rest)
-below_by level [] h = absurd (true≢false (sym h ∙ ap (is_above level) (append-nil level) ∙ none_above level))
-below_by level (b ∷ rest) h =
-    let sep : b ≡ dot = eqb-true b dot (sym (front_above level b rest) ∙ h) in (rest, ap (λ d. level ++ d ∷ rest) sep)
-
-pub stands_above : (level name : List ℕ) → is_above level name ≡ true → StandsAbove level name
-stands_above level name h =
-    let front = above_front level name h in
-    let below = below_by level (drop (length level) name) (subst (λ n. is_above level n ≡ true) front h) in
-    (below.0, front ∙ below.1)
-
-pub above_from : (level name : List ℕ) → StandsAbove level name → is_above level name ≡ true
-above_from level name below = subst (λ n. is_above level n ≡ true) (sym below.1) (front_above level dot below.0)
-
+-- a mailbox stands below a level
 pub some_below : (level : List ℕ) (names : List (List ℕ)) → list_any (is_above level) names ≡ true → Any (StandsAbove level) names
 some_below level names h =
     let found = Any-from_list_any (is_above level) names h in (found.0, found.1, found.2, found.3, stands_above level found.1 found.4)

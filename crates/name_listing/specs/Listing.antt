@@ -1,12 +1,12 @@
--- What LIST tells of names (RFC 9051, 6.3.9 and 7.3.1), where these are the mailboxes on which the user has rights, as they are shown.
-use Rattle.std.specs.Prelude.{◌≡◌, ℕ, Bool, ◌&&◌, not, ◌==◌, ◌-◌, nat_lt, if◌then◌else◌, List, [], ◌∷◌, ◌++◌, length, drop, codes}
-use Rattle.std.specs.Prelude.{Option, None, Some, is_some}
-use Rattle.std.specs.List.{list_any}
+-- What LIST tells of names (RFC 9051, 6.3.9 and 7.3.1). Given are the names of the mailboxes on which a user has rights, as they are shown.
+use Rattle.std.specs.Prelude.{◌≡◌, ℕ, Bool, ◌&&◌, not, ◌==◌, ◌-◌, nat_eq, if◌then◌else◌, List, [], ◌∷◌, ◌++◌, length, drop, codes}
+use Rattle.std.specs.Prelude.{Option, None, Some}
+use Rattle.std.specs.List.{list_any, starts_with}
 use Rattle.std.specs.Ordering.{nat_cmp}
 use Rattle.std.specs.Cmp.Lexicographic.{slice_cmp}
 use Rattle.std.specs.Str.{bytes_eq}
-use Rattle.mur_base.specs.Ascii.{percent}
-use Rattle.mur_base.specs.Inbox.{behind, behind_inbox, moved}
+use Rattle.mur_base.specs.Ascii.{percent, dot}
+use Rattle.mur_base.specs.Inbox.{behind_inbox, moved}
 use Rattle.mur_base.specs.Map.{value_at, IsInOrder}
 use Rattle.mur_base.specs.Patterns.{matches}
 use Rattle.imap_types.specs.declared.reply.Attribute.{Attribute}
@@ -27,11 +27,11 @@ ends_in_percent pattern = bytes_eq (percent ∷ []) (drop (length pattern - 1) p
 unfoldable pub is_among : List (List ℕ) → List ℕ → Bool
 is_among names name = list_any (bytes_eq name) names
 
--- the level stands above the name: it is a proper front of it that ends before a separator
+-- the level stands above the name, which goes on with a separator
 unfoldable pub is_above : List ℕ → List ℕ → Bool
-is_above level name = nat_lt (length level) (length name) && is_some (behind level name)
+is_above level name = starts_with nat_eq name (level ++ dot ∷ [])
 
--- A name that matches is told as a mailbox, where it is one. Behind a '%' at the end the levels above mailboxes are told too.
+-- A name that matches is told as a mailbox, where it is one. If the pattern ends in '%', levels above mailboxes that match are told too.
 unfoldable pub listed_as : List ℕ → List (List ℕ) → List ℕ → Option Attribute
 listed_as pattern names name =
     if not (matches pattern name) then None

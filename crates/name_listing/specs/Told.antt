@@ -23,7 +23,7 @@ IsOneLevel text = All (λ byte. byte ≢ dot) text
 abbrev pub HasNoWildcard : List ℕ → Type 0
 HasNoWildcard pattern = All (λ byte. is_wildcard byte ≡ false) pattern
 
--- A level is told that is no mailbox: it matches a pattern that ends in '%', and stands above a mailbox. This may not match.
+-- A level is told that is no mailbox: it matches a pattern that ends in '%', and stands above a mailbox, which may not match.
 pub record IsToldLevel (pattern : List ℕ) (names : List (List ℕ)) (level : List ℕ) : Type 0 where
   pub ends : (front : List ℕ) × (pattern ≡ front ++ percent ∷ [])
   pub fits : matches pattern level ≡ true
