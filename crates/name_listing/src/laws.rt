@@ -10,9 +10,10 @@ ghost use Rattle.imap_types.specs.declared.reply.Attribute.TheVariants.{None as 
 ghost use Rattle.name_listing.specs.Listing.{Lines, IsListing, listed_as, pattern_of};
 ghost use Rattle.name_listing.specs.Told.{StandsAbove, IsOneLevel, IsToldLevel, HasNoWildcard};
 
-/// A pattern has one listing of mailboxes.
+/// Of mailboxes a pattern has one listing, and no second.
 pub fn there_is_one_listing()
-    ensures { (pattern : List ℕ) (names : List (List ℕ)) (one other : Lines) → IsListing pattern names one
+    ensures some { (pattern : List ℕ) (names : List (List ℕ)) → (lines : Lines) × IsListing pattern names lines }
+    ensures one { (pattern : List ℕ) (names : List (List ℕ)) (one other : Lines) → IsListing pattern names one
         → IsListing pattern names other → one ≡ other }
 {}
 
