@@ -1,2 +1,5 @@
 pub mod Numbers
 pub mod Outputs
+pub mod Orders
+pub mod OwnLines
+pub mod NodeLines
