@@ -3,3 +3,4 @@ pub mod Outputs
 pub mod Orders
 pub mod OwnLines
 pub mod NodeLines
+pub mod ServedLaw

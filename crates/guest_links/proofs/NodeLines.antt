@@ -36,7 +36,7 @@ pub record SameClients (master next : Master) : Type 0 where
 pub record NodeStep (master : Master) (conn : ℕ) (next : Stepped) (change : Option MasterRecord) : Type 0 where
   pub clients : SameClients master next.master
   pub table : next.master.table ≡ table_with master.table change
-  pub gives : Gives conn next.outs (told_of change (watcher_at master conn))
+  pub gives : HasWatchers master → Gives conn next.outs (told_of change (watcher_at master conn))
 
 -- a reply to a node
 reply_gives : (master : Master) (conn : ℕ) (from : Sender) (tag : Tag) (reply : Reply) → HasWatchers master → IsANode from
@@ -47,13 +47,13 @@ reply_gives master conn from tag reply order node =
     (and_nothing conn (change_outs master.streams master.watchers reply.entry) (mark_outs from tag reply.counts) (told_of reply.entry (watcher_at master conn))
     (change_told conn master.streams master.watchers reply.entry order) (no_marks conn from tag reply.counts))
 
-replied_step : (master : Master) (conn : ℕ) (from : Sender) (tag : Tag) (reply : Reply) → HasWatchers master → IsANode from
+replied_step : (master : Master) (conn : ℕ) (from : Sender) (tag : Tag) (reply : Reply) → IsANode from
     → NodeStep master conn (let_out (replied master from tag reply)) reply.entry
 unfolding replied
-replied_step master conn from tag reply order node = record {
+replied_step master conn from tag reply node = record {
   clients = record { outside = refl; watchers = refl };
   table = refl;
-  gives = reply_gives master conn from tag reply order node;
+  gives = λ order. reply_gives master conn from tag reply order node;
 }
 
 settled_step : (master : Master) (conn : ℕ) (planned : Planned) (from : Sender) (tag : Tag) (step : StreamStep) (change : Option MasterRecord) → IsANode from
@@ -68,12 +68,12 @@ settled_step master conn planned (Outside other) tag stream.Begins change node i
 settled_step master conn planned (Backend name) tag stream.Ends change node is = record {
   clients = record { outside = is.clients.outside; watchers = is.clients.watchers };
   table = is.table;
-  gives = and_nothing conn planned.outs [] (told_of change (watcher_at master conn)) is.gives (gives_nothing conn);
+  gives = λ order. and_nothing conn planned.outs [] (told_of change (watcher_at master conn)) (is.gives order) (gives_nothing conn);
 }
 settled_step master conn planned (Frontend name) tag stream.Ends change node is = record {
   clients = record { outside = is.clients.outside; watchers = is.clients.watchers };
   table = is.table;
-  gives = and_nothing conn planned.outs [] (told_of change (watcher_at master conn)) is.gives (gives_nothing conn);
+  gives = λ order. and_nothing conn planned.outs [] (told_of change (watcher_at master conn)) (is.gives order) (gives_nothing conn);
 }
 settled_step master conn planned (Outside other) tag stream.Ends change node is = absurd node
 
@@ -87,14 +87,14 @@ taken_entry : (master : Master) (from : Sender) (tag : Tag) (reply : Reply) (ste
 unfolding replied
 taken_entry master from tag reply step = settled_entry (replied master from tag reply) from tag step
 
-step_by : (master : Master) (conn : ℕ) (from : Sender) (next : Planned) → HasWatchers master → IsANode from → StepIs master from next
+step_by : (master : Master) (conn : ℕ) (from : Sender) (next : Planned) → IsANode from → StepIs master from next
     → NodeStep master conn (let_out next) next.entry
 unfolding bad_step replied bad_reply
-step_by master conn from next order node (is_bad tag tagged) = replied_step master conn from tag bad_reply order node
-step_by master conn from next order node (is_taken tag it tagged has may) =
+step_by master conn from next node (is_bad tag tagged) = replied_step master conn from tag bad_reply node
+step_by master conn from next node (is_taken tag it tagged has may) =
     let reply : Reply = reply_to master.table from it in
     subst (NodeStep master conn (let_out (taken master from tag it))) (sym (taken_entry master from tag reply (stream_step it)))
-    (settled_step master conn (replied master from tag reply) from tag (stream_step it) reply.entry node (replied_step master conn from tag reply order node))
+    (settled_step master conn (replied master from tag reply) from tag (stream_step it) reply.entry node (replied_step master conn from tag reply node))
 
 a_node : (b : Bool) (node : List ℕ) → IsANode (sender_by b node)
 a_node true node = tt
@@ -102,50 +102,50 @@ a_node false node = tt
 
 ended_step : (master : Master) (conn : ℕ) (b : Bool) (node : List ℕ) → NodeStep master conn (record { master = without master (sender_by b node); outs = [] }) None
 unfolding without
-ended_step master conn true node = record { clients = record { outside = refl; watchers = refl }; table = refl; gives = gives_nothing conn }
-ended_step master conn false node = record { clients = record { outside = refl; watchers = refl }; table = refl; gives = gives_nothing conn }
+ended_step master conn true node = record { clients = record { outside = refl; watchers = refl }; table = refl; gives = λ order. gives_nothing conn }
+ended_step master conn false node = record { clients = record { outside = refl; watchers = refl }; table = refl; gives = λ order. gives_nothing conn }
 
 same_step : (master : Master) (conn : ℕ) → NodeStep master conn (record { master = master; outs = [] }) None
-same_step master conn = record { clients = record { outside = refl; watchers = refl }; table = refl; gives = gives_nothing conn }
+same_step master conn = record { clients = record { outside = refl; watchers = refl }; table = refl; gives = λ order. gives_nothing conn }
 
-pub node_step : (master : Master) (conn : ℕ) (node : List ℕ) (message : LinkMsg) → HasWatchers master
+pub node_step : (master : Master) (conn : ℕ) (node : List ℕ) (message : LinkMsg)
     → NodeStep master conn (node_says master node message) (change_by master node message)
 unfolding node_says
-node_step master conn node (Line bytes) order =
-    step_by master conn (sender_of master node) (line_step master (sender_of master node) bytes) order (a_node (list_any (pointwise nat_eq node) master.backends) node)
+node_step master conn node (Line bytes) =
+    step_by master conn (sender_of master node) (line_step master (sender_of master node) bytes) (a_node (list_any (pointwise nat_eq node) master.backends) node)
     (step_is master (sender_of master node) bytes)
-node_step master conn node End order = ended_step master conn (list_any (pointwise nat_eq node) master.backends) node
-node_step master conn node Up order = same_step master conn
-node_step master conn node (Ask ask) order = same_step master conn
-node_step master conn node (Answer answer) order = same_step master conn
+node_step master conn node End = ended_step master conn (list_any (pointwise nat_eq node) master.backends) node
+node_step master conn node Up = same_step master conn
+node_step master conn node (Ask ask) = same_step master conn
+node_step master conn node (Answer answer) = same_step master conn
 
 -- the client after it
 
-pub guest_told : (master : Master) (conn : ℕ) (guest : Guest) (next : Stepped) (change : Option MasterRecord) → NodeStep master conn next change
+pub guest_told : (master : Master) (conn : ℕ) (guest : Guest) (next : Stepped) (change : Option MasterRecord) → HasWatchers master → NodeStep master conn next change
     → IsGuestOf master conn guest → IsServed conn next (Some guest) (Some (told_change change guest)) false
-guest_told master conn guest next change step is = record {
+guest_told master conn guest next change order step is = record {
   is = record {
     outside = ap (λ all. value_at nat_cmp all conn) step.clients.outside ∙ is.outside;
     watcher = ap (λ all. value_at nat_cmp all conn) step.clients.watchers ∙ is.watcher;
     streams = is.streams;
   };
-  given = ap (λ tag. guest.dialog.given ++ told_of change tag) (sym is.watcher) ∙ ap (λ bytes. guest.dialog.given ++ bytes) (sym step.gives.given);
-  closed = step.gives.closed;
-  last = step.gives.last;
+  given = ap (λ tag. guest.dialog.given ++ told_of change tag) (sym is.watcher) ∙ ap (λ bytes. guest.dialog.given ++ bytes) (sym (step.gives order).given);
+  closed = (step.gives order).closed;
+  last = (step.gives order).last;
 }
 
 told_nothing : (change : Option MasterRecord) → told_of change None ≡ []
 told_nothing None = refl
 told_nothing (Some change) = refl
 
-pub nobody_told : (master : Master) (conn : ℕ) (next : Stepped) (change : Option MasterRecord) → NodeStep master conn next change → IsNoGuest master conn
+pub nobody_told : (master : Master) (conn : ℕ) (next : Stepped) (change : Option MasterRecord) → HasWatchers master → NodeStep master conn next change → IsNoGuest master conn
     → IsServed conn next None None false
-nobody_told master conn next change step none = record {
+nobody_told master conn next change order step none = record {
   is = record {
     outside = ap (λ all. value_at nat_cmp all conn) step.clients.outside ∙ none.outside;
     watcher = ap (λ all. value_at nat_cmp all conn) step.clients.watchers ∙ none.watcher;
   };
-  given = sym (step.gives.given ∙ ap (told_of change) none.watcher ∙ told_nothing change);
-  closed = step.gives.closed;
-  last = step.gives.last;
+  given = sym ((step.gives order).given ∙ ap (told_of change) none.watcher ∙ told_nothing change);
+  closed = (step.gives order).closed;
+  last = (step.gives order).last;
 }

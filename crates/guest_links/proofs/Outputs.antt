@@ -79,7 +79,7 @@ and_nothing conn one two bytes a b = subst (Gives conn (one ++ two)) (append-nil
 
 -- bytes for the client, and for another
 
-to_it : (conn : ℕ) (bytes : List ℕ) → bytes_to conn (Client conn bytes) ≡ bytes
+pub to_it : (conn : ℕ) (bytes : List ℕ) → bytes_to conn (Client conn bytes) ≡ bytes
 to_it conn bytes = ap (λ b. cond b bytes []) (same_number conn)
 
 to_another : (conn other : ℕ) (bytes : List ℕ) → conn ≢ other → bytes_to conn (Client other bytes) ≡ []
