@@ -83,7 +83,7 @@ settled_entry planned from tag stream.Stays = refl
 settled_entry planned from tag stream.Begins = refl
 settled_entry planned from tag stream.Ends = refl
 
-taken_entry : (master : Master) (from : Sender) (tag : Tag) (reply : Reply) (step : StreamStep) → (settled (replied master from tag reply) from tag step).entry ≡ reply.entry
+pub taken_entry : (master : Master) (from : Sender) (tag : Tag) (reply : Reply) (step : StreamStep) → (settled (replied master from tag reply) from tag step).entry ≡ reply.entry
 unfolding replied
 taken_entry master from tag reply step = settled_entry (replied master from tag reply) from tag step
 

@@ -12,7 +12,8 @@ use Rattle.master_core.specs.declared.reply.Reply.{Reply}
 use Rattle.master_core.specs.declared.sender.Sender.TheVariants as sender
 use Rattle.master_core.specs.declared.streams.StreamStep.{StreamStep}
 use Rattle.master_core.specs.declared.streams.StreamStep.TheVariants as stream
-use Rattle.master_core.specs.Cutting.{cut_from}
+use Rattle.feed_links.specs.Spelled.{CanBeTold}
+use Rattle.master_core.specs.Cutting.{Cut, cut_from}
 use Rattle.master_core.specs.Dialogs.{Dialog, answered_with, dialog_ended, dialog_after, command_told, told_by, line_told, bytes_told, cut_told, answers_text}
 use Rattle.master_core.specs.Linked.{let_out}
 use Rattle.master_core.specs.Lines.{tag_before}
@@ -35,6 +36,8 @@ use Rattle.guest_links.specs.Served.{HasWatchers, IsGuestOf, IsServed, DialogIsT
 use Rattle.guest_links.proofs.Numbers.{gone, same_number}
 use Rattle.guest_links.proofs.Orders.{line_order}
 use Rattle.guest_links.proofs.Outputs.{Gives, own_answers, given_both, closes_both, last_both}
+use Rattle.guest_links.proofs.Reading.{WatcherKeeps, line_keeps}
+use Rattle.guest_links.proofs.Watches.{watch_stays, begins_alone, no_watch, some_watch}
 
 abbrev IsGuestServed : ℕ → Stepped → Guest → Guest → Type 0
 IsGuestServed conn next guest later = IsServed conn next (Some guest) (Some later) later.dialog.ended
@@ -99,35 +102,6 @@ settled_served conn planned guest mid before tag stream.Ends order on fresh serv
   last = last_both conn planned.outs (Close conn ∷ []) (served.closed ∙ on) ((λ shut. refl), tt);
 }
 
--- a watcher stays one, whatever it sends
-watch_stays : (before : Dialog) (watch : Option Watch) (tag : Tag) (step : StreamStep) → is_some watch ≡ true → watch_after before watch tag step ≡ watch
-watch_stays before None tag step some = cc
-watch_stays before (Some watch) tag stream.Stays some = refl
-watch_stays before (Some watch) tag stream.Begins some = refl
-watch_stays before (Some watch) tag stream.Ends some = refl
-
--- only a client without UPDATE begins a stream
-
-begins_alone : (it : MCommand) → stream_step it ≡ stream.Begins → may_follow_update it ≡ false
-begins_alone (command.Reserve name place) e = refl
-begins_alone (command.Activate name place acl) e = refl
-begins_alone (command.Deactivate name place) e = refl
-begins_alone (command.Delete name) e = refl
-begins_alone (command.Find name) e = refl
-begins_alone (command.List prefix) e = refl
-begins_alone command.Update e = refl
-begins_alone command.Noop e = cc
-begins_alone command.Logout e = cc
-
-no_watch : (watch : Option Watch) (may : Bool) → (is_some watch && not may) ≡ false → may ≡ false → watch ≡ None
-no_watch None may h never = refl
-no_watch (Some watch) true h never = cc
-no_watch (Some watch) false h never = cc
-
-some_watch : (b may : Bool) → (b && not may) ≡ true → b ≡ true
-some_watch true may h = refl
-some_watch false may h = cc
-
 bad_served : (master : Master) (conn : ℕ) (guest : Guest) (tag : Tag) → guest.dialog.ended ≡ false → IsGuestOf master conn guest
     → IsGuestServed conn (let_out (bad_step master (sender.Outside conn) tag)) guest (guest_with (answered_with guest.dialog tag bad_reply.answers) guest.watch)
 unfolding bad_step bad_reply
@@ -190,6 +164,7 @@ record HasGone (table : MailboxTable) (conn : ℕ) (first : Guest) (so_far : Ste
   order : HasWatchers so_far.master
   same_table : so_far.master.table ≡ table
   served : IsGuestServed conn so_far first guest
+  keeps : CanBeTold table → WatcherKeeps table first → WatcherKeeps table guest
 
 more_served : (conn : ℕ) (so_far : Stepped) (next : Planned) (first guest later : Guest) → guest.dialog.ended ≡ false → IsGuestServed conn so_far first guest
     → IsGuestServed conn (let_out next) guest later
@@ -241,6 +216,7 @@ one_line table conn first so_far guest line gone =
         closed = gone.served.closed;
         last = gone.served.last;
       };
+      keeps = λ can was on. absurd (let never : true ≡ false = sym over ∙ on in cc);
     }
     by_case false on = record {
       order = line_order so_far.master (sender.Outside conn) line gone.order;
@@ -248,6 +224,7 @@ one_line table conn first so_far guest line gone =
       served = more_served conn so_far next first guest (guest_with (told_by table conn guest.dialog line (command_in line)) watch) on gone.served
           (subst (λ t. IsGuestServed conn (let_out next) guest (guest_with (told_by t conn guest.dialog line (command_in line)) watch)) gone.same_table
           (line_served so_far.master conn guest gone.order on gone.served.is line));
+      keeps = λ can was. line_keeps table conn guest can (gone.served.is.streams on) (gone.keeps can was) line;
     }
 
 all_lines : (table : MailboxTable) (conn : ℕ) (first : Guest) (so_far : Stepped) (guest : Guest) (lines : List (List ℕ)) → HasGone table conn first so_far guest
@@ -274,13 +251,21 @@ begun_goes master conn guest begun order on is = record {
     closed = sym on;
     last = tt;
   };
+  keeps = λ can was. was;
 }
 
--- its bytes come
+-- its bytes come, and its dialog goes on
+bytes_go : (master : Master) (conn : ℕ) (guest : Guest) (cut : Cut) → HasWatchers master → guest.dialog.ended ≡ false → IsGuestOf master conn guest
+    → HasGone master.table conn guest (lines_come (begun_at master conn cut.begun) conn cut.lines) (lines_taken master.table conn guest cut)
+unfolding lines_come
+bytes_go master conn guest cut order on is =
+    all_lines master.table conn guest (still (begun_at master conn cut.begun)) (guest_with (with_begun guest.dialog cut.begun) guest.watch) cut.lines
+    (begun_goes master conn guest cut.begun order on is)
+
 pub bytes_served : (master : Master) (conn : ℕ) (guest : Guest) (piece : List ℕ) → HasWatchers master → IsGuestOf master conn guest
     → IsServed conn (bytes_in master conn piece) (Some guest) (Some (bytes_taken master.table conn guest piece))
     ((bytes_taken master.table conn guest piece).dialog.ended && not guest.dialog.ended)
-unfolding bytes_in bytes_at lines_come bytes_taken ClosesLast
+unfolding bytes_in bytes_at bytes_taken ClosesLast
 bytes_served master conn guest piece order is =
     subst (λ (found : Option Outside). IsServed conn (bytes_at master conn piece found) (Some guest) (Some (taken_test guest.dialog.ended))
     ((taken_test guest.dialog.ended).dialog.ended && not guest.dialog.ended)) (sym is.outside) (by_case guest.dialog.ended refl)
@@ -300,15 +285,23 @@ bytes_served master conn guest piece order is =
         IsServed conn (bytes_at master conn piece found) (Some guest) (Some (taken_test b)) ((taken_test b).dialog.ended && not guest.dialog.ended))
     by_case true over = record { is = is; given = sym (append-nil guest.dialog.given); closed = sym (over_or_not guest.dialog.ended); last = tt }
     by_case false on =
-        let all = all_lines master.table conn guest (still (begun_at master conn (cut_from guest.dialog.begun piece).begun))
-        (guest_with (with_begun guest.dialog (cut_from guest.dialog.begun piece).begun) guest.watch) (cut_from guest.dialog.begun piece).lines
-        (begun_goes master conn guest (cut_from guest.dialog.begun piece).begun order on is) in
+        let all = bytes_go master conn guest (cut_from guest.dialog.begun piece) order on is in
         record {
           is = all.served.is;
           given = all.served.given;
           closed = all.served.closed ∙ on_then (taken_test false).dialog.ended guest.dialog.ended on;
           last = all.served.last;
         }
+
+-- a watcher has the table after its bytes too
+pub bytes_keep : (master : Master) (conn : ℕ) (guest : Guest) (piece : List ℕ) → HasWatchers master → CanBeTold master.table → IsGuestOf master conn guest
+    → WatcherKeeps master.table guest → WatcherKeeps master.table (bytes_taken master.table conn guest piece)
+unfolding bytes_taken
+bytes_keep master conn guest piece order can is keeps = by guest.dialog.ended refl
+  where
+    by : (b : Bool) → guest.dialog.ended ≡ b → WatcherKeeps master.table (cond b guest (lines_taken master.table conn guest (cut_from guest.dialog.begun piece)))
+    by true over = keeps
+    by false on = (bytes_go master conn guest (cut_from guest.dialog.begun piece) order on is).keeps can keeps
 
 -- the dialog is that of the master's own laws
 

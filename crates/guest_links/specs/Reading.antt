@@ -1,36 +1,39 @@
 -- What a watcher was given since its UPDATE makes the records of the table (RFC 3656, 4.11), in the eyes of whoever reads the lines.
-use Rattle.std.specs.Prelude.{◌≡◌, ℕ, false, List, [], ◌++◌, Option, None, Some}
-use Rattle.std.specs.List.{flat_map, fold, AllByRecursion}
+use Rattle.std.specs.Prelude.{◌≡◌, ℕ, false, List, [], ◌∷◌, ◌++◌, None, Some}
+use Rattle.std.specs.List.{fold}
 use Rattle.feed_core.specs.Feed.{Recs, recs_after}
 use Rattle.feed_links.specs.Replicas.{recs_of}
 use Rattle.feed_links.specs.Spelled.{CanBeTold}
 use Rattle.master_core.specs.declared.master.Master.{Master}
+use Rattle.master_core.specs.Dialogs.{Dialog}
 use Rattle.mupdate_codec.specs.declared.command.MResponse.{MResponse}
 use Rattle.mupdate_codec.specs.declared.tag.Tag.{Tag}
-use Rattle.mupdate_codec.specs.Whole.{response_in}
+use Rattle.mupdate_codec.specs.Responses.{IsResponseLine}
 use Rattle.node_record.specs.Table.{MailboxTable}
-use Rattle.guest_links.specs.Guests.{Guest, Watch}
+use Rattle.guest_links.specs.Guests.{Watch}
 use Rattle.guest_links.specs.Happenings.{Happening, master_from, seen_from, outs_from}
 use Rattle.guest_links.specs.Outputs.{given_by}
 use Rattle.guest_links.specs.Served.{HasWatchers, IsNoGuest}
 
--- a line changes the records of its reader
-abbrev pub recs_by : Recs → Option (Tag × MResponse) → Recs
-recs_by recs None = recs
-recs_by recs (Some it) = recs_after recs it.1
+-- the bytes are the lines of these responses, one behind another
+pub data AreLinesOf : List ℕ → List (Tag × MResponse) → Type 0 where
+  no_line : AreLinesOf [] []
+  line_first : (line rest : List ℕ) (it : Tag × MResponse) (more : List (Tag × MResponse)) → IsResponseLine line it → AreLinesOf rest more
+      → AreLinesOf (line ++ rest) (it ∷ more)
 
-abbrev pub reads : Recs → List ℕ → Recs
-reads recs line = recs_by recs (response_in line)
+-- there is one way to read them
+abbrev pub LinesAreReadInOneWay : Type 0
+LinesAreReadInOneWay = (bytes : List ℕ) (its others : List (Tag × MResponse)) → AreLinesOf bytes its → AreLinesOf bytes others → its ≡ others
 
-abbrev pub IsResponse : List ℕ → Type 0
-IsResponse line = (it : Tag × MResponse) × (response_in line ≡ Some it)
+-- a response changes the records of its reader. After UPDATE no FIND or LIST is answered, so each line of a mailbox tells a change
+abbrev pub reads : Recs → Tag × MResponse → Recs
+reads recs it = recs_after recs it.1
 
--- the bytes are lines of the master, which make the records of the table
+-- the bytes are lines that make the records of the table
 pub record MakesTable (table : MailboxTable) (bytes : List ℕ) : Type 0 where
-  pub lines : List (List ℕ)
-  pub spelled : bytes ≡ flat_map (λ line. line) lines
-  pub responses : AllByRecursion IsResponse lines
-  pub made : fold reads [] lines ≡ recs_of table
+  pub responses : List (Tag × MResponse)
+  pub lines : AreLinesOf bytes responses
+  pub made : fold reads [] responses ≡ recs_of table
 
 -- what the client was given behind what it had before the answer to its UPDATE
 pub record HasTheTable (table : MailboxTable) (before all : List ℕ) : Type 0 where
@@ -38,12 +41,8 @@ pub record HasTheTable (table : MailboxTable) (before all : List ℕ) : Type 0 w
   pub is : all ≡ before ++ since
   pub makes : MakesTable table since
 
--- a client with an UPDATE, whose dialog goes on
-abbrev pub WatcherHas : MailboxTable → Guest → Type 0
-WatcherHas table guest = guest.dialog.ended ≡ false → (watch : Watch) → guest.watch ≡ Some watch → HasTheTable table watch.before guest.dialog.given
-
--- whatever happened since it connected, its outputs made the table of now
+-- whatever happened since a client connected that has sent UPDATE, and whose dialog goes on, its outputs made the table of now
 abbrev pub WatchersHaveTheTable : Type 0
-WatchersHaveTheTable = (master : Master) (conn : ℕ) (happenings : List Happening) (guest : Guest) (watch : Watch) → HasWatchers master → CanBeTold master.table
-    → IsNoGuest master conn → seen_from master conn None happenings ≡ Some guest → guest.dialog.ended ≡ false → guest.watch ≡ Some watch
+WatchersHaveTheTable = (master : Master) (conn : ℕ) (happenings : List Happening) → HasWatchers master → CanBeTold master.table → IsNoGuest master conn
+    → (dialog : Dialog) (watch : Watch) → seen_from master conn None happenings ≡ Some (record { dialog = dialog; watch = Some watch }) → dialog.ended ≡ false
     → HasTheTable (master_from master happenings).table watch.before (given_by conn (outs_from master happenings))

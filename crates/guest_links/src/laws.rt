@@ -1,5 +1,5 @@
 // What steps of the master are to a client from outside.
-ghost use Rattle.guest_links.specs.Reading.{WatchersHaveTheTable};
+ghost use Rattle.guest_links.specs.Reading.{WatchersHaveTheTable, LinesAreReadInOneWay};
 ghost use Rattle.guest_links.specs.Served.{EachStepServes, WatchersStayInOrder, ChangesAreOfTheTable, DialogIsTheMasters, ClientsHaveTheirDialogs};
 
 /// Whatever happens at the master, it has a client from outside as its dialog says, and gives it exactly what the dialog gains: the greeting, the
@@ -16,7 +16,9 @@ pub fn a_client_is_given_its_dialog()
     ensures { ClientsHaveTheirDialogs }
 {}
 
-/// What a client was given since its UPDATE are lines of the master that make the records of the table of now, at any moment.
+/// What a client was given since its UPDATE are lines of the master that make the records of the table of now, at any moment. There is one way
+/// to read them.
 pub fn what_a_watcher_was_told_is_the_table()
-    ensures { WatchersHaveTheTable }
+    ensures table { WatchersHaveTheTable }
+    ensures one { LinesAreReadInOneWay }
 {}
