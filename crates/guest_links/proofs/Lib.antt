@@ -8,3 +8,4 @@ pub mod OwnLines
 pub mod NodeLines
 pub mod ServedLaw
 pub mod WatcherLaw
+pub mod Ends

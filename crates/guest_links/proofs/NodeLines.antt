@@ -134,7 +134,7 @@ guest_told master conn guest next change order step is = record {
   last = (step.gives order).last;
 }
 
-told_nothing : (change : Option MasterRecord) → told_of change None ≡ []
+pub told_nothing : (change : Option MasterRecord) → told_of change None ≡ []
 told_nothing None = refl
 told_nothing (Some change) = refl
 

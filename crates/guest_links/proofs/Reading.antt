@@ -42,8 +42,8 @@ use Rattle.node_record.specs.declared.table.State.{State}
 use Rattle.node_record.specs.declared.table.State.TheVariants.{Bare, Kept, Active}
 use Rattle.node_record.specs.Table.{MailboxTable, Records, table_after}
 use Rattle.guest_links.specs.Guests.{Guest, Watch, tag_in, tag_of, first_of, watch_after, watch_by, told_of, told_change}
-use Rattle.guest_links.specs.Reading.{AreLinesOf, no_line, reads, MakesTable, HasTheTable}
-use Rattle.guest_links.proofs.Spelling.{under, lines_both, answers_lines}
+use Rattle.guest_links.specs.Reading.{reads, IsToldUnder, IsUnder, HasTheTable}
+use Rattle.guest_links.proofs.Spelling.{Responses, under, lines_both, answers_lines}
 use Rattle.guest_links.proofs.Watches.{watch_stays, begins_alone, no_watch, some_watch}
 
 -- the responses of several answers, as their reader takes them
@@ -51,23 +51,39 @@ reads_answers : (recs : Recs) (tag : Tag) (answers : List MResponse) → fold re
 reads_answers recs tag [] = refl
 reads_answers recs tag (it ∷ answers) = reads_answers (recs_after recs it) tag answers
 
--- more lines
-makes_more : (old new : MailboxTable) (bytes : List ℕ) (tag : Tag) (answers : List MResponse) → AllByRecursion (IsSpelledResponse tag) answers
-    → fed (recs_of old) answers ≡ recs_of new → MakesTable old bytes → MakesTable new (bytes ++ answers_text tag answers)
-makes_more old new bytes tag answers spelled fed_so makes = record {
-  responses = makes.responses ++ map (under tag) answers;
-  lines = lines_both bytes (answers_text tag answers) makes.responses (map (under tag) answers) makes.lines (answers_lines tag answers spelled);
-  made = fold-append reads [] makes.responses (map (under tag) answers) ∙ ap (λ recs. fold reads recs (map (under tag) answers)) makes.made
-      ∙ reads_answers (recs_of old) tag answers ∙ fed_so;
-}
+all_both : (P : Tag × MResponse → Type 0) (one two : Responses) → AllByRecursion P one → AllByRecursion P two → AllByRecursion P (one ++ two)
+all_both P [] two a b = b
+all_both P (it ∷ one) two a b = (a.0, all_both P one two a.1 b)
 
-has_more : (old new : MailboxTable) (before all : List ℕ) (tag : Tag) (answers : List MResponse) → AllByRecursion (IsSpelledResponse tag) answers
-    → fed (recs_of old) answers ≡ recs_of new → HasTheTable old before all → HasTheTable new before (all ++ answers_text tag answers)
-has_more old new before all tag answers spelled fed_so has = record {
-  since = has.since ++ answers_text tag answers;
-  is = ap (λ bytes. bytes ++ answers_text tag answers) has.is ∙ append_assoc before has.since (answers_text tag answers);
-  makes = makes_more old new has.since tag answers spelled fed_so has.makes;
-}
+its_tag : (tag : Tag) (it : MResponse) → IsToldUnder tag tag it
+its_tag tag (response.Ok text) = tt
+its_tag tag (response.No text) = tt
+its_tag tag (response.Bad text) = tt
+its_tag tag (response.Mailbox name place acl) = refl
+its_tag tag (response.Reserve name place) = refl
+its_tag tag (response.Delete name) = refl
+
+all_under : (tag : Tag) (answers : List MResponse) → AllByRecursion (IsUnder tag) (map (under tag) answers)
+all_under tag [] = tt
+all_under tag (it ∷ answers) = (its_tag tag it, all_under tag answers)
+
+-- more lines
+has_more : (old new : MailboxTable) (watch : Watch) (all : List ℕ) (tag : Tag) (answers : List MResponse) → AllByRecursion (IsSpelledResponse tag) answers
+    → AllByRecursion (IsUnder watch.tag) (map (under tag) answers) → fed (recs_of old) answers ≡ recs_of new
+    → HasTheTable old watch all → HasTheTable new watch (all ++ answers_text tag answers)
+has_more old new watch all tag answers spelled unders fed_so has =
+    let makes = has.makes in
+    let later : Responses = map (under tag) answers in
+    record {
+      since = has.since ++ answers_text tag answers;
+      is = ap (λ bytes. bytes ++ answers_text tag answers) has.is ∙ append_assoc watch.before has.since (answers_text tag answers);
+      makes = record {
+        responses = makes.responses ++ later;
+        lines = lines_both has.since (answers_text tag answers) makes.responses later makes.lines (answers_lines tag answers spelled);
+        made = fold-append reads [] makes.responses later ∙ ap (λ recs. fold reads recs later) makes.made ∙ reads_answers (recs_of old) tag answers ∙ fed_so;
+        tagged = all_both (IsUnder watch.tag) makes.responses later makes.tagged unders;
+      };
+    }
 
 -- the answer to UPDATE
 
@@ -123,7 +139,8 @@ module _ (tag : Tag) (tagged : IsSpelledTag tag) where
       both_written (flat_map record_lines table.records) (response.Ok done ∷ []) (records_written table.records can.spelled)
       (response_spelled tag (response.Ok done) tagged (text_spelled done (omega arith)), tt)
 
-  update_has : (table : MailboxTable) (before : List ℕ) → CanBeTold table → HasTheTable table before (before ++ answers_text tag (table_lines table))
+  update_has : (table : MailboxTable) (before : List ℕ) → CanBeTold table
+      → HasTheTable table (record { tag = tag; before = before }) (before ++ answers_text tag (table_lines table))
   update_has table before can = record {
     since = answers_text tag (table_lines table);
     is = refl;
@@ -131,20 +148,21 @@ module _ (tag : Tag) (tagged : IsSpelledTag tag) where
       responses = map (under tag) (table_lines table);
       lines = answers_lines tag (table_lines table) (table_written table can);
       made = reads_answers [] tag (table_lines table) ∙ table_fed table can.order;
+      tagged = all_under tag (table_lines table);
     };
   }
 
   -- OK and BAD
-  quiet_has : (table : MailboxTable) (before all : List ℕ) (it : MResponse) → IsQuiet it → HasTheTable table before all
-      → HasTheTable table before (all ++ answers_text tag (it ∷ []))
-  quiet_has table before all (response.Ok text) quiet has =
-      has_more table table before all tag (response.Ok text ∷ []) (response_spelled tag (response.Ok text) tagged quiet, tt) refl has
-  quiet_has table before all (response.Bad text) quiet has =
-      has_more table table before all tag (response.Bad text ∷ []) (response_spelled tag (response.Bad text) tagged quiet, tt) refl has
-  quiet_has table before all (response.Mailbox name place acl) quiet has = absurd quiet
-  quiet_has table before all (response.Reserve name place) quiet has = absurd quiet
-  quiet_has table before all (response.Delete name) quiet has = absurd quiet
-  quiet_has table before all (response.No text) quiet has = absurd quiet
+  quiet_has : (table : MailboxTable) (watch : Watch) (all : List ℕ) (it : MResponse) → IsQuiet it → HasTheTable table watch all
+      → HasTheTable table watch (all ++ answers_text tag (it ∷ []))
+  quiet_has table watch all (response.Ok text) quiet has =
+      has_more table table watch all tag (response.Ok text ∷ []) (response_spelled tag (response.Ok text) tagged quiet, tt) (tt, tt) refl has
+  quiet_has table watch all (response.Bad text) quiet has =
+      has_more table table watch all tag (response.Bad text ∷ []) (response_spelled tag (response.Bad text) tagged quiet, tt) (tt, tt) refl has
+  quiet_has table watch all (response.Mailbox name place acl) quiet has = absurd quiet
+  quiet_has table watch all (response.Reserve name place) quiet has = absurd quiet
+  quiet_has table watch all (response.Delete name) quiet has = absurd quiet
+  quiet_has table watch all (response.No text) quiet has = absurd quiet
 
   -- the line of a change
 
@@ -155,17 +173,18 @@ module _ (tag : Tag) (tagged : IsSpelledTag tag) where
   change_parts table it change (deletes name) has = has
 
   change_has : (table : MailboxTable) (before all : List ℕ) (it : MCommand) (change : MasterRecord) → MakesChange table it change → HasArguments it
-      → HasTheTable table before all → HasTheTable (table_after table change) before (all ++ text_of tag (change_line change))
+      → HasTheTable table (record { tag = tag; before = before }) all
+      → HasTheTable (table_after table change) (record { tag = tag; before = before }) (all ++ text_of tag (change_line change))
   change_has table before all it change makes arguments has =
-      subst (λ text. HasTheTable (table_after table change) before (all ++ text)) (append-nil (text_of tag (change_line change)))
-      (has_more table (table_after table change) before all tag (change_line change ∷ [])
-      (response_spelled tag (change_line change) tagged (change_parts table it change makes arguments), tt)
+      subst (λ text. HasTheTable (table_after table change) (record { tag = tag; before = before }) (all ++ text)) (append-nil (text_of tag (change_line change)))
+      (has_more table (table_after table change) (record { tag = tag; before = before }) all tag (change_line change ∷ [])
+      (response_spelled tag (change_line change) tagged (change_parts table it change makes arguments), tt) (all_under tag (change_line change ∷ []))
       (ap (λ replica. replica.records) (change_heard table it change makes)) has)
 
 -- a client with an UPDATE has the table
 pub record Keeps (table : MailboxTable) (watch : Watch) (all : List ℕ) : Type 0 where
   pub tagged : IsSpelledTag watch.tag
-  pub has : HasTheTable table watch.before all
+  pub has : HasTheTable table watch all
 
 abbrev pub WatcherKeeps : MailboxTable → Guest → Type 0
 WatcherKeeps table guest = guest.dialog.ended ≡ false → (watch : Watch) → guest.watch ≡ Some watch → Keeps table watch guest.dialog.given
@@ -181,7 +200,7 @@ no_watcher table dialog watch none = λ on it is. absurd (let never : None ≡ S
 quiet_keeps : (table : MailboxTable) (guest : Guest) (tag : Tag) (it : MResponse) → IsSpelledTag tag → IsQuiet it → WatcherKeeps table guest
     → WatcherKeeps table (guest_with (answered_with guest.dialog tag (it ∷ [])) guest.watch)
 quiet_keeps table guest tag it tagged quiet keeps = λ on watch is. (let old = keeps on watch is in
-    record { tagged = old.tagged; has = quiet_has tag tagged table watch.before guest.dialog.given it quiet old.has })
+    record { tagged = old.tagged; has = quiet_has tag tagged table watch guest.dialog.given it quiet old.has })
 
 bad_keeps : (table : MailboxTable) (guest : Guest) (tag : Tag) → IsSpelledTag tag → WatcherKeeps table guest
     → WatcherKeeps table (guest_with (answered_with guest.dialog tag bad_reply.answers) guest.watch)
@@ -263,7 +282,7 @@ module _ (table : MailboxTable) (conn : ℕ) (guest : Guest) (can : CanBeTold ta
 
 pub same_keeps : (table : MailboxTable) (guest : Guest) → WatcherKeeps table guest → WatcherKeeps table (told_change None guest)
 same_keeps table guest keeps = λ on watch is. (let old = keeps on watch is in
-    record { tagged = old.tagged; has = subst (HasTheTable table watch.before) (sym (append-nil guest.dialog.given)) old.has })
+    record { tagged = old.tagged; has = subst (HasTheTable table watch) (sym (append-nil guest.dialog.given)) old.has })
 
 tag_is : (guest : Guest) (watch : Watch) → guest.dialog.ended ≡ false → guest.watch ≡ Some watch → tag_of guest ≡ Some watch.tag
 tag_is guest watch on is = ap (λ b. cond b None (tag_in guest.watch)) on ∙ ap tag_in is
@@ -273,6 +292,6 @@ pub change_keeps : (table : MailboxTable) (guest : Guest) (it : MCommand) (chang
 change_keeps table guest it change makes arguments keeps = λ on watch is. (let old = keeps on watch is in
     record {
       tagged = old.tagged;
-      has = subst (λ tag. HasTheTable (table_after table change) watch.before (guest.dialog.given ++ told_of (Some change) tag)) (sym (tag_is guest watch on is))
+      has = subst (λ tag. HasTheTable (table_after table change) watch (guest.dialog.given ++ told_of (Some change) tag)) (sym (tag_is guest watch on is))
           (change_has watch.tag old.tagged table watch.before guest.dialog.given it change makes arguments old.has);
     })

@@ -116,5 +116,5 @@ pub watchers_have_the_table : WatchersHaveTheTable
 watchers_have_the_table master conn happenings order can none dialog watch seen on =
     let guest : Guest = record { dialog = dialog; watch = Some watch } in
     let keeps = subst (SeenKeeps (master_from master happenings).table) seen (keeps_on master conn None happenings order can none tt) in
-    subst (HasTheTable (master_from master happenings).table watch.before) (sym (ap given_to seen) ∙ given_on master conn None happenings order none)
+    subst (HasTheTable (master_from master happenings).table watch) (sym (ap given_to seen) ∙ given_on master conn None happenings order none)
     (keeps on watch refl).has

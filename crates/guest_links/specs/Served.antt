@@ -1,9 +1,10 @@
 -- The master has each client from outside as its dialog says, and gives it what its dialog gives.
-use Rattle.std.specs.Prelude.{◌≡◌, ℕ, Bool, false, ◌&&◌, not, is_some, if◌then◌else◌, List, [], ◌++◌, Option, None, Some}
+use Rattle.std.specs.Prelude.{◌≡◌, ℕ, Bool, true, false, ◌&&◌, not, is_some, if◌then◌else◌, List, [], ◌++◌, Option, None, Some}
 use Rattle.std.specs.Ordering.{nat_cmp}
 use Rattle.master_core.specs.declared.master.Master.{Master}
 use Rattle.master_core.specs.declared.outside.Outside.{Outside}
 use Rattle.master_core.specs.declared.outside.Outside.TheVariants as outside
+use Rattle.master_core.specs.Boot.{booted}
 use Rattle.master_core.specs.Dialogs.{Dialog, bytes_told}
 use Rattle.master_core.specs.Outside.{Stepped, outside_at}
 use Rattle.master_core.specs.Step.{table_with}
@@ -90,3 +91,20 @@ pub record HasItsDialog (master : Master) (conn : ℕ) (happenings : List Happen
 abbrev pub ClientsHaveTheirDialogs : Type 0
 ClientsHaveTheirDialogs = (master : Master) (conn : ℕ) (happenings : List Happening) → HasWatchers master → IsNoGuest master conn
     → HasItsDialog master conn happenings
+
+-- a dialog that has ended stays so, and its client is given nothing more
+pub record StaysOver (conn : ℕ) (next : Stepped) (later : Option Guest) : Type 0 where
+  pub over : is_over later ≡ true
+  pub nothing : given_by conn next.outs ≡ []
+
+abbrev pub EndsAreFinal : Type 0
+EndsAreFinal = (master : Master) (conn : ℕ) (guest : Guest) (happening : Happening) → HasWatchers master → IsGuestOf master conn guest → guest.dialog.ended ≡ true
+    → StaysOver conn (step_of master happening) (seen_after master.me master.table (change_of master happening) conn (Some guest) happening)
+
+-- nobody has connected to a master that starts from its disk
+pub record HasNobody (master : Master) : Type 0 where
+  pub order : HasWatchers master
+  pub nobody : (conn : ℕ) → IsNoGuest master conn
+
+abbrev pub NobodyAtFirst : Type 0
+NobodyAtFirst = (me : List ℕ) (backends : List (List ℕ)) (table : MailboxTable) → HasNobody (booted me backends table)
