@@ -2,7 +2,6 @@
 use Rattle.std.proofs.Common.{◌≡◌, ℕ, Bool, true, false, nat_eq, cond, List, [], ◌++◌, Option, None, Some, refl, sym, ap, ◌∙◌, append-nil}
 use Rattle.std.specs.List.Sorted.{IsStrictlySortedBy}
 use Rattle.std.proofs.lemmas.List.{append_cancel_left}
-use Rattle.link_msg.specs.declared.message.LinkMsg.{LinkMsg}
 use Rattle.master_core.specs.Boot.{booted}
 use Rattle.master_core.specs.Cutting.{cut_from}
 use Rattle.node_record.specs.declared.master.MasterRecord.{MasterRecord}

@@ -1,12 +1,11 @@
 -- A message of a node tells a watcher the change that it makes, and no other client anything.
-use Rattle.std.proofs.Common.{◌≡◌, ℕ, Bool, true, false, nat_eq, List, [], ◌∷◌, ◌++◌, map, Option, None, Some, refl, sym, ap, ◌∙◌, subst, append-nil}
+use Rattle.std.proofs.Common.{◌≡◌, ℕ, Bool, true, false, nat_eq, List, [], ◌++◌, map, Option, None, Some, refl, sym, ap, ◌∙◌, subst}
 use Rattle.std.specs.List.{list_any}
 use Rattle.std.specs.Ordering.{nat_cmp}
 use Rattle.std.specs.Cmp.Lexicographic.{pointwise}
-use Rattle.feed_links.proofs.Steps.{StepIs, is_bad, is_taken, taken, step_is, settled_table}
+use Rattle.feed_links.proofs.Steps.{StepIs, is_bad, is_taken, taken, step_is}
 use Rattle.link_msg.specs.declared.message.LinkMsg.{LinkMsg}
 use Rattle.link_msg.specs.declared.message.LinkMsg.TheVariants.{Up, End, Line, Ask, Answer}
-use Rattle.link_msg.specs.declared.out.Out.{Out}
 use Rattle.master_core.specs.declared.master.Master.{Master}
 use Rattle.master_core.specs.declared.reply.Reply.{Reply}
 use Rattle.master_core.specs.declared.sender.Sender.{Sender}
@@ -15,14 +14,14 @@ use Rattle.master_core.specs.declared.streams.StreamStep.{StreamStep}
 use Rattle.master_core.specs.declared.streams.StreamStep.TheVariants as stream
 use Rattle.master_core.specs.Changes.{change_outs}
 use Rattle.master_core.specs.Linked.{sender_by, sender_of, let_out, node_says}
-use Rattle.master_core.specs.Outside.{Stepped, outside_at}
+use Rattle.master_core.specs.Outside.{Stepped}
 use Rattle.master_core.specs.Replies.{reply_to, bad_reply}
 use Rattle.master_core.specs.Step.{Planned, answered, mark_outs, reply_outs, replied, settled, bad_step, line_step, table_with}
-use Rattle.master_core.specs.Streams.{close_outs, stream_step, streaming, without}
+use Rattle.master_core.specs.Streams.{stream_step, streaming, without}
 use Rattle.mupdate_codec.specs.declared.tag.Tag.{Tag}
 use Rattle.mur_base.specs.Map.{value_at}
 use Rattle.node_record.specs.declared.master.MasterRecord.{MasterRecord}
-use Rattle.guest_links.specs.Guests.{Guest, tag_of, told_of, told_change}
+use Rattle.guest_links.specs.Guests.{Guest, told_of, told_change}
 use Rattle.guest_links.specs.Happenings.{change_by}
 use Rattle.guest_links.specs.Served.{HasWatchers, IsGuestOf, IsNoGuest, IsServed, watcher_at}
 use Rattle.guest_links.proofs.Outputs.{Gives, gives_nothing, both, and_nothing, IsANode, no_answers, no_marks, change_told}

@@ -1,8 +1,7 @@
 -- The watchers stay in order, whatever comes to the master.
-use Rattle.std.proofs.Common.{◌≡◌, ℕ, Bool, true, false, nat_eq, cond, List, [], ◌∷◌, ◌++◌, Option, None, Some}
-use Rattle.std.specs.List.{fold, list_any}
+use Rattle.std.proofs.Common.{ℕ, Bool, true, false, cond, List, [], ◌∷◌, ◌++◌, Option, None, Some}
+use Rattle.std.specs.List.{fold}
 use Rattle.std.specs.Ordering.{nat_cmp}
-use Rattle.std.specs.Cmp.Lexicographic.{pointwise}
 use Rattle.std.proofs.lemmas.Cmp.{nat_cmp_total}
 use Rattle.feed_links.proofs.Steps.{StepIs, is_bad, is_taken, step_is}
 use Rattle.link_msg.specs.declared.message.LinkMsg.{LinkMsg}
@@ -15,14 +14,14 @@ use Rattle.master_core.specs.declared.sender.Sender.TheVariants as sender
 use Rattle.master_core.specs.declared.streams.StreamStep.{StreamStep}
 use Rattle.master_core.specs.declared.streams.StreamStep.TheVariants as stream
 use Rattle.master_core.specs.Cutting.{cut_from}
-use Rattle.master_core.specs.Linked.{sender_by, sender_of, node_says}
+use Rattle.master_core.specs.Linked.{sender_of, node_says}
 use Rattle.master_core.specs.Outside.{Stepped, still, outside_at, is_open, connect, connect_at, line_comes, lines_come, with_begun, bytes_at, bytes_in}
 use Rattle.master_core.specs.Replies.{reply_to}
 use Rattle.master_core.specs.Step.{Planned, replied, settled, bad_step, line_step}
 use Rattle.master_core.specs.Streams.{stream_step, streaming, without}
 use Rattle.mupdate_codec.specs.declared.tag.Tag.{Tag}
 use Rattle.mur_base.proofs.MapOrder.{with_entry-in_order}
-use Rattle.guest_links.specs.Happenings.{Happening, connects, says, leaves, sends, step_of}
+use Rattle.guest_links.specs.Happenings.{connects, says, leaves, sends, step_of}
 use Rattle.guest_links.specs.Served.{HasWatchers, WatchersStayInOrder}
 use Rattle.guest_links.proofs.Numbers.{order_without}
 

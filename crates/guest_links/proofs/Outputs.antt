@@ -1,8 +1,8 @@
 -- What the outputs of a step of the master are to one client.
-use Rattle.std.proofs.Common.{◌≡◌, ◌≢◌, ℕ, Bool, true, false, nat_eq, cond, List, [], ◌∷◌, ◌++◌, map, Option, None, Some, refl, sym, ap, ◌∙◌, subst, append-nil}
+use Rattle.std.proofs.Common.{◌≡◌, ◌≢◌, ℕ, Bool, true, false, cond, List, [], ◌∷◌, ◌++◌, map, Option, None, Some, refl, sym, ap, ◌∙◌, subst, append-nil}
 use Rattle.std.specs.Prelude.{◌||◌, ⊤}
 use Rattle.std.specs.declared.cmp.Ordering.TheVariants.{Less}
-use Rattle.std.specs.List.{list_any, AllByRecursion}
+use Rattle.std.specs.List.{AllByRecursion}
 use Rattle.std.specs.List.Sorted.{IsStrictlySortedBy}
 use Rattle.std.specs.Map.{keys_of}
 use Rattle.std.specs.Ordering.{is_eq, nat_cmp}
@@ -52,9 +52,10 @@ one_more conn out outs one bytes gives unshut gone_on = record {
 pub last_both : (conn : ℕ) (one two : List Out) → closes conn one ≡ false → ClosesLast conn two → ClosesLast conn (one ++ two)
 unfolding ClosesLast
 last_both conn [] two unshut last = last
-last_both conn (out ∷ one) two unshut last =
-    (λ shut. absurd (let no : true ≡ false = sym (ap (λ b. b || closes conn one) shut) ∙ unshut in cc),
-    last_both conn one two (rest_open (is_close conn out) (closes conn one) unshut) last)
+last_both conn (out ∷ one) two unshut last = (
+  λ shut. absurd (let no : true ≡ false = sym (ap (λ b. b || closes conn one) shut) ∙ unshut in cc),
+  last_both conn one two (rest_open (is_close conn out) (closes conn one) unshut) last,
+)
   where
     rest_open : (a b : Bool) → (a || b) ≡ false → b ≡ false
     rest_open true b e = cc

@@ -1,5 +1,5 @@
 -- What a client's own bytes do: its lines are answered as its dialog says, UPDATE makes it a watcher, and LOGOUT ends it.
-use Rattle.std.proofs.Common.{◌≡◌, ℕ, Bool, true, false, ◌&&◌, not, cond, List, [], ◌∷◌, ◌++◌, map, is_some, Option, None, Some, refl, sym, ap, ◌∙◌, subst}
+use Rattle.std.proofs.Common.{◌≡◌, ℕ, Bool, true, false, ◌&&◌, not, cond, List, [], ◌∷◌, ◌++◌, is_some, Option, None, Some, refl, sym, ap, ◌∙◌, subst}
 use Rattle.std.proofs.Common.{append-nil, append_assoc}
 use Rattle.std.specs.Prelude.{◌||◌}
 use Rattle.std.specs.List.{fold}
@@ -14,25 +14,24 @@ use Rattle.master_core.specs.declared.streams.StreamStep.{StreamStep}
 use Rattle.master_core.specs.declared.streams.StreamStep.TheVariants as stream
 use Rattle.feed_links.specs.Spelled.{CanBeTold}
 use Rattle.master_core.specs.Cutting.{Cut, cut_from}
-use Rattle.master_core.specs.Dialogs.{Dialog, answered_with, dialog_ended, dialog_after, command_told, told_by, line_told, bytes_told, cut_told, answers_text}
+use Rattle.master_core.specs.Dialogs.{Dialog, answered_with, dialog_after, command_told, told_by, line_told, bytes_told, cut_told, answers_text}
 use Rattle.master_core.specs.Linked.{let_out}
 use Rattle.master_core.specs.Lines.{tag_before}
-use Rattle.master_core.specs.Outside.{Stepped, still, outside_at, is_open_at, line_comes, lines_come, with_begun as begun_at, bytes_at, bytes_in}
+use Rattle.master_core.specs.Outside.{Stepped, still, is_open_at, line_comes, lines_come, with_begun as begun_at, bytes_at, bytes_in}
 use Rattle.master_core.specs.Replies.{reply_to, bad_reply}
 use Rattle.master_core.specs.Step.{Planned, replied, settled, bad_step, command_step, line_by, line_step}
 use Rattle.master_core.specs.Streams.{is_stream, streaming, ended_if, without, may_follow_update, stream_step}
 use Rattle.master_core.proofs.OutsideAlone.{answers_alone}
 use Rattle.master_core.proofs.OutsideLaw.{no_entry, line_leaves}
 use Rattle.mupdate_codec.specs.declared.command.MCommand.{MCommand}
-use Rattle.mupdate_codec.specs.declared.command.MCommand.TheVariants as command
 use Rattle.mupdate_codec.specs.declared.tag.Tag.{Tag}
 use Rattle.mupdate_codec.specs.Whole.{command_in}
 use Rattle.mur_base.specs.Map.{value_at}
 use Rattle.mur_base.proofs.MapLaws.{numbers_apart, value_at-with_entry, value_at-with_value}
 use Rattle.node_record.specs.Table.{MailboxTable}
 use Rattle.guest_links.specs.Guests.{Guest, Watch, tag_in, tag_of, first_of, watch_after, watch_by, line_taken, with_begun, lines_taken, bytes_taken, left}
-use Rattle.guest_links.specs.Outputs.{given_by, closes, ClosesLast}
-use Rattle.guest_links.specs.Served.{HasWatchers, IsGuestOf, IsServed, DialogIsTheMasters, outside_of, watcher_at}
+use Rattle.guest_links.specs.Outputs.{given_by, ClosesLast}
+use Rattle.guest_links.specs.Served.{HasWatchers, IsGuestOf, IsServed, DialogIsTheMasters, outside_of}
 use Rattle.guest_links.proofs.Numbers.{gone, same_number}
 use Rattle.guest_links.proofs.Orders.{line_order}
 use Rattle.guest_links.proofs.Outputs.{Gives, own_answers, given_both, closes_both, last_both}

@@ -11,17 +11,16 @@ use Rattle.std.proofs.lemmas.List.Concat.{flat_map-cons}
 use Rattle.feed_core.specs.Feed.{Recs, recs_after, fed}
 use Rattle.feed_core.specs.RecLines.{rec_lines}
 use Rattle.feed_core.proofs.LinesLaw.{lines_make}
-use Rattle.feed_links.specs.Replicas.{rec_entry, recs_of, replica_of}
+use Rattle.feed_links.specs.Replicas.{rec_entry, recs_of}
 use Rattle.feed_links.specs.Spelled.{IsSpelledRecord, CanBeTold}
 use Rattle.feed_links.proofs.Arguments.{HasArguments, IsSpelledTag, line_tagged, before_spelled}
 use Rattle.feed_links.proofs.Changes.{MakesChange, reserves, activates, deactivates, deletes, change_heard}
 use Rattle.feed_links.proofs.Hearing.{IsQuiet, text_spelled}
 use Rattle.feed_links.proofs.Printed.{HasParts, response_spelled}
 use Rattle.master_core.specs.declared.sender.Sender.TheVariants as sender
-use Rattle.master_core.specs.declared.streams.StreamStep.{StreamStep}
 use Rattle.master_core.specs.declared.streams.StreamStep.TheVariants as stream
 use Rattle.master_core.specs.Changes.{change_line, text_of}
-use Rattle.master_core.specs.Dialogs.{Dialog, answered_with, answers_text, dialog_after, dialog_ended, command_told, told_by}
+use Rattle.master_core.specs.Dialogs.{Dialog, answered_with, answers_text, dialog_after, command_told, told_by}
 use Rattle.master_core.specs.Lines.{tag_before}
 use Rattle.master_core.specs.Records.{record_lines}
 use Rattle.master_core.specs.Replies.{bad, bad_reply, done, reply_to, noop_reply, update_reply}
@@ -44,7 +43,7 @@ use Rattle.node_record.specs.Table.{MailboxTable, Records, table_after}
 use Rattle.guest_links.specs.Guests.{Guest, Watch, tag_in, tag_of, first_of, watch_after, watch_by, told_of, told_change}
 use Rattle.guest_links.specs.Reading.{reads, IsToldUnder, IsUnder, HasTheTable}
 use Rattle.guest_links.proofs.Spelling.{Responses, under, lines_both, answers_lines}
-use Rattle.guest_links.proofs.Watches.{watch_stays, begins_alone, no_watch, some_watch}
+use Rattle.guest_links.proofs.Watches.{watch_stays, no_watch, some_watch}
 
 -- the responses of several answers, as their reader takes them
 reads_answers : (recs : Recs) (tag : Tag) (answers : List MResponse) → fold reads recs (map (under tag) answers) ≡ fed recs answers

@@ -1,5 +1,5 @@
 -- Lines one behind another: they are put together, and read in one way.
-use Rattle.std.proofs.Common.{◌≡◌, ℕ, List, [], ◌∷◌, ◌++◌, map, Result, Ok, Err, refl, sym, ap, ◌∙◌, subst, append-nil, append_assoc}
+use Rattle.std.proofs.Common.{◌≡◌, ℕ, List, [], ◌∷◌, ◌++◌, map, Result, Ok, Err, refl, sym, ap, ◌∙◌, subst, append_assoc}
 use Rattle.master_core.specs.Changes.{text_of}
 use Rattle.master_core.specs.Dialogs.{answers_text}
 use Rattle.mupdate_codec.specs.declared.command.MResponse.{MResponse}

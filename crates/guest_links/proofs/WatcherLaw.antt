@@ -1,5 +1,5 @@
 -- Whatever happens at the master, what a watcher was given is the table.
-use Rattle.std.proofs.Common.{◌≡◌, ◌≢◌, ℕ, Bool, true, false, nat_eq, cond, List, [], ◌∷◌, Option, None, Some, refl, sym, ap, ◌∙◌, subst}
+use Rattle.std.proofs.Common.{◌≡◌, ℕ, Bool, true, false, nat_eq, cond, List, [], ◌∷◌, Option, None, Some, refl, sym, ap, ◌∙◌, subst}
 use Rattle.std.specs.Prelude.{⊤}
 use Rattle.feed_links.specs.Spelled.{CanBeTold}
 use Rattle.feed_links.proofs.Arguments.{HasArguments}
@@ -10,20 +10,17 @@ use Rattle.link_msg.specs.declared.message.LinkMsg.{LinkMsg}
 use Rattle.link_msg.specs.declared.message.LinkMsg.TheVariants.{Up, End, Line, Ask, Answer}
 use Rattle.master_core.specs.declared.master.Master.{Master}
 use Rattle.master_core.specs.declared.sender.Sender.{Sender}
-use Rattle.master_core.specs.Dialogs.{Dialog}
 use Rattle.master_core.specs.Linked.{sender_of}
-use Rattle.master_core.specs.Outside.{Stepped}
 use Rattle.master_core.specs.Replies.{reply_to, bad_reply}
-use Rattle.master_core.specs.Step.{Planned, replied, bad_step, line_step, table_with}
+use Rattle.master_core.specs.Step.{Planned, replied, bad_step, table_with}
 use Rattle.master_core.specs.Streams.{stream_step}
 use Rattle.mupdate_codec.specs.declared.command.MCommand.{MCommand}
 use Rattle.node_record.specs.declared.master.MasterRecord.{MasterRecord}
 use Rattle.node_record.specs.Table.{MailboxTable}
-use Rattle.guest_links.specs.Guests.{Guest, Watch, arrived, bytes_taken, left, told_change}
-use Rattle.guest_links.specs.Happenings.{Happening, connects, says, leaves, sends, step_of, change_by, change_of, first_seen, guest_after, seen_after, master_from, outs_from, seen_from}
-use Rattle.guest_links.specs.Outputs.{given_by}
+use Rattle.guest_links.specs.Guests.{Guest, arrived, bytes_taken, left, told_change}
+use Rattle.guest_links.specs.Happenings.{Happening, connects, says, leaves, sends, step_of, change_by, change_of, seen_after, master_from, seen_from}
 use Rattle.guest_links.specs.Reading.{HasTheTable, WatchersHaveTheTable}
-use Rattle.guest_links.specs.Served.{HasWatchers, IsGuestOf, IsSeen, given_to, ChangesAreOfTheTable}
+use Rattle.guest_links.specs.Served.{HasWatchers, IsSeen, given_to}
 use Rattle.guest_links.proofs.NodeLines.{taken_entry}
 use Rattle.guest_links.proofs.Orders.{watchers_stay_in_order}
 use Rattle.guest_links.proofs.OwnLines.{bytes_keep}

@@ -37,4 +37,3 @@ no_watch (Some watch) false h never = cc
 pub some_watch : (b may : Bool) → (b && not may) ≡ true → b ≡ true
 some_watch true may h = refl
 some_watch false may h = cc
-
