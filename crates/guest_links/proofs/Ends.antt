@@ -31,13 +31,15 @@ module _ (guest : Guest) (over : guest.dialog.ended ≡ true) where
   leaves_still true = record { over = refl; given = refl }
   leaves_still false = record { over = over; given = refl }
 
-  stays_over : (table : MailboxTable) (change : Option MasterRecord) (conn : ℕ) (happening : Happening) → IsStill guest (guest_after table change conn guest happening)
+  stays_over : (table : MailboxTable) (change : Option MasterRecord) (conn : ℕ) (happening : Happening)
+      → IsStill guest (guest_after table change conn guest happening)
   stays_over table change conn (connects other) = record { over = over; given = refl }
   stays_over table change conn (says other bytes) = says_still table conn bytes (nat_eq conn other)
   stays_over table change conn (leaves other) = leaves_still (nat_eq conn other)
   stays_over table change conn (sends node message) = record {
     over = over;
-    given = ap (λ b. guest.dialog.given ++ told_of change (cond b None (tag_in guest.watch))) over ∙ ap (λ bytes. guest.dialog.given ++ bytes) (told_nothing change)
+    given = ap (λ b. guest.dialog.given ++ told_of change (cond b None (tag_in guest.watch))) over
+        ∙ ap (λ bytes. guest.dialog.given ++ bytes) (told_nothing change)
         ∙ append-nil guest.dialog.given;
   }
 

@@ -82,7 +82,8 @@ settled_entry planned from tag stream.Stays = refl
 settled_entry planned from tag stream.Begins = refl
 settled_entry planned from tag stream.Ends = refl
 
-pub taken_entry : (master : Master) (from : Sender) (tag : Tag) (reply : Reply) (step : StreamStep) → (settled (replied master from tag reply) from tag step).entry ≡ reply.entry
+pub taken_entry : (master : Master) (from : Sender) (tag : Tag) (reply : Reply) (step : StreamStep)
+    → (settled (replied master from tag reply) from tag step).entry ≡ reply.entry
 unfolding replied
 taken_entry master from tag reply step = settled_entry (replied master from tag reply) from tag step
 
@@ -99,7 +100,8 @@ a_node : (b : Bool) (node : List ℕ) → IsANode (sender_by b node)
 a_node true node = tt
 a_node false node = tt
 
-ended_step : (master : Master) (conn : ℕ) (b : Bool) (node : List ℕ) → NodeStep master conn (record { master = without master (sender_by b node); outs = [] }) None
+ended_step : (master : Master) (conn : ℕ) (b : Bool) (node : List ℕ)
+    → NodeStep master conn (record { master = without master (sender_by b node); outs = [] }) None
 unfolding without
 ended_step master conn true node = record { clients = record { outside = refl; watchers = refl }; table = refl; gives = λ order. gives_nothing conn }
 ended_step master conn false node = record { clients = record { outside = refl; watchers = refl }; table = refl; gives = λ order. gives_nothing conn }
@@ -111,7 +113,8 @@ pub node_step : (master : Master) (conn : ℕ) (node : List ℕ) (message : Link
     → NodeStep master conn (node_says master node message) (change_by master node message)
 unfolding node_says
 node_step master conn node (Line bytes) =
-    step_by master conn (sender_of master node) (line_step master (sender_of master node) bytes) (a_node (list_any (pointwise nat_eq node) master.backends) node)
+    step_by master conn (sender_of master node) (line_step master (sender_of master node) bytes)
+    (a_node (list_any (pointwise nat_eq node) master.backends) node)
     (step_is master (sender_of master node) bytes)
 node_step master conn node End = ended_step master conn (list_any (pointwise nat_eq node) master.backends) node
 node_step master conn node Up = same_step master conn
@@ -120,7 +123,8 @@ node_step master conn node (Answer answer) = same_step master conn
 
 -- the client after it
 
-pub guest_told : (master : Master) (conn : ℕ) (guest : Guest) (next : Stepped) (change : Option MasterRecord) → HasWatchers master → NodeStep master conn next change
+pub guest_told : (master : Master) (conn : ℕ) (guest : Guest) (next : Stepped) (change : Option MasterRecord) → HasWatchers master
+    → NodeStep master conn next change
     → IsGuestOf master conn guest → IsServed conn next (Some guest) (Some (told_change change guest)) false
 guest_told master conn guest next change order step is = record {
   is = record {
@@ -137,7 +141,8 @@ pub told_nothing : (change : Option MasterRecord) → told_of change None ≡ []
 told_nothing None = refl
 told_nothing (Some change) = refl
 
-pub nobody_told : (master : Master) (conn : ℕ) (next : Stepped) (change : Option MasterRecord) → HasWatchers master → NodeStep master conn next change → IsNoGuest master conn
+pub nobody_told : (master : Master) (conn : ℕ) (next : Stepped) (change : Option MasterRecord) → HasWatchers master → NodeStep master conn next change
+    → IsNoGuest master conn
     → IsServed conn next None None false
 nobody_told master conn next change order step none = record {
   is = record {

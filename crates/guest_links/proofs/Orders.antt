@@ -35,7 +35,8 @@ ended_order master (sender.Backend node) order = order
 ended_order master (sender.Frontend node) order = order
 ended_order master (sender.Outside conn) order = order_without conn master.watchers order
 
-settled_order : (planned : Planned) (from : Sender) (tag : Tag) (step : StreamStep) → HasWatchers planned.master → HasWatchers (settled planned from tag step).master
+settled_order : (planned : Planned) (from : Sender) (tag : Tag) (step : StreamStep) → HasWatchers planned.master
+    → HasWatchers (settled planned from tag step).master
 unfolding settled streaming
 settled_order planned from tag stream.Stays order = order
 settled_order planned (sender.Backend node) tag stream.Begins order = order
@@ -52,8 +53,11 @@ step_order master from next order (is_taken tag it tagged has may) =
 pub line_order : (master : Master) (from : Sender) (line : List ℕ) → HasWatchers master → HasWatchers (line_step master from line).master
 line_order master from line order = step_order master from _ order (step_is master from line)
 
+abbrev later : Stepped → Planned → Stepped
+later so_far next = record { master = next.master; outs = so_far.outs ++ next.outs }
+
 comes_by : (conn : ℕ) (so_far : Stepped) (line : List ℕ) (b : Bool) → HasWatchers so_far.master
-    → (let after : Stepped = cond b (record { master = (line_step so_far.master (sender.Outside conn) line).master; outs = so_far.outs ++ (line_step so_far.master (sender.Outside conn) line).outs }) so_far in HasWatchers after.master)
+    → HasWatchers (cond b (later so_far (line_step so_far.master (sender.Outside conn) line)) so_far).master
 comes_by conn so_far line true order = line_order so_far.master (sender.Outside conn) line order
 comes_by conn so_far line false order = order
 

@@ -90,7 +90,8 @@ to_another conn other bytes ne = ap (λ b. cond b bytes []) (other_number conn o
 pub own_answers : (conn : ℕ) (tag : Tag) (answers : List MResponse) → Gives conn (map (answered (Outside conn) tag) answers) (answers_text tag answers)
 own_answers conn tag [] = gives_nothing conn
 own_answers conn tag (it ∷ answers) =
-    one_more conn (answered (Outside conn) tag it) (map (answered (Outside conn) tag) answers) (text_of tag it) (answers_text tag answers) (to_it conn (text_of tag it)) refl
+    one_more conn (answered (Outside conn) tag it) (map (answered (Outside conn) tag) answers) (text_of tag it) (answers_text tag answers)
+    (to_it conn (text_of tag it)) refl
     (own_answers conn tag answers)
 
 -- who is a node, and no client
@@ -104,7 +105,8 @@ no_answers conn from tag [] node = gives_nothing conn
 no_answers conn (Backend name) tag (it ∷ answers) node =
     one_more conn (answered (Backend name) tag it) (map (answered (Backend name) tag) answers) [] [] refl refl (no_answers conn (Backend name) tag answers node)
 no_answers conn (Frontend name) tag (it ∷ answers) node =
-    one_more conn (answered (Frontend name) tag it) (map (answered (Frontend name) tag) answers) [] [] refl refl (no_answers conn (Frontend name) tag answers node)
+    one_more conn (answered (Frontend name) tag it) (map (answered (Frontend name) tag) answers) [] [] refl refl
+    (no_answers conn (Frontend name) tag answers node)
 no_answers conn (Outside other) tag answers node = absurd node
 
 -- marks
@@ -178,7 +180,8 @@ module _ (conn : ℕ) (it : MResponse) where
       (to_another conn e.0 (text_of e.1 it) (not_it e.0 h)) refl more
 
   -- a watcher is told once, under its tag
-  told_once : (watchers : List (ℕ × Tag)) → IsInOrder nat_cmp watchers → Gives conn (map (watcher_told it) watchers) (text_under (value_at nat_cmp watchers conn))
+  told_once : (watchers : List (ℕ × Tag)) → IsInOrder nat_cmp watchers
+      → Gives conn (map (watcher_told it) watchers) (text_under (value_at nat_cmp watchers conn))
   unfolding IsStrictlySortedBy text_under
   told_once [] order = gives_nothing conn
   told_once (e ∷ watchers) order = once_by e watchers order (told_once watchers order.1) (is_eq (nat_cmp conn e.0)) refl
@@ -193,7 +196,8 @@ pub change_told : (conn : ℕ) (streams : List (List ℕ × Tag)) (watchers : Li
 unfolding change_outs
 change_told conn streams watchers None order = gives_nothing conn
 change_told conn streams watchers (Some change) order =
-    both conn (map (node_told (change_line change)) streams) (map (watcher_told (change_line change)) watchers) [] (told_of (Some change) (value_at nat_cmp watchers conn))
+    both conn (map (node_told (change_line change)) streams) (map (watcher_told (change_line change)) watchers) []
+    (told_of (Some change) (value_at nat_cmp watchers conn))
     (none_for_nodes conn (change_line change) streams)
     (subst (Gives conn (map (watcher_told (change_line change)) watchers)) (text_told change conn (value_at nat_cmp watchers conn))
     (told_once conn (change_line change) watchers order))

@@ -45,8 +45,10 @@ abbrev guest_with : Dialog → Option Watch → Guest
 guest_with dialog watch = record { dialog = dialog; watch = watch }
 
 -- a reply that changes nothing
-replied_served : (master : Master) (conn : ℕ) (guest : Guest) (tag : Tag) (reply : Reply) → reply.entry ≡ None → guest.dialog.ended ≡ false → IsGuestOf master conn guest
-    → IsGuestServed conn (let_out (replied master (sender.Outside conn) tag reply)) guest (guest_with (answered_with guest.dialog tag reply.answers) guest.watch)
+replied_served : (master : Master) (conn : ℕ) (guest : Guest) (tag : Tag) (reply : Reply) → reply.entry ≡ None → guest.dialog.ended ≡ false
+    → IsGuestOf master conn guest
+    → IsGuestServed conn (let_out (replied master (sender.Outside conn) tag reply)) guest
+    (guest_with (answered_with guest.dialog tag reply.answers) guest.watch)
 unfolding replied
 replied_served master conn guest tag reply none on is =
     let gives : Gives conn (replied master (sender.Outside conn) tag reply).outs (answers_text tag reply.answers) =
@@ -96,7 +98,8 @@ settled_served conn planned guest mid before tag stream.Begins order on fresh se
     }
 settled_served conn planned guest mid before tag stream.Ends order on fresh served = record {
   is = left_is planned.master conn mid order served.is;
-  given = served.given ∙ ap (λ bytes. guest.dialog.given ++ bytes) (sym (given_both conn planned.outs (Close conn ∷ []) ∙ append-nil (given_by conn planned.outs)));
+  given = served.given ∙ ap (λ bytes. guest.dialog.given ++ bytes) (sym (given_both conn planned.outs (Close conn ∷ [])
+      ∙ append-nil (given_by conn planned.outs)));
   closed = closes_both conn planned.outs (Close conn ∷ []) (served.closed ∙ on) ∙ ap (λ b. b || false) (same_number conn);
   last = last_both conn planned.outs (Close conn ∷ []) (served.closed ∙ on) ((λ shut. refl), tt);
 }
@@ -119,7 +122,8 @@ module _ (master : Master) (conn : ℕ) (guest : Guest) (order : HasWatchers mas
     reply = reply_to master.table (sender.Outside conn) it
 
     stepped : Bool → Planned
-    stepped b = cond b (bad_step master (sender.Outside conn) tag) (settled (replied master (sender.Outside conn) tag reply) (sender.Outside conn) tag (stream_step it))
+    stepped b =
+        cond b (bad_step master (sender.Outside conn) tag) (settled (replied master (sender.Outside conn) tag reply) (sender.Outside conn) tag (stream_step it))
 
     told : Bool → Dialog
     told b = cond b (answered_with guest.dialog tag bad_reply.answers) (dialog_after (answered_with guest.dialog tag reply.answers) (stream_step it))
@@ -128,11 +132,13 @@ module _ (master : Master) (conn : ℕ) (guest : Guest) (order : HasWatchers mas
         → IsGuestServed conn (let_out (stepped b)) guest (guest_with (told b) (watch_after guest.dialog guest.watch tag (stream_step it)))
     unfolding stepped told reply replied
     by_test true e =
-        subst (λ watch. IsGuestServed conn (let_out (bad_step master (sender.Outside conn) tag)) guest (guest_with (answered_with guest.dialog tag bad_reply.answers) watch))
+        subst (λ watch. IsGuestServed conn (let_out (bad_step master (sender.Outside conn) tag)) guest
+        (guest_with (answered_with guest.dialog tag bad_reply.answers) watch))
         (sym (watch_stays guest.dialog guest.watch tag (stream_step it) (some_watch (is_some guest.watch) (may_follow_update it) e)))
         (bad_served master conn guest tag on is)
     by_test false e =
-        settled_served conn (replied master (sender.Outside conn) tag reply) guest (guest_with (answered_with guest.dialog tag reply.answers) guest.watch) guest.dialog tag
+        settled_served conn (replied master (sender.Outside conn) tag reply) guest
+        (guest_with (answered_with guest.dialog tag reply.answers) guest.watch) guest.dialog tag
         (stream_step it) order on (λ begins. no_watch guest.watch (may_follow_update it) e (begins_alone it begins))
         (replied_served master conn guest tag reply (no_entry master.table conn it) on is)
 
@@ -141,7 +147,8 @@ module _ (master : Master) (conn : ℕ) (guest : Guest) (order : HasWatchers mas
     unfolding command_step command_told is_stream stepped told reply
     command_served =
         subst (λ s. IsGuestServed conn (let_out (stepped (s && not (may_follow_update it)))) guest
-        (guest_with (told (guest.dialog.streams && not (may_follow_update it))) (watch_after guest.dialog guest.watch tag (stream_step it)))) (sym watches_alike)
+        (guest_with (told (guest.dialog.streams && not (may_follow_update it))) (watch_after guest.dialog guest.watch tag (stream_step it))))
+        (sym watches_alike)
         (subst (λ s. IsGuestServed conn (let_out (stepped (is_some guest.watch && not (may_follow_update it)))) guest
         (guest_with (told (s && not (may_follow_update it))) (watch_after guest.dialog guest.watch tag (stream_step it)))) (is.streams on)
         (by_test (is_some guest.watch && not (may_follow_update it)) refl))
@@ -298,7 +305,8 @@ pub bytes_keep : (master : Master) (conn : ℕ) (guest : Guest) (piece : List �
 unfolding bytes_taken
 bytes_keep master conn guest piece order can is keeps = by guest.dialog.ended refl
   where
-    by : (b : Bool) → guest.dialog.ended ≡ b → WatcherKeeps master.table (cond b guest (lines_taken master.table conn guest (cut_from guest.dialog.begun piece)))
+    by : (b : Bool) → guest.dialog.ended ≡ b
+        → WatcherKeeps master.table (cond b guest (lines_taken master.table conn guest (cut_from guest.dialog.begun piece)))
     by true over = keeps
     by false on = (bytes_go master conn guest (cut_from guest.dialog.begun piece) order on is).keeps can keeps
 
@@ -316,4 +324,6 @@ dialog_is_the_masters table conn guest piece = by guest.dialog.ended
     by : (b : Bool) → (cond b guest (lines_taken table conn guest (cut_from guest.dialog.begun piece))).dialog
         ≡ cond b guest.dialog (cut_told table conn guest.dialog (cut_from guest.dialog.begun piece))
     by true = refl
-    by false = fold_dialogs table conn (guest_with (with_begun guest.dialog (cut_from guest.dialog.begun piece).begun) guest.watch) (cut_from guest.dialog.begun piece).lines
+    by false =
+        fold_dialogs table conn (guest_with (with_begun guest.dialog (cut_from guest.dialog.begun piece).begun) guest.watch)
+        (cut_from guest.dialog.begun piece).lines

@@ -111,6 +111,9 @@ table_fed table order =
     ∙ lines_make (recs_of table) (keys_alike (IsStrictlySortedBy (slice_cmp nat_cmp)) table.records order)
 
 module _ (tag : Tag) (tagged : IsSpelledTag tag) where
+  abbrev mine : List ℕ → Watch
+  mine before = record { tag = tag; before = before }
+
   abbrev AreWritten : List MResponse → Type 0
   AreWritten lines = AllByRecursion (IsSpelledResponse tag) lines
 
@@ -131,7 +134,8 @@ module _ (tag : Tag) (tagged : IsSpelledTag tag) where
   records_written [] all = tt
   records_written (entry ∷ records) all =
       subst AreWritten (sym (flat_map-cons record_lines entry records))
-      (both_written (record_lines entry) (flat_map record_lines records) (state_written entry.0 (entry.1).place (entry.1).state all.0) (records_written records all.1))
+      (both_written (record_lines entry) (flat_map record_lines records) (state_written entry.0 (entry.1).place (entry.1).state all.0)
+      (records_written records all.1))
 
   table_written : (table : MailboxTable) → CanBeTold table → AreWritten (table_lines table)
   table_written table can =
@@ -139,7 +143,7 @@ module _ (tag : Tag) (tagged : IsSpelledTag tag) where
       (response_spelled tag (response.Ok done) tagged (text_spelled done (omega arith)), tt)
 
   update_has : (table : MailboxTable) (before : List ℕ) → CanBeTold table
-      → HasTheTable table (record { tag = tag; before = before }) (before ++ answers_text tag (table_lines table))
+      → HasTheTable table (mine before) (before ++ answers_text tag (table_lines table))
   update_has table before can = record {
     since = answers_text tag (table_lines table);
     is = refl;
@@ -172,11 +176,11 @@ module _ (tag : Tag) (tagged : IsSpelledTag tag) where
   change_parts table it change (deletes name) has = has
 
   change_has : (table : MailboxTable) (before all : List ℕ) (it : MCommand) (change : MasterRecord) → MakesChange table it change → HasArguments it
-      → HasTheTable table (record { tag = tag; before = before }) all
-      → HasTheTable (table_after table change) (record { tag = tag; before = before }) (all ++ text_of tag (change_line change))
+      → HasTheTable table (mine before) all
+      → HasTheTable (table_after table change) (mine before) (all ++ text_of tag (change_line change))
   change_has table before all it change makes arguments has =
-      subst (λ text. HasTheTable (table_after table change) (record { tag = tag; before = before }) (all ++ text)) (append-nil (text_of tag (change_line change)))
-      (has_more table (table_after table change) (record { tag = tag; before = before }) all tag (change_line change ∷ [])
+      subst (λ text. HasTheTable (table_after table change) (mine before) (all ++ text)) (append-nil (text_of tag (change_line change)))
+      (has_more table (table_after table change) (mine before) all tag (change_line change ∷ [])
       (response_spelled tag (change_line change) tagged (change_parts table it change makes arguments), tt) (all_under tag (change_line change ∷ []))
       (ap (λ replica. replica.records) (change_heard table it change makes)) has)
 
@@ -264,7 +268,8 @@ module _ (table : MailboxTable) (conn : ℕ) (guest : Guest) (can : CanBeTold ta
       → WatcherKeeps table (guest_with (command_told table conn guest.dialog tag it) (watch_after guest.dialog guest.watch tag (stream_step it)))
   unfolding command_told told
   command_keeps tag it tagged =
-      subst (λ s. WatcherKeeps table (guest_with (told tag it (s && not (may_follow_update it))) (watch_after guest.dialog guest.watch tag (stream_step it)))) streams
+      subst (λ s. WatcherKeeps table (guest_with (told tag it (s && not (may_follow_update it))) (watch_after guest.dialog guest.watch tag
+      (stream_step it)))) streams
       (by_test tag it tagged (is_some guest.watch && not (may_follow_update it)) refl)
 
   found_keeps : (line : List ℕ) (found : Option (Tag × MCommand)) → command_in line ≡ found

@@ -8,7 +8,6 @@ use Rattle.link_msg.specs.declared.out.Out.TheVariants.{Client}
 use Rattle.master_core.specs.declared.master.Master.{Master}
 use Rattle.master_core.specs.declared.outside.Outside.{Outside}
 use Rattle.master_core.specs.declared.outside.Outside.TheVariants as outside
-use Rattle.master_core.specs.declared.sender.Sender.TheVariants as sender
 use Rattle.master_core.specs.Dialogs.{greeted}
 use Rattle.master_core.specs.Greeting.{greeting}
 use Rattle.master_core.specs.Outside.{Stepped, connect, connect_at, bytes_at, bytes_in}
@@ -18,9 +17,11 @@ use Rattle.master_core.proofs.OutsideLaw.{bytes_leave}
 use Rattle.mur_base.specs.Map.{value_at}
 use Rattle.mur_base.proofs.MapLaws.{numbers_apart, value_at-with_entry}
 use Rattle.guest_links.specs.Guests.{Guest, arrived, bytes_taken, left}
-use Rattle.guest_links.specs.Happenings.{Happening, connects, says, leaves, sends, step_of, change_by, change_of, seen_after, master_from, outs_from, seen_from}
+use Rattle.guest_links.specs.Happenings.{Happening, connects, says, leaves, sends, hung_up}
+use Rattle.guest_links.specs.Happenings.{step_of, change_by, change_of, seen_after, master_from, outs_from, seen_from}
 use Rattle.guest_links.specs.Outputs.{given_by}
-use Rattle.guest_links.specs.Served.{HasWatchers, IsGuestOf, IsNoGuest, IsSeen, IsServed, given_to, EachStepServes, ChangesAreOfTheTable, ClientsHaveTheirDialogs}
+use Rattle.guest_links.specs.Served.{HasWatchers, IsGuestOf, IsNoGuest, IsSeen}
+use Rattle.guest_links.specs.Served.{IsServed, given_to, EachStepServes, ChangesAreOfTheTable, ClientsHaveTheirDialogs}
 use Rattle.guest_links.proofs.NodeLines.{node_step, guest_told, nobody_told}
 use Rattle.guest_links.proofs.Numbers.{same_number, other_number, gone}
 use Rattle.guest_links.proofs.Orders.{watchers_stay_in_order}
@@ -35,7 +36,8 @@ by_client P conn other own another = ⊎_elim
     (cases_eq conn other)
 
 -- a step that gives it nothing
-given_nothing : (conn : ℕ) (next : Stepped) (seen later : Option Guest) → IsSeen next.master conn later → given_to later ≡ given_to seen → Gives conn next.outs []
+given_nothing : (conn : ℕ) (next : Stepped) (seen later : Option Guest) → IsSeen next.master conn later → given_to later ≡ given_to seen
+    → Gives conn next.outs []
     → IsServed conn next seen later false
 given_nothing conn next seen later is same gives = record {
   is = is;
@@ -61,7 +63,8 @@ seen_beside conn other master next (Some guest) ne alone is = record {
 another_acts : (conn other : ℕ) (master : Master) (next : Stepped) (seen : Option Guest) → conn ≢ other → ActsAlone other master next.master next.outs
     → IsSeen master conn seen → IsServed conn next seen seen false
 another_acts conn other master next seen ne alone is =
-    given_nothing conn next seen seen (seen_beside conn other master next seen ne alone is) refl (others_outputs conn other next.outs (λ e. ne (sym e)) alone.own)
+    given_nothing conn next seen seen (seen_beside conn other master next seen ne alone is) refl
+    (others_outputs conn other next.outs (λ e. ne (sym e)) alone.own)
 
 -- its own steps
 
@@ -94,18 +97,19 @@ nobody_says master conn bytes none =
     (given_nothing conn (record { master = master; outs = [] }) None None none refl (gives_nothing conn))
 
 nobody_leaves : (master : Master) (conn : ℕ) → HasWatchers master → IsNoGuest master conn
-    → IsServed conn (record { master = without master (sender.Outside conn); outs = [] }) None None false
+    → IsServed conn (hung_up master conn) None None false
 unfolding without
 nobody_leaves master conn order none =
-    given_nothing conn (record { master = without master (sender.Outside conn); outs = [] }) None None (record {
+    given_nothing conn (hung_up master conn) None None (record {
       outside = ap (λ found. value_at nat_cmp (ended_if master.outside conn found) conn) none.outside ∙ none.outside;
       watcher = gone master.watchers conn order;
     }) refl (gives_nothing conn)
 
 leaves_it : (master : Master) (conn : ℕ) (guest : Guest) → HasWatchers master → IsGuestOf master conn guest
-    → IsServed conn (record { master = without master (sender.Outside conn); outs = [] }) (Some guest) (Some (left guest)) false
+    → IsServed conn (hung_up master conn) (Some guest) (Some (left guest)) false
 leaves_it master conn guest order is =
-    given_nothing conn (record { master = without master (sender.Outside conn); outs = [] }) (Some guest) (Some (left guest)) (left_is master conn guest order is) refl
+    given_nothing conn (hung_up master conn) (Some guest) (Some (left guest))
+    (left_is master conn guest order is) refl
     (gives_nothing conn)
 
 over_or_not : (b : Bool) → (b && not b) ≡ false
@@ -123,9 +127,9 @@ each_step_serves master conn None (says other bytes) order none =
     (λ e. subst (λ c. IsServed conn (bytes_in master c bytes) None None false) e (nobody_says master conn bytes none))
     (λ ne. another_acts conn other master (bytes_in master other bytes) None ne (bytes_alone master other bytes) none)
 each_step_serves master conn None (leaves other) order none =
-    by_client (λ b. IsServed conn (record { master = without master (sender.Outside other); outs = [] }) None None false) conn other
-    (λ e. subst (λ c. IsServed conn (record { master = without master (sender.Outside c); outs = [] }) None None false) e (nobody_leaves master conn order none))
-    (λ ne. another_acts conn other master (record { master = without master (sender.Outside other); outs = [] }) None ne (ends_alone master other) none)
+    by_client (λ b. IsServed conn (hung_up master other) None None false) conn other
+    (λ e. subst (λ c. IsServed conn (hung_up master c) None None false) e (nobody_leaves master conn order none))
+    (λ ne. another_acts conn other master (hung_up master other) None ne (ends_alone master other) none)
 each_step_serves master conn None (sends node message) order none =
     nobody_told master conn _ (change_by master node message) order (node_step master conn node message) none
 each_step_serves master conn (Some guest) (connects other) order is =
@@ -140,10 +144,10 @@ each_step_serves master conn (Some guest) (says other bytes) order is =
     (λ ne. subst (IsServed conn (bytes_in master other bytes) (Some guest) (Some guest)) (sym (over_or_not guest.dialog.ended))
     (another_acts conn other master (bytes_in master other bytes) (Some guest) ne (bytes_alone master other bytes) is))
 each_step_serves master conn (Some guest) (leaves other) order is =
-    by_client (λ b. IsServed conn (record { master = without master (sender.Outside other); outs = [] }) (Some guest) (Some (cond b (left guest) guest)) false) conn other
-    (λ e. subst (λ c. IsServed conn (record { master = without master (sender.Outside c); outs = [] }) (Some guest) (Some (left guest)) false) e
+    by_client (λ b. IsServed conn (hung_up master other) (Some guest) (Some (cond b (left guest) guest)) false) conn other
+    (λ e. subst (λ c. IsServed conn (hung_up master c) (Some guest) (Some (left guest)) false) e
     (leaves_it master conn guest order is))
-    (λ ne. another_acts conn other master (record { master = without master (sender.Outside other); outs = [] }) (Some guest) ne (ends_alone master other) is)
+    (λ ne. another_acts conn other master (hung_up master other) (Some guest) ne (ends_alone master other) is)
 each_step_serves master conn (Some guest) (sends node message) order is =
     guest_told master conn guest _ (change_by master node message) order (node_step master conn node message) is
 

@@ -101,7 +101,8 @@ step_told master (says conn bytes) can = subst CanBeTold (sym (changes_are_of_th
 step_told master (leaves conn) can = subst CanBeTold (sym (changes_are_of_the_table master (leaves conn))) can
 step_told master (sends node message) can = says_told master node message can
 
-keeps_on : (master : Master) (conn : ℕ) (seen : Option Guest) (happenings : List Happening) → HasWatchers master → CanBeTold master.table → IsSeen master conn seen
+keeps_on : (master : Master) (conn : ℕ) (seen : Option Guest) (happenings : List Happening) → HasWatchers master → CanBeTold master.table
+    → IsSeen master conn seen
     → SeenKeeps master.table seen → SeenKeeps (master_from master happenings).table (seen_from master conn seen happenings)
 unfolding master_from seen_from
 keeps_on master conn seen [] order can is keeps = keeps

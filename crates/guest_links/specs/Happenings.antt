@@ -20,11 +20,15 @@ pub data Happening : Type 0 where
   leaves : ℕ → Happening
   sends : List ℕ → LinkMsg → Happening
 
+-- a client closes its connection
+abbrev pub hung_up : Master → ℕ → Stepped
+hung_up master conn = record { master = without master (Outside conn); outs = [] }
+
 -- the master's step
 unfoldable pub step_of : Master → Happening → Stepped
 step_of master (connects conn) = connect master conn
 step_of master (says conn bytes) = bytes_in master conn bytes
-step_of master (leaves conn) = record { master = without master (Outside conn); outs = [] }
+step_of master (leaves conn) = hung_up master conn
 step_of master (sends node message) = node_says master node message
 
 -- the change of the table that it makes: that of a node's line

@@ -76,7 +76,8 @@ WatchersStayInOrder = (master : Master) (happening : Happening) → HasWatchers 
 
 -- the change that a step tells is that of the table
 abbrev pub ChangesAreOfTheTable : Type 0
-ChangesAreOfTheTable = (master : Master) (happening : Happening) → (step_of master happening).master.table ≡ table_with master.table (change_of master happening)
+ChangesAreOfTheTable =
+    (master : Master) (happening : Happening) → (step_of master happening).master.table ≡ table_with master.table (change_of master happening)
 
 -- the dialog of a client is the one that the master's own laws have, but for changes
 abbrev pub DialogIsTheMasters : Type 0
@@ -98,7 +99,8 @@ pub record StaysOver (conn : ℕ) (next : Stepped) (later : Option Guest) : Type
   pub nothing : given_by conn next.outs ≡ []
 
 abbrev pub EndsAreFinal : Type 0
-EndsAreFinal = (master : Master) (conn : ℕ) (guest : Guest) (happening : Happening) → HasWatchers master → IsGuestOf master conn guest → guest.dialog.ended ≡ true
+EndsAreFinal =
+    (master : Master) (conn : ℕ) (guest : Guest) (happening : Happening) → HasWatchers master → IsGuestOf master conn guest → guest.dialog.ended ≡ true
     → StaysOver conn (step_of master happening) (seen_after master.me master.table (change_of master happening) conn (Some guest) happening)
 
 -- nobody has connected to a master that starts from its disk
