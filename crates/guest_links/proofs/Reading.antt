@@ -2,21 +2,18 @@
 use Rattle.std.proofs.Common.{◌≡◌, ℕ, Bool, true, false, ◌&&◌, not, cond, List, [], ◌∷◌, ◌++◌, map, is_some, Option, None, Some, refl, sym, ap, ◌∙◌, subst}
 use Rattle.std.proofs.Common.{append-nil, append_assoc, arith, codes}
 use Rattle.std.specs.List.{flat_map, fold, AllByRecursion}
-use Rattle.std.specs.List.Sorted.{IsStrictlySortedBy}
-use Rattle.std.specs.Map.{keys_of}
 use Rattle.std.specs.Ordering.{nat_cmp}
 use Rattle.std.specs.Cmp.Lexicographic.{slice_cmp}
 use Rattle.std.proofs.lemmas.Grind.{fold-append}
-use Rattle.std.proofs.lemmas.List.Concat.{flat_map-cons}
 use Rattle.feed_core.specs.Feed.{Recs, recs_after, fed}
-use Rattle.feed_core.specs.RecLines.{rec_lines}
-use Rattle.feed_core.proofs.LinesLaw.{lines_make}
-use Rattle.feed_links.specs.Replicas.{rec_entry, recs_of}
-use Rattle.feed_links.specs.Spelled.{IsSpelledRecord, CanBeTold}
+use Rattle.feed_links.specs.Replicas.{recs_of}
+use Rattle.feed_links.specs.Spelled.{CanBeTold}
 use Rattle.feed_links.proofs.Arguments.{HasArguments, IsSpelledTag, line_tagged, before_spelled}
-use Rattle.feed_links.proofs.Changes.{MakesChange, reserves, activates, deactivates, deletes, change_heard}
+use Rattle.feed_links.proofs.Changes.{MakesChange, change_heard}
+use Rattle.feed_links.proofs.Following.{change_parts}
 use Rattle.feed_links.proofs.Hearing.{IsQuiet, text_spelled}
-use Rattle.feed_links.proofs.Printed.{HasParts, response_spelled}
+use Rattle.feed_links.proofs.Printed.{response_spelled}
+use Rattle.feed_links.proofs.TableLines.{records_fed, table_written}
 use Rattle.master_core.specs.declared.sender.Sender.TheVariants as sender
 use Rattle.master_core.specs.declared.streams.StreamStep.TheVariants as stream
 use Rattle.master_core.specs.Changes.{change_line, text_of}
@@ -34,12 +31,9 @@ use Rattle.mupdate_codec.specs.declared.tag.Tag.{Tag}
 use Rattle.mupdate_codec.specs.Responses.{IsSpelledResponse}
 use Rattle.mupdate_codec.specs.Whole.{command_in}
 use Rattle.mupdate_codec.proofs.WholeLaw.{is_line}
-use Rattle.mur_base.specs.declared.home.Location.{Location}
 use Rattle.mur_base.specs.Map.{IsInOrder}
 use Rattle.node_record.specs.declared.master.MasterRecord.{MasterRecord}
-use Rattle.node_record.specs.declared.table.State.{State}
-use Rattle.node_record.specs.declared.table.State.TheVariants.{Bare, Kept, Active}
-use Rattle.node_record.specs.Table.{MailboxTable, Records, table_after}
+use Rattle.node_record.specs.Table.{MailboxTable, table_after}
 use Rattle.guest_links.specs.Guests.{Guest, Watch, tag_in, tag_of, first_of, watch_after, watch_by, told_of, told_change}
 use Rattle.guest_links.specs.Reading.{reads, IsToldUnder, IsUnder, HasTheTable}
 use Rattle.guest_links.proofs.Spelling.{Responses, under, lines_both, answers_lines}
@@ -86,61 +80,12 @@ has_more old new watch all tag answers spelled unders fed_so has =
 
 -- the answer to UPDATE
 
-state_lines : (name : List ℕ) (place : Location) (it : State)
-    → record_lines (name, record { place = place; state = it }) ≡ rec_lines (rec_entry (name, record { place = place; state = it }))
-state_lines name place (Bare serial) = refl
-state_lines name place (Kept acl) = refl
-state_lines name place (Active acl) = refl
-
-same_lines : (entries : Records) → flat_map record_lines entries ≡ flat_map rec_lines (map rec_entry entries)
-same_lines [] = refl
-same_lines (entry ∷ entries) =
-    flat_map-cons record_lines entry entries
-    ∙ ap (λ l. l ++ flat_map record_lines entries) (state_lines entry.0 (entry.1).place (entry.1).state)
-    ∙ ap (λ l. rec_lines (rec_entry entry) ++ l) (same_lines entries)
-    ∙ sym (flat_map-cons rec_lines (rec_entry entry) (map rec_entry entries))
-
-keys_alike : (P : List (List ℕ) → Type 0) (entries : Records) → P (keys_of entries) → P (keys_of (map rec_entry entries))
-keys_alike P [] h = h
-keys_alike P (entry ∷ entries) h = keys_alike (λ keys. P (entry.0 ∷ keys)) entries h
-
 table_fed : (table : MailboxTable) → IsInOrder (slice_cmp nat_cmp) table.records → fed [] (table_lines table) ≡ recs_of table
-table_fed table order =
-    fold-append recs_after [] (flat_map record_lines table.records) (response.Ok done ∷ [])
-    ∙ ap (fed []) (same_lines table.records)
-    ∙ lines_make (recs_of table) (keys_alike (IsStrictlySortedBy (slice_cmp nat_cmp)) table.records order)
+table_fed table order = fold-append recs_after [] (flat_map record_lines table.records) (response.Ok done ∷ []) ∙ records_fed table order
 
 module _ (tag : Tag) (tagged : IsSpelledTag tag) where
   abbrev mine : List ℕ → Watch
   mine before = record { tag = tag; before = before }
-
-  abbrev AreWritten : List MResponse → Type 0
-  AreWritten lines = AllByRecursion (IsSpelledResponse tag) lines
-
-  both_written : (one two : List MResponse) → AreWritten one → AreWritten two → AreWritten (one ++ two)
-  both_written [] two first second = second
-  both_written (it ∷ one) two first second = (first.0, both_written one two first.1 second)
-
-  state_written : (name : List ℕ) (place : Location) (it : State) → IsSpelledRecord (name, record { place = place; state = it })
-      → AreWritten (record_lines (name, record { place = place; state = it }))
-  state_written name place (Bare serial) has = (response_spelled tag (response.Reserve name place) tagged (has.name, has.place), tt)
-  state_written name place (Kept acl) has = (
-    response_spelled tag (response.Mailbox name place acl) tagged (has.name, has.place, has.acl),
-    (response_spelled tag (response.Reserve name place) tagged (has.name, has.place), tt),
-  )
-  state_written name place (Active acl) has = (response_spelled tag (response.Mailbox name place acl) tagged (has.name, has.place, has.acl), tt)
-
-  records_written : (records : Records) → AllByRecursion IsSpelledRecord records → AreWritten (flat_map record_lines records)
-  records_written [] all = tt
-  records_written (entry ∷ records) all =
-      subst AreWritten (sym (flat_map-cons record_lines entry records))
-      (both_written (record_lines entry) (flat_map record_lines records) (state_written entry.0 (entry.1).place (entry.1).state all.0)
-      (records_written records all.1))
-
-  table_written : (table : MailboxTable) → CanBeTold table → AreWritten (table_lines table)
-  table_written table can =
-      both_written (flat_map record_lines table.records) (response.Ok done ∷ []) (records_written table.records can.spelled)
-      (response_spelled tag (response.Ok done) tagged (text_spelled done (omega arith)), tt)
 
   update_has : (table : MailboxTable) (before : List ℕ) → CanBeTold table
       → HasTheTable table (mine before) (before ++ answers_text tag (table_lines table))
@@ -149,7 +94,7 @@ module _ (tag : Tag) (tagged : IsSpelledTag tag) where
     is = refl;
     makes = record {
       responses = map (under tag) (table_lines table);
-      lines = answers_lines tag (table_lines table) (table_written table can);
+      lines = answers_lines tag (table_lines table) (table_written tag tagged table can);
       made = reads_answers [] tag (table_lines table) ∙ table_fed table can.order;
       tagged = all_under tag (table_lines table);
     };
@@ -168,12 +113,6 @@ module _ (tag : Tag) (tagged : IsSpelledTag tag) where
   quiet_has table watch all (response.No text) quiet has = absurd quiet
 
   -- the line of a change
-
-  change_parts : (table : MailboxTable) (it : MCommand) (change : MasterRecord) → MakesChange table it change → HasArguments it → HasParts (change_line change)
-  change_parts table it change (reserves name place serial none) has = has
-  change_parts table it change (activates name place acl) has = has
-  change_parts table it change (deactivates name place was there) has = has
-  change_parts table it change (deletes name) has = has
 
   change_has : (table : MailboxTable) (before all : List ℕ) (it : MCommand) (change : MasterRecord) → MakesChange table it change → HasArguments it
       → HasTheTable table (mine before) all
