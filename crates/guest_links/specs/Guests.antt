@@ -18,6 +18,7 @@ pub record Watch : Type 0 where
   pub tag : Tag
   pub before : List ℕ
 
+-- its dialog, and its UPDATE if it has sent one
 pub record Guest : Type 0 where
   pub dialog : Dialog
   pub watch : Option Watch
@@ -35,7 +36,7 @@ tag_in (Some watch) = Some watch.tag
 abbrev pub tag_of : Guest → Option Tag
 tag_of guest = if guest.dialog.ended then None else tag_in guest.watch
 
--- one UPDATE makes it a watcher; a second is answered BAD
+-- its first UPDATE makes it a watcher; a second is answered BAD, and changes nothing
 
 abbrev pub first_of : Option Watch → Watch → Option Watch
 first_of None watch = Some watch
@@ -79,6 +80,6 @@ told_of change tag = []
 abbrev pub given_more : Dialog → List ℕ → Dialog
 given_more dialog bytes = record dialog { given = dialog.given ++ bytes }
 
--- the table changes, or doesn't
+-- a node's step changes the table, or doesn't
 abbrev pub told_change : Option MasterRecord → Guest → Guest
 told_change change guest = record { dialog = given_more guest.dialog (told_of change (tag_of guest)); watch = guest.watch }

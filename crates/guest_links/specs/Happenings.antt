@@ -31,7 +31,7 @@ step_of master (says conn bytes) = bytes_in master conn bytes
 step_of master (leaves conn) = hung_up master conn
 step_of master (sends node message) = node_says master node message
 
--- the change of the table that it makes: that of a node's line
+-- the change of the table that it makes: that of a node's line. No other happening makes one
 
 abbrev pub change_by : Master → List ℕ → LinkMsg → Option MasterRecord
 change_by master node (Line bytes) = (line_step master (sender_of master node) bytes).entry
@@ -58,7 +58,7 @@ unfoldable pub seen_after : List ℕ → MailboxTable → Option MasterRecord �
 seen_after me table change conn None happening = first_seen me conn happening
 seen_after me table change conn (Some guest) happening = Some (guest_after table change conn guest happening)
 
--- one thing after another
+-- one thing after another: the master, all that it let out, and what the client has been told, each by the master of its step
 
 unfoldable pub master_from : Master → List Happening → Master
 master_from master [] = master
