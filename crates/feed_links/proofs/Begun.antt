@@ -1,18 +1,13 @@
 -- A node asks by UPDATE, and is told all of the table; NOOP tells it nothing; what others send leaves its stream.
 use Rattle.std.proofs.Common.{◌≡◌, ℕ, Bool, true, false, ◌&&◌, not, cond, List, [], ◌∷◌, ◌++◌, map, is_some, None, Some, refl, sym, ap, ◌∙◌, subst, append-nil, arith}
-use Rattle.std.specs.List.{flat_map, fold, AllByRecursion}
-use Rattle.std.specs.List.Sorted.{IsStrictlySortedBy}
-use Rattle.std.specs.Map.{keys_of}
+use Rattle.std.specs.List.{flat_map, fold}
 use Rattle.std.specs.Ordering.{nat_cmp}
 use Rattle.std.specs.Cmp.Lexicographic.{slice_cmp}
 use Rattle.std.proofs.lemmas.Cmp.{nat_list_cmp_total}
 use Rattle.std.proofs.lemmas.Grind.{fold-append}
-use Rattle.std.proofs.lemmas.List.Concat.{flat_map-cons}
 use Rattle.feed_core.specs.declared.replica.Replica.{Replica}
 use Rattle.feed_core.specs.Feed.{empty_replica, replica_after, fed}
-use Rattle.feed_core.specs.RecLines.{rec_lines}
 use Rattle.feed_core.specs.Stream.{is_update_tag, update_tag}
-use Rattle.feed_core.proofs.LinesLaw.{lines_make}
 use Rattle.feed_core.proofs.StreamLaw.{heard_line}
 use Rattle.master_core.specs.declared.master.Master.{Master}
 use Rattle.master_core.specs.declared.reply.Reply.{Reply}
@@ -31,19 +26,15 @@ use Rattle.mupdate_codec.specs.declared.command.MCommand.TheVariants as command
 use Rattle.mupdate_codec.specs.declared.command.MResponse.{MResponse}
 use Rattle.mupdate_codec.specs.declared.command.MResponse.TheVariants as response
 use Rattle.mupdate_codec.specs.declared.tag.Tag.{Tag}
-use Rattle.mupdate_codec.specs.Responses.{IsSpelledResponse}
 use Rattle.mupdate_codec.specs.Whole.{command_in}
 use Rattle.mupdate_codec.proofs.WholeLaw.{is_line}
-use Rattle.mur_base.specs.declared.home.Location.{Location}
 use Rattle.mur_base.specs.Map.{value_at, with_entry, IsInOrder}
 use Rattle.mur_base.proofs.MapLaws.{names_apart, value_at-with_entry, value_at-with_entry-other}
 use Rattle.mur_base.proofs.MapOrder.{with_entry-in_order}
-use Rattle.node_record.specs.declared.table.State.{State}
-use Rattle.node_record.specs.declared.table.State.TheVariants.{Bare, Kept, Active}
-use Rattle.node_record.specs.Table.{MailboxTable, Records}
+use Rattle.node_record.specs.Table.{MailboxTable}
 use Rattle.feed_links.specs.Lines.{messages_to, IsOf, IsOfAnother, HasStreams, stream_of}
-use Rattle.feed_links.specs.Replicas.{hears_all, rec_entry, recs_of, replica_of, AreNoNews}
-use Rattle.feed_links.specs.Spelled.{IsSpelledRecord, CanBeTold}
+use Rattle.feed_links.specs.Replicas.{hears_all, replica_of, AreNoNews}
+use Rattle.feed_links.specs.Spelled.{CanBeTold}
 use Rattle.feed_links.specs.Streams.{BeginsStream, UpdateBegins, LeavesNode, OthersLeave, TellsNoNews, NoopTellsNothing, StreamsStayInOrder}
 use Rattle.feed_links.proofs.Arguments.{IsSpelledTag, line_tagged}
 use Rattle.feed_links.proofs.Following.{update_tagged}
@@ -52,69 +43,22 @@ use Rattle.feed_links.proofs.Messages.{told_line, own_answers, no_answers, chang
 use Rattle.feed_links.proofs.Names.{value_at-without_key-other, order_kept}
 use Rattle.feed_links.proofs.Printed.{response_spelled}
 use Rattle.feed_links.proofs.Steps.{StepIs, is_bad, is_taken, taken, step_is}
+use Rattle.feed_links.proofs.TableLines.{AreWritten, records_fed, table_written}
 
 -- the lines of a table make the replica that has it
-
-state_lines : (name : List ℕ) (place : Location) (it : State)
-    → record_lines (name, record { place = place; state = it }) ≡ rec_lines (rec_entry (name, record { place = place; state = it }))
-state_lines name place (Bare serial) = refl
-state_lines name place (Kept acl) = refl
-state_lines name place (Active acl) = refl
-
-same_lines : (entries : Records) → flat_map record_lines entries ≡ flat_map rec_lines (map rec_entry entries)
-same_lines [] = refl
-same_lines (entry ∷ entries) =
-    flat_map-cons record_lines entry entries
-    ∙ ap (λ l. l ++ flat_map record_lines entries) (state_lines entry.0 (entry.1).place (entry.1).state)
-    ∙ ap (λ l. rec_lines (rec_entry entry) ++ l) (same_lines entries)
-    ∙ sym (flat_map-cons rec_lines (rec_entry entry) (map rec_entry entries))
 
 records_after : (replica : Replica) (lines : List MResponse) → (fold replica_after replica lines).records ≡ fed replica.records lines
 records_after replica [] = refl
 records_after replica (line ∷ lines) = records_after (replica_after replica line) lines
-
-keys_alike : (P : List (List ℕ) → Type 0) (entries : Records) → P (keys_of entries) → P (keys_of (map rec_entry entries))
-keys_alike P [] h = h
-keys_alike P (entry ∷ entries) h = keys_alike (λ keys. P (entry.0 ∷ keys)) entries h
 
 table_told : (table : MailboxTable) → IsInOrder (slice_cmp nat_cmp) table.records → fold replica_after empty_replica (table_lines table) ≡ replica_of table
 table_told table order =
     let lines : List MResponse = flat_map record_lines table.records in
     fold-append replica_after empty_replica lines (response.Ok done ∷ [])
     ∙ ap (λ r. record { records = r; whole = true })
-    (records_after empty_replica lines ∙ ap (fed []) (same_lines table.records)
-    ∙ lines_make (recs_of table) (keys_alike (IsStrictlySortedBy (slice_cmp nat_cmp)) table.records order))
+    (records_after empty_replica lines ∙ records_fed table order)
 
--- they can be written
-
-abbrev AreWritten : List MResponse → Type 0
-AreWritten lines = AllByRecursion (IsSpelledResponse update_tag) lines
-
-both_written : (one two : List MResponse) → AreWritten one → AreWritten two → AreWritten (one ++ two)
-both_written [] two first second = second
-both_written (it ∷ one) two first second = (first.0, both_written one two first.1 second)
-
-state_written : (name : List ℕ) (place : Location) (it : State) → IsSpelledRecord (name, record { place = place; state = it })
-    → AreWritten (record_lines (name, record { place = place; state = it }))
-state_written name place (Bare serial) has = (response_spelled update_tag (response.Reserve name place) update_tagged (has.name, has.place), tt)
-state_written name place (Kept acl) has = (
-  response_spelled update_tag (response.Mailbox name place acl) update_tagged (has.name, has.place, has.acl),
-  (response_spelled update_tag (response.Reserve name place) update_tagged (has.name, has.place), tt),
-)
-state_written name place (Active acl) has = (response_spelled update_tag (response.Mailbox name place acl) update_tagged (has.name, has.place, has.acl), tt)
-
-records_written : (records : Records) → AllByRecursion IsSpelledRecord records → AreWritten (flat_map record_lines records)
-records_written [] all = tt
-records_written (entry ∷ records) all =
-    subst AreWritten (sym (flat_map-cons record_lines entry records))
-    (both_written (record_lines entry) (flat_map record_lines records) (state_written entry.0 (entry.1).place (entry.1).state all.0) (records_written records all.1))
-
-table_written : (table : MailboxTable) → CanBeTold table → AreWritten (table_lines table)
-table_written table can =
-    both_written (flat_map record_lines table.records) (response.Ok done ∷ []) (records_written table.records can.spelled)
-    (response_spelled update_tag (response.Ok done) update_tagged (text_spelled done (omega arith)), tt)
-
-lines_heard : (replica : Replica) (lines : List MResponse) → AreWritten lines → hears_all replica (map (told_line update_tag) lines) ≡ fold replica_after replica lines
+lines_heard : (replica : Replica) (lines : List MResponse) → AreWritten update_tag lines → hears_all replica (map (told_line update_tag) lines) ≡ fold replica_after replica lines
 lines_heard replica [] all = refl
 lines_heard replica (it ∷ lines) all =
     ap (λ r. hears_all r (map (told_line update_tag) lines)) (heard_line replica it all.0) ∙ lines_heard (replica_after replica it) lines all.1
@@ -158,7 +102,7 @@ taken_begins master from node can same = record {
       ∙ reply_messages master node from update_tag (update_reply master.table)
       ∙ append-nil (messages_to node (map (answered from update_tag) (table_lines master.table)))
       ∙ own_answers node from update_tag (table_lines master.table) same)
-      ∙ lines_heard empty_replica (table_lines master.table) (table_written master.table can) ∙ table_told master.table can.order;
+      ∙ lines_heard empty_replica (table_lines master.table) (table_written update_tag update_tagged master.table can) ∙ table_told master.table can.order;
   stream = streams_begun master from node same;
 }
 

@@ -34,7 +34,7 @@ unfolding is_mupdate_tag_byte
 update_tagged = tag_spelled _ refl
 
 -- the line of a change can be written
-change_parts : (table : MailboxTable) (it : MCommand) (change : MasterRecord) → MakesChange table it change → HasArguments it → HasParts (change_line change)
+pub change_parts : (table : MailboxTable) (it : MCommand) (change : MasterRecord) → MakesChange table it change → HasArguments it → HasParts (change_line change)
 change_parts table it change (reserves name place serial none) has = has
 change_parts table it change (activates name place acl) has = has
 change_parts table it change (deactivates name place was there) has = has

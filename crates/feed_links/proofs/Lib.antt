@@ -7,6 +7,7 @@ pub mod Messages
 pub mod Hearing
 pub mod Steps
 pub mod Following
+pub mod TableLines
 pub mod Begun
 pub mod TablesTold
 pub mod FeedLaw

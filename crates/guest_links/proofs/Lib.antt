@@ -1,0 +1,11 @@
+pub mod Numbers
+pub mod Outputs
+pub mod Orders
+pub mod Watches
+pub mod Spelling
+pub mod Reading
+pub mod OwnLines
+pub mod NodeLines
+pub mod ServedLaw
+pub mod WatcherLaw
+pub mod Ends
