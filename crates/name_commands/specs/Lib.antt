@@ -1,0 +1,5 @@
+pub mod Whose
+pub mod Places
+pub mod Moves
+pub mod BackSteps
+pub mod MasterSteps
