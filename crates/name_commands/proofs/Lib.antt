@@ -1,3 +1,5 @@
 pub mod Own
 pub mod Steps
 pub mod AskLaw
+pub mod AnswerLaw
+pub mod OtherLaw
