@@ -3,3 +3,4 @@ pub mod Steps
 pub mod AskLaw
 pub mod AnswerLaw
 pub mod OtherLaw
+pub mod ResyncLaw
