@@ -4,3 +4,6 @@ pub mod AskLaw
 pub mod AnswerLaw
 pub mod OtherLaw
 pub mod ResyncLaw
+pub mod Sends
+pub mod AskSteps
+pub mod AnswerSteps

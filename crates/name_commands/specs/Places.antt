@@ -1,13 +1,16 @@
 -- Where a CREATE or DELETE is at its backend, and between that and the master.
-use Rattle.std.specs.Prelude.{◌≡◌, ℕ, ◌<◌, ◌^◌, List, [], ◌∷◌, filter, if◌then◌else◌, Option, None, Some}
+use Rattle.std.specs.Prelude.{◌≡◌, ℕ, ◌<◌, ◌^◌, Bool, true, false, List, [], ◌∷◌, filter, if◌then◌else◌, Option, None, Some}
 use Rattle.std.specs.Ordering.{is_eq, nat_cmp}
 use Rattle.std.specs.Cmp.Lexicographic.{slice_cmp}
 use Rattle.link_msg.specs.declared.message.LinkMsg.{LinkMsg}
 use Rattle.mail_message.specs.FirstAcl.{first_acl}
 use Rattle.mupdate_codec.specs.declared.command.MCommand.{MCommand}
 use Rattle.mupdate_codec.specs.declared.command.MCommand.TheVariants as command
+use Rattle.master_core.specs.Changes.{text_of}
 use Rattle.mupdate_codec.specs.declared.command.MResponse.{MResponse}
+use Rattle.mupdate_codec.specs.declared.command.MResponse.TheVariants as response
 use Rattle.mupdate_codec.specs.Asks.{tag_of}
+use Rattle.mupdate_codec.specs.Whole.{response_in}
 use Rattle.mur_base.specs.declared.home.Location.{Location}
 use Rattle.mur_base.specs.declared.point.AskId.{AskId}
 use Rattle.name_flows.specs.declared.ask.NameAsk.{NameAsk}
@@ -51,6 +54,18 @@ flow_message me name flow = command_message (tag_of flow.ask, stage_command me n
 -- and the master's response to it, under the same tag
 abbrev pub answer_message : Flow → MResponse → LinkMsg
 answer_message flow it = response_message (tag_of flow.ask, it)
+
+-- Which responses come to the line of a stage: OK, and where it may be refused, NO and BAD.
+abbrev pub may_come : Stage → MResponse → Bool
+may_come Reserving (response.Ok text) = true
+may_come Reserving (response.No text) = true
+may_come Reserving (response.Bad text) = true
+may_come Making (response.Ok text) = true
+may_come Making (response.No text) = true
+may_come Making (response.Bad text) = true
+may_come Deactivating (response.Ok text) = true
+may_come Deleting (response.Ok text) = true
+may_come stage it = false
 
 -- ---- places
 
@@ -119,8 +134,20 @@ downs_at (waits ask) = []
 downs_at (sends name flow) = []
 downs_at (hears name flow it) = answer_message flow it ∷ []
 
+-- a response is one that may come, and is read again
+pub record IsResponse (flow : Flow) (it : MResponse) : Type 0 where
+  pub fits : may_come flow.stage it ≡ true
+  pub read : response_in (text_of (tag_of flow.ask) it) ≡ Some (tag_of flow.ask, it)
+
+abbrev pub IsKnown : NamePlace → Type 0
+IsKnown nowhere = Unit {0}
+IsKnown (waits ask) = Unit {0}
+IsKnown (sends name flow) = Unit {0}
+IsKnown (hears name flow it) = IsResponse flow it
+
 -- and of all these messages just this one is about it
 pub record IsPlaced (whose : Whose) (node : BackNode) (up down : List LinkMsg) (place : NamePlace) : Type 0 where
   pub at : IsAt whose node.flows place
   pub up_is : filter (is_own_message whose) up ≡ ups_at node.flows.me place
   pub down_is : filter (is_own_message whose) down ≡ downs_at place
+  pub known : IsKnown place
