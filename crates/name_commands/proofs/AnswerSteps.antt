@@ -94,6 +94,9 @@ move_is name flow Deleting (response.Mailbox n p a) e = cc
 move_is name flow Deleting (response.Reserve n p) e = cc
 move_is name flow Deleting (response.Delete n) e = cc
 
+just : (one other : Tag × MResponse) → Some one ≡ Some other → one ≡ other
+just one other e = cc
+
 -- ---- which response ends a resync
 
 list_end : (what : Sent) (it : MResponse) → is_list_end (Some what) it ≡ true → (what ≡ List_line) × (text : List ℕ) × (it ≡ response.Ok text)
@@ -200,8 +203,8 @@ module _ (master : Master) (name : List ℕ) (node : BackNode) (up down : List L
 
       response_is : answered.it ≡ it
       response_is =
-          let both : Some (answered.tag, answered.it) ≡ Some (tag_of flow.ask, it) =
-          sym (response_read (answered.tag, answered.it) answered.spelled) ∙ ap (λ (b : List ℕ). response_in b) text_is ∙ (placed.known).read in cc
+          ap (λ (x : Tag × MResponse). x.1) (just (answered.tag, answered.it) (tag_of flow.ask, it)
+          (sym (response_read (answered.tag, answered.it) answered.spelled) ∙ ap (λ (b : List ℕ). response_in b) text_is ∙ (placed.known).read))
 
       its_line : HasLine whose node.flows answered.line answered.lines mailbox flow
       its_line = has_talk whose node.flows answered.line answered.lines answered.first own_line mailbox flow (as_sent whose node.flows mailbox flow it placed.at)

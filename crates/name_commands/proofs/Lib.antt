@@ -7,3 +7,4 @@ pub mod ResyncLaw
 pub mod Sends
 pub mod AskSteps
 pub mod AnswerSteps
+pub mod GrantedLaw

@@ -84,6 +84,22 @@ module _ {X : Type 0} (p : X → Bool) where
   pub passed : (x : X) (xs : List X) → p x ≡ false → filter p (x ∷ xs) ≡ filter p xs
   passed x xs e = ap (λ b. cond b (x ∷ filter p xs) (filter p xs)) e
 
+  pub none_kept : (x : X) (xs : List X) → filter p (x ∷ xs) ≡ [] → (p x ≡ false) × (filter p xs ≡ [])
+  none_kept x xs e = by (p x) refl e
+    where
+      by : (here : Bool) → p x ≡ here → cond here (x ∷ filter p xs) (filter p xs) ≡ [] → (p x ≡ false) × (filter p xs ≡ [])
+      by true h none = cc
+      by false h none = (h, none)
+
+  -- what holds of all holds of the one that is left
+  pub of_one : (P : X → Type 0) (xs : List X) (y : X) → AllByRecursion P xs → filter p xs ≡ y ∷ [] → P y
+  of_one P [] y all e = cc
+  of_one P (x ∷ xs) y all e = by (p x) e (of_one P xs y all.1)
+    where
+      by : (here : Bool) → cond here (x ∷ filter p xs) (filter p xs) ≡ y ∷ [] → (filter p xs ≡ y ∷ [] → P y) → P y
+      by true f more = let is : x ≡ y = cc in subst P is all.0
+      by false f more = more f
+
   -- one is put behind others
   pub kept_behind : (xs : List X) (x : X) → p x ≡ true → filter p xs ≡ [] → filter p (xs ++ x ∷ []) ≡ x ∷ []
   kept_behind xs x e none = filter-append p xs (x ∷ []) ∙ ap (λ l. l ++ filter p (x ∷ [])) none ∙ kept x [] e
