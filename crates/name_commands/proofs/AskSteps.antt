@@ -37,7 +37,7 @@ use Rattle.back_links.proofs.Texts.{ask_spelled}
 use Rattle.name_commands.specs.BackSteps.{AskMoves, MessagesLeave, NoneAtFirst, OtherAsksLeave}
 use Rattle.name_commands.specs.Moves.{asked_move, IsLeft, IsMoved}
 use Rattle.name_commands.specs.Places.{NamePlace, nowhere, IsAt, IsPlaced}
-use Rattle.name_commands.specs.Whose.{Whose, is_own_message, is_own_out}
+use Rattle.name_commands.specs.Whose.{Whose, asks_for, is_own_message, is_own_out}
 use Rattle.name_commands.proofs.AskLaw.{asked_leaves, asked_makes}
 use Rattle.name_commands.proofs.Own.{passed}
 use Rattle.name_commands.proofs.Sends.{is_moved, leaves_it}
@@ -124,7 +124,7 @@ module _ (whose : Whose) (master : Master) (name : List ℕ) (node : BackNode) (
     other_asked place other placed (Some kind) fits = other_named ask kind fits place other placed
     other_asked place other placed None fits = messages_left place other placed
 
-  other_comes : (message : LinkMsg) (place : NamePlace) → IsFitting message → is_own_message whose message ≡ false → IsPlaced whose node up down place
+  other_comes : (message : LinkMsg) (place : NamePlace) → IsFitting message → asks_for whose message ≡ false → IsPlaced whose node up down place
       → IsLeft whose master.me (node_takes node from message) up down place
   unfolding taken_up
   other_comes Up place fits other placed = passed_by place placed (talks node (up_step node.flows))

@@ -8,3 +8,6 @@ pub mod Sends
 pub mod AskSteps
 pub mod AnswerSteps
 pub mod GrantedLaw
+pub mod Marks
+pub mod MasterLaw
+pub mod AllLaw

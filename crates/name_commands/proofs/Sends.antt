@@ -100,7 +100,7 @@ module _ (whose : Whose) (me : Location) (held : Names) where
       ∙ filter_made line_message (is_own_message whose) (is_own_line whose) lines (lines_same lines spelled)
 
   -- the line of a flow is the same whatever is here
-  stage_same : (stage : Stage) (name : List ℕ) → command_of me held (stage_line stage name) ≡ stage_command me name stage
+  pub stage_same : (stage : Stage) (name : List ℕ) → command_of me held (stage_line stage name) ≡ stage_command me name stage
   stage_same Reserving name = refl
   stage_same Making name = refl
   stage_same Deactivating name = refl

@@ -23,7 +23,7 @@ use Rattle.back_links.specs.BackEvents.{IsFitting}
 use Rattle.back_links.specs.OneTalk.{HasTalk}
 use Rattle.name_commands.specs.Moves.{Move, asked_move, heard_move, tested_move, IsLeft, IsMoved}
 use Rattle.name_commands.specs.Places.{NamePlace, nowhere, waits, hears, FlowsTell, IsAt, IsPlaced}
-use Rattle.name_commands.specs.Whose.{Whose, is_command, is_own_message}
+use Rattle.name_commands.specs.Whose.{Whose, asks_for, is_own_message}
 
 -- ---- at first
 
@@ -62,7 +62,7 @@ AnswerMoves = (whose : Whose) (master : Master) (name : List ℕ) (node : BackNo
 abbrev pub OtherAsksLeave : Type 0
 OtherAsksLeave = (whose : Whose) (master : Master) (name : List ℕ) (node : BackNode) (up down : List LinkMsg) (given : Given) (from : List ℕ)
     (message : LinkMsg) (place : NamePlace) → HasTalk master name node up down given → from ≢ master.me → IsFitting message
-    → is_own_message whose message ≡ false → IsPlaced whose node up down place
+    → asks_for whose message ≡ false → IsPlaced whose node up down place
     → IsLeft whose master.me (node_takes node from message) up down place
 
 -- an ask for messages leaves it where it is, whose ever it is
@@ -84,10 +84,3 @@ abbrev pub OtherAnswersLeave : Type 0
 OtherAnswersLeave = (whose : Whose) (master : Master) (name : List ℕ) (node : BackNode) (up down : List LinkMsg) (given : Given) (message : LinkMsg)
     (place : NamePlace) → HasTalk master name node up (message ∷ down) given → FlowsTell node.flows → is_own_message whose message ≡ false
     → IsPlaced whose node up (message ∷ down) place → IsLeftOrTested whose master.me node message up down place
-
--- ---- all commands
-
--- each is in one place after each step
-abbrev pub AsksTell : Type 0
-AsksTell = (master : Master) (name : List ℕ) (node : BackNode) (up down : List LinkMsg) (given : Given) (from : List ℕ) (message : LinkMsg)
-    → HasTalk master name node up down given → from ≢ master.me → IsFitting message → FlowsTell node.flows → FlowsTell (node_takes node from message).state.flows

@@ -3,3 +3,4 @@ pub mod Places
 pub mod Moves
 pub mod BackSteps
 pub mod MasterSteps
+pub mod AllCommands

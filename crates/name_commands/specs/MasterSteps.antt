@@ -18,7 +18,7 @@ use Rattle.back_node.specs.declared.node.BackNode.{BackNode}
 use Rattle.feed_links.specs.Lines.{messages_to}
 use Rattle.name_links.specs.Serials.{Given}
 use Rattle.back_links.specs.OneTalk.{HasTalk}
-use Rattle.name_commands.specs.Places.{NamePlace, sends, hears, IsPlaced, answer_message, stage_command}
+use Rattle.name_commands.specs.Places.{NamePlace, nowhere, sends, hears, IsPlaced, answer_message, stage_command}
 use Rattle.name_commands.specs.Whose.{Whose, is_own_message, is_own_out}
 
 -- what the master makes of the line of a flow
@@ -39,6 +39,13 @@ LineTaken = (whose : Whose) (master : Master) (name : List ℕ) (node : BackNode
     (mailbox : List ℕ) (flow : Flow) → HasTalk master name node (message ∷ up) down given → TellNobody master.streams
     → is_own_message whose message ≡ true → IsPlaced whose node (message ∷ up) down (sends mailbox flow)
     → IsTaken whose master name node message up down mailbox flow
+
+-- no other backend hears of it
+abbrev pub LineTakenAlone : Type 0
+LineTakenAlone = (whose : Whose) (master : Master) (name other : List ℕ) (node its : BackNode) (up down its_up its_down : List LinkMsg) (given : Given)
+    (message : LinkMsg) (mailbox : List ℕ) (flow : Flow) → other ≢ name → HasTalk master name node (message ∷ up) down given → TellNobody master.streams
+    → is_own_message whose message ≡ true → IsPlaced whose node (message ∷ up) down (sends mailbox flow) → IsPlaced whose its its_up its_down nowhere
+    → IsPlaced whose its its_up (its_down ++ messages_to other (node_says master name message).outs) nowhere
 
 -- a step of the master for something else
 pub record IsPassed (whose : Whose) (name : List ℕ) (next : Stepped) (node : BackNode) (up down : List LinkMsg) (place : NamePlace) : Type 0 where

@@ -151,3 +151,7 @@ pub record IsPlaced (whose : Whose) (node : BackNode) (up down : List LinkMsg) (
   pub up_is : filter (is_own_message whose) up ≡ ups_at node.flows.me place
   pub down_is : filter (is_own_message whose) down ≡ downs_at place
   pub known : IsKnown place
+
+-- each command is in one place
+abbrev pub TalkTells : BackNode → List LinkMsg → List LinkMsg → Type 0
+TalkTells node up down = (id : AskId) → (place : NamePlace) × IsPlaced (is_command id) node up down place

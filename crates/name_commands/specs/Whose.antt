@@ -53,6 +53,11 @@ its_command (Answer answer) = Some answer.id
 abbrev pub is_own_message : Whose → LinkMsg → Bool
 is_own_message whose message = is_own whose (its_command message)
 
+-- a frontend asks for it
+abbrev pub asks_for : Whose → LinkMsg → Bool
+asks_for whose (Ask ask) = whose ask.id
+asks_for whose message = false
+
 -- an output is a message about it, or says of it that a step counts for it or that its client was told
 abbrev pub is_own_out : Whose → Out → Bool
 is_own_out whose (Client conn bytes) = false
