@@ -233,7 +233,7 @@ no_mark_sent node id None = refl
 no_mark_sent node id (Some counts) = refl
 
 pub line_taken_alone : LineTakenAlone
-line_taken_alone whose master name other node its up down its_up its_down given message mailbox flow ne talk tells own placed nothing =
+line_taken_alone whose master name other node another up down its_up its_down given message mailbox flow ne talk tells own placed nothing =
     let it = taken whose master name node up down given message mailbox flow talk tells own placed in
     let counts = (flow_reply master.table name node.flows.me mailbox flow).counts in
     let none : filter (is_own_message whose) (messages_to other (node_says master name message).outs) ≡ [] =
