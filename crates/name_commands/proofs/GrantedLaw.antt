@@ -2,11 +2,11 @@
 use Rattle.std.proofs.Common.{◌≡◌, ℕ, Bool, true, false, ◌&&◌, ◌||◌, not, cond, nat_eq, List, [], ◌∷◌, ◌++◌, Option, None, Some, refl, sym, ap, subst, ◌∙◌}
 use Rattle.std.specs.List.{flat_map}
 use Rattle.std.specs.Cmp.Lexicographic.{pointwise}
-use Rattle.home_law.specs.Items.{Server, is_same_server, Item, deactivate, delete, mine, own, other}
+use Rattle.home_law.specs.Items.{Server, is_same_server, Item, make, deactivate, delete, mine, own, other}
 use Rattle.home_law.specs.Link.{see}
 use Rattle.home_law.specs.LinkOk.{EachItem, FirstItem}
-use Rattle.home_law.specs.ManyNames.{SentLine as OpenLine, sent_delete, sent_deactivate, sent_wipe}
-use Rattle.home_law.specs.Rows.{first_line_ok, is_active as is_active_mine, is_closing, is_deleting, is_kept, line_ok, mine_of}
+use Rattle.home_law.specs.ManyNames.{sent_again, sent_delete, sent_deactivate, sent_make, sent_wipe}
+use Rattle.home_law.specs.Rows.{first_line_ok, is_active as is_active_mine, is_bare, is_kept, line_ok, mine_of}
 use Rattle.home_law.proofs.SameName.{is_itself, is_the_same}
 use Rattle.master_core.specs.declared.sender.Sender.TheVariants.{Backend}
 use Rattle.master_core.specs.Refusals.{deactivate_refusal, delete_refusal, is_active_state}
@@ -51,6 +51,15 @@ active_here b (Some it) e = by (is_same_server (it.place).server b) refl e
     by true h f = record { here = record { it = it; there = refl; at = is_the_same (it.place).server b h }; active = active_state it.state f }
     by false h f = cc
 
+bare_here : (b : Server) (found : Option Record) → is_bare (mine_of (see (known_by found) b)) ≡ true → IsHere b found
+unfolding see mine_of is_bare
+bare_here b None e = cc
+bare_here b (Some it) e = by (is_same_server (it.place).server b) refl e
+  where
+    by : (here : Bool) → is_same_server (it.place).server b ≡ here → is_bare (mine_of (cond here (own (kind_of it.state)) other)) ≡ true → IsHere b (Some it)
+    by true h f = record { it = it; there = refl; at = is_the_same (it.place).server b h }
+    by false h f = cc
+
 kept_here : (b : Server) (found : Option Record) → is_kept (mine_of (see (known_by found) b)) ≡ true → IsHere b found
 unfolding see mine_of is_kept
 kept_here b None e = cc
@@ -62,7 +71,7 @@ kept_here b (Some it) e = by (is_same_server (it.place).server b) refl e
 
 -- ---- so it isn't refused
 
-at_server : (b server : Server) → server ≡ b → pointwise nat_eq b server ≡ true
+pub at_server : (b server : Server) → server ≡ b → pointwise nat_eq b server ≡ true
 at_server b server e = subst (λ (s : Server). pointwise nat_eq b s ≡ true) (sym e) (is_itself b)
 
 deactivate_granted : (b : Server) (found : Option Record) (place : Location) → place.server ≡ b → IsActiveHere b found → deactivate_refusal (Backend b) found place ≡ None
@@ -100,6 +109,22 @@ module _ (link : OneLink) (is : LinkIs link) (m : List ℕ) (tag : Tag) (more : 
   deactivate_goes e =
       let first = subst (λ (u : List Item). FirstItem (λ x. first_line_ok (mine_of (see (known link.table m) b)) (ctl_of true link.held link.flows m) x ≡ true) u) (deactivate_first e) (is.named m).up_first in
       deactivate_granted b (record_at link.table m) link.flows.me refl (active_here b (record_at link.table m) first)
+
+  make_first : (acl : List ℕ) → is_asked tag ≡ true → link.ups ≡ (tag, command.Activate m link.flows.me acl) ∷ more → (back_of link m).up ≡ make ∷ rest
+  unfolding back_of backend_line items_of
+  make_first acl asked e =
+      ap (λ (us : List (Tag × MCommand)). flat_map (up_items b m) us) e
+      ∙ ap (λ (t : Bool). items_if m (cond t (Some (cond (is_asked tag) (sent_make m) (sent_again m))) None) ++ rest) (is_itself b)
+      ∙ ap (λ (t : Bool). items_if m (Some (cond t (sent_make m) (sent_again m))) ++ rest) asked
+      ∙ ap (λ (t : Bool). cond t (make ∷ []) [] ++ rest) (is_itself m)
+
+  -- a mailbox that is made has a record that names the backend
+  pub make_finds : (acl : List ℕ) → is_asked tag ≡ true → link.ups ≡ (tag, command.Activate m link.flows.me acl) ∷ more → IsHere b (record_at link.table m)
+  unfolding EachItem line_ok back_of
+  make_finds acl asked e =
+      let fits = subst (λ (u : List Item). EachItem (λ x. line_ok (mine_of (see (known link.table m) b)) (ctl_of true link.held link.flows m) x ≡ true) u) (make_first acl asked e) (is.named m).ups in
+      bare_here b (record_at link.table m)
+      (and_right _ (is_bare (mine_of (see (known link.table m) b))) (and_left _ _ (and_left _ _ fits.0)))
 
   delete_first : is_asked tag ≡ true → link.ups ≡ (tag, command.Delete m) ∷ more → (back_of link m).up ≡ delete ∷ rest
   unfolding back_of backend_line items_of

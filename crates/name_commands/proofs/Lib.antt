@@ -9,5 +9,6 @@ pub mod AskSteps
 pub mod AnswerSteps
 pub mod GrantedLaw
 pub mod Marks
+pub mod ReplyLaw
 pub mod MasterLaw
 pub mod AllLaw

@@ -58,10 +58,12 @@ use Rattle.back_links.proofs.StepsSaid.{sends_spelled}
 use Rattle.back_links.proofs.Texts.{command_read, response_read}
 use Rattle.name_commands.specs.MasterSteps.{flow_reply, IsPassed, IsTaken, LineTaken, LineTakenAlone, OtherLinesPass, OtherNodesPass}
 use Rattle.name_commands.specs.Places.{NamePlace, nowhere, sends, hears, IsAt, IsPlaced, IsResponse, answer_message, flow_line, flow_message, may_come, stage_command, stage_line}
+use Rattle.name_commands.specs.Replied.{IsReplied}
 use Rattle.name_commands.specs.Whose.{Whose, is_own, is_own_line, is_own_message, is_own_out}
-use Rattle.name_commands.proofs.GrantedLaw.{deactivate_goes, delete_goes}
+use Rattle.name_commands.proofs.GrantedLaw.{deactivate_goes, delete_goes, IsHere, make_finds}
 use Rattle.name_commands.proofs.Marks.{changes_none, its_mark, none_sent, says_others, sent_of_outs}
 use Rattle.name_commands.proofs.Own.{all_behind, kept, none_behind, of_one, on_itself, own_is, passed}
+use Rattle.name_commands.proofs.ReplyLaw.{activate_replied, deactivate_replied, delete_replied, reserve_replied}
 use Rattle.name_commands.proofs.Sends.{stage_same}
 
 -- ---- one response
@@ -180,6 +182,24 @@ module _ (whose : Whose) (master : Master) (name : List ℕ) (node : BackNode) (
   abbrev response_of : MResponse
   response_of = one.it
 
+  replied_by : (stage : Stage) → flow.stage ≡ stage → talk.ups ≡ (tag, stage_command me mailbox stage) ∷ first.more
+      → (reply_to master.table (Backend name) (stage_command me mailbox stage)).answers ≡ response_of ∷ []
+      → IsReplied master.table me mailbox flow response_of (reply_to master.table (Backend name) (stage_command me mailbox stage))
+  unfolding reply_to reserve_reply activate_reply deactivate_reply delete_reply
+  replied_by Reserving at e answers = reserve_replied master.table name me mailbox flow response_of at_name at it_its.low answers
+  replied_by Making at e answers =
+      activate_replied master.table name me mailbox flow response_of at_name at
+      (subst (λ (b : List ℕ). IsHere b (record_at master.table mailbox)) at_name
+      (make_finds link talk.holds.names.is mailbox tag first.more (first_acl mailbox) (ap (λ (i : Option AskId). is_some i) tag_tells) e)) answers
+  replied_by Deactivating at e answers =
+      deactivate_replied master.table name me mailbox flow response_of at_name at (deactivate_refusal (Backend name) (record_at master.table mailbox) me)
+      (subst (λ (b : List ℕ). deactivate_refusal (Backend b) (record_at master.table mailbox) me ≡ None) at_name
+      (deactivate_goes link talk.holds.names.is mailbox tag first.more e)) answers
+  replied_by Deleting at e answers =
+      delete_replied master.table name me mailbox flow response_of at_name at (delete_refusal (Backend name) (record_at master.table mailbox))
+      (subst (λ (b : List ℕ). delete_refusal (Backend b) (record_at master.table mailbox) ≡ None) at_name
+      (delete_goes link talk.holds.names.is mailbox tag first.more (ap (λ (i : Option AskId). is_some i) tag_tells) e)) answers
+
   own_answer : is_own_message whose (answer_message flow response_of) ≡ true
   own_answer = ap (λ (i : Option AskId). is_own whose i) (own_response flow.ask response_of ∙ tag_tells) ∙ own_flow_is
 
@@ -214,6 +234,7 @@ module _ (whose : Whose) (master : Master) (name : List ℕ) (node : BackNode) (
   taken = record {
     it = response_of;
     answer = one.answer;
+    replied = replied_by flow.stage refl ups_are one.answer;
     placed = record {
       at = record { waiting = placed.at.waiting; running = placed.at.running; sent = placed.at.sent; numbered = placed.at.numbered };
       up_is = none_left;

@@ -2,5 +2,6 @@ pub mod Whose
 pub mod Places
 pub mod Moves
 pub mod BackSteps
+pub mod Replied
 pub mod MasterSteps
 pub mod AllCommands

@@ -19,17 +19,19 @@ use Rattle.feed_links.specs.Lines.{messages_to}
 use Rattle.name_links.specs.Serials.{Given}
 use Rattle.back_links.specs.OneTalk.{HasTalk}
 use Rattle.name_commands.specs.Places.{NamePlace, nowhere, sends, hears, IsPlaced, answer_message, stage_command}
+use Rattle.name_commands.specs.Replied.{IsReplied}
 use Rattle.name_commands.specs.Whose.{Whose, is_own_message, is_own_out}
 
 -- what the master makes of the line of a flow
 abbrev pub flow_reply : MailboxTable → List ℕ → Location → List ℕ → Flow → Reply
 flow_reply table name me mailbox flow = reply_to table (Backend name) (stage_command me mailbox flow.stage)
 
--- The master takes its line. There is one response, under the same tag, and the step's mark is the reply's.
+-- The master takes its line. There is one response, under the same tag, and the step's mark is that of the reply.
 pub record IsTaken (whose : Whose) (master : Master) (name : List ℕ) (node : BackNode) (message : LinkMsg) (up down : List LinkMsg) (mailbox : List ℕ)
     (flow : Flow) : Type 0 where
   pub it : MResponse
   pub answer : (flow_reply master.table name node.flows.me mailbox flow).answers ≡ it ∷ []
+  pub replied : IsReplied master.table node.flows.me mailbox flow it (flow_reply master.table name node.flows.me mailbox flow)
   pub placed : IsPlaced whose node up (down ++ messages_to name (node_says master name message).outs) (hears mailbox flow it)
   pub outs : filter (is_own_out whose) (node_says master name message).outs
       ≡ Link name (answer_message flow it) ∷ mark_of (Some flow.ask) (flow_reply master.table name node.flows.me mailbox flow).counts

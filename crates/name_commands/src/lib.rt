@@ -6,6 +6,7 @@
 //! | where a command is: in the resync, in a line to the master, in the response to it; and that of all that is there just this is about it | `specs/Places.antt` |
 //! | what becomes of it in a step of its backend | `specs/Moves.antt` |
 //! | the steps of the backend: its ask, the response to its line, anything else | `specs/BackSteps.antt` |
+//! | the reply to the line of each stage, and what its response does | `specs/Replied.antt` |
 //! | the steps of the master: its line, anything else | `specs/MasterSteps.antt` |
 //! | all commands of a backend | `specs/AllCommands.antt` |
 //!
