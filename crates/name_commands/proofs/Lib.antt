@@ -12,3 +12,4 @@ pub mod Marks
 pub mod ReplyLaw
 pub mod MasterLaw
 pub mod AllLaw
+pub mod PutOffLaw

@@ -2,11 +2,13 @@
 ghost use Rattle.name_commands.specs.AllCommands.{AnswersTell, AsksTell, LinesTell, TellsFirst, TellsOneToOne};
 ghost use Rattle.name_commands.specs.BackSteps.{AnswerMoves, AskMoves, MessagesLeave, NoneAtFirst, NoneBegins, OtherAnswersLeave, OtherAsksLeave};
 ghost use Rattle.name_commands.specs.MasterSteps.{LineTaken, LineTakenAlone, OtherLinesPass, OtherNodesPass};
+ghost use Rattle.name_commands.specs.PutOff.{AskedMoves, TestedMoves};
 
 /// The backend takes the ask of a command that is nowhere: it is answered, by what its refusal tells, it waits for the end of the resync, or the line of
-/// its flow is sent; and that alone goes out about it.
+/// its flow is sent; and that alone goes out about it. An answer puts it off.
 pub fn an_ask_is_answered_waits_or_sends_its_line()
-    ensures { AskMoves }
+    ensures moves { AskMoves }
+    ensures asked { AskedMoves }
 {}
 
 /// The backend takes the response to a command's line: the command is answered, or its next line is sent, as stage and response tell.
@@ -16,7 +18,8 @@ pub fn a_response_answers_or_sends_the_next_line()
 
 /// Whatever else the master says, a command stays where it is, unless that ends the resync for which it waits: then it is answered, or its line is sent.
 pub fn the_end_of_a_resync_tests_those_that_waited()
-    ensures { OtherAnswersLeave }
+    ensures leaves { OtherAnswersLeave }
+    ensures tested { TestedMoves }
 {}
 
 /// The master takes a command's line: it sends its backend one response, under the same tag, and the step's mark is that of the reply. No other backend
