@@ -1,48 +1,44 @@
 -- Each command is in one place, at first and after each step.
-use Rattle.std.proofs.Common.{◌≡◌, ◌≢◌, ◌⊎◌, inl, inr, ℕ, Bool, true, false, cond, codes, nat_eq, List, [], ◌∷◌, ◌++◌, map, filter, Option, None, Some, refl, sym, ap, subst, ◌∙◌}
+use Rattle.std.proofs.Common.{◌≡◌, ◌≢◌, ◌⊎◌, inl, inr, ℕ, Bool, true, false, cond, codes, List, [], ◌∷◌, ◌++◌, filter, Option, None, Some, refl, sym, ap, subst, ◌∙◌}
 use Rattle.std.specs.List.Sorted.{IsStrictlySortedBy}
 use Rattle.std.specs.Ordering.{is_eq, nat_cmp}
 use Rattle.std.specs.Cmp.Lexicographic.{slice_cmp}
 use Rattle.link_msg.specs.declared.ask.FrontAsk.{FrontAsk}
 use Rattle.link_msg.specs.declared.message.LinkMsg.{LinkMsg}
 use Rattle.link_msg.specs.declared.message.LinkMsg.TheVariants.{Up, End, Line, Ask, Answer}
-use Rattle.link_msg.specs.declared.out.Out.{Out}
 use Rattle.link_msg.specs.declared.out.Out.TheVariants.{Link}
 use Rattle.master_core.specs.declared.master.Master.{Master}
 use Rattle.master_core.specs.Linked.{node_says}
 use Rattle.master_core.specs.Whose.{TellNobody}
-use Rattle.mupdate_codec.specs.declared.command.MResponse.{MResponse}
 use Rattle.mupdate_codec.specs.declared.tag.Tag.TheVariants.{Text}
 use Rattle.mupdate_codec.specs.Asks.{ask_id_of, first_word, line_ask, split_dash}
 use Rattle.mupdate_codec.specs.Tags.{mupdate_tag_text}
 use Rattle.mupdate_codec.proofs.LineAsks.{command_under}
-use Rattle.mur_base.specs.declared.home.Location.{Location}
 use Rattle.mur_base.specs.declared.point.AskId.{AskId}
 use Rattle.mur_base.proofs.MapLaws.{names_apart}
 use Rattle.name_flows.specs.declared.ask.AskKind.{AskKind}
-use Rattle.name_flows.specs.declared.ask.NameAsk.{NameAsk}
 use Rattle.name_flows.specs.declared.flow.Flow.{Flow}
 use Rattle.name_flows.specs.declared.flows.Flows.{Flows}
 use Rattle.name_flows.specs.declared.sent.SentLine.{SentLine}
 use Rattle.name_flows.specs.Lines.{command_of, line_text}
 use Rattle.name_flows.specs.Listing.{resync_line, up_step}
-use Rattle.name_flows.specs.Running.{flow_at, new_flows}
+use Rattle.name_flows.specs.Running.{flow_at}
 use Rattle.back_node.specs.declared.node.BackNode.{BackNode}
 use Rattle.back_node.specs.Acted.{BackActed}
-use Rattle.back_node.specs.Node.{is_my_master, new_node}
+use Rattle.back_node.specs.Node.{new_node}
 use Rattle.back_node.specs.Takes.{name_kind, node_takes, passed_over, talks, taken_up}
 use Rattle.back_node.proofs.AtHome.{done_by}
 use Rattle.feed_links.specs.Lines.{messages_to}
 use Rattle.feed_links.proofs.Names.{same_name}
 use Rattle.name_links.specs.Serials.{Given}
-use Rattle.back_links.specs.BackEvents.{fits_by, IsFitting}
+use Rattle.back_links.specs.BackEvents.{IsFitting}
 use Rattle.back_links.specs.OneTalk.{HasTalk}
-use Rattle.name_commands.specs.AllCommands.{AnswersTell, AreOneToOne, AsksTell, HasItsFlow, IsNew, LinesTell, new_by, TellsAfterNode, TellsFirst, TellsOneToOne}
+use Rattle.name_commands.specs.AllCommands.{AnswersTell, AreOneToOne, AsksTell, HasItsFlow, IsNew, LinesTell, new_by, TellsFirst, TellsOneToOne}
 use Rattle.name_commands.specs.BackSteps.{IsLeftOrTested, is_left, is_tested, NoneBegins}
-use Rattle.name_commands.specs.Moves.{IsLeft, IsMoved, place_after}
+use Rattle.name_commands.specs.Moves.{IsLeft}
 use Rattle.name_commands.specs.Places.{NamePlace, nowhere, waits, sends, hears, FlowsTell, IsAt, IsPlaced, TalkTells, flow_line, on_name}
 use Rattle.name_commands.specs.Whose.{Whose, asks_for, is_command, is_own, is_own_line, is_own_message, is_own_out, own_flow}
-use Rattle.name_commands.proofs.AnswerLaw.{as_sent, some_talk}
+use Rattle.name_commands.proofs.AnswerLaw.{as_sent}
 use Rattle.name_commands.proofs.AnswerSteps.{answer_moves, other_answers_leave}
 use Rattle.name_commands.proofs.AskSteps.{ask_moves, messages_leave, none_at_first, other_asks_leave}
 use Rattle.name_commands.proofs.Marks.{none_sent}

@@ -1,5 +1,5 @@
 -- The response to a command's line comes: the command is answered, or its next line is sent.
-use Rattle.std.proofs.Common.{◌≡◌, ◌≢◌, ◌⊎◌, inl, inr, ℕ, Bool, true, false, cond, List, [], ◌∷◌, ◌++◌, filter, Option, None, Some, refl, sym, ap, subst, ◌∙◌}
+use Rattle.std.proofs.Common.{◌≡◌, ◌≢◌, ◌⊎◌, inl, inr, ℕ, Bool, true, false, cond, List, [], ◌∷◌, filter, Option, None, Some, refl, sym, ap, subst, ◌∙◌}
 use Rattle.std.specs.Ordering.{nat_cmp}
 use Rattle.std.specs.Cmp.Lexicographic.{slice_cmp}
 use Rattle.link_msg.specs.declared.answer.AnswerBody.{AnswerBody}
@@ -19,7 +19,6 @@ use Rattle.name_flows.specs.declared.flow.Flow.{Flow}
 use Rattle.name_flows.specs.declared.flow.Stage.{Stage}
 use Rattle.name_flows.specs.declared.flow.Stage.TheVariants.{Reserving, Making, Deactivating, Deleting}
 use Rattle.name_flows.specs.declared.flows.Flows.{Flows}
-use Rattle.name_flows.specs.declared.sent.Sent.{Sent}
 use Rattle.name_flows.specs.declared.sent.Sent.TheVariants.{Wipe}
 use Rattle.name_flows.specs.declared.sent.SentLine.{SentLine}
 use Rattle.name_flows.specs.Creates.{full, make_no, make_ok, reserve_no, reserve_ok, reserve_refused, reserved_by, serial_in}
@@ -30,9 +29,9 @@ use Rattle.name_flows.specs.Running.{answers_for, done, ended, flow_at, forget, 
 use Rattle.name_flows.specs.Steps.{FlowStep, changing, finished, given, silent}
 use Rattle.name_flows.proofs.OneStep.{flow_ended, flow_ended-other, flow_goes_on, flow_goes_on-other}
 use Rattle.name_links.proofs.Sends.{heard_is, step_by}
-use Rattle.name_commands.specs.Moves.{Move, ends, heard_move, heard_move_by, is_answered, is_sent, reserved_move}
-use Rattle.name_commands.specs.Places.{NamePlace, nowhere, waits, sends, hears, IsAt, IsNumbered, flow_line, on_name, stage_line}
-use Rattle.name_commands.specs.Whose.{Whose, is_own_ask, is_own_line, is_own_told, own_flow}
+use Rattle.name_commands.specs.Moves.{Move, ends, heard_move, heard_move_by, is_sent, reserved_move}
+use Rattle.name_commands.specs.Places.{NamePlace, nowhere, waits, sends, hears, IsAt, flow_line, on_name, stage_line}
+use Rattle.name_commands.specs.Whose.{Whose, is_own_line, is_own_told, own_flow}
 use Rattle.name_commands.proofs.Own.{all_behind, asked_own, kept, on_itself, on_other, own_here, own_is, unasked_own}
 use Rattle.name_commands.proofs.Steps.{Makes}
 

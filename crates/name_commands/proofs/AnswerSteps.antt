@@ -1,10 +1,9 @@
 -- The backend takes what the master sent.
-use Rattle.std.proofs.Common.{◌≡◌, ◌≢◌, ℕ, Bool, true, false, cond, nat_eq, is_some, List, [], ◌∷◌, ◌++◌, map, filter, Option, None, Some, refl, sym, ap, subst, ◌∙◌}
+use Rattle.std.proofs.Common.{◌≡◌, ◌≢◌, ℕ, Bool, true, false, cond, nat_eq, is_some, List, [], ◌∷◌, filter, Option, None, Some, refl, sym, ap, subst, ◌∙◌}
 use Rattle.std.specs.List.{AllByRecursion}
-use Rattle.std.specs.Ordering.{nat_cmp}
-use Rattle.std.specs.Cmp.Lexicographic.{pointwise, slice_cmp}
+use Rattle.std.specs.Cmp.Lexicographic.{pointwise}
 use Rattle.link_msg.specs.declared.message.LinkMsg.{LinkMsg}
-use Rattle.link_msg.specs.declared.message.LinkMsg.TheVariants.{Up, Line}
+use Rattle.link_msg.specs.declared.message.LinkMsg.TheVariants.{Line}
 use Rattle.master_core.specs.declared.master.Master.{Master}
 use Rattle.master_core.specs.Changes.{text_of}
 use Rattle.mupdate_codec.specs.declared.command.MResponse.{MResponse}
@@ -17,33 +16,26 @@ use Rattle.mupdate_codec.specs.Arguments.{exact}
 use Rattle.mupdate_codec.specs.Commands.{command_line}
 use Rattle.mupdate_codec.specs.Tags.{mupdate_tag_text}
 use Rattle.mupdate_codec.proofs.LineAsks.{command_tells, command_under, response_under}
-use Rattle.mur_base.specs.declared.home.Location.{Location}
 use Rattle.mur_base.specs.declared.point.AskId.{AskId}
 use Rattle.name_flows.specs.declared.flow.Flow.{Flow}
 use Rattle.name_flows.specs.declared.flow.Stage.{Stage}
 use Rattle.name_flows.specs.declared.flow.Stage.TheVariants.{Reserving, Making, Deactivating, Deleting}
-use Rattle.name_flows.specs.declared.flows.Flows.{Flows}
 use Rattle.name_flows.specs.declared.ask.NameAsk.{NameAsk}
-use Rattle.name_flows.specs.declared.resync.Resync.{Resync}
 use Rattle.name_flows.specs.declared.sent.Sent.{Sent}
 use Rattle.name_flows.specs.declared.sent.Sent.TheVariants.{List as List_line, Reserve, Make, Again, Deactivate, Delete, Wipe, Find}
 use Rattle.name_flows.specs.declared.sent.SentLine.{SentLine}
 use Rattle.name_flows.specs.Asked.{refusal}
-use Rattle.name_flows.specs.Creates.{serial_in}
 use Rattle.name_flows.specs.Heard.{heard_step, is_same_tag}
-use Rattle.name_flows.specs.Link.{waiting_in}
-use Rattle.name_flows.specs.Listing.{up_step}
-use Rattle.name_flows.specs.Running.{flow_at, new_flows}
-use Rattle.name_flows.specs.Steps.{FlowStep, handed}
+use Rattle.name_flows.specs.Running.{flow_at}
+use Rattle.name_flows.specs.Steps.{FlowStep}
 use Rattle.back_node.specs.declared.node.BackNode.{BackNode}
 use Rattle.back_node.specs.Acted.{BackActed}
-use Rattle.back_node.specs.Node.{is_my_master, new_node}
+use Rattle.back_node.specs.Node.{is_my_master}
 use Rattle.back_node.specs.Takes.{line_by, node_takes, passed_over, talks, taken_up}
 use Rattle.back_node.proofs.AtHome.{done_by}
 use Rattle.back_node.proofs.Owed.{AnswersOnly, heard_answers}
 use Rattle.feed_links.proofs.Names.{same_name}
-use Rattle.name_links.specs.Lines.{is_asked}
-use Rattle.name_links.specs.LinkIs.{AreAnswers, AreNumbered, is_tagged_as, IsTagged, tagged_by}
+use Rattle.name_links.specs.LinkIs.{AreAnswers, is_tagged_as, IsTagged, tagged_by}
 use Rattle.name_links.specs.OneLink.{OneLink}
 use Rattle.name_links.specs.Serials.{Given}
 use Rattle.name_links.proofs.HearEvents.{none_answers, same}
@@ -56,9 +48,9 @@ use Rattle.back_links.proofs.Queues.{first_of, IsFirst}
 use Rattle.back_links.proofs.StepsSaid.{StepSaid, heard_said}
 use Rattle.back_links.proofs.Texts.{command_is, response_read}
 use Rattle.name_commands.specs.BackSteps.{AnswerMoves, IsHeard, IsLeftOrTested, is_left, is_tested, OtherAnswersLeave}
-use Rattle.name_commands.specs.Moves.{Move, heard_move, heard_move_by, ends, is_sent, reserved_move, tested_move, IsLeft, IsMoved}
-use Rattle.name_commands.specs.Places.{NamePlace, nowhere, waits, sends, hears, FlowsTell, IsAt, IsKnown, IsPlaced, IsResponse, answer_message, asks_at, downs_at, flow_line, may_come, stage_line, ups_at}
-use Rattle.name_commands.specs.Whose.{Whose, is_command, is_own, is_own_ask, is_own_line, is_own_message, own_flow}
+use Rattle.name_commands.specs.Moves.{Move, heard_move, heard_move_by, tested_move, IsLeft, IsMoved}
+use Rattle.name_commands.specs.Places.{NamePlace, nowhere, waits, sends, hears, FlowsTell, IsAt, IsPlaced, answer_message, asks_at, downs_at, may_come, stage_line, ups_at}
+use Rattle.name_commands.specs.Whose.{Whose, is_command, is_own, is_own_line, is_own_message, own_flow}
 use Rattle.name_commands.proofs.AnswerLaw.{as_sent, has_talk, heard_makes, HasTalk as HasLine, some_talk}
 use Rattle.name_commands.proofs.OtherLaw.{as_many, heard_leaves, IsFree}
 use Rattle.name_commands.proofs.Own.{is_itself, is_only, kept, not_here, on_itself, own_is, passed, same_tag}

@@ -1,9 +1,8 @@
 -- An ask comes: it is answered, waits, or its flow begins; another's leaves a command where it is.
-use Rattle.std.proofs.Common.{◌≡◌, ◌≢◌, ◌⊎◌, inl, inr, ℕ, Bool, true, false, cond, is_some, List, [], ◌∷◌, ◌++◌, filter, Option, None, Some, refl, sym, ap, subst, ◌∙◌, append-nil}
+use Rattle.std.proofs.Common.{◌≡◌, ◌≢◌, ◌⊎◌, inl, inr, ℕ, Bool, true, false, is_some, List, [], ◌∷◌, filter, Option, None, Some, refl, sym, ap, subst, ◌∙◌, append-nil}
 use Rattle.std.specs.Ordering.{nat_cmp}
 use Rattle.std.specs.Cmp.Lexicographic.{slice_cmp}
 use Rattle.link_msg.specs.declared.answer.AnswerBody.{AnswerBody}
-use Rattle.mur_base.specs.Map.{value_at, with_entry}
 use Rattle.mur_base.proofs.MapLaws.{names_apart, same_or_other, value_at-with_entry, value_at-with_entry-other}
 use Rattle.node_record.specs.Held.{Names}
 use Rattle.name_flows.specs.declared.ask.AskKind.{AskKind}
@@ -17,11 +16,10 @@ use Rattle.name_flows.specs.declared.sent.SentLine.{SentLine}
 use Rattle.name_flows.specs.Asked.{asked_by, asked_step, begun_flow, begun_line, first_line, first_stage, flow_for, refusal, tested_by}
 use Rattle.name_flows.specs.Lines.{asked_line}
 use Rattle.name_flows.specs.Link.{waiting_in}
-use Rattle.name_flows.specs.Running.{flow_at, has_flow}
-use Rattle.name_flows.specs.Steps.{FlowStep}
+use Rattle.name_flows.specs.Running.{flow_at}
 use Rattle.name_links.proofs.Rounds.{carried_out}
-use Rattle.name_commands.specs.Moves.{Move, asked_move, asked_move_by, is_answered, is_kept, is_sent, tested_move}
-use Rattle.name_commands.specs.Places.{NamePlace, nowhere, waits, sends, IsAt, IsNumbered, flow_line, on_name, stage_line}
+use Rattle.name_commands.specs.Moves.{asked_move, asked_move_by, tested_move}
+use Rattle.name_commands.specs.Places.{nowhere, IsAt, IsNumbered, flow_line, on_name, stage_line}
 use Rattle.name_commands.specs.Whose.{Whose, is_own_ask, is_own_line, is_own_told, own_flow}
 use Rattle.name_commands.proofs.Own.{asked_own, kept, kept_behind, not_here, on_itself, on_other, own_here, passed, passed_behind}
 use Rattle.name_commands.proofs.Steps.{Leaves, Makes}

@@ -9,25 +9,22 @@ use Rattle.backend_core.specs.Plan.{answer_outs, back_plan, owed_outs, owes}
 use Rattle.link_msg.specs.declared.ask.FrontAsk.{FrontAsk}
 use Rattle.link_msg.specs.declared.message.LinkMsg.{LinkMsg}
 use Rattle.link_msg.specs.declared.message.LinkMsg.TheVariants.{Up, End, Line, Ask, Answer}
-use Rattle.link_msg.specs.declared.out.Out.{Out}
 use Rattle.link_msg.specs.declared.out.Out.TheVariants.{Link, Mark}
 use Rattle.master_core.specs.declared.master.Master.{Master}
 use Rattle.mupdate_codec.specs.Whole.{response_in}
-use Rattle.mur_base.specs.declared.home.Location.{Location}
 use Rattle.name_flows.specs.declared.ask.AskKind.{AskKind}
 use Rattle.name_flows.specs.declared.ask.NameAsk.{NameAsk}
 use Rattle.name_flows.specs.Asked.{asked_step}
 use Rattle.name_flows.specs.Link.{end_step}
 use Rattle.name_flows.specs.Listing.{up_step}
-use Rattle.name_flows.specs.Running.{new_flows}
 use Rattle.back_node.specs.declared.node.BackNode.{BackNode}
-use Rattle.back_node.specs.Acted.{BackActed, home_with}
-use Rattle.back_node.specs.Node.{is_my_master, new_node}
-use Rattle.back_node.specs.Takes.{UpToEntry, ask_by, line_by, name_ask, name_kind, node_takes, only_entry, passed_over, serves, talks, taken_up}
+use Rattle.back_node.specs.Acted.{BackActed}
+use Rattle.back_node.specs.Node.{is_my_master}
+use Rattle.back_node.specs.Takes.{UpToEntry, ask_by, line_by, name_ask, name_kind, node_takes, passed_over, serves, talks, taken_up}
 use Rattle.back_node.proofs.AtHome.{done_by}
-use Rattle.back_node.proofs.Owed.{AnswersOnly, ask_answers, none_owed, up_answers}
+use Rattle.back_node.proofs.Owed.{AnswersOnly, ask_answers}
 use Rattle.feed_links.specs.Lines.{messages_to}
-use Rattle.feed_links.proofs.Names.{other_name, same_name}
+use Rattle.feed_links.proofs.Names.{other_name}
 use Rattle.name_links.specs.Serials.{Given}
 use Rattle.back_links.specs.BackEvents.{fits_by, IsFitting}
 use Rattle.back_links.specs.OneTalk.{HasTalk}
@@ -36,7 +33,7 @@ use Rattle.back_links.proofs.StepsSaid.{StepSaid, asked_said}
 use Rattle.back_links.proofs.Texts.{ask_spelled}
 use Rattle.name_commands.specs.BackSteps.{AskMoves, MessagesLeave, NoneAtFirst, OtherAsksLeave}
 use Rattle.name_commands.specs.Moves.{asked_move, IsLeft, IsMoved}
-use Rattle.name_commands.specs.Places.{NamePlace, nowhere, IsAt, IsPlaced}
+use Rattle.name_commands.specs.Places.{NamePlace, nowhere, IsPlaced}
 use Rattle.name_commands.specs.Whose.{Whose, asks_for, is_own_message, is_own_out}
 use Rattle.name_commands.proofs.AskLaw.{asked_leaves, asked_makes}
 use Rattle.name_commands.proofs.Own.{passed}

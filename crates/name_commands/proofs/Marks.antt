@@ -1,7 +1,6 @@
 -- What the master lets out for a line is of the command whose line it is: messages and marks.
-use Rattle.std.proofs.Common.{◌≡◌, ◌⊎◌, inl, inr, ℕ, ◌&&◌, not, nat_eq, Bool, true, false, cond, List, [], ◌∷◌, ◌++◌, map, filter, Option, None, Some, refl, sym, ap, subst, ◌∙◌, append-nil}
+use Rattle.std.proofs.Common.{◌≡◌, ◌⊎◌, inl, inr, ℕ, ◌&&◌, not, nat_eq, Bool, true, false, cond, List, [], ◌∷◌, ◌++◌, map, filter, Option, None, Some, refl, sym, ap, ◌∙◌}
 use Rattle.std.specs.Prelude.{All, ⊤}
-use Rattle.std.specs.List.{flat_map}
 use Rattle.std.specs.Cmp.Lexicographic.{pointwise}
 use Rattle.std.proofs.lemmas.List.Elements.{All-append, All-cons, All-head, All-nil, All-tail, filter-append}
 use Rattle.link_msg.specs.declared.counts.Counts.{Counts}
@@ -33,7 +32,7 @@ use Rattle.mupdate_codec.proofs.WholeLaw.{is_line}
 use Rattle.mur_base.specs.declared.point.AskId.{AskId}
 use Rattle.node_record.specs.declared.master.MasterRecord.{MasterRecord}
 use Rattle.feed_links.specs.Lines.{message_to, messages_to}
-use Rattle.name_commands.specs.Whose.{Whose, is_own, is_own_message, is_own_out, its_command}
+use Rattle.name_commands.specs.Whose.{Whose, is_own, is_own_message, is_own_out}
 use Rattle.name_commands.proofs.Own.{kept, none_kept, passed}
 
 -- ---- marks

@@ -1,11 +1,8 @@
 -- The master takes a line: a command's own, or another.
-use Rattle.std.proofs.Common.{◌≡◌, ◌≢◌, ℕ, Bool, true, false, cond, is_some, List, [], ◌∷◌, ◌++◌, map, filter, Option, None, Some, refl, sym, ap, subst, ◌∙◌}
+use Rattle.std.proofs.Common.{◌≡◌, ℕ, Bool, true, false, cond, is_some, List, [], ◌∷◌, ◌++◌, map, filter, Option, None, Some, refl, sym, ap, subst, ◌∙◌}
 use Rattle.std.specs.List.{AllByRecursion}
-use Rattle.std.proofs.lemmas.List.Elements.{filter-append}
-use Rattle.grammar.specs.Numbers.{decimal_text}
 use Rattle.link_msg.specs.declared.counts.Counts.{Counts}
 use Rattle.link_msg.specs.declared.message.LinkMsg.{LinkMsg}
-use Rattle.link_msg.specs.declared.message.LinkMsg.TheVariants.{Line}
 use Rattle.link_msg.specs.declared.out.Out.{Out}
 use Rattle.link_msg.specs.declared.out.Out.TheVariants.{Link}
 use Rattle.mail_message.specs.FirstAcl.{first_acl}
@@ -13,7 +10,7 @@ use Rattle.master_core.specs.declared.master.Master.{Master}
 use Rattle.master_core.specs.declared.refusal.Refusal.{Refusal}
 use Rattle.master_core.specs.declared.reply.Reply.{Reply}
 use Rattle.master_core.specs.declared.sender.Sender.TheVariants.{Backend}
-use Rattle.master_core.specs.Changes.{change_outs, text_of}
+use Rattle.master_core.specs.Changes.{change_outs}
 use Rattle.master_core.specs.Linked.{let_out, node_says}
 use Rattle.master_core.specs.Outside.{Stepped}
 use Rattle.master_core.specs.Refusals.{activate_refusal, deactivate_refusal, delete_refusal, reserve_refusal}
@@ -21,14 +18,12 @@ use Rattle.master_core.specs.Replies.{activate_by, activate_reply, deactivate_by
 use Rattle.master_core.specs.Step.{answered, mark_of, mark_outs, replied}
 use Rattle.master_core.specs.Whose.{TellNobody}
 use Rattle.mupdate_codec.specs.declared.command.MCommand.{MCommand}
-use Rattle.mupdate_codec.specs.declared.command.MCommand.TheVariants as command
 use Rattle.mupdate_codec.specs.declared.command.MResponse.{MResponse}
-use Rattle.mupdate_codec.specs.declared.command.MResponse.TheVariants as response
 use Rattle.mupdate_codec.specs.declared.tag.Tag.{Tag}
 use Rattle.mupdate_codec.specs.Arguments.{exact}
-use Rattle.mupdate_codec.specs.Asks.{ask_id_of, line_ask, tag_of}
+use Rattle.mupdate_codec.specs.Asks.{ask_id_of, tag_of}
 use Rattle.mupdate_codec.specs.Commands.{command_line}
-use Rattle.mupdate_codec.specs.Whole.{command_in, response_in}
+use Rattle.mupdate_codec.specs.Whole.{command_in}
 use Rattle.mupdate_codec.proofs.AsksLaw.{ask_again}
 use Rattle.mupdate_codec.proofs.LineAsks.{own_response}
 use Rattle.mur_base.specs.declared.home.Location.{Location}
@@ -36,17 +31,12 @@ use Rattle.mur_base.specs.declared.point.AskId.{AskId}
 use Rattle.name_flows.specs.declared.flow.Flow.{Flow}
 use Rattle.name_flows.specs.declared.flow.Stage.{Stage}
 use Rattle.name_flows.specs.declared.flow.Stage.TheVariants.{Reserving, Making, Deactivating, Deleting}
-use Rattle.name_flows.specs.declared.flows.Flows.{Flows}
-use Rattle.name_flows.specs.declared.sent.SentLine.{SentLine}
-use Rattle.name_flows.specs.Lines.{command_of}
 use Rattle.name_flows.specs.Running.{flow_at}
 use Rattle.node_record.specs.Table.{MailboxTable, record_at}
 use Rattle.back_node.specs.declared.node.BackNode.{BackNode}
 use Rattle.feed_links.specs.Lines.{messages_to}
 use Rattle.feed_links.proofs.Names.{other_name}
-use Rattle.name_links.specs.Answers.{answers_to}
-use Rattle.name_links.specs.Lines.{is_asked}
-use Rattle.name_links.specs.OneLink.{message_of, OneLink, server_of, under}
+use Rattle.name_links.specs.OneLink.{OneLink, server_of, under}
 use Rattle.name_links.specs.Serials.{Given}
 use Rattle.back_links.specs.OneTalk.{HasTalk, link_of}
 use Rattle.back_links.specs.Spelled.{HasCommandTexts, HasLineTexts, HasResponseTexts}
@@ -57,7 +47,7 @@ use Rattle.back_links.proofs.Queues.{first_of, IsFirst}
 use Rattle.back_links.proofs.StepsSaid.{sends_spelled}
 use Rattle.back_links.proofs.Texts.{command_read, response_read}
 use Rattle.name_commands.specs.MasterSteps.{flow_reply, IsPassed, IsTaken, LineTaken, LineTakenAlone, OtherLinesPass, OtherNodesPass}
-use Rattle.name_commands.specs.Places.{NamePlace, nowhere, sends, hears, IsAt, IsPlaced, IsResponse, answer_message, flow_line, flow_message, may_come, stage_command, stage_line}
+use Rattle.name_commands.specs.Places.{NamePlace, sends, IsPlaced, answer_message, flow_line, flow_message, may_come, stage_command}
 use Rattle.name_commands.specs.Replied.{IsReplied}
 use Rattle.name_commands.specs.Whose.{Whose, is_own, is_own_line, is_own_message, is_own_out}
 use Rattle.name_commands.proofs.GrantedLaw.{deactivate_goes, delete_goes, IsHere, make_finds}

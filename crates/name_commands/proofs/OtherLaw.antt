@@ -1,5 +1,5 @@
 -- A response to another command's line, or to one that none waits for, leaves a command where it is. The end of a resync is another law.
-use Rattle.std.proofs.Common.{◌≡◌, ◌≢◌, ◌⊎◌, inl, inr, ℕ, Bool, true, false, ◌&&◌, ◌||◌, not, cond, List, [], ◌∷◌, ◌++◌, filter, Option, None, Some, refl, sym, ap, subst, ◌∙◌}
+use Rattle.std.proofs.Common.{◌≡◌, ◌≢◌, ◌⊎◌, inl, inr, ℕ, Bool, true, false, ◌&&◌, ◌||◌, not, cond, List, [], ◌∷◌, filter, Option, None, Some, refl, sym, ap, subst, ◌∙◌}
 use Rattle.std.specs.Ordering.{nat_cmp}
 use Rattle.std.specs.Cmp.Lexicographic.{slice_cmp}
 use Rattle.link_msg.specs.declared.answer.AnswerBody.{AnswerBody}
@@ -25,19 +25,19 @@ use Rattle.name_flows.specs.declared.resync.Resync.{Resync}
 use Rattle.name_flows.specs.declared.sent.Sent.{Sent}
 use Rattle.name_flows.specs.declared.sent.Sent.TheVariants.{List as List_line, Reserve, Make, Again, Deactivate, Delete, Wipe, Find}
 use Rattle.name_flows.specs.declared.sent.SentLine.{SentLine}
-use Rattle.name_flows.specs.Creates.{full, make_no, make_ok, reserve_no, reserve_ok, reserve_refused, reserved_by, serial_in}
-use Rattle.name_flows.specs.Deletes.{closes, deactivate_ok, delete_ok}
-use Rattle.name_flows.specs.Finds.{again_ok, find_line_step, find_ok, forgotten_if, wipe_ok}
+use Rattle.name_flows.specs.Creates.{make_no, make_ok, reserve_no, reserve_ok, reserve_refused, reserved_by, serial_in}
+use Rattle.name_flows.specs.Deletes.{deactivate_ok, delete_ok}
+use Rattle.name_flows.specs.Finds.{forgotten_if}
 use Rattle.name_flows.specs.Heard.{behind_first, heard_step, is_same_tag, no_of, ok_of, record_of, taken}
 use Rattle.name_flows.specs.Lines.{unasked_line}
 use Rattle.name_flows.specs.Link.{waiting_in}
 use Rattle.name_flows.specs.Listing.{listed_step, noted, noted_in, resync_line, up_step}
 use Rattle.name_flows.specs.Phases.{is_closing, is_creating, is_open}
 use Rattle.name_flows.specs.Running.{answers_for, done, ended, flow_at, forget, goes_on, has_flow, is_at, staged}
-use Rattle.name_flows.specs.Steps.{FlowStep, changing, finished, given, silent}
+use Rattle.name_flows.specs.Steps.{FlowStep, changing, given, silent}
 use Rattle.name_flows.proofs.OneStep.{flow_ended, flow_ended-other, flow_goes_on, flow_goes_on-other}
 use Rattle.name_links.proofs.Sends.{heard_is, is_list_end, step_by}
-use Rattle.name_commands.specs.Whose.{Whose, is_own, is_own_ask, is_own_line, is_own_told, own_flow}
+use Rattle.name_commands.specs.Whose.{Whose, is_own, is_own_ask, is_own_line, own_flow}
 use Rattle.name_commands.proofs.Own.{answers_none, is_not, not_here, passed, resync_own, unasked_own}
 use Rattle.name_commands.proofs.Steps.{Leaves}
 

@@ -1,5 +1,5 @@
 -- What an ask that is tested comes to.
-use Rattle.std.proofs.Common.{◌≡◌, ℕ, Bool, true, false, ◌||◌, not, cond, List, [], ◌∷◌, Option, None, Some, refl, ap, ◌∙◌}
+use Rattle.std.proofs.Common.{ℕ, Bool, true, false, ◌||◌, not, List, [], ◌∷◌, Option, None, Some, refl}
 use Rattle.link_msg.specs.declared.answer.AnswerBody.{AnswerBody}
 use Rattle.link_msg.specs.declared.answer.AnswerBody.TheVariants.{NotNow, Unreached}
 use Rattle.node_record.specs.Held.{Names, held_at}
@@ -11,7 +11,7 @@ use Rattle.name_flows.specs.declared.resync.Resync.{Resync}
 use Rattle.name_flows.specs.Asked.{create_refusal, delete_refusal, delete_refusal_in, first_of, refusal}
 use Rattle.name_flows.specs.Phases.{is_closing, is_open, pointer_in}
 use Rattle.name_flows.specs.Running.{has_flow}
-use Rattle.name_commands.specs.Moves.{asked_move, asked_move_by, tested_move}
+use Rattle.name_commands.specs.Moves.{asked_move_by, tested_move}
 use Rattle.name_commands.specs.PutOff.{AskedMoves, IsAskedSo, is_kept_so, is_tested_now, IsPutOff, IsTestedSo, moved, not_now, put_off, sends_line, TestedMoves, unreached}
 
 abbrev IfPutOff : List ℕ → AskKind → Option AnswerBody → Type 0

@@ -1,18 +1,17 @@
 -- The reply to the line of each stage, by cases.
-use Rattle.std.proofs.Common.{◌≡◌, ℕ, ◌+◌, ◌<◌, ◌^◌, Bool, true, false, ◌&&◌, ◌||◌, not, cond, nat_eq, codes, List, [], ◌∷◌, Option, None, Some, refl, sym, ap, subst, ◌∙◌, eqb-true}
-use Rattle.std.specs.Prelude.{◌==◌, is_none}
-use Rattle.std.specs.Cmp.Lexicographic.{pointwise}
+use Rattle.std.proofs.Common.{◌≡◌, ℕ, ◌+◌, ◌<◌, ◌^◌, Bool, true, false, not, cond, codes, List, [], ◌∷◌, Option, None, Some, refl, sym, ap, subst, ◌∙◌, eqb-true}
+use Rattle.std.specs.Prelude.{◌==◌}
 use Rattle.grammar.specs.Numbers.{decimal_text}
 use Rattle.link_msg.specs.declared.answer.AnswerBody.TheVariants.{NotNow}
-use Rattle.link_msg.specs.declared.counts.Counts.TheVariants.{Always, IfAnswered}
+use Rattle.link_msg.specs.declared.counts.Counts.TheVariants.{Always}
 use Rattle.link_msg.specs.declared.outcome.Outcome.TheVariants.{None as nothing, Exists, Limit}
 use Rattle.mail_message.specs.FirstAcl.{first_acl}
 use Rattle.master_core.specs.declared.refusal.Refusal.{Refusal}
 use Rattle.master_core.specs.declared.refusal.Refusal.TheVariants as refusal
 use Rattle.master_core.specs.declared.reply.Reply.{Reply}
 use Rattle.master_core.specs.declared.sender.Sender.TheVariants.{Backend}
-use Rattle.master_core.specs.Refusals.{activate_refusal, deactivate_refusal, delete_refusal, first_of, is_active, is_full, is_reserved, place_in, refusal_text, reserve_refusal}
-use Rattle.master_core.specs.Replies.{activate_by, changed, deactivate_by, delete_by, done as done_text, refused, reserve_by}
+use Rattle.master_core.specs.Refusals.{activate_refusal, first_of, is_active, is_full, is_reserved, place_in, reserve_refusal}
+use Rattle.master_core.specs.Replies.{activate_by, changed, deactivate_by, delete_by, done as done_text, reserve_by}
 use Rattle.master_core.specs.Senders.{is_server}
 use Rattle.mupdate_codec.specs.declared.command.MResponse.{MResponse}
 use Rattle.mupdate_codec.specs.declared.command.MResponse.TheVariants as response
@@ -20,7 +19,7 @@ use Rattle.mur_base.specs.declared.home.Location.{Location}
 use Rattle.name_flows.specs.declared.flow.Flow.{Flow}
 use Rattle.name_flows.specs.declared.flow.Stage.{Stage}
 use Rattle.name_flows.specs.declared.flow.Stage.TheVariants.{Reserving, Making, Deactivating, Deleting}
-use Rattle.name_flows.specs.Creates.{reserve_refused, serial_in}
+use Rattle.name_flows.specs.Creates.{reserve_refused}
 use Rattle.name_flows.specs.Running.{done}
 use Rattle.node_record.specs.declared.master.MasterRecord.TheVariants as entry
 use Rattle.node_record.specs.declared.table.Record.{Record}

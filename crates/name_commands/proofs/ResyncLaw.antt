@@ -1,12 +1,11 @@
 -- LIST's OK ends a resync: each command that waited is tested, one after the other, and any other is left where it is.
-use Rattle.std.proofs.Common.{◌≡◌, ℕ, Bool, true, false, ◌&&◌, cond, List, [], ◌∷◌, ◌++◌, map, filter, Option, None, Some, refl, sym, ap, subst, ◌∙◌}
+use Rattle.std.proofs.Common.{◌≡◌, ℕ, Bool, true, false, cond, List, [], ◌∷◌, map, filter, Option, None, Some, refl, sym, ap, subst, ◌∙◌}
 use Rattle.std.specs.declared.cmp.Ordering.{Ordering}
 use Rattle.std.specs.declared.cmp.Ordering.TheVariants.{Less, Equal, Greater}
 use Rattle.std.specs.List.{fold}
 use Rattle.std.specs.Ordering.{is_eq, match_ordering, nat_cmp}
 use Rattle.std.specs.Cmp.Lexicographic.{slice_cmp}
 use Rattle.link_msg.specs.declared.answer.AnswerBody.{AnswerBody}
-use Rattle.mupdate_codec.specs.declared.command.MResponse.{MResponse}
 use Rattle.mupdate_codec.specs.declared.command.MResponse.TheVariants as response
 use Rattle.mupdate_codec.specs.declared.tag.Tag.{Tag}
 use Rattle.mur_base.specs.Map.{value_at, IsInOrder}
@@ -30,14 +29,13 @@ use Rattle.name_links.proofs.HearParts.{not_lost}
 use Rattle.name_links.proofs.LinesByName.{Each, IsAboutIt, is_in_passing}
 use Rattle.name_links.proofs.ResyncEnd.{find_about, finds_each, finds_none}
 use Rattle.name_links.proofs.Rounds.{carried_out, IsRound, round_is, rounds_are}
-use Rattle.name_links.proofs.Sends.{heard_is, step_by, step_ok}
+use Rattle.name_links.proofs.Sends.{heard_is, step_ok}
 use Rattle.name_commands.specs.Moves.{Move, answers_of, lines_of, place_after, tested_move}
-use Rattle.name_commands.specs.Places.{NamePlace, nowhere, waits, sends, hears, IsAt, IsNumbered, asks_at, flow_line, flows_at, lines_at}
+use Rattle.name_commands.specs.Places.{NamePlace, nowhere, waits, IsAt, IsNumbered, asks_at, flow_line, flows_at}
 use Rattle.name_commands.specs.Whose.{Whose, is_own_ask, is_own_line, is_own_told, own_flow}
 use Rattle.name_commands.proofs.AskLaw.{begun_is, begun_others, begun_own, begun_running}
-use Rattle.name_commands.proofs.OtherLaw.{as_many}
 use Rattle.name_commands.proofs.Own.{all_behind, find_own, kept, kept_behind, none_behind, passed, passed_behind}
-use Rattle.name_commands.proofs.Steps.{Leaves, Makes}
+use Rattle.name_commands.proofs.Steps.{Makes}
 
 -- ---- a line is put among those that are sent, on a name that has none
 

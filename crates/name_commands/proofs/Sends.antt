@@ -1,17 +1,13 @@
 -- What a step of a backend's talk lets out, of which commands it is.
-use Rattle.std.proofs.Common.{◌≡◌, ◌≢◌, ℕ, Bool, true, false, cond, List, [], ◌∷◌, ◌++◌, map, filter, Option, None, Some, refl, sym, ap, subst, ◌∙◌, append-nil}
+use Rattle.std.proofs.Common.{◌≡◌, ◌≢◌, ℕ, Bool, true, false, cond, List, [], ◌∷◌, ◌++◌, map, filter, Option, refl, sym, ap, ◌∙◌}
 use Rattle.std.specs.List.{AllByRecursion}
 use Rattle.std.proofs.lemmas.List.Elements.{filter-append}
 use Rattle.link_msg.specs.declared.message.LinkMsg.{LinkMsg}
-use Rattle.link_msg.specs.declared.message.LinkMsg.TheVariants.{Line}
 use Rattle.link_msg.specs.declared.out.Out.{Out}
 use Rattle.link_msg.specs.declared.out.Out.TheVariants.{Link}
 use Rattle.master_core.specs.declared.master.Master.{Master}
 use Rattle.mupdate_codec.specs.declared.command.MCommand.{MCommand}
-use Rattle.mupdate_codec.specs.declared.tag.Tag.{Tag}
-use Rattle.mupdate_codec.specs.Arguments.{exact}
-use Rattle.mupdate_codec.specs.Asks.{ask_id_of, line_ask, tag_of}
-use Rattle.mupdate_codec.specs.Commands.{command_line}
+use Rattle.mupdate_codec.specs.Asks.{tag_of}
 use Rattle.mupdate_codec.proofs.LineAsks.{command_tells}
 use Rattle.mur_base.specs.declared.home.Location.{Location}
 use Rattle.mur_base.specs.declared.point.AskId.{AskId}
@@ -20,13 +16,12 @@ use Rattle.name_flows.specs.declared.ask.Told.{Told}
 use Rattle.name_flows.specs.declared.flow.Flow.{Flow}
 use Rattle.name_flows.specs.declared.flow.Stage.{Stage}
 use Rattle.name_flows.specs.declared.flow.Stage.TheVariants.{Reserving, Making, Deactivating, Deleting}
-use Rattle.name_flows.specs.declared.flows.Flows.{Flows}
 use Rattle.name_flows.specs.declared.sent.SentLine.{SentLine}
 use Rattle.name_flows.specs.Lines.{command_of, line_text}
 use Rattle.name_flows.specs.Steps.{FlowStep, handed}
 use Rattle.back_node.specs.declared.node.BackNode.{BackNode}
 use Rattle.back_node.specs.Acted.{BackActed}
-use Rattle.back_node.specs.Takes.{answer_out, line_out, step_outs, talks}
+use Rattle.back_node.specs.Takes.{answer_out, line_out, talks}
 use Rattle.back_node.proofs.AtHome.{done_by}
 use Rattle.back_node.proofs.Owed.{AnswersOnly}
 use Rattle.feed_links.specs.Lines.{messages_to}
@@ -38,7 +33,7 @@ use Rattle.back_links.proofs.Queues.{step_sends}
 use Rattle.back_links.proofs.StepsSaid.{StepSaid, sends_spelled}
 use Rattle.back_links.proofs.Texts.{command_is}
 use Rattle.name_commands.specs.Moves.{Move, is_answered, is_kept, is_sent, answers_of, lines_of, outs_of, place_after, IsLeft, IsMoved}
-use Rattle.name_commands.specs.Places.{NamePlace, nowhere, waits, sends, IsAt, IsKnown, IsPlaced, flow_line, flow_message, stage_command, stage_line, ups_at, downs_at}
+use Rattle.name_commands.specs.Places.{NamePlace, IsAt, IsKnown, flow_line, flow_message, stage_command, stage_line, ups_at, downs_at}
 use Rattle.name_commands.specs.Whose.{Whose, is_own, is_own_line, is_own_message, is_own_out, is_own_told}
 use Rattle.name_commands.proofs.Own.{all_behind, none_behind}
 use Rattle.name_commands.proofs.Steps.{Leaves, Makes, left_at}

@@ -1,5 +1,5 @@
 -- A step of the talk, as it is to the commands that are meant: what it makes of one, or that it leaves them.
-use Rattle.std.proofs.Common.{◌≡◌, ℕ, List, [], ◌++◌, filter, ◌∙◌}
+use Rattle.std.proofs.Common.{◌≡◌, ℕ, List, [], filter, ◌∙◌}
 use Rattle.node_record.specs.Held.{Names}
 use Rattle.name_flows.specs.declared.flows.Flows.{Flows}
 use Rattle.name_flows.specs.Link.{waiting_in}

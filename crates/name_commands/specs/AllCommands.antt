@@ -5,7 +5,7 @@ use Rattle.link_msg.specs.declared.message.LinkMsg.{LinkMsg}
 use Rattle.link_msg.specs.declared.message.LinkMsg.TheVariants.{Up, Ask}
 use Rattle.master_core.specs.declared.master.Master.{Master}
 use Rattle.master_core.specs.Linked.{node_says}
-use Rattle.master_core.specs.Whose.{TellNobody, message_ask}
+use Rattle.master_core.specs.Whose.{TellNobody}
 use Rattle.mur_base.specs.declared.home.Location.{Location}
 use Rattle.mur_base.specs.declared.point.AskId.{AskId}
 use Rattle.name_flows.specs.declared.ask.AskKind.{AskKind}

@@ -1,5 +1,5 @@
 -- Where a CREATE or DELETE is after a step of its backend.
-use Rattle.std.specs.Prelude.{◌≡◌, ◌≢◌, ℕ, true, false, List, [], ◌∷◌, ◌++◌, Option, None, Some}
+use Rattle.std.specs.Prelude.{◌≡◌, ◌≢◌, ℕ, true, false, List, [], ◌∷◌, ◌++◌, None, Some}
 use Rattle.link_msg.specs.declared.ask.FrontAsk.{FrontAsk}
 use Rattle.link_msg.specs.declared.message.LinkMsg.{LinkMsg}
 use Rattle.link_msg.specs.declared.message.LinkMsg.TheVariants.{Up, Ask}
@@ -10,11 +10,9 @@ use Rattle.name_flows.specs.declared.ask.AskKind.{AskKind}
 use Rattle.name_flows.specs.declared.ask.NameAsk.{NameAsk}
 use Rattle.name_flows.specs.declared.flow.Flow.{Flow}
 use Rattle.name_flows.specs.declared.flows.Flows.{Flows}
-use Rattle.name_flows.specs.declared.resync.Resync.{Resync}
 use Rattle.name_flows.specs.Asked.{refusal}
 use Rattle.name_flows.specs.Running.{new_flows}
 use Rattle.back_node.specs.declared.node.BackNode.{BackNode}
-use Rattle.back_node.specs.Acted.{BackActed}
 use Rattle.back_node.specs.Node.{new_node}
 use Rattle.back_node.specs.Takes.{name_ask, name_kind, node_takes}
 use Rattle.feed_links.specs.Lines.{messages_to}

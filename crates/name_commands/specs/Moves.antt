@@ -26,8 +26,8 @@ use Rattle.name_flows.specs.Running.{answer_to, done}
 use Rattle.back_node.specs.declared.node.BackNode.{BackNode}
 use Rattle.back_node.specs.Acted.{BackActed}
 use Rattle.feed_links.specs.Lines.{messages_to}
-use Rattle.name_commands.specs.Places.{NamePlace, nowhere, waits, sends, IsAt, IsPlaced, flow_line, flow_message}
-use Rattle.name_commands.specs.Whose.{Whose, is_own_line, is_own_out, is_own_told}
+use Rattle.name_commands.specs.Places.{NamePlace, nowhere, waits, sends, IsPlaced, flow_line, flow_message}
+use Rattle.name_commands.specs.Whose.{Whose, is_own_out}
 
 -- it is answered, waits for the end of a resync, or the line of its flow is sent
 pub data Move : Type 0 where

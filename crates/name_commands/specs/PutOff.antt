@@ -1,5 +1,5 @@
 -- What an ask that is refused is answered: its backend did nothing, and the command is asked anew or refused.
-use Rattle.std.specs.Prelude.{◌≡◌, ℕ, List, Option, None, Some}
+use Rattle.std.specs.Prelude.{◌≡◌, ℕ, List}
 use Rattle.link_msg.specs.declared.answer.AnswerBody.{AnswerBody}
 use Rattle.link_msg.specs.declared.answer.AnswerBody.TheVariants.{NotNow, Moved, Unreached}
 use Rattle.node_record.specs.Held.{Names}

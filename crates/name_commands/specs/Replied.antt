@@ -1,6 +1,6 @@
 -- What the master makes of the line of each stage (RFC 3656, 4.1, 4.3, 4.4 and 4.9): how that changes its table, whether the step counts as the command's,
 -- and what its response does at the backend then.
-use Rattle.std.specs.Prelude.{◌≡◌, ℕ, ◌+◌, true, false, List, Option, None, Some}
+use Rattle.std.specs.Prelude.{◌≡◌, ℕ, ◌+◌, true, false, List, None, Some}
 use Rattle.grammar.specs.Numbers.{decimal_text}
 use Rattle.link_msg.specs.declared.answer.AnswerBody.TheVariants.{NotNow}
 use Rattle.link_msg.specs.declared.counts.Counts.TheVariants.{Always, IfAnswered}

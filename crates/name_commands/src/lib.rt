@@ -21,6 +21,7 @@
 mod laws;
 
 pub use laws::{
-    a_line_has_one_response, a_response_answers_or_sends_the_next_line, an_ask_is_answered_waits_or_sends_its_line,
-    any_other_step_leaves_a_command, each_command_is_in_one_place, the_end_of_a_resync_tests_those_that_waited,
+    a_line_has_one_response, a_response_answers_or_sends_the_next_line,
+    an_ask_is_answered_waits_or_sends_its_line, any_other_step_leaves_a_command,
+    each_command_is_in_one_place, the_end_of_a_resync_tests_those_that_waited,
 };
